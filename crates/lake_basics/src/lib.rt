@@ -1,0 +1,17 @@
+//! The small types that every crate of the bridge speaks of: texts, bytes and lists, which contracts
+//! see as lists, and the outcome of a reading.
+#![tactic(auto)]
+
+mod blob;
+mod items;
+mod outcome;
+mod text;
+
+pub use blob::Blob;
+pub use items::Items;
+pub use outcome::ReadError;
+pub use text::{Text, TextError};
+
+
+#[cfg(test)]
+mod tests;
