@@ -12,6 +12,5 @@ pub use items::Items;
 pub use outcome::ReadError;
 pub use text::{Text, TextError};
 
-
 #[cfg(test)]
 mod tests;

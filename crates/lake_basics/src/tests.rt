@@ -18,7 +18,10 @@ fn texts_are_utf8_and_compare_by_bytes(rt: HostRuntime) -> Result<(), Fail> {
     assert_eq!(rt; word.partial_cmp(&word).is_some(), true);
     let mut places = BTreeMap::new(alloc);
     places.insert(word, 1u8)?;
-    assert_eq!(rt; places.get(&Text::from_str(alloc, "cab")?).copied(), Some(1));
+    assert_eq!(rt;
+        places.get(&Text::from_str(alloc, "cab")?).copied(),
+        Some(1)
+    );
     Ok(())
 }
 
@@ -34,7 +37,10 @@ fn blobs_keep_any_bytes(rt: HostRuntime) -> Result<(), Fail> {
     assert_eq!(rt; Blob::from_vec(bytes.into_vec()).as_slice().len(), 3);
     let mut sizes = HashMap::new(alloc);
     sizes.insert(copy, 3u8)?;
-    assert_eq!(rt; sizes.get(&Blob::from_slice(alloc, &[0, 255, 35])?).copied(), Some(3));
+    assert_eq!(rt;
+        sizes.get(&Blob::from_slice(alloc, &[0, 255, 35])?).copied(),
+        Some(3)
+    );
     Ok(())
 }
 
