@@ -84,6 +84,16 @@ impl Blob {
     }
 }
 
+impl Clone for Blob {
+    ghost is_clone = { λ old new. new ≡ old };
+
+    fn clone(&self) -> Result<Blob, AllocError> {
+        Ok(Blob {
+            content: self.content.clone()?,
+        })
+    }
+}
+
 impl PartialEq for Blob {
     ghost eq = { bytes_eq };
 

@@ -1,0 +1,12 @@
+pub use Rattle.lake_basics.specs.Outcome
+pub mod Cause
+pub mod Crash
+pub mod Disk
+pub mod Fuse
+pub mod FuseLoan
+pub mod Memory
+pub mod Moments
+pub mod Past
+pub mod Runs
+pub mod Sink
+pub mod Trees

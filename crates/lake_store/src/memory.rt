@@ -1,0 +1,241 @@
+//! A store in memory. It keeps what each call replaced, so that what a crash might have left at a past moment is known.
+ghost use Rattle.std.specs.Prelude.{◌≡◌, drop, take, IfOk, OnErr, OnOk};
+ghost use Rattle.std.specs.FinMap as map;
+ghost use Rattle.std.specs.FinSet as set;
+ghost use Rattle.lake_store.specs.Crash.{IsCrashed};
+ghost use Rattle.lake_store.specs.Disk.{MayLeave, empty_disk, stored};
+ghost use Rattle.lake_store.specs.Memory.{disk_of, left_since_of, time_of};
+ghost use Rattle.lake_store.specs.Moments.{Elapses};
+
+use crate::files::{FileMap, PathSet};
+use crate::names::Names;
+use crate::store::{MAX_FILE_BYTES, Store, StoreError};
+use lake_basics::{Blob, Text};
+use std::alloc::{AllocError, Global};
+use std::collections::VecDeque;
+use std::mem;
+
+/// What a call replaced.
+#[derive(Debug, Drop)]
+pub enum Change {
+    /// The file at a path, and whether the path was dirty.
+    At {
+        path: Text,
+        bytes: Option<Blob>,
+        dirty: bool,
+    },
+    /// A file that moved, and whether the path that it moved to was dirty.
+    Moved {
+        from: Text,
+        to: Text,
+        dirty: bool,
+    },
+    /// The paths that were dirty before a sync.
+    Synced {
+        dirty: PathSet,
+    },
+    /// What was there before a crash.
+    Crashed {
+        files: FileMap,
+        dirty: PathSet,
+    },
+}
+
+/// Files in memory.
+#[derive(Drop)]
+pub struct MemoryStore {
+    alloc: Global,
+    files: FileMap,
+    dirty: PathSet,
+    // The newest first.
+    past: VecDeque<Change>,
+}
+
+impl MemoryStore {
+    /// A store without files.
+    pub fn new(alloc: Global) -> MemoryStore
+        ensures disk { disk_of result ≡ empty_disk }
+        ensures time { time_of result ≡ 0 }
+    {
+        MemoryStore {
+            alloc,
+            files: FileMap::new(alloc),
+            dirty: PathSet::new(alloc),
+            past: VecDeque::new(alloc),
+        }
+    }
+
+    /// Sets the bytes of a file, durably.
+    pub fn put(&mut self, path: &str, bytes: &[u8]) -> Result<(), AllocError>
+        ensures ok { OnOk result (disk_of self.new ≡ stored (disk_of self.old) path.now bytes.now) }
+        ensures err { OnErr result (disk_of self.new ≡ disk_of self.old) }
+        ensures elapses { Elapses disk_of time_of left_since_of self.old self.new }
+    {
+        let bytes = Blob::from_slice(self.alloc, bytes)?;
+        let changed = Text::from_str(self.alloc, path)?;
+        self.past.reserve(1)?;
+        let before = self.files.insert(self.alloc, path, bytes)?;
+        let dirty = self.dirty.remove(path);
+        self.past.push_front_reserved(Change::At {
+            path: changed,
+            bytes: before,
+            dirty,
+        });
+        Ok(())
+    }
+
+    /// Becomes an image that a crash may leave: each dirty path, in byte order, follows its choice.
+    pub fn crash(&mut self, alloc: Global, choices: &[u64]) -> Result<(), AllocError>
+        ensures ok { OnOk result (IsCrashed (disk_of self.old) choices.now (disk_of self.new)) }
+        ensures image { OnOk result (MayLeave (disk_of self.old) (disk_of self.new).files) }
+        ensures err { OnErr result (disk_of self.new ≡ disk_of self.old) }
+        ensures elapses { Elapses disk_of time_of left_since_of self.old self.new }
+    {
+        self.past.reserve(1)?;
+        let mut image = self.files.copy()?;
+        self.dirty.tear_all(alloc, &mut image, choices)?;
+        let files = mem::replace(&mut self.files, image);
+        let dirty = mem::replace(&mut self.dirty, PathSet::new(self.alloc));
+        self.past
+            .push_front_reserved(Change::Crashed { files, dirty });
+        Ok(())
+    }
+}
+
+impl Store for MemoryStore {
+    ghost use Rattle.lake_store.specs.Memory.{disk_of, left_since_of, time_of};
+    ghost use Rattle.lake_store.specs.Past.{counts_now, earlier, only_now};
+
+    ghost tells = { Unit {0} };
+
+    ghost disk = { disk_of };
+
+    ghost time = { time_of };
+
+    ghost left_since = { left_since_of };
+
+    ghost faults = { λ _. 0 };
+
+    ghost may_fail = { λ _. ⊥ };
+
+    ghost contests = { λ _. 0 };
+
+    ghost may_contest = { λ _. ⊥ };
+
+    ghost earlier = { λ m t u image told le left. earlier (disk_of m) m.past.items t u image le left };
+
+    ghost counts_now = { λ m t image told le may. counts_now (disk_of m) m.past.items t image le may };
+
+    ghost only_now = { λ m image told left. only_now (disk_of m) m.past.items image left };
+
+    fn list(&mut self, alloc: Global, folder: &str) -> Result<Names, StoreError> {
+        self.files.names(alloc, folder)
+    }
+
+    fn read(&mut self, alloc: Global, path: &str) -> Result<Option<Blob>, StoreError> {
+        let Some(bytes) = self.files.get(path) else {
+            return Ok(None);
+        };
+        let bytes = bytes.as_slice();
+        let length = bytes.len() as u64;
+        if length > MAX_FILE_BYTES {
+            return Err(StoreError::TooLong { length });
+        }
+        Ok(Some(Blob::from_slice(alloc, bytes)?))
+    }
+
+    fn read_part(
+        &mut self,
+        alloc: Global,
+        path: &str,
+        from: u64,
+        len: u32,
+    ) -> Result<Option<Blob>, StoreError> {
+        let Some(bytes) = self.files.get(path) else {
+            return Ok(None);
+        };
+        Ok(Some(Blob::from_slice(alloc, part(bytes.as_slice(), from, len))?))
+    }
+
+    fn write(&mut self, path: &str, bytes: &[u8]) -> Result<(), StoreError> {
+        let bytes = Blob::from_slice(self.alloc, bytes)?;
+        let changed = Text::from_str(self.alloc, path)?;
+        self.past.reserve(1)?;
+        let (bytes, dirty) = write_file(self.alloc, &mut self.files, &mut self.dirty, path, bytes)?;
+        self.past.push_front_reserved(Change::At {
+            path: changed,
+            bytes,
+            dirty,
+        });
+        Ok(())
+    }
+
+    fn sync(&mut self) -> Result<(), StoreError> {
+        self.past.reserve(1)?;
+        let dirty = mem::replace(&mut self.dirty, PathSet::new(self.alloc));
+        self.past.push_front_reserved(Change::Synced { dirty });
+        Ok(())
+    }
+
+    fn publish(&mut self, from: &str, to: &str) -> Result<(), StoreError> {
+        let moved_from = Text::from_str(self.alloc, from)?;
+        let moved_to = Text::from_str(self.alloc, to)?;
+        self.past.reserve(1)?;
+        self.files.rename(self.alloc, from, to)?;
+        let dirty = self.dirty.remove(to);
+        self.past.push_front_reserved(Change::Moved {
+            from: moved_from,
+            to: moved_to,
+            dirty,
+        });
+        Ok(())
+    }
+
+    fn remove(&mut self, path: &str) -> Result<(), StoreError> {
+        let changed = Text::from_str(self.alloc, path)?;
+        self.past.reserve(1)?;
+        let bytes = self.files.remove(path);
+        let dirty = self.dirty.remove(path);
+        self.past.push_front_reserved(Change::At {
+            path: changed,
+            bytes,
+            dirty,
+        });
+        Ok(())
+    }
+}
+
+// Sets the bytes of a file, and its path dirty. Answers what they were.
+fn write_file(
+    alloc: Global,
+    files: &mut FileMap,
+    dirty: &mut PathSet,
+    path: &str,
+    bytes: Blob,
+) -> Result<(Option<Blob>, bool), AllocError>
+    ensures before { IfOk result (λ before. (before.0 ≡ map.get files.old path.now) × (before.1 ≡ set.contains dirty.old path.now)) }
+    ensures files { OnOk result (files.new ≡ map.insert files.old path.now bytes) }
+    ensures dirty { OnOk result (dirty.new ≡ set.insert dirty.old path.now) }
+    ensures files_stay { OnErr result (files.new ≡ files.old) }
+    ensures dirty_stays { OnErr result (dirty.new ≡ dirty.old) }
+{
+    let added = dirty.insert(alloc, path)?;
+    match files.insert(alloc, path, bytes) {
+        Ok(before) => Ok((before, !added)),
+        Err(error) => {
+            if added {
+                dirty.remove(path);
+            }
+            Err(error)
+        }
+    }
+}
+
+// At most `len` bytes from a place on.
+fn part(bytes: &[u8], from: u64, len: u32) -> &[u8]
+    ensures { result.now ≡ take len (drop from bytes.now) }
+{
+    let from = (from as usize).min(bytes.len());
+    let rest = &bytes[from..];
+    &rest[..rest.len().min(len as usize)]
+}
