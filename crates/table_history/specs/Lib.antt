@@ -1,0 +1,9 @@
+pub mod Words
+pub mod Row
+pub mod TypeTree
+pub mod TypeTreeCode
+pub mod SchemaView
+pub mod Rows
+pub mod RowMap
+pub mod Tables
+pub mod Path
