@@ -1,0 +1,9 @@
+pub mod DateLemmas
+pub mod ErrorLemmas
+pub mod EscapeLemmas
+pub mod LineLemmas
+pub mod PairLemmas
+pub mod TableLemmas
+pub mod TimeLemmas
+pub mod WrittenLemmas
+pub mod ReadLemmas

@@ -1,0 +1,10 @@
+pub mod Errors
+pub mod Escapes
+pub mod Group
+pub mod Instants
+pub mod Lines
+pub mod Name
+pub mod Pairs
+pub mod TableProperties
+pub mod Time
+pub mod Written

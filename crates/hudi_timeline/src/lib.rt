@@ -1,0 +1,21 @@
+//! The timeline of a Hudi table: its instants and its properties.
+#![tactic(auto)]
+
+mod error;
+mod group;
+mod instant;
+mod name;
+mod properties;
+mod table;
+mod time;
+
+pub use error::{Feature, HudiError, LimitKind};
+pub use group::group_of;
+pub use instant::{Instant, Stat, read_instant};
+pub use name::{Action, State, instant_of_name};
+pub use properties::{Pairs, properties_text, read_properties};
+pub use table::{HudiTable, check_properties};
+pub use time::{next_instant, read_time};
+
+#[cfg(test)]
+mod tests;
