@@ -1,0 +1,5 @@
+pub mod Steps
+pub mod Lookups
+pub mod Turns
+pub mod Dots
+pub mod Repeats

@@ -1,1 +1,5 @@
 pub mod Tree
+pub mod Sizes
+pub mod Names
+pub mod Reading
+pub mod State

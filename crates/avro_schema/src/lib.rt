@@ -2,6 +2,15 @@
 #![tactic(auto)]
 
 mod copy;
+mod definitions;
+mod distinct;
+mod error;
+mod member;
+mod names;
 mod schema;
+mod size;
+mod text;
+mod types;
 
+pub use error::SchemaError;
 pub use schema::{Field, Schema, Shape};

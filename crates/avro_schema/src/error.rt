@@ -1,0 +1,30 @@
+//! Why a text is no schema.
+ghost use Rattle.std.specs.Prelude.{◌≡◌};
+ghost use Rattle.avro_schema.specs.declared.error.SchemaError.TheVariants.{Memory};
+
+use std::alloc::AllocError;
+
+/// Why no schema was read, or none written.
+#[derive(Clone, Copy, Debug, PartialEq, Eq)]
+pub enum SchemaError {
+    Memory,
+    /// The text is no schema, for another cause than `Recursive`.
+    BadSchema,
+    /// A name is used inside its own definition.
+    Recursive,
+}
+
+impl From<AllocError> for SchemaError {
+    ghost from_gives = { λ _ e. e ≡ Memory };
+
+    fn from(_error: AllocError) -> SchemaError {
+        SchemaError::Memory
+    }
+}
+
+/// The faults that a schema text may have.
+#[derive(Clone, Copy, Debug, Drop, PartialEq, Eq)]
+pub(crate) enum SchemaFault {
+    BadSchema,
+    Recursive,
+}
