@@ -12,7 +12,8 @@ ghost use Rattle.lake_store.specs.Disk;
 ghost use Rattle.lake_store.specs.Disk.{names_in};
 
 use crate::names::Names;
-use crate::store::{MAX_NAMES, StoreError};
+use crate::store::StoreError;
+use lake_basics::limits::MAX_NAMES;
 use lake_basics::{Blob, Text};
 use std::alloc::{AllocError, Global};
 use std::collections::{BTreeMap, BTreeSet};

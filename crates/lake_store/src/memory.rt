@@ -9,7 +9,8 @@ ghost use Rattle.lake_store.specs.Moments.{Elapses};
 
 use crate::files::{FileMap, PathSet};
 use crate::names::Names;
-use crate::store::{MAX_FILE_BYTES, Store, StoreError};
+use crate::store::{Store, StoreError};
+use lake_basics::limits::MAX_FILE_BYTES;
 use lake_basics::{Blob, Text};
 use std::alloc::{AllocError, Global};
 use std::collections::VecDeque;

@@ -12,13 +12,8 @@ ghost use Rattle.lake_store.specs.declared.store.StoreError.TheVariants.{Memory}
 
 use crate::names::Names;
 use lake_basics::Blob;
+use lake_basics::limits::{MAX_FILE_BYTES, MAX_NAMES};
 use std::alloc::{AllocError, AllocFailed, Global};
-
-/// The most bytes that `read` gives.
-pub const MAX_FILE_BYTES: u64 = 268_435_456;
-
-/// The most names that `list` gives.
-pub const MAX_NAMES: u64 = 2_000_000;
 
 #[derive(Clone, Copy, Debug, PartialEq, Eq)]
 pub enum StoreError {

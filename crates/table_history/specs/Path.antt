@@ -2,7 +2,7 @@
 use Rattle.std.specs.Prelude.{◌≢◌, ℕ, ◌≤◌, ◌==◌, Bool, List, [], ◌∷◌, length, All}
 use Rattle.std.specs.List.{slice_split}
 use Rattle.std.specs.Str.{IsUtf8}
-use Rattle.table_history.specs.declared.limits.TheConstants.{MAX_PATH_BYTES}
+use Rattle.lake_basics.specs.declared.limits.TheConstants.{MAX_PATH_BYTES}
 
 abbrev pub is_slash : ℕ → Bool
 is_slash b = b == 47

@@ -7,7 +7,7 @@ use Rattle.table_history.specs.declared.feature.Feature.{Feature}
 use Rattle.table_history.specs.declared.feature.Feature.TheVariants as feature
 use Rattle.table_history.specs.declared.limit.LimitKind.{LimitKind}
 use Rattle.table_history.specs.declared.limit.LimitKind.TheVariants as limit
-use Rattle.table_history.specs.declared.limits.TheConstants.{MAX_FILE_BYTES, MAX_NAMES, MAX_LIVE_FILES, MAX_COMMITS, MAX_PUBLISHED_COMMITS, MAX_ACTIONS, MAX_AVRO_VALUES, MAX_PATH_BYTES, MAX_PARTITION_COLUMNS, MAX_COLUMNS, MAX_SCHEMA_LEVELS, MAX_DELTA_VERSION, MAX_ICEBERG_VERSION, MAX_HUDI_YEAR}
+use Rattle.lake_basics.specs.declared.limits.TheConstants.{MAX_FILE_BYTES, MAX_NAMES, MAX_LIVE_FILES, MAX_COMMITS, MAX_PUBLISHED_COMMITS, MAX_ACTIONS, MAX_AVRO_VALUES, MAX_PATH_BYTES, MAX_PARTITION_COLUMNS, MAX_COLUMNS, MAX_SCHEMA_LEVELS, MAX_DELTA_VERSION, MAX_ICEBERG_VERSION, MAX_HUDI_YEAR}
 
 abbrev pub kind_word : Kind → List ℕ
 kind_word Delta = codes "delta"

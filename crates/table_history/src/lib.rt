@@ -5,7 +5,6 @@
 mod feature;
 mod kind;
 mod limit;
-pub mod limits;
 mod path;
 mod row;
 mod rows;
@@ -15,6 +14,7 @@ mod table;
 pub use feature::Feature;
 pub use json_reading::{list_of, object_of, text_of, whole_of};
 pub use kind::Kind;
+pub use lake_basics::limits;
 pub use limit::LimitKind;
 pub use path::{path_form, path_form_of_any_length};
 pub use row::{FileRow, PartValue, Values};

@@ -4,7 +4,7 @@ ghost use Rattle.std.specs.Prelude.{◌≡◌};
 ghost use Rattle.table_history.specs.Words.{limit_word, limit_number};
 
 use crate::kind::Kind;
-use crate::limits::{
+use lake_basics::limits::{
     MAX_ACTIONS, MAX_AVRO_VALUES, MAX_COLUMNS, MAX_COMMITS, MAX_DELTA_VERSION, MAX_FILE_BYTES,
     MAX_HUDI_YEAR, MAX_ICEBERG_VERSION, MAX_LIVE_FILES, MAX_NAMES, MAX_PARTITION_COLUMNS,
     MAX_PATH_BYTES, MAX_PUBLISHED_COMMITS, MAX_SCHEMA_LEVELS,

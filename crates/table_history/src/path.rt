@@ -3,7 +3,7 @@ ghost use Rattle.std.specs.Prelude.{◌≡◌, ◌↔◌, ◌≤◌, IsTrue, All
 ghost use Rattle.std.specs.List.{slice_split};
 ghost use Rattle.table_history.specs.Path.{IsPathOfAnyLength, IsPath, IsSegment, is_slash};
 
-use crate::limits::MAX_PATH_BYTES;
+use lake_basics::limits::MAX_PATH_BYTES;
 
 /// Whether the bytes are a path: 1 to 512 bytes of UTF-8 with no byte under 32, in segments that are
 /// parted by `/`, none of them empty, `.` or `..`.
