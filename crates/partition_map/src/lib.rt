@@ -1,0 +1,16 @@
+//! and relative URIs.
+#![tactic(auto)]
+
+mod date;
+mod delta;
+mod error;
+mod kind;
+mod number;
+mod texts;
+mod uri;
+
+pub use delta::to_delta_text;
+pub use error::PartError;
+pub use kind::{PartKind, part_kind};
+pub use texts::{from_delta_text, from_hive};
+pub use uri::{decode_uri_path, encode_uri_path};

@@ -1,0 +1,138 @@
+//! Paths as relative URIs, as Delta commits have them.
+ghost use Rattle.std.specs.Prelude.{◌≡◌, ◌++◌, ◌&&◌, ◌||◌, ◌==◌, not, IfOk, IfErr, OnOk, length, slice_index, string_bytes, take_while};
+ghost use Rattle.percent_encoding.specs.Percent.{percent_sign};
+ghost use Rattle.table_history.specs.Path.{IsPath};
+ghost use Rattle.partition_map.specs.Uri.{is_plain, escaped_byte, escaped_path, is_scheme_byte, colon, question_mark, number_sign, NamesPath, ExplainsRefusal};
+ghost use Rattle.partition_map.specs.UriPath.{is_outside, begins_hex, is_well_escaped, path_place, uri_path, inside_table, GivesPath};
+
+use crate::error::PartError;
+use lake_basics::Text;
+use lake_basics::limits::MAX_PATH_BYTES;
+use percent_encoding::{percent_decode, percent_encode_byte};
+use std::alloc::{AllocError, Global};
+use table_history::path_form_of_any_length;
+
+/// The path as a relative URI: each byte but ASCII letters, digits and `-._~/=` is escaped, with
+/// upper-case hex digits. Memory alone is refused.
+pub fn encode_uri_path(alloc: Global, path: &str) -> Result<Text, PartError>
+    ensures value { IfOk result (λ t. t ≡ escaped_path path.now) }
+    ensures names { IfOk result (λ t. IsPath path.now → NamesPath t path.now) }
+    ensures reads_back { IfOk result (λ t. IsPath path.now → uri_path t ≡ inside_table path.now) }
+    ensures refused { IfErr result (λ e. e ≡ PartError.Memory) }
+{
+    let mut uri = String::new(alloc);
+    for byte in path.as_bytes() {
+        push_escaped(&mut uri, *byte)?;
+    }
+    Ok(Text::from_string(uri))
+}
+
+fn push_escaped(uri: &mut String, byte: u8) -> Result<(), AllocError>
+    ensures { OnOk result (string_bytes uri.new ≡ string_bytes uri.old ++ escaped_byte byte) }
+{
+    if is_plain(byte) {
+        uri.push(char::from(byte))
+    } else {
+        uri.push_str(percent_encode_byte(byte))
+    }
+}
+
+fn is_plain(byte: u8) -> bool
+    ensures { result ≡ is_plain byte }
+{
+    byte.is_ascii_alphanumeric() || matches!(byte, b'-' | b'.' | b'_' | b'~' | b'/' | b'=')
+}
+
+/// The path that a relative URI names. What begins with `/`, or with a scheme and `:`, is
+/// `OutsideTable`. What holds `?`, `#` or a `%` without two hex digits, or unescapes to no path, is
+/// `BadPath`, and `TooLong` where the rule on a path's length alone is broken.
+pub fn decode_uri_path(alloc: Global, uri: &str) -> Result<Text, PartError>
+    ensures reading { GivesPath (uri_path uri.now) result }
+    ensures ok { IfOk result (NamesPath uri.now) }
+    ensures refused { IfErr result (ExplainsRefusal uri.now) }
+{
+    let bytes = uri.as_bytes();
+    if is_outside(bytes) {
+        return Err(PartError::OutsideTable);
+    }
+    if !is_well_escaped(bytes) {
+        return Err(PartError::BadPath);
+    }
+    let mut path = Vec::new(alloc);
+    percent_decode(bytes).append_to(&mut path)?;
+    place_path(path)
+}
+
+// The path of unescaped bytes, where they are one.
+fn place_path(bytes: Vec<u8>) -> Result<Text, PartError>
+    ensures { GivesPath (path_place bytes.items) result }
+{
+    let Ok(path) = String::from_utf8(bytes) else {
+        return Err(PartError::BadPath);
+    };
+    if !path_form_of_any_length(path.as_bytes()) {
+        return Err(PartError::BadPath);
+    }
+    if path.len() as u64 > MAX_PATH_BYTES {
+        return Err(PartError::TooLong);
+    }
+    Ok(Text::from_string(path))
+}
+
+fn is_outside(uri: &[u8]) -> bool
+    ensures { result ≡ is_outside uri.now }
+{
+    match uri {
+        [b'/', ..] => true,
+        [first, ..] => first.is_ascii_alphabetic() && ends_scheme(uri),
+        [] => false,
+    }
+}
+
+// Whether `:` stands behind the longest part in front that may be a scheme.
+fn ends_scheme(uri: &[u8]) -> bool
+    ensures { result ≡ (slice_index uri.now (length (take_while is_scheme_byte uri.now)) == colon) }
+{
+    let len = scheme_len(uri);
+    len < uri.len() && uri[len] == b':'
+}
+
+fn scheme_len(uri: &[u8]) -> usize
+    ensures { result ≡ length (take_while is_scheme_byte uri.now) }
+{
+    uri.iter().take_while(|b| is_scheme_byte(**b)).count()
+}
+
+fn is_scheme_byte(byte: u8) -> bool
+    ensures { result ≡ is_scheme_byte byte }
+{
+    byte.is_ascii_alphanumeric() || matches!(byte, b'+' | b'-' | b'.')
+}
+
+// Whether there is no `?` and no `#`, and two hex digits stand behind each `%`.
+fn is_well_escaped(uri: &[u8]) -> bool
+    ensures { result ≡ is_well_escaped uri.now }
+{
+    for i in 0..uri.len() {
+        if !is_path_byte(uri[i], &uri[i + 1..]) {
+            return false;
+        }
+    }
+    true
+}
+
+fn is_path_byte(byte: u8, rest: &[u8]) -> bool
+    ensures { result ≡ (not ((byte == question_mark) || (byte == number_sign)) && (not (byte == percent_sign) || begins_hex rest.now)) }
+{
+    match byte {
+        b'?' | b'#' => false,
+        b'%' => begins_hex(rest),
+        _ => true,
+    }
+}
+
+fn begins_hex(bytes: &[u8]) -> bool
+    ensures { result ≡ begins_hex bytes.now }
+{
+    bytes.len() > 1 && char::from(bytes[0]).is_digit(16) && char::from(bytes[1]).is_digit(16)
+}
