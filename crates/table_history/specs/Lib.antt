@@ -1,9 +1,12 @@
 pub mod Words
 pub mod Row
 pub mod TypeTree
+pub mod TypeEq
+pub mod TypeEqLaws
 pub mod TypeTreeCode
 pub mod SchemaView
 pub mod Rows
 pub mod RowMap
 pub mod Tables
 pub mod Path
+pub mod History

@@ -1,7 +1,7 @@
 -- A path within a table's folder.
-use Rattle.std.specs.Prelude.{◌≢◌, ℕ, ◌≤◌, ◌==◌, Bool, List, [], ◌∷◌, length, All}
-use Rattle.std.specs.List.{slice_split}
-use Rattle.std.specs.Str.{IsUtf8}
+use Rattle.std.specs.Prelude.{◌≢◌, ℕ, ◌≤◌, ◌==◌, ◌&&◌, not, nat_le, Bool, List, [], ◌∷◌, length, All, codes}
+use Rattle.std.specs.List.{list_all, slice_split}
+use Rattle.std.specs.Str.{IsUtf8, is_utf8, bytes_eq}
 use Rattle.lake_basics.specs.declared.limits.TheConstants.{MAX_PATH_BYTES}
 
 abbrev pub is_slash : ℕ → Bool
@@ -23,3 +23,14 @@ pub record IsPathOfAnyLength (bytes : List ℕ) : Type 0 where
 pub record IsPath (bytes : List ℕ) : Type 0 where
   pub form : IsPathOfAnyLength bytes
   pub short : length bytes ≤ MAX_PATH_BYTES
+
+-- ---- the same as tests
+
+abbrev pub is_segment : List ℕ → Bool
+is_segment segment = not (bytes_eq segment []) && (not (bytes_eq segment (codes ".")) && not (bytes_eq segment (codes "..")))
+
+abbrev pub is_path_of_any_length : List ℕ → Bool
+is_path_of_any_length bytes = is_utf8 bytes && (list_all (λ b. nat_le 32 b) bytes && list_all is_segment (slice_split is_slash bytes))
+
+abbrev pub is_path : List ℕ → Bool
+is_path bytes = nat_le (length bytes) MAX_PATH_BYTES && is_path_of_any_length bytes

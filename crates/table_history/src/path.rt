@@ -1,14 +1,15 @@
 //! The form of a path within a table's folder.
 ghost use Rattle.std.specs.Prelude.{◌≡◌, ◌↔◌, ◌≤◌, IsTrue, All};
 ghost use Rattle.std.specs.List.{slice_split};
-ghost use Rattle.table_history.specs.Path.{IsPathOfAnyLength, IsPath, IsSegment, is_slash};
+ghost use Rattle.table_history.specs.Path.{IsPathOfAnyLength, IsPath, IsSegment, is_slash, is_path};
 
 use lake_basics::limits::MAX_PATH_BYTES;
 
 /// Whether the bytes are a path: 1 to 512 bytes of UTF-8 with no byte under 32, in segments that are
 /// parted by `/`, none of them empty, `.` or `..`.
 pub fn path_form(bytes: &[u8]) -> bool
-    ensures { IsTrue result ↔ IsPath bytes.now }
+    ensures form { IsTrue result ↔ IsPath bytes.now }
+    ensures test { result ≡ is_path bytes.now }
 {
     bytes.len() as u64 <= MAX_PATH_BYTES && path_form_of_any_length(bytes)
 }
@@ -22,7 +23,8 @@ pub fn path_form_of_any_length(bytes: &[u8]) -> bool
 
 // Whether no byte is under 32, and each segment may stand in a path.
 fn has_plain_segments(bytes: &[u8]) -> bool
-    ensures { IsTrue result ↔ (All (λ b. 32 ≤ b) bytes.now × All IsSegment (slice_split is_slash bytes.now)) }
+    ensures { IsTrue result
+        ↔ (All (λ b. 32 ≤ b) bytes.now × All IsSegment (slice_split is_slash bytes.now)) }
 {
     let mut start = 0;
     for i in 0..bytes.len() {

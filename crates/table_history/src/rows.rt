@@ -1,5 +1,5 @@
 //! The live files of a table, by their paths.
-ghost use Rattle.std.specs.Prelude.{◌≡◌, ◌↔◌, ◌<◌, ◌≤◌, ℕ, List, [], ◌∷◌, length, map, cond, Some, None, IsTrue, IfOk, OnOk, OnErr, IfSome, MatchOption, slice_get, vec_len, Contains, All};
+ghost use Rattle.std.specs.Prelude.{◌≡◌, ◌↔◌, ◌<◌, ◌≤◌, ℕ, List, [], ◌∷◌, length, map, if◌then◌else◌, Some, None, IsTrue, IfOk, OnOk, OnErr, IfSome, MatchOption, slice_get, vec_len, Contains, All};
 ghost use Rattle.std.specs.List.{list_any, IsDistinct};
 ghost use Rattle.std.specs.Option.{option_copied, option_or};
 ghost use Rattle.std.specs.Str.{bytes_eq};
@@ -16,7 +16,7 @@ use std::marker::Model;
 
 type RowMap = IndexMap<Vec<u8>, FileRow>;
 
-/// The live files of a table. No two have one path.
+/// The live files of a table. No two have one path. Their order is not promised.
 #[derive(Drop)]
 pub struct FileRows {
     map: RowMap,
@@ -45,6 +45,7 @@ impl FileRows {
         }
     }
 
+    /// The number of rows.
     pub fn len(&self) -> usize
         ensures len { result ≡ length self.now }
         ensures distinct { HasDistinctPaths self.now }
@@ -58,7 +59,7 @@ impl FileRows {
         self.map.is_empty()
     }
 
-    /// The row at a place of the list.
+    /// The row at a place of the list, counted from 0.
     pub fn at(&self, place: usize) -> Option<&FileRow>
         ensures { option_copied result ≡ slice_get self.now place }
     {
@@ -66,8 +67,18 @@ impl FileRows {
         Some(row)
     }
 
-    /// Whether this very row is there.
-    pub fn contains(&self, row: &FileRow) -> bool
+    /// The row of a path.
+    pub fn get(&self, path: &[u8]) -> Option<&FileRow>
+        ensures value { option_copied result ≡ row_at self.now path.now }
+        ensures cases { MatchOption result (¬ HasPath self.now path.now)
+            (λ r. Contains self.now r.now × (r.now.path ≡ path.now)) }
+        ensures distinct { HasDistinctPaths self.now }
+    {
+        self.map.get(path)
+    }
+
+    // Whether this very row is there.
+    fn contains(&self, row: &FileRow) -> bool
         ensures { IsTrue result ↔ Contains self.now row.now }
     {
         match self.get(row.path.as_bytes()) {
@@ -82,8 +93,10 @@ impl FileRows {
         other: &FileRows,
         alloc: Global,
     ) -> Result<Vec<&'a FileRow>, AllocError>
-        ensures rows { IfOk result (λ v. (row : FileRow) → Contains (map (λ r. r.now) v.items) row ↔ (Contains self.now row × ¬ Contains other.now row)) }
+        ensures rows { IfOk result (λ v. (row : FileRow) → Contains (map (λ r. r.now) v.items) row
+            ↔ (Contains self.now row × ¬ Contains other.now row)) }
         ensures distinct { IfOk result (λ v. HasDistinctPaths (map (λ r. r.now) v.items)) }
+        ensures own_distinct { IfOk result (λ _. HasDistinctPaths self.now) }
     {
         let mut missing = Vec::new(alloc);
         for place in 0..self.len() {
@@ -95,14 +108,16 @@ impl FileRows {
         Ok(missing)
     }
 
-    /// The rows that are not rows of `other`, in byte order of their paths.
-    pub fn missing_from<'a>(
+    // The rows that are not rows of `other`, in byte order of their paths.
+    pub(crate) fn missing_from<'a>(
         &'a self,
         other: &FileRows,
         alloc: Global,
     ) -> Result<Vec<&'a FileRow>, AllocError>
-        ensures rows { IfOk result (λ v. (row : FileRow) → Contains (map (λ r. r.now) v.items) row ↔ (Contains self.now row × ¬ Contains other.now row)) }
+        ensures rows { IfOk result (λ v. (row : FileRow) → Contains (map (λ r. r.now) v.items) row
+            ↔ (Contains self.now row × ¬ Contains other.now row)) }
         ensures order { IfOk result (λ v. IsInPathOrder (map (λ r. r.now) v.items)) }
+        ensures own_distinct { IfOk result (λ _. HasDistinctPaths self.now) }
     {
         let mut missing = self.unsorted_missing_from(other, alloc)?;
         missing.sort_by(|a, b| a.path.cmp(&b.path))?;
@@ -122,14 +137,17 @@ impl FileRows {
         Ok(FileRows { map })
     }
 
-    // Takes out the rows of these paths, and then puts the added rows in. A row of `added` replaces one of its path.
+    // Takes out the rows of these paths, and then puts the added rows in. A row of `added` replaces
+    // one of its path.
     pub(crate) fn update(
         &mut self,
         alloc: Global,
         removed: &[Text],
         added: &[FileRow],
     ) -> Result<(), AllocError>
-        ensures ok { OnOk result ((p : List ℕ) → row_at self.new p ≡ option_or (row_at added.now p) (cond (list_any (bytes_eq p) removed.now) None (row_at self.old p))) }
+        ensures ok { OnOk result ((p : List ℕ) → row_at self.new p
+            ≡ option_or (row_at added.now p)
+            (if list_any (bytes_eq p) removed.now then None else row_at self.old p)) }
         ensures distinct { OnOk result (HasDistinctPaths self.new) }
         ensures was_distinct { OnOk result (HasDistinctPaths self.old) }
         ensures err { OnErr result (self.new ≡ self.old) }
@@ -139,15 +157,6 @@ impl FileRows {
         remove_paths(&mut self.map, removed);
         insert_arrivals(&mut self.map, arrivals);
         Ok(())
-    }
-
-    /// The row of a path.
-    pub fn get(&self, path: &[u8]) -> Option<&FileRow>
-        ensures value { option_copied result ≡ row_at self.now path.now }
-        ensures cases { MatchOption result (¬ HasPath self.now path.now) (λ r. Contains self.now r.now × (r.now.path ≡ path.now)) }
-        ensures distinct { HasDistinctPaths self.now }
-    {
-        self.map.get(path)
     }
 }
 
@@ -173,7 +182,8 @@ fn arrivals_of(rows: &[FileRow], alloc: Global) -> Result<Vec<Arrival>, AllocErr
 }
 
 fn remove_paths(rows: &mut RowMap, paths: &[Text])
-    ensures lookups { (p : List ℕ) → row_of rows.new.entries p ≡ cond (list_any (bytes_eq p) paths.now) None (row_of rows.old.entries p) }
+    ensures lookups { (p : List ℕ) → row_of rows.new.entries p
+        ≡ (if list_any (bytes_eq p) paths.now then None else row_of rows.old.entries p) }
     ensures room { spare rows.old ≤ spare rows.new }
     ensures unique { IsDistinct key_eq (map (λ e. e.0) rows.new.entries) }
 {
@@ -185,7 +195,8 @@ fn remove_paths(rows: &mut RowMap, paths: &[Text])
 
 fn insert_arrivals(rows: &mut RowMap, mut arrivals: Vec<Arrival>)
     requires { vec_len arrivals ≤ spare rows.old }
-    ensures lookups { (p : List ℕ) → row_of rows.new.entries p ≡ option_or (row_at (map (λ a. a.row) arrivals.items) p) (row_of rows.old.entries p) }
+    ensures lookups { (p : List ℕ) → row_of rows.new.entries p
+        ≡ option_or (row_at (map (λ a. a.row) arrivals.items) p) (row_of rows.old.entries p) }
     ensures unique { IsDistinct key_eq (map (λ e. e.0) rows.new.entries) }
 {
     while let Some(arrival) = arrivals.pop() {

@@ -1,6 +1,9 @@
 //! Schemas: the columns of a table and their types.
-ghost use Rattle.std.specs.Prelude.{◌≡◌, IfOk};
+ghost use Rattle.std.specs.Prelude.{◌≡◌, ◌↔◌, IfOk, IsTrue};
+ghost use Rattle.std.specs.Cmp as cmp;
 ghost use Rattle.table_history.specs.SchemaView.{type_view, column_view, columns_view};
+ghost use Rattle.table_history.specs.TypeTree.{decimal};
+ghost use Rattle.table_history.specs.TypeEq.{type_eq, column_eq, columns_eq};
 
 use lake_basics::Text;
 use std::alloc::{AllocError, Global};
@@ -47,6 +50,13 @@ pub struct Column {
 }
 
 impl ColumnType {
+    /// Whether the two are one type, with their parts.
+    pub fn is_same(&self, other: &ColumnType) -> bool
+        ensures { IsTrue result ↔ (type_view self.now ≡ type_view other.now) }
+    {
+        same_type(self, other)
+    }
+
     /// A type of the same tree.
     #[cycle(copy)]
     pub fn copy(&self, alloc: Global) -> Result<ColumnType, AllocError>
@@ -112,6 +122,92 @@ fn copy_columns(columns: &Vec<Column>, alloc: Global) -> Result<Vec<Column>, All
     Ok(copies)
 }
 
+// Whether the two are types of one tree.
+#[cycle(same)]
+fn same_type(kind: &ColumnType, other: &ColumnType) -> bool
+    ensures { result ≡ type_eq (type_view kind.now) (type_view other.now) }
+{
+    match kind {
+        ColumnType::Boolean => matches!(other, ColumnType::Boolean),
+        ColumnType::Byte => matches!(other, ColumnType::Byte),
+        ColumnType::Short => matches!(other, ColumnType::Short),
+        ColumnType::Int => matches!(other, ColumnType::Int),
+        ColumnType::Long => matches!(other, ColumnType::Long),
+        ColumnType::Float => matches!(other, ColumnType::Float),
+        ColumnType::Double => matches!(other, ColumnType::Double),
+        ColumnType::Text => matches!(other, ColumnType::Text),
+        ColumnType::Binary => matches!(other, ColumnType::Binary),
+        ColumnType::Date => matches!(other, ColumnType::Date),
+        ColumnType::Timestamp => matches!(other, ColumnType::Timestamp),
+        ColumnType::TimestampNtz => matches!(other, ColumnType::TimestampNtz),
+        ColumnType::Decimal { precision, scale } => same_decimal(*precision, *scale, other),
+        ColumnType::Struct(columns) => match other {
+            ColumnType::Struct(others) => same_columns(columns, others),
+            _ => false,
+        },
+        ColumnType::List { element, nullable } => match other {
+            ColumnType::List {
+                element: other,
+                nullable: may_be_null,
+            } => same_type(element, other) && *nullable == *may_be_null,
+            _ => false,
+        },
+        ColumnType::Map {
+            key,
+            value,
+            nullable,
+        } => match other {
+            ColumnType::Map {
+                key: other_key,
+                value: other_value,
+                nullable: may_be_null,
+            } => {
+                same_type(key, other_key)
+                    && same_type(value, other_value)
+                    && *nullable == *may_be_null
+            }
+            _ => false,
+        },
+    }
+}
+
+fn same_decimal(precision: u8, scale: u8, other: &ColumnType) -> bool
+    ensures { result ≡ type_eq (decimal precision scale) (type_view other.now) }
+{
+    match other {
+        ColumnType::Decimal {
+            precision: digits,
+            scale: behind,
+        } => precision == *digits && scale == *behind,
+        _ => false,
+    }
+}
+
+#[cycle(same)]
+fn same_columns(columns: &Vec<Column>, others: &Vec<Column>) -> bool
+    ensures { result ≡ columns_eq (columns_view columns.now.items) (columns_view others.now.items) }
+{
+    let others = others.as_slice();
+    if columns.as_slice().len() != others.len() {
+        return false;
+    }
+    for (place, column) in columns.iter().enumerate() {
+        if !same_column(column, &others[place]) {
+            return false;
+        }
+    }
+    true
+}
+
+#[cycle(same)]
+fn same_column(column: &Column, other: &Column) -> bool
+    ensures { result ≡ column_eq (column_view column.now) (column_view other.now) }
+{
+    column.name == other.name
+        && same_type(&column.kind, &other.kind)
+        && column.nullable == other.nullable
+}
+
 /// The columns of a table, which a contract sees as plain trees.
 #[derive(Drop)]
 pub struct Schema {
@@ -145,10 +241,29 @@ impl Schema {
         self.columns.as_slice()
     }
 
+    /// An equal schema.
     pub fn copy(&self, alloc: Global) -> Result<Schema, AllocError>
         ensures { IfOk result (λ s. s ≡ self.now) }
     {
         let columns = copy_columns(&self.columns, alloc)?;
         Ok(Schema { columns })
     }
+}
+
+impl PartialEq for Schema {
+    ghost use Rattle.table_history.specs.TypeEqLaws.{columns_equiv};
+
+    ghost eq = { columns_eq };
+
+    ghost laws = { cmp.partial_equiv_from_equiv columns_equiv };
+
+    fn eq(&self, other: &Schema) -> bool {
+        same_columns(&self.columns, &other.columns)
+    }
+}
+
+impl Eq for Schema {
+    ghost use Rattle.table_history.specs.TypeEqLaws.{columns_equiv};
+
+    ghost laws = { columns_equiv };
 }

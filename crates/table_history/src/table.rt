@@ -1,9 +1,8 @@
 //! Tables, and the changes that commits make of them.
-ghost use Rattle.std.specs.Prelude.{◌≡◌, ◌↔◌, [], map, Contains, IfOk, OnOk, OnErr, Some};
+
+ghost use Rattle.std.specs.Prelude.{◌≡◌, map, IfOk, OnOk, OnErr, Some};
 ghost use Rattle.table_history.specs.Rows.{SameRows};
-ghost use Rattle.table_history.specs.Tables.{CanApply, IsAfter, IsRowAfter, IsDiff};
-ghost use Rattle.table_history.specs.declared.row.FileRow.{FileRow};
-ghost use Rattle.table_history.specs.TypeTree.{no_columns};
+ghost use Rattle.table_history.specs.Tables.{CanApply, IsAfter, IsDiff, LeadsTo, empty_table};
 
 use crate::row::FileRow;
 use crate::rows::FileRows;
@@ -19,8 +18,9 @@ pub struct Table {
     pub rows: FileRows,
 }
 
-/// What a commit makes of a table: the schema that it states, if it states one, the paths of the rows that it takes out, and the
-/// rows that it puts in. A row that is changed has its path among the removed and stands anew among the added.
+/// What a commit makes of a table: the schema that it states, if it states one, the paths of the
+/// rows that it takes out, and the rows that it puts in. A row that changes has its path among the
+/// removed and stands anew among the added.
 #[derive(Drop)]
 pub struct Change {
     pub schema: Option<Schema>,
@@ -36,26 +36,9 @@ pub struct Commit {
 }
 
 impl Table {
-    /// Makes the change. For want of memory the table stays as it is.
-    pub fn apply(&mut self, alloc: Global, change: &Change) -> Result<(), AllocError>
-        requires { CanApply self.old change.now }
-        ensures ok { OnOk result (IsAfter self.old change.now self.new) }
-        ensures err { OnErr result (self.new ≡ self.old) }
-    {
-        let stated = copy_stated(&change.schema, alloc)?;
-        self.rows
-            .update(alloc, change.removed.as_slice(), change.added.as_slice())?;
-        if let Some(schema) = stated {
-            self.schema = schema;
-        }
-        Ok(())
-    }
-
     /// The table of these partition columns that has no column and no row.
     pub fn empty(alloc: Global, partition: &[Text]) -> Result<Table, AllocError>
-        ensures schema { IfOk result (λ t. t.schema ≡ no_columns) }
-        ensures partition { IfOk result (λ t. t.partition ≡ partition.now) }
-        ensures rows { IfOk result (λ t. t.rows ≡ []) }
+        ensures { IfOk result (λ t. t ≡ empty_table partition.now) }
     {
         Ok(Table {
             schema: Schema::new(Vec::new(alloc)),
@@ -75,30 +58,30 @@ impl Table {
         })
     }
 
-    /// Brings the table to the rows and the schema of `after`, and gives the change that was made. For want of memory the table
-    /// stays as it is.
-    pub fn advance_to(&mut self, alloc: Global, after: &Table) -> Result<Change, AllocError>
-        ensures rows { OnOk result (SameRows self.new.rows after.now.rows) }
-        ensures schema { OnOk result (self.new.schema ≡ after.now.schema) }
-        ensures partition { self.new.partition ≡ self.old.partition }
-        ensures diff { IfOk result (λ c. IsDiff self.old.rows after.now.rows c.removed c.added) }
+    /// Makes the change. For want of memory the table stays as it is.
+    pub fn apply(&mut self, alloc: Global, change: &Change) -> Result<(), AllocError>
+        requires { CanApply self.old change.now }
+        ensures ok { OnOk result (IsAfter self.old change.now self.new) }
         ensures err { OnErr result (self.new ≡ self.old) }
     {
-        let change = self.change_to(alloc, after)?;
-        self.apply(alloc, &change)?;
-        Ok(change)
+        let stated = copy_stated(&change.schema, alloc)?;
+        self.rows
+            .update(alloc, change.removed.as_slice(), change.added.as_slice())?;
+        if let Some(schema) = stated {
+            self.schema = schema;
+        }
+        Ok(())
     }
 
-    /// The change that takes the rows of this table to those of `after`, with the schema of `after`.
+    /// The change that leads from the rows of this table to those of `after`, with the schema of
+    /// `after`.
     pub fn change_to(&self, alloc: Global, after: &Table) -> Result<Change, AllocError>
         ensures diff { IfOk result (λ c. IsDiff self.now.rows after.now.rows c.removed c.added) }
         ensures schema { IfOk result (λ c. c.schema ≡ Some after.now.schema) }
+        // What follows for `apply`: it may be called with this change, and leads to these rows.
         ensures fits { IfOk result (λ c. CanApply self.now c) }
-        ensures leads { IfOk result (λ c. (row : FileRow) → IsRowAfter self.now.rows c.removed c.added row ↔ Contains after.now.rows row) }
+        ensures leads { IfOk result (λ c. LeadsTo self.now.rows c.removed c.added after.now.rows) }
     {
-        // `len` is called for its clause that the paths are distinct, which the proof cites.
-        let _before = self.rows.len();
-        let _after = after.rows.len();
         let lost = self.rows.missing_from(&after.rows, alloc)?;
         let new = after.rows.missing_from(&self.rows, alloc)?;
         Ok(Change {

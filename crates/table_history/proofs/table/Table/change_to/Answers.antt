@@ -22,8 +22,8 @@ returns-clause-fits c =
     let after = c.args.after.now.rows in
     let lost = c.from_vec.result in
     let new = c.from_vec-2.result in
-    let before_distinct = c.len-before.ensures.distinct in
-    let after_distinct = c.len-after.ensures.distinct in
+    let before_distinct = c.in_ok-lost.ensures.own_distinct in
+    let after_distinct = c.in_ok-new.ensures.own_distinct in
     record {
       removed_distinct = diff_removed_distinct before after lost new (made c) before_distinct after_distinct;
       removed_there = diff_removed_there before after lost new (made c) before_distinct after_distinct;
@@ -33,4 +33,4 @@ returns-clause-fits c =
 
 pub returns-clause-leads : goal.returns-clause-leads
 returns-clause-leads c =
-    diff_leads c.args.self.now.rows c.args.after.now.rows c.from_vec.result c.from_vec-2.result (made c) c.len-before.ensures.distinct c.len-after.ensures.distinct
+    diff_leads c.args.self.now.rows c.args.after.now.rows c.from_vec.result c.from_vec-2.result (made c) c.in_ok-lost.ensures.own_distinct c.in_ok-new.ensures.own_distinct
