@@ -1,0 +1,10 @@
+pub mod Layout
+pub mod ValueTree
+pub mod Varint
+pub mod Reading
+pub mod Answers
+pub mod Spelling
+pub mod Laws
+pub mod Faults
+pub mod Writing
+pub mod Fitting

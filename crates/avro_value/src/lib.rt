@@ -1,0 +1,23 @@
+//! Avro values and their binary encoding, by the Apache Avro specification, "Binary Encoding".
+#![tactic(auto)]
+
+mod api;
+mod error;
+pub mod fault;
+pub mod input;
+pub mod item;
+pub mod leaf;
+mod reader;
+#[cfg(test)]
+mod tests;
+mod value;
+mod writer;
+
+pub use api::{MAX_VALUES, decode, decode_within, encode, fault_error, read_long};
+pub use avro_schema::{Field, Schema, Shape};
+pub use error::AvroError;
+pub use reader::value as read_value;
+pub use value::Value;
+pub use writer::{
+    push_blob, push_bytes, push_natural, push_text, push_value, push_values, put_long,
+};

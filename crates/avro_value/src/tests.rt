@@ -1,0 +1,162 @@
+//! Spellings of the Avro specification, "Binary Encoding", and faults by their places.
+
+use crate::error::AvroError;
+use crate::value::Value;
+use crate::{decode, decode_within, encode, put_long, read_long};
+use avro_schema::{Schema, Shape};
+use std::alloc::{AllocError, Global};
+use std::test::Fail;
+
+fn plain(shape: Shape) -> Schema {
+    Schema {
+        shape,
+        logical: None,
+        precision: None,
+        scale: None,
+    }
+}
+
+fn list_of(alloc: Global, shape: Shape) -> Result<Schema, AllocError> {
+    Ok(plain(Shape::Array {
+        items: Box::new(alloc, plain(shape))?,
+        element_id: None,
+    }))
+}
+
+const LOWEST: [u8; 10] = [0xff, 0xff, 0xff, 0xff, 0xff, 0xff, 0xff, 0xff, 0xff, 0x01];
+
+const HIGHEST: [u8; 10] = [0xfe, 0xff, 0xff, 0xff, 0xff, 0xff, 0xff, 0xff, 0xff, 0x01];
+
+const ELEVEN: [u8; 11] = [
+    0x80, 0x80, 0x80, 0x80, 0x80, 0x80, 0x80, 0x80, 0x80, 0x80, 0x00,
+];
+
+const PAST: [u8; 10] = [0x80, 0x80, 0x80, 0x80, 0x80, 0x80, 0x80, 0x80, 0x80, 0x02];
+
+#[test]
+fn numbers_are_read(rt: HostRuntime) -> Result<(), Fail> {
+    let rows: [(&[u8], Result<(i64, usize), AvroError>); 9] = [
+        (&[0x00], Ok((0, 1))),
+        (&[0x7f], Ok((-64, 1))),
+        (&[0x80, 0x01], Ok((64, 2))),
+        (&[0x80, 0x00], Ok((0, 2))),
+        (&LOWEST, Ok((i64::MIN, 10))),
+        (&HIGHEST, Ok((i64::MAX, 10))),
+        (&ELEVEN, Err(AvroError::BadLong { at: 0 })),
+        (&PAST, Err(AvroError::BadLong { at: 0 })),
+        (&[0x80], Err(AvroError::Short { at: 0 })),
+    ];
+    for (bytes, expected) in rows {
+        assert_eq!(rt; read_long(bytes, 0), expected);
+    }
+    Ok(())
+}
+
+#[test]
+fn numbers_are_written(rt: HostRuntime) -> Result<(), Fail> {
+    let rows: [(i64, &[u8]); 5] = [
+        (0, &[0x00]),
+        (-64, &[0x7f]),
+        (64, &[0x80, 0x01]),
+        (i64::MIN, &LOWEST),
+        (i64::MAX, &HIGHEST),
+    ];
+    for (n, expected) in rows {
+        let mut out = [0; 10];
+        let len = put_long(&mut out, n);
+        assert_eq!(rt; &out[..len], expected);
+    }
+    Ok(())
+}
+
+/// Where the value ends, or why there is none.
+fn end_of(alloc: Global, schema: &Schema, bytes: &[u8]) -> Result<usize, AvroError> {
+    match decode(alloc, schema, bytes, 0) {
+        Ok((_, end)) => Ok(end),
+        Err(error) => Err(error),
+    }
+}
+
+#[test]
+fn faults_are_refused_at_their_places(rt: HostRuntime) -> Result<(), Fail> {
+    let alloc = rt.alloc();
+    let longs = list_of(alloc, Shape::Long)?;
+    let int = plain(Shape::Int);
+    let text = plain(Shape::Text);
+    let boolean = plain(Shape::Boolean);
+    let rows: [(&Schema, &[u8], Result<usize, AvroError>); 9] = [
+        (&longs, &[0x04, 0x02, 0x04, 0x00], Ok(4)),
+        (&longs, &[0x03, 0x04, 0x02, 0x04, 0x00], Ok(5)),
+        (
+            &longs,
+            &[0x03, 0x06, 0x02, 0x04, 0x00],
+            Err(AvroError::BadLength { at: 1 }),
+        ),
+        (&longs, &[0x04, 0x02], Err(AvroError::Short { at: 2 })),
+        (
+            &int,
+            &[0x80, 0x80, 0x80, 0x80, 0x10],
+            Err(AvroError::BadLong { at: 0 }),
+        ),
+        (&text, &[0x04, 0x68, 0x69], Ok(3)),
+        (
+            &text,
+            &[0x04, 0x68, 0xff],
+            Err(AvroError::BadText { at: 0 }),
+        ),
+        (&boolean, &[0x01], Ok(1)),
+        (&boolean, &[0x02], Err(AvroError::BadBool { at: 0 })),
+    ];
+    for (schema, bytes, expected) in rows {
+        assert_eq!(rt; end_of(alloc, schema, bytes), expected);
+    }
+    Ok(())
+}
+
+fn is_one_two(value: &Value) -> bool {
+    match value {
+        Value::Array(items) => match items.as_slice() {
+            [Value::Long(1), Value::Long(2)] => true,
+            _ => false,
+        },
+        _ => false,
+    }
+}
+
+#[test]
+fn both_kinds_of_blocks_hold_the_items(rt: HostRuntime) -> Result<(), Fail> {
+    let alloc = rt.alloc();
+    let longs = list_of(alloc, Shape::Long)?;
+    let spellings: [&[u8]; 2] = [&[0x04, 0x02, 0x04, 0x00], &[0x03, 0x04, 0x02, 0x04, 0x00]];
+    for bytes in spellings {
+        let (value, end, remaining) = decode_within(alloc, &longs, bytes, 0, 3)?;
+        assert!(rt; is_one_two(&value));
+        assert_eq!(rt; end, bytes.len());
+        assert_eq!(rt; remaining, 0);
+    }
+    Ok(())
+}
+
+#[test]
+fn items_without_bytes_count(rt: HostRuntime) -> Result<(), Fail> {
+    let nulls = list_of(rt.alloc(), Shape::Null)?;
+    let bytes = [0xfe, 0xff, 0xff, 0xff, 0xff, 0xff, 0xff, 0xff, 0x7f, 0x00];
+    match decode_within(rt.alloc(), &nulls, &bytes, 0, 1000) {
+        Ok(_) => assert!(rt; false),
+        Err(error) => assert_eq!(rt; error, AvroError::Limit { at: 9 }),
+    }
+    Ok(())
+}
+
+#[test]
+fn a_value_is_encoded(rt: HostRuntime) -> Result<(), Fail> {
+    let schema = Schema {
+        shape: Shape::Long,
+        logical: None,
+        precision: None,
+        scale: None,
+    };
+    let bytes = encode(rt.alloc(), &schema, &Value::Long(64))?;
+    assert_eq!(rt; bytes.as_slice(), [0x80, 0x01].as_slice());
+    Ok(())
+}
