@@ -1,0 +1,9 @@
+pub mod Errors
+pub mod Names
+pub mod Decimal
+pub mod Limits
+pub mod Shared
+pub mod Delta
+pub mod DeltaSpelling
+pub mod DeltaWriting
+pub mod Sound

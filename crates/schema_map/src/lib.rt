@@ -1,0 +1,17 @@
+//! One schema in the spellings of three table formats: Delta's schema text, Iceberg's schema with its
+//! field ids, and the Avro schema that Hudi keeps.
+#![tactic(auto)]
+
+mod decimal;
+mod delta;
+mod delta_writing;
+mod fault;
+mod limits;
+mod member;
+mod names;
+mod shared;
+mod word;
+
+pub use delta::from_delta;
+pub use delta_writing::to_delta;
+pub use fault::MapError;
