@@ -1,0 +1,239 @@
+//! Reads and writes of the system's files, by the calls of std.
+ghost use Rattle.std.specs.Prelude.{◌≤◌, IfOk, IfSome, length, vec_len};
+ghost use Rattle.lakebridge.specs.Lengths.{IsWithin};
+
+use lake_store::{Names, Text};
+use std::alloc::Global;
+use std::fs;
+use std::fs::{DirEntry, Metadata, OpenFile, OpenOptions};
+use std::io::{self, ErrorKind, Read, Seek, SeekFrom, Write};
+use std::rt::Files;
+use table_history::limits::{MAX_FILE_BYTES, MAX_NAMES};
+
+/// What stands at a path.
+#[derive(Drop)]
+pub enum Found<T> {
+    Absent,
+    TooLong { length: u64 },
+    Here(T),
+}
+
+// Whether the error says that no file has this path: a part of the path is missing, or is no folder.
+fn says_absent(error: &io::Error) -> bool {
+    matches!(error.kind(), ErrorKind::NotFound | ErrorKind::NotADirectory)
+}
+
+// What the system says of the file, where there is one. A folder, a pipe or a device is none.
+fn file_at<R: Files>(rt: &R, path: &str) -> io::Result<Option<Metadata>> {
+    match fs::metadata(rt, path) {
+        Ok(metadata) if metadata.is_file() => Ok(Some(metadata)),
+        Ok(_) => Ok(None),
+        Err(error) if says_absent(&error) => Ok(None),
+        Err(error) => Err(error),
+    }
+}
+
+fn open_at<R: Files>(rt: &R, path: &str) -> io::Result<Option<R::File>> {
+    match fs::open(rt, path) {
+        Ok(file) => Ok(Some(file)),
+        Err(error) if says_absent(&error) => Ok(None),
+        Err(error) => Err(error),
+    }
+}
+
+/// The file's bytes, unless they are more than `MAX_FILE_BYTES`.
+pub fn read_whole<R: Files>(rt: &R, alloc: Global, path: &str) -> io::Result<Found<Vec<u8>>>
+    ensures { IfOk result (λ found. IsWithin MAX_FILE_BYTES (λ bytes. vec_len bytes) found) }
+{
+    let Some(metadata) = file_at(rt, path)? else {
+        return Ok(Found::Absent);
+    };
+    let length = metadata.len();
+    if length > MAX_FILE_BYTES {
+        return Ok(Found::TooLong { length });
+    }
+    let Some(file) = open_at(rt, path)? else {
+        return Ok(Found::Absent);
+    };
+    let mut bytes = Vec::with_capacity(alloc, length as usize)?;
+    file.take(MAX_FILE_BYTES + 1).read_to_end(&mut bytes)?;
+    // It may have grown in between.
+    let length = bytes.len() as u64;
+    if length > MAX_FILE_BYTES {
+        return Ok(Found::TooLong { length });
+    }
+    Ok(Found::Here(bytes))
+}
+
+/// At most `len` bytes of the file from `from` on.
+pub fn read_range<R: Files>(
+    rt: &R,
+    alloc: Global,
+    path: &str,
+    from: u64,
+    len: u32,
+) -> io::Result<Option<Vec<u8>>>
+    ensures { IfOk result (λ part. IfSome part (λ bytes. vec_len bytes ≤ len)) }
+{
+    let Some(metadata) = file_at(rt, path)? else {
+        return Ok(None);
+    };
+    let Some(mut file) = open_at(rt, path)? else {
+        return Ok(None);
+    };
+    let mut bytes = Vec::new(alloc);
+    if from < metadata.len() {
+        file.seek(SeekFrom::Start(from))?;
+        file.take(u64::from(len)).read_to_end(&mut bytes)?;
+    }
+    bytes.truncate(len as usize);
+    Ok(Some(bytes))
+}
+
+/// The names of the files directly in the folder, in byte order. One that isn't UTF-8 is left out.
+pub fn names_in<R: Files + AllocGlobal + Clone + Drop>(
+    rt: &R,
+    alloc: Global,
+    folder: &str,
+) -> io::Result<Found<Names>>
+    ensures { IfOk result (λ found. IsWithin MAX_NAMES (λ names. length names) found) }
+{
+    let entries = match fs::read_dir(rt, folder) {
+        Ok(entries) => entries,
+        Err(error) if says_absent(&error) => return Ok(Found::Absent),
+        Err(error) => return Err(error),
+    };
+    let mut names = Vec::new(alloc);
+    let mut count = 0u64;
+    'entries: for entry in entries {
+        if let Some(name) = name_of_file(rt, alloc, entry)? {
+            count = count.saturating_add(1);
+            push_within(&mut names, name)?;
+        }
+    }
+    if count > MAX_NAMES {
+        return Ok(Found::TooLong { length: count });
+    }
+    Ok(Found::Here(in_order(names)?))
+}
+
+// The names in byte order, each once.
+fn in_order(mut names: Vec<Text>) -> io::Result<Names>
+    ensures { IfOk result (λ sorted. length sorted ≤ vec_len names) }
+{
+    names.sort()?;
+    names.dedup();
+    Ok(Names::from_sorted(names))
+}
+
+// Adds the name where there is room for one more.
+fn push_within(names: &mut Vec<Text>, name: Text) -> io::Result<()>
+    requires { vec_len names.old ≤ MAX_NAMES }
+    ensures { vec_len names.new ≤ MAX_NAMES }
+{
+    if (names.len() as u64) < MAX_NAMES {
+        names.push(name)?;
+    }
+    Ok(())
+}
+
+// The name that an entry of a folder shows, if it is that of a file and is UTF-8.
+fn name_of_file<R: Files + Drop>(
+    rt: &R,
+    alloc: Global,
+    entry: io::Result<DirEntry<R, Global>>,
+) -> io::Result<Option<Text>> {
+    match entry {
+        Ok(entry) => {
+            if file_at(rt, entry.path().as_str())?.is_none() {
+                return Ok(None);
+            }
+            Ok(Some(Text::from_str(alloc, entry.file_name())?))
+        }
+        Err(error) if error.kind() == ErrorKind::InvalidFilename => Ok(None),
+        Err(error) => Err(error),
+    }
+}
+
+// The folder that a path lies in, or nothing for a path with no `/`.
+pub fn folder_of(path: &str) -> &str {
+    match path.rsplit_once('/') {
+        Some((folder, _)) => folder,
+        None => "",
+    }
+}
+
+/// Makes the file anew with these bytes, and its folders where they are missing. What another name of an
+/// old file reads stays, since that file isn't written over.
+pub fn write_new<R: Files>(rt: &R, path: &str, bytes: &[u8]) -> io::Result<()> {
+    remove_if_there(rt, path)?;
+    let mut file = match create_new(rt, path) {
+        Ok(file) => file,
+        Err(error) if error.kind() == ErrorKind::NotFound => {
+            fs::create_dir_all(rt, folder_of(path))?;
+            create_new(rt, path)?
+        }
+        Err(error) => return Err(error),
+    };
+    file.write_all(bytes)
+}
+
+fn create_new<R: Files>(rt: &R, path: &str) -> io::Result<R::File> {
+    let mut options = OpenOptions::new();
+    options.write(true).create_new(true);
+    options.open(rt, path)
+}
+
+/// Removes the file where there is one.
+pub fn remove_if_there<R: Files>(rt: &R, path: &str) -> io::Result<()> {
+    match fs::remove_file(rt, path) {
+        Ok(()) => Ok(()),
+        Err(error) if says_absent(&error) => Ok(()),
+        Err(error) => Err(error),
+    }
+}
+
+/// Has what stands at the path on the disk: a file's bytes, or a folder's names. An absent one needs nothing.
+pub fn sync_at<R: Files>(rt: &R, path: &str) -> io::Result<()> {
+    match open_at(rt, path)? {
+        Some(file) => file.sync_all(),
+        None => Ok(()),
+    }
+}
+
+/// Removes the file, durably, where there is one.
+pub fn remove_durably<R: Files>(rt: &R, path: &str) -> io::Result<()> {
+    remove_if_there(rt, path)?;
+    sync_at(rt, folder_of(path))
+}
+
+/// Gives the file its new name, durably, and answers whether it could: no file that stands there is replaced.
+pub fn move_to_free<R: Files>(rt: &R, from: &str, to: &str) -> io::Result<bool> {
+    match fs::hard_link(rt, from, to) {
+        Ok(()) => remove_link(rt, from, to),
+        Err(error) if error.kind() == ErrorKind::AlreadyExists => Ok(false),
+        Err(error) if says_absent(&error) => Err(error),
+        Err(_) => rename_to_free(rt, from, to),
+    }
+}
+
+// The new name is on the disk before the old one goes.
+fn remove_link<R: Files>(rt: &R, from: &str, to: &str) -> io::Result<bool> {
+    sync_at(rt, folder_of(to))?;
+    fs::remove_file(rt, from)?;
+    sync_at(rt, folder_of(from))?;
+    Ok(true)
+}
+
+// For a file system without hard links. A file that comes to the name in between would be replaced.
+fn rename_to_free<R: Files>(rt: &R, from: &str, to: &str) -> io::Result<bool> {
+    match fs::metadata(rt, to) {
+        Ok(_) => return Ok(false),
+        Err(error) if says_absent(&error) => {}
+        Err(error) => return Err(error),
+    }
+    fs::rename(rt, from, to)?;
+    sync_at(rt, folder_of(to))?;
+    sync_at(rt, folder_of(from))?;
+    Ok(true)
+}

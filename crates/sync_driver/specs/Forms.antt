@@ -1,0 +1,78 @@
+-- How a command is spelled.
+use Rattle.std.specs.Prelude.{◌≡◌, ◌≢◌, ◌<◌, ◌≤◌, ◌==◌, ℕ, List, [], ◌∷◌, length, slice_get, codes, String, string_bytes, Option, Some, None, option_and_then, if◌then◌else◌}
+use Rattle.std.specs.Option.{option_map}
+use Rattle.std.specs.declared.alloc.Global.{Global}
+use Rattle.table_history.specs.declared.kind.Kind.{Kind}
+use Rattle.table_history.specs.Words.{kind_named}
+use Rattle.sync_driver.specs.declared.words.Verb.{Verb}
+use Rattle.sync_driver.specs.declared.words.Verb.TheVariants as verb
+use Rattle.sync_driver.specs.declared.words.Form.{Form}
+use Rattle.sync_driver.specs.declared.words.Form.TheVariants.{Sync, Full, Show}
+
+abbrev pub Words : Type 0
+Words = List (String Global)
+
+-- the text of the word at a place, counted from 0
+abbrev pub word : Words → ℕ → Option (List ℕ)
+word words place = option_map string_bytes (slice_get words place)
+
+-- the format that the word at a place names
+abbrev pub kind_at : Words → ℕ → Option Kind
+kind_at words place = option_and_then kind_named (word words place)
+
+abbrev pub verb_word : Verb → List ℕ
+verb_word verb.Sync = codes "sync"
+verb_word verb.Full = codes "full"
+verb_word verb.Show = codes "show"
+
+-- so many words, the first of them a place: behind it the verb and the source
+abbrev pub Begins : Words → ℕ → Verb → Kind → Type 0
+Begins words count v source = (length words ≡ count) × (word words 1 ≡ Some (verb_word v)) × (kind_at words 2 ≡ Some source)
+
+-- The words behind the place are this form. Source and targets are different from each other.
+abbrev pub Spells : Words → Form → Type 0
+Spells words (Sync f t None) = Begins words 4 verb.Sync f × (kind_at words 3 ≡ Some t) × (f ≢ t)
+Spells words (Sync f t (Some u)) = Begins words 5 verb.Sync f × (kind_at words 3 ≡ Some t) × (kind_at words 4 ≡ Some u) × (f ≢ t) × (f ≢ u) × (t ≢ u)
+Spells words (Full f t None) = Begins words 4 verb.Full f × (kind_at words 3 ≡ Some t) × (f ≢ t)
+Spells words (Full f t (Some u)) = Begins words 5 verb.Full f × (kind_at words 3 ≡ Some t) × (kind_at words 4 ≡ Some u) × (f ≢ t) × (f ≢ u) × (t ≢ u)
+Spells words (Show f) = Begins words 3 verb.Show f
+
+abbrev pub show_by : Verb → Kind → Option Form
+show_by verb.Sync f = None
+show_by verb.Full f = None
+show_by verb.Show f = Some (Show f)
+
+abbrev pub pair_by : Verb → Kind → Kind → Option Form
+pair_by verb.Sync f t = Some (Sync f t None)
+pair_by verb.Full f t = Some (Full f t None)
+pair_by verb.Show f t = None
+
+abbrev pub triple_by : Verb → Kind → Kind → Kind → Option Form
+triple_by verb.Sync f t u = Some (Sync f t (Some u))
+triple_by verb.Full f t u = Some (Full f t (Some u))
+triple_by verb.Show f t u = None
+
+-- a byte before a location, which ends with no slash
+abbrev pub before : ℕ → List ℕ → List ℕ
+before b [] = if b == 47 then [] else b ∷ []
+before b (c ∷ cs) = b ∷ c ∷ cs
+
+-- a place without the slashes at its end
+abbrev pub location : List ℕ → List ℕ
+location [] = []
+location (b ∷ bs) = before b (location bs)
+
+-- it isn't empty, and has at most 1,024 bytes
+abbrev pub IsLocation : List ℕ → Type 0
+IsLocation place = (0 < length place) × (length place ≤ 1024)
+
+-- the first word is a place of this location
+abbrev pub NamesPlace : Words → List ℕ → Type 0
+NamesPlace words place = (option_map location (word words 0) ≡ Some place) × IsLocation place
+
+-- the words are a place and a form
+abbrev pub IsCommand : Words → List ℕ → Form → Type 0
+IsCommand words place form = NamesPlace words place × Spells words form
+
+abbrev pub IsNoCommand : Words → Type 0
+IsNoCommand words = (place : List ℕ) (form : Form) → IsCommand words place form → ⊥

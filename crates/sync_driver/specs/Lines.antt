@@ -1,0 +1,50 @@
+-- The lines that commands print.
+use Rattle.std.specs.Prelude.{◌≡◌, ℕ, ◌==◌, length, nat_lt, List, [], ◌∷◌, ◌++◌, map, codes, Option, Some, None, if◌then◌else◌}
+use Rattle.std.specs.Fmt.{decimal}
+use Rattle.table_history.specs.declared.kind.Kind.{Kind}
+use Rattle.table_history.specs.Words.{kind_word, feature_word, limit_word}
+use Rattle.sync_driver.specs.declared.status.Side.{Side}
+use Rattle.sync_driver.specs.declared.status.Side.TheVariants.{Source, Target}
+use Rattle.sync_driver.specs.declared.status.Status.{Status}
+use Rattle.sync_driver.specs.declared.status.Status.TheVariants.{Done, Memory, Usage, Absent, Malformed, Unsupported, Limit, Foreign, Contested, StoreFault, SinkFault, Behind, Differs, Later}
+
+-- a byte under 32 is printed as `?`
+abbrev pub printed : ℕ → ℕ
+printed b = if nat_lt b 32 then 63 else b
+
+-- a text as a line, with its newline
+abbrev pub line : List ℕ → List ℕ
+line text = map printed text ++ 10 ∷ []
+
+abbrev pub side_word : Side → List ℕ
+side_word Source = codes "source"
+side_word (Target kind) = kind_word kind
+
+abbrev pub position_word : Option (List ℕ) → List ℕ
+position_word None = codes "none"
+position_word (Some at) = at
+
+-- what a path adds to its line, where there is one
+abbrev pub path_part : List ℕ → List ℕ
+path_part path = if length path == 0 then [] else codes " " ++ path
+
+-- the line of a command that ends so, where it isn't done; want of memory and a fault of the output have none
+abbrev pub refusal_line : Status → List ℕ
+refusal_line Done = []
+refusal_line Memory = []
+refusal_line Usage = line (codes "status 2: Usage")
+refusal_line Absent = line (codes "source: status 3: Absent")
+refusal_line (Malformed path) = line (codes "source: status 4: Malformed " ++ path)
+refusal_line (Unsupported side feature path) = line (side_word side ++ (codes ": status 5: Unsupported " ++ (feature_word feature ++ path_part path)))
+refusal_line (Limit side which number) = line (side_word side ++ (codes ": status 6: Limit " ++ (limit_word which ++ (codes " " ++ decimal number))))
+refusal_line (Foreign target path) = line (kind_word target ++ (codes ": status 7: Foreign " ++ path))
+refusal_line (Contested target) = line (kind_word target ++ codes ": status 8: Contested")
+refusal_line StoreFault = line (codes "status 9: StoreFault")
+refusal_line SinkFault = []
+refusal_line (Behind target at head) = line (kind_word target ++ (codes ": status 11: Behind " ++ (position_word at ++ (codes " of " ++ head))))
+refusal_line (Differs target path) = line (kind_word target ++ (codes ": status 12: Differs " ++ path))
+refusal_line Later = line (codes "status 13: Later")
+
+-- the line of a target that took one commit with the whole table of so many files at a position
+abbrev pub full_line : Kind → ℕ → List ℕ → List ℕ
+full_line target files at = line (kind_word target ++ (codes ": full, published 1, files " ++ (decimal files ++ (codes ", at " ++ at))))

@@ -1,0 +1,20 @@
+-- What a command has put out.
+use Rattle.std.specs.Prelude.{◌≡◌, ◌⊎◌, ℕ, ◌≤◌, List, ◌++◌, take}
+use Rattle.lake_store.specs.Cause.{Rose}
+use Rattle.lake_store.specs.declared.sink.Sink.{Ghosts}
+use Rattle.sync_driver.specs.declared.status.Status.{Status}
+use Rattle.sync_driver.specs.declared.status.Status.TheVariants.{Done, Memory, Usage, Absent, Malformed, Unsupported, Limit, Foreign, Contested, StoreFault, SinkFault, Behind, Differs, Later}
+
+-- its line went out whole
+abbrev pub IsSaid : Status → Type 0
+IsSaid Memory = ⊥
+IsSaid SinkFault = ⊥
+IsSaid _ = Unit {0}
+
+-- The line is put out, and the status is the one that is due; or memory ran out, or the put failed.
+pub record Tells {O : Type 0} (sink : Ghosts O) (old new : O) (line : List ℕ) (due given : Status) : Type 0 where
+  pub faults : sink.faults old ≤ sink.faults new
+  pub can_fail : sink.may_fail new → sink.may_fail old
+  pub status : (given ≡ due) ⊎ (given ≡ Memory) ⊎ ((given ≡ SinkFault) × (Rose (sink.faults old) (sink.faults new) × sink.may_fail old))
+  pub whole : sink.tells → IsSaid given → sink.output new ≡ sink.output old ++ line
+  pub front : sink.tells → (n : ℕ) × (sink.output new ≡ sink.output old ++ take n line)

@@ -1,0 +1,157 @@
+//! The words of a command: the table's place, and one form.
+ghost use Rattle.std.specs.Prelude.{◌≡◌, ℕ, List, MatchOption, Some};
+ghost use Rattle.std.specs.Option.{option_map};
+ghost use Rattle.table_history.specs.declared.kind.Kind.{Kind};
+ghost use Rattle.sync_driver.specs.declared.words.Verb.{Verb};
+ghost use Rattle.sync_driver.specs.declared.words.Form.{Form};
+ghost use Rattle.sync_driver.specs.Forms.{word, kind_at, verb_word, Spells, show_by, pair_by, triple_by, location, NamesPlace, IsCommand, IsNoCommand};
+
+use table_history::Kind;
+
+/// The most bytes of a location.
+const MAX_LOCATION: usize = 1024;
+
+/// What a form begins with.
+#[derive(Clone, Copy, Debug, PartialEq, Eq)]
+pub(crate) enum Verb {
+    Sync,
+    Full,
+    Show,
+}
+
+/// What a command asks for: a source, and the targets.
+#[derive(Clone, Copy, Debug, PartialEq, Eq)]
+pub(crate) enum Form {
+    Sync(Kind, Kind, Option<Kind>),
+    Full(Kind, Kind, Option<Kind>),
+    Show(Kind),
+}
+
+fn word_at(words: &[String], place: usize) -> Option<&str>
+    ensures { option_map (λ w. w.now) result ≡ word words.now place }
+{
+    match words.get(place) {
+        Some(word) => Some(word.as_str()),
+        None => None,
+    }
+}
+
+fn kind_at(words: &[String], place: usize) -> Option<Kind>
+    ensures { result ≡ kind_at words.now place }
+{
+    Kind::from_word(word_at(words, place)?)
+}
+
+fn verb_at(words: &[String], place: usize) -> Option<Verb>
+    ensures { MatchOption result ((verb : Verb) → word words.now place ≡ Some (verb_word verb) → ⊥)
+        (λ verb. word words.now place ≡ Some (verb_word verb)) }
+{
+    match word_at(words, place)? {
+        "sync" => Some(Verb::Sync),
+        "full" => Some(Verb::Full),
+        "show" => Some(Verb::Show),
+        _ => None,
+    }
+}
+
+fn show_form(verb: Verb, source: Kind) -> Option<Form>
+    ensures { result ≡ show_by verb source }
+{
+    match verb {
+        Verb::Show => Some(Form::Show(source)),
+        Verb::Sync => None,
+        Verb::Full => None,
+    }
+}
+
+fn pair_form(verb: Verb, source: Kind, target: Kind) -> Option<Form>
+    ensures { result ≡ pair_by verb source target }
+{
+    match verb {
+        Verb::Sync => Some(Form::Sync(source, target, None)),
+        Verb::Full => Some(Form::Full(source, target, None)),
+        Verb::Show => None,
+    }
+}
+
+fn triple_form(verb: Verb, source: Kind, first: Kind, second: Kind) -> Option<Form>
+    ensures { result ≡ triple_by verb source first second }
+{
+    match verb {
+        Verb::Sync => Some(Form::Sync(source, first, Some(second))),
+        Verb::Full => Some(Form::Full(source, first, Some(second))),
+        Verb::Show => None,
+    }
+}
+
+/// The form that the words behind the place spell.
+pub(crate) fn form_of(words: &[String]) -> Option<Form>
+    ensures { MatchOption result ((form : Form) → Spells words.now form → ⊥) (λ form. Spells words.now form) }
+{
+    match words.len() {
+        3 => show_form(verb_at(words, 1)?, kind_at(words, 2)?),
+        4 => {
+            let verb = verb_at(words, 1)?;
+            let source = kind_at(words, 2)?;
+            let target = kind_at(words, 3)?;
+            if source == target {
+                return None;
+            }
+            pair_form(verb, source, target)
+        }
+        5 => {
+            let verb = verb_at(words, 1)?;
+            let source = kind_at(words, 2)?;
+            let first = kind_at(words, 3)?;
+            let second = kind_at(words, 4)?;
+            if source == first || source == second || first == second {
+                return None;
+            }
+            triple_form(verb, source, first, second)
+        }
+        _ => None,
+    }
+}
+
+/// The place without the slashes at its end.
+fn location_of(place: &[u8]) -> &[u8]
+    ensures { result.now ≡ location place.now }
+{
+    let mut length = 0;
+    for (i, byte) in place.iter().enumerate() {
+        if *byte != b'/' {
+            length = i + 1;
+        }
+    }
+    &place[..length]
+}
+
+/// What the words ask for, and of which table.
+#[derive(Clone, Copy, Debug)]
+pub(crate) struct Command<'a> {
+    pub(crate) location: &'a [u8],
+    pub(crate) form: Form,
+}
+
+fn location_in(words: &[String]) -> Option<&[u8]>
+    ensures { MatchOption result ((place : List ℕ) → NamesPlace words.now place → ⊥) (λ place. NamesPlace words.now place.now) }
+{
+    let location = location_of(word_at(words, 0)?.as_bytes());
+    if location.is_empty() || location.len() > MAX_LOCATION {
+        return None;
+    }
+    Some(location)
+}
+
+/// The command that the words are, if they are one.
+pub(crate) fn command_of(words: &[String]) -> Option<Command<'_>>
+    ensures { MatchOption result (IsNoCommand words.now) (λ command. IsCommand words.now command.location.now command.form) }
+{
+    match location_in(words) {
+        Some(location) => match form_of(words) {
+            Some(form) => Some(Command { location, form }),
+            None => None,
+        },
+        None => None,
+    }
+}
