@@ -63,6 +63,9 @@ date_of_text text z t = (
   refl,
 )
 
+pub day_range : (text : List ℕ) (z : ℤ) → IsDateText text z → IsEpochDay z
+day_range text z t = let named = date_of_text text z t in subst IsEpochDay named.1 (epoch_day_range named.0)
+
 -- the ten bytes of a date write its numbers
 pub record WritesDate (year month day : ℕ) (text : List ℕ) : Type 0 where
   pub len : length text ≡ 10

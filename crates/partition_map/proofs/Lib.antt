@@ -5,3 +5,4 @@ pub mod RefusalLemmas
 pub mod PathFacts
 pub mod UriLemmas
 pub mod StandsLemmas
+pub mod FolderLemmas

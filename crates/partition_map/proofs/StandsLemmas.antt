@@ -1,9 +1,15 @@
 -- A text stands for one value at most.
-use Rattle.std.proofs.Common.{◌≡◌, ℕ, List, [], ◌∷◌, codes, Option, None, Some, sym, ap, ◌∙◌, ⊎_elim}
+use Rattle.std.proofs.Common.{◌≡◌, ℕ, ℤ, List, [], ◌∷◌, codes, false, Option, None, Some, sym, ap, ◌∙◌, ⊎_elim, ◌↔◌, IsTrue, FitsSigned, w32, to_z, subst, arith}
 use Rattle.table_history.specs.declared.row.PartValue.{PartValue}
 use Rattle.table_history.specs.declared.row.PartValue.TheVariants as value
 use Rattle.partition_map.specs.declared.kind.PartKind.TheVariants as kind
-use Rattle.partition_map.specs.Stands.{IsTextOf, DeltaStands, HiveStands}
+use Rattle.partition_map.specs.Stands.{IsTextOf, IsTextOfSome, DeltaStands, HiveStands, IsDateText}
+use Rattle.jiff_core.specs.Calendar.{IsEpochDay}
+use Rattle.partition_map.proofs.DateLemmas.{day_range}
+use Rattle.std.specs.Prelude.{nat_eq}
+use Rattle.std.proofs.lemmas.Int.{ints}
+use Rattle.std.proofs.lemmas.Bool.{false≢true, eqb-true, eq-eqb}
+use mir.Val.{of_z}
 
 pub spelled_same : (k : kind.the_data) (text : List ℕ) (v w : PartValue) → IsTextOf k text v → IsTextOf k text w → v ≡ w
 spelled_same kind.Boolean text v w h h' =
@@ -27,3 +33,26 @@ hive_same k text v w h h' =
     (λ a. ⊎_elim (λ b. a.1 ∙ sym b.1) (λ b. absurd (b.0 a.0)) h')
     (λ a. ⊎_elim (λ b. absurd (a.0 b.0)) (λ b. spelled_same k text v w a.2 b.2) h')
     h
+
+-- ---- a date, compared with a day
+date_fits : (text : List ℕ) (z : ℤ) → IsDateText text z → FitsSigned w32 z
+date_fits text z h = let range : IsEpochDay z = day_range text z h in omega (arith, ints, range.0, range.1)
+
+date_of : (k : kind.the_data) (text : List ℕ) (days : ℤ) → IsTextOf k text (value.Date days) → IsDateText text days
+date_of kind.Boolean text days h = ⊎_elim (λ t. let e = t.1 in absurd cc) (λ f. let e = f.1 in absurd cc) h
+date_of kind.Int text days h = let e = h.3 in absurd cc
+date_of kind.Long text days h = let e = h.3 in absurd cc
+date_of kind.Text text days h = absurd cc
+date_of kind.Date text days h = let e = h.2 in let same : h.0 ≡ days = cc in subst (IsDateText text) same h.1
+
+pub date_same : (text : List ℕ) (read days : ℤ) → FitsSigned w32 days → IsDateText text read → IsTrue (nat_eq (of_z w32 read) (of_z w32 days)) ↔ IsTextOfSome text (value.Date days)
+date_same text read days fits is =
+    let read_fits : FitsSigned w32 read = date_fits text read is in
+    let back : to_z w32 (of_z w32 read) ≡ read = omega (arith, ints, read_fits) in
+    let back' : to_z w32 (of_z w32 days) ≡ days = omega (arith, ints, fits) in (
+      λ same. (kind.Date, (read, is, ap value.Date (sym (sym back ∙ ap (to_z w32) (eqb-true _ _ same) ∙ back')))),
+      λ spelled. let other : IsDateText text days = date_of spelled.0 text days spelled.1 in eq-eqb _ _ (ap (of_z w32) (is.value ∙ sym other.value)),
+    )
+
+pub no_date : (text : List ℕ) (days : ℤ) → ((z : ℤ) → IsDateText text z → ⊥) → IsTrue false ↔ IsTextOfSome text (value.Date days)
+no_date text days none = (λ f. absurd (false≢true f), λ spelled. absurd (none days (date_of spelled.0 text days spelled.1)))

@@ -2,5 +2,6 @@ pub mod Kind
 pub mod Errors
 pub mod Stands
 pub mod DeltaText
+pub mod Folder
 pub mod Uri
 pub mod UriPath

@@ -52,6 +52,10 @@ IsTextOf Long text v = (z : ℤ) × IsDecimal text z × FitsSigned w64 z × (v �
 IsTextOf Text text v = v ≡ value.Text text
 IsTextOf Date text v = (z : ℤ) × IsDateText text z × (v ≡ value.Date z)
 
+-- The text spells the value, which is of one kind.
+abbrev pub IsTextOfSome : List ℕ → PartValue → Type 0
+IsTextOfSome text v = (kind : PartKind) × IsTextOf kind text v
+
 -- In a Delta commit, null and the empty text stand for null.
 abbrev pub DeltaStands : PartKind → Option (List ℕ) → PartValue → Type 0
 DeltaStands kind None v = v ≡ value.Null

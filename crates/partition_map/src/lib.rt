@@ -4,6 +4,7 @@
 mod date;
 mod delta;
 mod error;
+mod folder;
 mod kind;
 mod number;
 mod texts;
@@ -11,6 +12,7 @@ mod uri;
 
 pub use delta::to_delta_text;
 pub use error::PartError;
+pub use folder::{FolderStyle, last_components, path_carries, unescape, value_part};
 pub use kind::{PartKind, part_kind};
 pub use texts::{from_delta_text, from_hive};
 pub use uri::{decode_uri_path, encode_uri_path};

@@ -3,7 +3,7 @@ ghost use Rattle.std.specs.Prelude.{◌≡◌, ◌↔◌, IsTrue, IfOk, IfErr, I
 ghost use Rattle.std.specs.Option.{option_copied};
 ghost use Rattle.table_history.specs.declared.row.PartValue.{PartValue};
 ghost use Rattle.partition_map.specs.Errors.{IsReadingError};
-ghost use Rattle.partition_map.specs.Stands.{IsTextOf, DeltaStands, HiveStands, StandsInFolder};
+ghost use Rattle.partition_map.specs.Stands.{IsTextOf, IsTextOfSome, DeltaStands, HiveStands, StandsInFolder};
 
 use crate::date::read_date;
 use crate::error::PartError;
@@ -75,5 +75,58 @@ fn text_value(alloc: Global, kind: PartKind, text: &str) -> Result<PartValue, Pa
             Some(days) => Ok(PartValue::Date(days)),
             None => Err(PartError::BadValue),
         },
+    }
+}
+
+/// Whether the text stands for the value in a hive folder.
+pub(crate) fn stands_in_folder(text: &str, value: &PartValue) -> bool
+    ensures { IsTrue result ↔ StandsInFolder text.now value.now }
+{
+    match text {
+        "__HIVE_DEFAULT_PARTITION__" => matches!(value, PartValue::Null),
+        "" => false,
+        _ => is_text_of(text, value),
+    }
+}
+
+// Whether the text spells the value, which is of one kind.
+fn is_text_of(text: &str, value: &PartValue) -> bool
+    ensures { IsTrue result ↔ IsTextOfSome text.now value.now }
+{
+    match value {
+        PartValue::Null => false,
+        PartValue::Boolean(true) => text == "true",
+        PartValue::Boolean(false) => text == "false",
+        PartValue::Int(n) => is_int_text(text, *n),
+        PartValue::Long(n) => is_long_text(text, *n),
+        PartValue::Text(t) => t.as_str() == text,
+        PartValue::Date(days) => is_date_text(text, *days),
+    }
+}
+
+fn is_int_text(text: &str, n: i32) -> bool
+    ensures { IsTrue result ↔ IsTextOfSome text.now (PartValue.Int n) }
+{
+    match read_int(text) {
+        Some(read) => read == n,
+        None => false,
+    }
+}
+
+fn is_long_text(text: &str, n: i64) -> bool
+    ensures { IsTrue result ↔ IsTextOfSome text.now (PartValue.Long n) }
+{
+    match read_long(text) {
+        Some(read) => read == n,
+        None => false,
+    }
+}
+
+fn is_date_text(text: &str, days: i32) -> bool
+    ensures { IsTrue result ↔ IsTextOfSome text.now (PartValue.Date days) }
+{
+    match read_date(text.as_bytes()) {
+        Some(read) => read == days,
+        None => false,
     }
 }
