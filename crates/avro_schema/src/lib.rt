@@ -11,6 +11,7 @@ mod schema;
 mod size;
 mod text;
 mod types;
+mod write;
 
 pub use error::SchemaError;
 pub use schema::{Field, Schema, Shape};

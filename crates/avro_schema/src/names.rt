@@ -7,7 +7,8 @@ use crate::schema::Shape;
 use lake_basics::Text;
 use std::alloc::{AllocError, Global};
 
-fn has_dot(name: &str) -> bool
+/// Whether the name is a full one.
+pub fn has_dot(name: &str) -> bool
     ensures { result ≡ has_dot_in name.now }
 {
     name.as_bytes().iter().any(|byte| *byte == b'.')

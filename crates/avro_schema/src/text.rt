@@ -1,18 +1,26 @@
 //! Schemas as JSON texts.
-ghost use Rattle.std.specs.Prelude.{◌≡◌};
+ghost use Rattle.std.specs.Prelude.{◌≡◌, ◌≤◌, IfOk, IfErr, Ok, Some, false};
+ghost use Rattle.serde_json.specs.Data.{depth};
+ghost use Rattle.serde_json.specs.Read.{max_depth};
+ghost use Rattle.serde_json.specs.Written.{compact_text, has_float};
+ghost use Rattle.json_reading.specs.Json.{json};
 ghost use Rattle.serde_json.specs.View.{view};
 ghost use Rattle.lake_basics.specs.Outcome.{Gives, GivesUnlessMemory};
 ghost use Rattle.avro_schema.specs.Tree.{tree_of};
 ghost use Rattle.avro_schema.specs.Reading.{tree_at, schema_of, text_tree, is_memory};
+ghost use Rattle.avro_schema.specs.Writing.{json_of};
+ghost use Rattle.avro_schema.specs.Spelled.{IsSpelled};
 
 use crate::definitions::Definitions;
 use crate::error::{SchemaError, SchemaFault};
 use crate::schema::Schema;
 use crate::types::any_type;
+use crate::write::schema_value;
+use indexmap::IndexSet;
 use json_reading::read_json;
-use lake_basics::ReadError;
+use lake_basics::{Blob, ReadError};
 use serde_json::Value;
-use std::alloc::Global;
+use std::alloc::{AllocError, Global};
 
 impl Schema {
     /// The schema that a JSON text is (Avro specification, "Schema Declaration"), with the field ids
@@ -27,6 +35,29 @@ impl Schema {
             Err(ReadError::Fault(SchemaFault::Recursive)) => Err(SchemaError::Recursive),
         }
     }
+
+    /// A compact JSON text of the schema. A named type is written once, and by its name where it
+    /// stands again. The only error is want of memory.
+    pub fn to_json(&self, alloc: Global) -> Result<Blob, SchemaError>
+        ensures text { IfOk result (λ b. b ≡ compact_text (json_of (tree_of self.now))) }
+        ensures reads_back { IfOk result (λ b. IsSpelled (tree_of self.now)
+            → schema_of b ≡ Ok (tree_of self.now)) }
+        ensures memory { IfErr result (λ e. e ≡ SchemaError.Memory) }
+    {
+        let mut names = IndexSet::new(alloc);
+        let value = schema_value(alloc, self, "", &mut names)?;
+        Ok(text_of_json(alloc, &value)?)
+    }
+}
+
+fn text_of_json(alloc: Global, value: &Value) -> Result<Blob, AllocError>
+    ensures text { IfOk result (λ b. has_float (view value.now) ≡ false
+        → b ≡ compact_text (view value.now)) }
+    ensures reads_back { IfOk result (λ b. depth (view value.now) ≤ max_depth
+        → json b ≡ Some (view value.now)) }
+{
+    let text = value.to_string(alloc)?;
+    Ok(Blob::from_vec(text.into_bytes()))
 }
 
 fn read_schema(alloc: Global, bytes: &[u8]) -> Result<Schema, ReadError<SchemaFault>>
