@@ -4,6 +4,8 @@ pub mod EscapeLemmas
 pub mod LineLemmas
 pub mod PairLemmas
 pub mod TableLemmas
+pub mod TextLemmas
 pub mod TimeLemmas
 pub mod WrittenLemmas
+pub mod PathForms
 pub mod ReadLemmas

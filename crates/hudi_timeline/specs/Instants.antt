@@ -1,8 +1,12 @@
 -- What a completed instant did, by the JSON that its file is.
-use Rattle.std.specs.Prelude.{ℕ, List, [], ◌∷◌, ◌++◌, Option, Some, None, option_to_list, Result, Ok, Err, codes}
+use Rattle.std.specs.Prelude.{ℕ, ◌+◌, nat_le, List, [], ◌∷◌, ◌++◌, length, if◌then◌else◌, Option, Some, None, option_to_list, Result, Ok, Err, codes}
 use Rattle.serde_json.specs.Data.{Data}
 use Rattle.serde_json.specs.Find.{get, as_array, as_object}
+use Rattle.lake_basics.specs.declared.limits.TheConstants.{MAX_ACTIONS}
+use Rattle.table_history.specs.Path.{is_path_of_any_length}
+use Rattle.table_history.specs.declared.limit.LimitKind.TheVariants.{Actions}
 use Rattle.hudi_timeline.specs.declared.error.HudiError.{HudiError}
+use Rattle.hudi_timeline.specs.declared.error.HudiError.TheVariants.{Limit}
 use Rattle.hudi_timeline.specs.Errors.{malformed}
 use Rattle.hudi_timeline.specs.declared.instant.Instant.{Instant}
 use Rattle.hudi_timeline.specs.declared.instant.Stat.{Stat}
@@ -17,10 +21,14 @@ abbrev pub size : Option Data → Result ℕ HudiError
 size None = Ok 0
 size (Some d) = required malformed (count d)
 
+-- The path of a data file may break the rule on its length alone, which is judged with the commit.
+abbrev pub data_path : Data → Result (List ℕ) HudiError
+data_path d = text malformed d >>= λ path. if is_path_of_any_length path then Ok path else Err malformed
+
 abbrev pub stat_at : Data → Option Data → Result (Option Stat) HudiError
 stat_at d None = Ok None
 stat_at d (Some named) = do
-  path ← text malformed named
+  path ← data_path named
   file_id ← text_member (codes "fileId") d
   partition_path ← text_member (codes "partitionPath") d
   number ← required malformed (get (codes "numWrites") d)
@@ -74,5 +82,9 @@ instant d = do
   mark ← extra_text (present (codes "extraMetadata") d) (codes "lakebridge.mark")
   Ok (record { stats = stats; replaced = gone; schema = schema; mark = mark })
 
+-- so many write stats and replaced ids are read
+abbrev pub within_actions : Instant → Result Instant HudiError
+within_actions i = if nat_le (length i.stats + length i.replaced) MAX_ACTIONS then Ok i else Err (Limit Actions)
+
 unfoldable pub json_instant : List ℕ → Result Instant HudiError
-json_instant bytes = required malformed (json bytes) >>= instant
+json_instant bytes = required malformed (json bytes) >>= λ d. instant d >>= within_actions

@@ -2,8 +2,8 @@
 use Rattle.std.specs.Prelude.{ℕ, ◌-◌, ◌==◌, ◌||◌, nat_eq, not, List, [], length, take, drop, map, filter, find, reverse, codes, Bool, false, Option, Some, None, option_map, Result, Ok, Err, if◌then◌else◌}
 use Rattle.std.specs.List.{prefix_len, suffix_len, slice_split, ends_with}
 use Rattle.std.specs.Str.{bytes_eq, str_eq_ignore_ascii_case}
-use Rattle.hudi_timeline.specs.declared.error.Feature.{Feature}
-use Rattle.hudi_timeline.specs.declared.error.Feature.TheVariants.{HudiType, HudiVersion, FileFormat, KeyGenerator}
+use Rattle.table_history.specs.declared.feature.Feature.{Feature}
+use Rattle.table_history.specs.declared.feature.Feature.TheVariants.{HudiType, HudiVersion, FileFormat, KeyGenerator}
 use Rattle.hudi_timeline.specs.declared.error.HudiError.{HudiError}
 use Rattle.hudi_timeline.specs.declared.error.HudiError.TheVariants.{Unsupported}
 use Rattle.hudi_timeline.specs.declared.table.HudiTable.{HudiTable}

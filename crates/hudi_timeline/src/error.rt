@@ -4,27 +4,8 @@ ghost use Rattle.std.specs.Prelude.{◌≡◌};
 ghost use Rattle.hudi_timeline.specs.declared.error.HudiError.TheVariants.{Memory};
 
 use std::alloc::{AllocError, AllocFailed};
+use table_history::{Feature, LimitKind};
 use thiserror::Error;
-
-/// What a table asks of its reader that this reader doesn't do.
-#[derive(Clone, Copy, Debug, PartialEq, Eq)]
-pub enum Feature {
-    FileFormat,
-    HudiType,
-    HudiVersion,
-    KeyGenerator,
-    ExternalFile,
-    FileId,
-    NoSchema,
-}
-
-/// A number that is passed.
-#[derive(Clone, Copy, Debug, PartialEq, Eq)]
-pub enum LimitKind {
-    Path,
-    Actions,
-    Versions,
-}
 
 /// Why a file wasn't read. Lines count from 1, and 0 is the whole file.
 #[derive(Clone, Copy, Debug, PartialEq, Eq, Error)]

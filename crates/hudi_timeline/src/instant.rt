@@ -5,14 +5,21 @@ ghost use Rattle.serde_json.specs.Find.{get};
 ghost use Rattle.serde_json.specs.View.{view, items_view, members_view};
 ghost use Rattle.json_reading.specs.Json.{items, pairs, present, text, json};
 ghost use Rattle.lake_basics.specs.Outcome.{required};
+ghost use Rattle.table_history.specs.Path.{is_path_of_any_length};
 ghost use Rattle.hudi_timeline.specs.Errors.{Gives, GivesBy, malformed};
-ghost use Rattle.hudi_timeline.specs.Instants.{text_member, size, stat, with_stats, with_partitions, with_ids, with_replaced, replaced, extra_text, instant, json_instant};
+ghost use Rattle.hudi_timeline.specs.Instants.{text_member, data_path, within_actions, size, stat, with_stats, with_partitions, with_ids, with_replaced, replaced, extra_text, instant, json_instant};
 
 use crate::error::HudiError;
+
+mod write;
+
 use json_reading::{count_in, present_of, read_json};
+use lake_basics::limits::MAX_ACTIONS;
 use lake_basics::{Items, ReadError, Text};
 use serde_json::{Map, Value};
 use std::alloc::Global;
+use table_history::{LimitKind, path_form_of_any_length};
+pub use write::instant_text;
 
 const MALFORMED: HudiError = HudiError::Malformed { line: 0 };
 
@@ -49,6 +56,24 @@ fn required_text(alloc: Global, value: &Value, name: &str) -> Result<Text, HudiE
     text_in(alloc, member)
 }
 
+/// The path of a data file, which may yet be too long.
+fn data_path(alloc: Global, value: &Value) -> Result<Text, HudiError>
+    ensures { Gives result (data_path (view value.now)) }
+{
+    let path = text_in(alloc, value)?;
+    if has_path_form(path.as_bytes()) {
+        Ok(path)
+    } else {
+        Err(MALFORMED)
+    }
+}
+
+fn has_path_form(bytes: &[u8]) -> bool
+    ensures { result ≡ is_path_of_any_length bytes.now }
+{
+    path_form_of_any_length(bytes)
+}
+
 fn size_of_stat(value: &Value) -> Result<u64, HudiError>
     ensures { Gives result (size (get (codes "fileSizeInBytes") (view value.now))) }
 {
@@ -69,7 +94,7 @@ fn stat_of(alloc: Global, value: &Value) -> Result<Option<Stat>, HudiError>
     let Some(path) = present_of(value, "path") else {
         return Ok(None);
     };
-    let path = text_in(alloc, path)?;
+    let path = data_path(alloc, path)?;
     let file_id = required_text(alloc, value, "fileId")?;
     let partition_path = required_text(alloc, value, "partitionPath")?;
     let writes = value.get("numWrites").ok_or(MALFORMED)?;
@@ -214,5 +239,18 @@ pub fn read_instant(alloc: Global, bytes: &[u8]) -> Result<Instant, HudiError>
     ensures { Gives result (json_instant bytes.now) }
 {
     let value = json_of(alloc, bytes)?;
-    instant_in(alloc, &value)
+    let instant = instant_in(alloc, &value)?;
+    within_actions(instant)
+}
+
+fn within_actions(instant: Instant) -> Result<Instant, HudiError>
+    ensures { Gives result (within_actions instant) }
+{
+    if instant.stats.len() + instant.replaced.len() <= MAX_ACTIONS as usize {
+        Ok(instant)
+    } else {
+        Err(HudiError::Limit {
+            which: LimitKind::Actions,
+        })
+    }
 }

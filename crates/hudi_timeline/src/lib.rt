@@ -9,9 +9,9 @@ mod properties;
 mod table;
 mod time;
 
-pub use error::{Feature, HudiError, LimitKind};
+pub use error::HudiError;
 pub use group::group_of;
-pub use instant::{Instant, Stat, read_instant};
+pub use instant::{Instant, Stat, instant_text, read_instant};
 pub use name::{Action, State, instant_of_name};
 pub use properties::{Pairs, properties_text, read_properties};
 pub use table::{HudiTable, check_properties};

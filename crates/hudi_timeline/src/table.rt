@@ -5,10 +5,11 @@ ghost use Rattle.std.specs.List.{prefix_len, suffix_len, slice_split};
 ghost use Rattle.hudi_timeline.specs.Errors.{Gives};
 ghost use Rattle.hudi_timeline.specs.TableProperties.{property, is_word, shows_hudi_version, is_other_format, is_custom_class, is_custom_generator, first_feature, is_space, without_spaces, is_name, names_in, table_of, checked_table};
 
-use crate::error::{Feature, HudiError};
+use crate::error::HudiError;
 use crate::properties::Pairs;
 use lake_basics::{Items, Text};
 use std::alloc::{AllocError, Global};
+use table_history::Feature;
 
 /// What a table's properties say: its partition columns, how its folders spell their values, and
 /// whether this bridge made it.

@@ -1,11 +1,12 @@
 //! Names, times, properties and completed instants, by vectors from outside.
 use crate::{
-    Action, Feature, HudiError, LimitKind, State, check_properties, group_of, instant_of_name,
-    next_instant, properties_text, read_instant, read_properties, read_time,
+    Action, HudiError, Instant, Stat, State, check_properties, group_of, instant_of_name,
+    instant_text, next_instant, properties_text, read_instant, read_properties, read_time,
 };
-use lake_basics::Text;
+use lake_basics::{Blob, Items, Text};
 use std::alloc::{AllocError, Global};
 use std::test::Fail;
+use table_history::{Feature, LimitKind, path_form_of_any_length};
 
 #[test]
 fn names(rt: HostRuntime) -> Result<(), Fail> {
@@ -243,19 +244,114 @@ fn written_properties(rt: HostRuntime) -> Result<(), Fail> {
     Ok(())
 }
 
+const COMPLETED: &str =
+    r#"{"compacted":false,"extraMetadata":{"lakebridge.mark":"{\"at\":\"20240105120000000\",\"by\":\"lakebridge\",\"source\":\"delta\",\"table\":\"a1\",\"to\":\"0\",\"version\":2}","schema":"{\"fields\":[{\"default\":null,\"name\":\"id\",\"type\":[\"null\",\"long\"]}],\"name\":\"r0\",\"type\":\"record\"}"},"operationType":"INSERT_OVERWRITE","partitionToReplaceFileIds":{},"partitionToWriteStats":{"":[{"fileId":"p1.parquet","fileSizeInBytes":100,"numDeletes":0,"numInserts":5,"numUpdateWrites":0,"numWrites":5,"partitionPath":"","path":"p1.parquet_20240105120000000_hudiext","prevCommit":"null","totalWriteBytes":100,"totalWriteErrors":0}]}}"#;
+
 #[test]
-fn instants(rt: HostRuntime) -> Result<(), Fail> {
+fn a_completed_instant_is_read(rt: HostRuntime) -> Result<(), Fail> {
     let alloc = rt.alloc();
-    let bytes =
-        br#"{"compacted":false,"extraMetadata":{"lakebridge.mark":"{\"at\":\"20240105120000000\",\"by\":\"lakebridge\",\"source\":\"delta\",\"to\":\"0\",\"version\":1}","schema":"{\"fields\":[{\"default\":null,\"name\":\"id\",\"type\":[\"null\",\"long\"]}],\"name\":\"r0\",\"type\":\"record\"}"},"operationType":"INSERT_OVERWRITE","partitionToReplaceFileIds":{},"partitionToWriteStats":{"":[{"fileId":"p1.parquet","fileSizeInBytes":100,"numDeletes":0,"numInserts":5,"numUpdateWrites":0,"numWrites":5,"partitionPath":"","path":"p1.parquet_20240105120000000_hudiext","prevCommit":"null","totalWriteBytes":100,"totalWriteErrors":0}]}}"#;
-    let instant = read_instant(alloc, bytes)?;
+    let instant = read_instant(alloc, COMPLETED.as_bytes())?;
     assert_eq!(rt; instant.stats.len(), 1);
     for stat in instant.stats.as_slice() {
         assert_eq!(rt; stat.path.as_str(), "p1.parquet_20240105120000000_hudiext");
-        assert_eq!(rt; stat.writes, 5);
-        assert_eq!(rt; stat.size, 100);
+        assert_eq!(rt; stat.file_id.as_str(), "p1.parquet");
+        assert_eq!(rt; (stat.writes, stat.size), (5, 100));
     }
     assert!(rt; instant.replaced.is_empty());
     assert!(rt; instant.schema.is_some());
+    assert!(rt; instant.mark.is_some());
     Ok(())
+}
+
+fn one_file(alloc: Global, path: &str, writes: u64, size: u64) -> Result<Stat, Fail> {
+    let path = Text::from_str(alloc, path)?;
+    Ok(Stat {
+        file_id: Text::from_str(alloc, "p1.parquet")?,
+        partition_path: Text::from_str(alloc, "")?,
+        path,
+        writes,
+        size,
+    })
+}
+
+fn text_of_one(
+    alloc: Global,
+    stat: Stat,
+    schema: Option<Text>,
+    mark: Option<Text>,
+) -> Result<Option<Blob>, Fail> {
+    if !path_form_of_any_length(stat.path.as_bytes()) {
+        return Ok(None);
+    }
+    if stat.writes >= 1 << 63 || stat.size >= 1 << 63 {
+        return Ok(None);
+    }
+    let mut stats = Items::new(alloc);
+    stats.push(stat)?;
+    let instant = Instant {
+        stats,
+        replaced: Items::new(alloc),
+        schema,
+        mark,
+    };
+    Ok(Some(instant_text(alloc, &instant)?))
+}
+
+#[test]
+fn an_instant_is_written_in_compact_json(rt: HostRuntime) -> Result<(), Fail> {
+    let alloc = rt.alloc();
+    let read = read_instant(alloc, COMPLETED.as_bytes())?;
+    let stat = one_file(alloc, "p1.parquet_20240105120000000_hudiext", 5, 100)?;
+    match text_of_one(alloc, stat, read.schema, read.mark)? {
+        None => assert!(rt; false, "not written"),
+        Some(text) => assert!(rt; text.as_slice() == COMPLETED.as_bytes()),
+    }
+    Ok(())
+}
+
+fn counts(alloc: Global, bytes: &[u8]) -> Option<(usize, usize)> {
+    match read_instant(alloc, bytes) {
+        Ok(instant) => Some((instant.stats.len(), instant.replaced.len())),
+        Err(_) => None,
+    }
+}
+
+#[test]
+fn what_hudi_writes_is_read(rt: HostRuntime) {
+    let alloc = rt.alloc();
+    let table: [(&[u8], Option<(usize, usize)>); 9] = [
+        (
+            br#"{"partitionToWriteStats":{"":[{"fileId":"f","path":"f.parquet","partitionPath":"","numWrites":3,"cdcStats":null,"prevCommit":"x"},{"fileId":"f","path":"f2.parquet","partitionPath":"","numWrites":3,"fileSizeInBytes":4}]},"extraMetadata":null,"operationType":"UPSERT","writeStats":[1.5]}"#,
+            Some((2, 0)),
+        ),
+        (
+            br#"{"partitionToWriteStats":{"a":[{"path":null},{}]},"partitionToReplaceFileIds":{"a":["x","y"],"b":[]},"extraMetadata":{"schema":null}}"#,
+            Some((0, 2)),
+        ),
+        (
+            br#"{"partitionToWriteStats":{},"partitionToReplaceFileIds":null}"#,
+            Some((0, 0)),
+        ),
+        (br#"{"partitionToReplaceFileIds":{}}"#, None),
+        (br#"{"partitionToWriteStats":{"":[1]}}"#, None),
+        (
+            br#"{"partitionToWriteStats":{"":[{"fileId":"f","path":"f","partitionPath":"","numWrites":-1}]}}"#,
+            None,
+        ),
+        (
+            br#"{"partitionToWriteStats":{"":[{"fileId":"f","path":"f","partitionPath":"","numWrites":9223372036854775808}]}}"#,
+            None,
+        ),
+        (
+            br#"{"partitionToWriteStats":{"":[{"fileId":"f","path":"a//f","partitionPath":"a","numWrites":1}]}}"#,
+            None,
+        ),
+        (
+            br#"{"partitionToWriteStats":{},"extraMetadata":{"schema":7}}"#,
+            None,
+        ),
+    ];
+    for (bytes, expected) in table {
+        assert!(rt; counts(alloc, bytes) == expected, "{bytes:?}");
+    }
 }

@@ -8,12 +8,13 @@ ghost use Rattle.std.specs.Str.Parse.{digits_value};
 ghost use Rattle.jiff_core.specs.Calendar.{IsCivilDate, days_from_civil};
 ghost use Rattle.hudi_timeline.specs.Time.{IsTime, IsTimeNumber, IsDigits, IsTimeOfDay, IsSomeTime, IsNext, IsPast9999};
 ghost use Rattle.std.specs.declared.cmp.Ordering.TheVariants.{Less};
-ghost use Rattle.hudi_timeline.specs.declared.error.LimitKind.TheVariants.{Versions};
+ghost use Rattle.table_history.specs.declared.limit.LimitKind.TheVariants.{Versions};
 
-use crate::error::{HudiError, LimitKind};
+use crate::error::HudiError;
 use jiff_core::civil::Date;
 use lake_basics::Text;
 use std::alloc::{AllocError, Global};
+use table_history::LimitKind;
 
 const DAY_MS: i64 = 86_400_000;
 

@@ -4,7 +4,7 @@ use Rattle.std.specs.Option.{option_copied}
 use Rattle.lake_basics.specs.declared.text.Text.{Text}
 use Rattle.hudi_timeline.specs.declared.error.HudiError.{HudiError}
 use Rattle.hudi_timeline.specs.declared.error.HudiError.TheVariants.{Memory, Limit}
-use Rattle.hudi_timeline.specs.declared.error.LimitKind.TheVariants.{Versions}
+use Rattle.table_history.specs.declared.limit.LimitKind.TheVariants.{Versions}
 use Rattle.hudi_timeline.specs.Time.{IsTime, IsTimeNumber, IsNext, IsPast9999}
 use Rattle.hudi_timeline.proofs.TimeLemmas.{next_later, next_past, not_past}
 use Rattle.hudi_timeline.proofs.time.next_instant.Goals as goal
