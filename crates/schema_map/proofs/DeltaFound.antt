@@ -172,7 +172,7 @@ map_found n ih ms t word e =
     let small : 1 + max (levels k.value) (levels v.value) ≤ suc n = let h = key_found.small in let g = value_found.small in omega (arith, h, g) in
     subst P eq (record { is = (ms, key.value, value.value, refl, word, was_bool _ _ (was_there _ _ nullable.first), was_there _ _ key.first, was_there _ _ value.first, key_found.is, value_found.is); small = small })
 
-named : (ms : Members) (w name : List ℕ) → text_member (codes "type") (object ms) ≡ Some w → bytes_eq w name ≡ true → get_member (codes "type") ms ≡ Some (string name)
+pub named : (ms : Members) (w name : List ℕ) → text_member (codes "type") (object ms) ≡ Some w → bytes_eq w name ≡ true → get_member (codes "type") ms ≡ Some (string name)
 named ms w name is same = was_text _ _ is ∙ ap (λ x. Some (string x)) ((bytes_eq-Decides w name).0 same)
 
 nested_found : (n : ℕ) → Step n → (ms : Members) (t : TypeTree) → delta_nested (delta_type n) (object ms) ≡ Ok t → Found (suc n) t (object ms)

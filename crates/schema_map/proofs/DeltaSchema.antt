@@ -15,20 +15,20 @@ use Rattle.schema_map.specs.declared.fault.MapError.TheVariants.{Limit}
 use Rattle.lake_basics.specs.Outcome.{required, each, GivesUnlessMemory}
 use Rattle.schema_map.specs.Errors.{in_column, is_memory}
 use Rattle.json_reading.specs.Json.{text_member, list_member, items, json}
-use Rattle.schema_map.specs.Limits.{column_count, max_type_levels}
+use Rattle.schema_map.specs.Limits.{column_count, max_type_levels, IsWithinLimits}
 use Rattle.lake_basics.specs.declared.limits.TheConstants.{MAX_COLUMNS}
 use Rattle.schema_map.specs.Delta.{delta_type, delta_column, delta_top_column, delta_schema, delta_schema_of}
 use Rattle.schema_map.specs.Shared.{column_name, schema_fields, schema_of}
-use Rattle.schema_map.specs.DeltaSpelling.{IsDeltaType, IsDeltaText, IsWithinLimits}
+use Rattle.schema_map.specs.DeltaSpelling.{IsDeltaType, IsDeltaText}
 use Rattle.schema_map.specs.Names.{have_own_names, columns_with_own_names}
 use Rattle.schema_map.proofs.Bound.{bound, was_there, was_text, was_array, chosen, good}
 use Rattle.schema_map.proofs.DeltaFound.{columns_found, ColumnsFound, own_found, delta_found}
 use Rattle.schema_map.proofs.DeltaOnly.{column_list, columns_of-column_list, delta_only_columns}
 
-abbrev mapped : {A : Type 0} → A → Result A MapError
+abbrev pub mapped : {A : Type 0} → A → Result A MapError
 mapped x = Ok x
 
-was_good : {A : Type 0} (name : List ℕ) (r : Result A Fault) (x : A) → in_column name r ≡ Ok x → r ≡ Ok x
+pub was_good : {A : Type 0} (name : List ℕ) (r : Result A Fault) (x : A) → in_column name r ≡ Ok x → r ≡ Ok x
 was_good name (Ok y) x e = cc
 was_good name (Err f) x e = absurd (cc)
 
@@ -49,15 +49,15 @@ module _ (f : Data → Result ColumnTree Fault) (name : Data → List ℕ) where
       let eq : first.value ∷ others.value ≡ ys = let h : mapped (first.value ∷ others.value) ≡ mapped ys = others.behind in cc in
       rw (was_good (name x) (f x) first.value first.first, tops_to xs others.value others.first) (ap Ok eq)
 
-within_found : (cs ds : ColumnTrees) (b : Bool) → nat_lt MAX_COLUMNS (column_count cs) ≡ b → cond b (Err (Limit Columns)) (Ok cs) ≡ Ok ds → (cs ≡ ds) × (column_count cs ≤ MAX_COLUMNS)
+pub within_found : (cs ds : ColumnTrees) (b : Bool) → nat_lt MAX_COLUMNS (column_count cs) ≡ b → cond b (Err (Limit Columns)) (Ok cs) ≡ Ok ds → (cs ≡ ds) × (column_count cs ≤ MAX_COLUMNS)
 within_found cs ds true is e = absurd (cc)
 within_found cs ds false is e = (cc, ltb-false MAX_COLUMNS (column_count cs) is)
 
-record IsSchemaJson (ms : Members) (ds : Items) : Type 0 where
-  word : get_member (codes "type") ms ≡ Some (string (codes "struct"))
-  fields : get_member (codes "fields") ms ≡ Some (array ds)
+pub record IsSchemaJson (ms : Members) (ds : Items) : Type 0 where
+  pub word : get_member (codes "type") ms ≡ Some (string (codes "struct"))
+  pub fields : get_member (codes "fields") ms ≡ Some (array ds)
 
-fields_found : (ms : Members) (ds : Items) → schema_fields (object ms) ≡ Ok ds → IsSchemaJson ms ds
+pub fields_found : (ms : Members) (ds : Items) → schema_fields (object ms) ≡ Ok ds → IsSchemaJson ms ds
 unfolding schema_fields
 fields_found ms ds e =
     let word = bound (required BadSchema (text_member (codes "type") (object ms))) _ ds e in

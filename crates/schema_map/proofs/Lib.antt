@@ -1,6 +1,16 @@
+pub mod OwnNames
 pub mod Fields
 pub mod Bound
 pub mod DeltaOnly
 pub mod DeltaFound
 pub mod DeltaSchema
 pub mod Spelled
+pub mod Gather
+pub mod ImageTwice
+pub mod Widened
+pub mod IdsFor
+pub mod Paths
+pub mod OwnIdsGiven
+pub mod IcebergOnly
+pub mod IcebergFound
+pub mod IcebergSchema

@@ -7,8 +7,6 @@ use Rattle.table_history.specs.TypeTree.{TypeTree, ColumnTrees, no_columns, colu
 use Rattle.json_reading.specs.Json.{json}
 use Rattle.schema_map.specs.Names.{have_own_names}
 use Rattle.schema_map.specs.Decimal.{decimal_of}
-use Rattle.schema_map.specs.Limits.{column_levels, column_count, max_type_levels}
-use Rattle.lake_basics.specs.declared.limits.TheConstants.{MAX_COLUMNS}
 
 abbrev mutual
   pub IsDeltaType : TypeTree → Data → Type 0
@@ -57,8 +55,3 @@ abbrev mutual
 -- The text is JSON of a struct of these columns.
 abbrev pub IsDeltaText : ColumnTrees → List ℕ → Type 0
 IsDeltaText cs text = (d : Data) × (json text ≡ Some d) × IsDeltaType (tree.struct_of cs) d
-
--- The schema has no more columns and no more levels than may be read.
-pub record IsWithinLimits (cs : ColumnTrees) : Type 0 where
-  pub levels : column_levels cs ≤ max_type_levels
-  pub columns : column_count cs ≤ MAX_COLUMNS

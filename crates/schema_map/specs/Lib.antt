@@ -7,3 +7,8 @@ pub mod Delta
 pub mod DeltaSpelling
 pub mod DeltaWriting
 pub mod Sound
+pub mod Image
+pub mod Iceberg
+pub mod IcebergSpelling
+pub mod Ids
+pub mod OwnIds

@@ -1,5 +1,5 @@
 -- How large a schema is.
-use Rattle.std.specs.Prelude.{ℕ, ◌+◌, ◌-◌, max, nat_lt, Result, Ok, Err, if◌then◌else◌}
+use Rattle.std.specs.Prelude.{ℕ, ◌≤◌, ◌+◌, ◌-◌, max, nat_lt, Result, Ok, Err, if◌then◌else◌}
 use Rattle.table_history.specs.TypeTree.{TypeTree, struct_of, list_of, map_of, ColumnTrees, no_columns, column}
 use Rattle.table_history.specs.declared.limit.LimitKind.TheVariants.{Columns}
 use Rattle.lake_basics.specs.declared.limits.TheConstants.{MAX_COLUMNS, MAX_SCHEMA_LEVELS}
@@ -37,3 +37,8 @@ max_type_levels = MAX_SCHEMA_LEVELS - 1
 
 abbrev pub schema_of_few_columns : ColumnTrees → Result ColumnTrees MapError
 schema_of_few_columns cs = if nat_lt MAX_COLUMNS (column_count cs) then Err (Limit Columns) else Ok cs
+
+-- The schema has no more columns and no more levels than may be read.
+pub record IsWithinLimits (cs : ColumnTrees) : Type 0 where
+  pub levels : column_levels cs ≤ max_type_levels
+  pub columns : column_count cs ≤ MAX_COLUMNS

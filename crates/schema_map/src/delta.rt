@@ -10,7 +10,8 @@ ghost use Rattle.schema_map.specs.Errors.{is_memory};
 ghost use Rattle.schema_map.specs.Delta.{delta_type, delta_shape, delta_nested, delta_struct};
 ghost use Rattle.schema_map.specs.Delta.{delta_list, delta_map, delta_columns, delta_column};
 ghost use Rattle.schema_map.specs.Delta.{delta_top_column, delta_schema, delta_schema_of};
-ghost use Rattle.schema_map.specs.DeltaSpelling.{IsDeltaText, IsWithinLimits};
+ghost use Rattle.schema_map.specs.DeltaSpelling.{IsDeltaText};
+ghost use Rattle.schema_map.specs.Limits.{IsWithinLimits};
 
 use crate::fault::{BAD_SCHEMA, DEPTH, Fault, MapError, SCHEMA_TYPE};
 use crate::limits::MAX_TYPE_LEVELS;
@@ -118,7 +119,7 @@ fn columns_of(
     for field in fields {
         columns.push(column_of(alloc, field, below)?)?;
     }
-    if have_own_names(columns.as_slice()) {
+    if have_own_names(alloc, columns.as_slice())? {
         Ok(columns)
     } else {
         Err(BAD_SCHEMA)
@@ -175,7 +176,7 @@ fn delta_schema(alloc: Global, value: &Value) -> Result<Schema, MapError>
         Err(error) => return Err(error_in(alloc, "", error)),
     };
     let columns = top_columns_of(alloc, fields)?;
-    schema_of(columns)
+    schema_of(alloc, columns)
 }
 
 fn schema_from(alloc: Global, text: &[u8]) -> Result<Schema, MapError>

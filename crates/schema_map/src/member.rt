@@ -4,11 +4,11 @@ ghost use Rattle.std.specs.Prelude.{◌≡◌};
 ghost use Rattle.serde_json.specs.Find.{get};
 ghost use Rattle.serde_json.specs.View.{view, items_view};
 ghost use Rattle.lake_basics.specs.Outcome.{Gives, required};
-ghost use Rattle.json_reading.specs.Json.{text_member, bool_member, list_member};
+ghost use Rattle.json_reading.specs.Json.{text_member, bool_member, int_member, list_member};
 ghost use Rattle.schema_map.specs.declared.fault.Fault.TheVariants.{BadSchema};
 
 use crate::fault::{BAD_SCHEMA, Fault};
-use json_reading::{bool_of, list_of, text_of};
+use json_reading::{bool_of, int_of, list_of, text_of};
 use lake_basics::ReadError;
 use serde_json::Value;
 
@@ -24,6 +24,13 @@ pub(crate) fn required_bool(value: &Value, name: &str) -> Result<bool, ReadError
         (required BadSchema (bool_member name.now (view value.now))) }
 {
     bool_of(value, name).ok_or(BAD_SCHEMA)
+}
+
+/// The member, which must be a whole number of 32 bits.
+pub(crate) fn required_int(value: &Value, name: &str) -> Result<i32, ReadError<Fault>>
+    ensures { Gives (λ n. n) result (required BadSchema (int_member name.now (view value.now))) }
+{
+    int_of(value, name).ok_or(BAD_SCHEMA)
 }
 
 pub(crate) fn required_list<'a>(

@@ -1,30 +1,25 @@
 //! Columns that have names of their own.
 
-ghost use Rattle.std.specs.Prelude.{◌≡◌};
+ghost use Rattle.std.specs.Prelude.{◌≡◌, IfOk};
 ghost use Rattle.table_history.specs.SchemaView.{columns_view};
-ghost use Rattle.schema_map.specs.Names.{is_named, have_own_names};
+ghost use Rattle.schema_map.specs.Names.{have_own_names};
 
+use std::alloc::{AllocError, Global};
+use std::collections::BTreeSet;
 use table_history::Column;
 
-fn is_named(name: &str, columns: &[Column]) -> bool
-    ensures { result ≡ is_named name.now (columns_view columns.now) }
-{
-    for column in columns {
-        if column.name.as_str() == name {
-            return true;
-        }
-    }
-    false
-}
-
 /// Whether no two of these columns have one name.
-pub(crate) fn have_own_names(columns: &[Column]) -> bool
-    ensures { result ≡ have_own_names (columns_view columns.now) }
+pub(crate) fn have_own_names(alloc: Global, columns: &[Column]) -> Result<bool, AllocError>
+    ensures { IfOk result (λ own. own ≡ have_own_names (columns_view columns.now)) }
 {
-    for (place, column) in columns.iter().enumerate() {
-        if is_named(column.name.as_str(), &columns[place + 1..]) {
-            return false;
+    let mut seen = BTreeSet::new(alloc);
+    let mut place = columns.len();
+    while place > 0 {
+        place -= 1;
+        let column = &columns[place];
+        if !seen.insert(column.name.as_str())? {
+            return Ok(false);
         }
     }
-    true
+    Ok(true)
 }

@@ -69,11 +69,11 @@ pub(crate) fn schema_fields(value: &Value) -> Result<&Vec<Value>, ReadError<Faul
 }
 
 /// The columns, where they make a schema.
-pub(crate) fn schema_of(columns: Vec<Column>) -> Result<Schema, MapError>
+pub(crate) fn schema_of(alloc: Global, columns: Vec<Column>) -> Result<Schema, MapError>
     ensures { GivesUnlessMemory is_memory (λ s. s) result
         (schema_of (columns_view columns.items)) }
 {
-    if !have_own_names(columns.as_slice()) {
+    if !have_own_names(alloc, columns.as_slice())? {
         return Err(MapError::BadSchema);
     }
     if !has_few_columns(&columns) {

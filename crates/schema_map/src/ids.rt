@@ -1,0 +1,225 @@
+//! The Image of a schema in Iceberg, with field ids that stay.
+
+ghost use Rattle.std.specs.Prelude.{◌≡◌, ◌++◌, ◌∷◌, [], IfOk, OnOk, Some, map, option_map};
+ghost use Rattle.table_history.specs.SchemaView.{type_view, column_view, columns_view};
+ghost use Rattle.table_history.specs.declared.kind.Kind.TheVariants.{Iceberg};
+ghost use Rattle.lake_basics.specs.Outcome.{GivesUnlessMemory};
+ghost use Rattle.schema_map.specs.Errors.{is_memory};
+ghost use Rattle.schema_map.specs.Image.{wide_type, wide_columns, image};
+ghost use Rattle.schema_map.specs.OwnIds.{AreKnown, AreDistinct, KeepsKnown};
+ghost use Rattle.schema_map.specs.Sound.{IsSound};
+ghost use Rattle.schema_map.specs.Ids.{below, inner_paths, column_paths, known_id, next_id, ids_for};
+
+use crate::fault::MapError;
+use crate::iceberg::Ids;
+use lake_basics::{Items, Text};
+use std::alloc::{AllocError, Global};
+use table_history::{Column, ColumnType, LimitKind, Schema};
+
+/// The names from the top, with `element`, `key` and `value` for the parts of lists and maps.
+pub type ColumnPath = Items<Text>;
+
+/// The field ids that column paths have, and the last id that was given.
+#[derive(Drop)]
+pub struct KnownIds {
+    pub pairs: Items<(ColumnPath, i32)>,
+    pub last: i32,
+}
+
+// ---- the Image
+
+#[cycle(widen)]
+fn wide_type(alloc: Global, kind: &ColumnType) -> Result<ColumnType, AllocError>
+    ensures { IfOk result (λ t. type_view t ≡ wide_type (type_view kind.now)) }
+{
+    match kind {
+        ColumnType::Byte | ColumnType::Short => Ok(ColumnType::Int),
+        ColumnType::Struct(columns) => Ok(ColumnType::Struct(wide_columns(
+            alloc,
+            columns.as_slice(),
+        )?)),
+        ColumnType::List { element, nullable } => {
+            let element = wide_type(alloc, element)?;
+            Ok(ColumnType::List {
+                element: Box::new(alloc, element)?,
+                nullable: *nullable,
+            })
+        }
+        ColumnType::Map {
+            key,
+            value,
+            nullable,
+        } => {
+            let key = wide_type(alloc, key)?;
+            let value = wide_type(alloc, value)?;
+            Ok(ColumnType::Map {
+                key: Box::new(alloc, key)?,
+                value: Box::new(alloc, value)?,
+                nullable: *nullable,
+            })
+        }
+        other => other.copy(alloc),
+    }
+}
+
+#[cycle(widen)]
+fn wide_columns(alloc: Global, columns: &[Column]) -> Result<Vec<Column>, AllocError>
+    ensures { IfOk result (λ v. columns_view v.items ≡ wide_columns (columns_view columns.now)) }
+{
+    let mut wide = Vec::with_capacity(alloc, columns.len())?;
+    for column in columns {
+        let name = column.name.copy(alloc)?;
+        let kind = wide_type(alloc, &column.kind)?;
+        let nullable = column.nullable;
+        wide.push(Column {
+            name,
+            kind,
+            nullable,
+        })?;
+    }
+    Ok(wide)
+}
+
+// ---- paths
+
+fn path_with(alloc: Global, prefix: &ColumnPath, name: &str) -> Result<ColumnPath, AllocError>
+    ensures { IfOk result (λ p. p ≡ prefix.now ++ name.now ∷ []) }
+{
+    let mut path = Items::new(alloc);
+    for part in prefix.as_slice() {
+        path.push(part.copy(alloc)?)?;
+    }
+    path.push(Text::from_str(alloc, name)?)?;
+    Ok(path)
+}
+
+/// Adds the path of a part, and then those inside it.
+#[tactic(auto, using(crate::proofs::Paths::below_prefix))]
+#[cycle(paths)]
+fn push_part(
+    alloc: Global,
+    paths: &mut Vec<ColumnPath>,
+    prefix: &ColumnPath,
+    name: &str,
+    kind: &ColumnType,
+) -> Result<(), AllocError>
+    ensures { OnOk result (paths.new.items ≡ paths.old.items ++ map (λ p. prefix.now ++ p) (below name.now (inner_paths (type_view kind.now)))) }
+{
+    let path = path_with(alloc, prefix, name)?;
+    paths.push(path)?;
+    let inner = path_with(alloc, prefix, name)?;
+    push_inner(alloc, paths, &inner, kind)?;
+    Ok(())
+}
+
+/// Adds the paths inside a type.
+#[tactic(auto, using(crate::proofs::Paths::map_two))]
+#[cycle(paths)]
+fn push_inner(
+    alloc: Global,
+    paths: &mut Vec<ColumnPath>,
+    prefix: &ColumnPath,
+    kind: &ColumnType,
+) -> Result<(), AllocError>
+    ensures { OnOk result (paths.new.items ≡ paths.old.items ++ map (λ p. prefix.now ++ p) (inner_paths (type_view kind.now))) }
+{
+    match kind {
+        ColumnType::Struct(columns) => push_columns(alloc, paths, prefix, columns.as_slice()),
+        ColumnType::List { element, .. } => push_part(alloc, paths, prefix, "element", element),
+        ColumnType::Map { key, value, .. } => {
+            push_part(alloc, paths, prefix, "key", key)?;
+            push_part(alloc, paths, prefix, "value", value)?;
+            Ok(())
+        }
+        _ => Ok(()),
+    }
+}
+
+#[cycle(paths)]
+fn push_columns(
+    alloc: Global,
+    paths: &mut Vec<ColumnPath>,
+    prefix: &ColumnPath,
+    columns: &[Column],
+) -> Result<(), AllocError>
+    ensures { OnOk result (paths.new.items ≡ paths.old.items ++ map (λ p. prefix.now ++ p) (column_paths (columns_view columns.now))) }
+{
+    for column in columns {
+        push_part(alloc, paths, prefix, column.name.as_str(), &column.kind)?;
+    }
+    Ok(())
+}
+
+/// The column paths of a schema, depth first.
+pub fn column_paths(alloc: Global, schema: &Schema) -> Result<Vec<ColumnPath>, AllocError>
+    ensures { IfOk result (λ v. v.items ≡ column_paths schema.now) }
+{
+    let mut paths = Vec::new(alloc);
+    let top = Items::new(alloc);
+    push_columns(alloc, &mut paths, &top, schema.columns())?;
+    Ok(paths)
+}
+
+// ---- ids
+
+fn known_id(known: &[(ColumnPath, i32)], path: &ColumnPath) -> Option<i32>
+    ensures { result ≡ known_id known.now path.now }
+{
+    for (known_path, id) in known {
+        if *known_path == *path {
+            return Some(*id);
+        }
+    }
+    None
+}
+
+fn next_id(last: i32) -> Result<i32, MapError>
+    ensures { GivesUnlessMemory is_memory (λ id. id) result (next_id last) }
+{
+    if last < 2_147_483_647 {
+        Ok(last + 1)
+    } else {
+        Err(MapError::Limit {
+            which: LimitKind::Versions,
+        })
+    }
+}
+
+fn ids_for(alloc: Global, known: &KnownIds, paths: &[ColumnPath]) -> Result<Ids, MapError>
+    ensures { GivesUnlessMemory is_memory (λ ids. ids) result (ids_for known.now.pairs known.now.last paths.now) }
+{
+    let mut ids = Vec::new(alloc);
+    let mut last = known.last;
+    for path in paths {
+        match known_id(known.pairs.as_slice(), path) {
+            Some(id) => ids.push(id)?,
+            None => {
+                last = next_id(last)?;
+                ids.push(last)?;
+            }
+        }
+    }
+    Ok(Items::from_vec(ids))
+}
+
+/// The Image of a schema in Iceberg, and its field ids: a known column path keeps its id, and the
+/// others take the next ones, depth first.
+pub fn to_iceberg(
+    alloc: Global,
+    schema: &Schema,
+    known: &KnownIds,
+) -> Result<(Schema, Ids), MapError>
+    ensures image { IfOk result (λ p. image Iceberg schema.now ≡ Some p.0) }
+    ensures ids { GivesUnlessMemory is_memory (λ p. p.1) result (ids_for known.now.pairs known.now.last (column_paths schema.now)) }
+    // A known column path keeps its id.
+    ensures keeps { IfOk result (λ p. KeepsKnown known.now.pairs (column_paths schema.now) p.1) }
+    // No two column paths share an id.
+    // What the Image reads back as has that Image too.
+    ensures settled { IfOk result (λ p. image Iceberg p.0 ≡ Some p.0) }
+    ensures own_ids { IfOk result (λ p. AreKnown known.now.pairs known.now.last → IsSound schema.now → AreDistinct p.1) }
+{
+    let paths = column_paths(alloc, schema)?;
+    let ids = ids_for(alloc, known, paths.as_slice())?;
+    let columns = wide_columns(alloc, schema.columns())?;
+    Ok((Schema::new(columns), ids))
+}
