@@ -1,0 +1,15 @@
+//! Avro object container files, by the Apache Avro specification, "Object Container Files".
+#![tactic(auto)]
+
+mod blocks;
+mod container;
+mod error;
+pub mod fault;
+mod header;
+mod meta;
+#[cfg(test)]
+mod tests;
+mod write;
+
+pub use container::{Container, Meta, Values, read_container};
+pub use error::ContainerError;

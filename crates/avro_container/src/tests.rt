@@ -1,0 +1,107 @@
+//! Containers of other writers, and faults by their places.
+
+use crate::container::read_container;
+use crate::error::ContainerError;
+use avro_value::{AvroError, Value};
+use std::alloc::AllocError;
+use std::test::Fail;
+
+/// A container of the schema `"long"` with the one value 1.
+const ONE: [u8; 60] =
+    *b"Obj\x01\x02\x16avro.schema\x0c\"long\"\x00lakebridge-sync!\x02\x02\x02lakebridge-sync!";
+
+/// As python3-avro 1.11.1 writes the longs 1, -64 and 64 without compression.
+const OF_PYTHON: [u8; 79] = [
+    0x4f, 0x62, 0x6a, 0x01, 0x04, 0x14, 0x61, 0x76, 0x72, 0x6f, 0x2e, 0x63, 0x6f, 0x64, 0x65, 0x63,
+    0x08, 0x6e, 0x75, 0x6c, 0x6c, 0x16, 0x61, 0x76, 0x72, 0x6f, 0x2e, 0x73, 0x63, 0x68, 0x65, 0x6d,
+    0x61, 0x0c, 0x22, 0x6c, 0x6f, 0x6e, 0x67, 0x22, 0x00, 0x17, 0xcb, 0x2a, 0x33, 0x66, 0x5e, 0x44,
+    0xd7, 0xfa, 0x5b, 0xbe, 0x28, 0xa4, 0x28, 0x98, 0x67, 0x06, 0x08, 0x02, 0x7f, 0x80, 0x01, 0x17,
+    0xcb, 0x2a, 0x33, 0x66, 0x5e, 0x44, 0xd7, 0xfa, 0x5b, 0xbe, 0x28, 0xa4, 0x28, 0x98, 0x67,
+];
+
+fn is_one(values: &[Value]) -> bool {
+    matches!(values, [Value::Long(1)])
+}
+
+fn are_three(values: &[Value]) -> bool {
+    matches!(values, [Value::Long(1), Value::Long(-64), Value::Long(64)])
+}
+
+#[test]
+fn containers_are_read(rt: HostRuntime) -> Result<(), Fail> {
+    let one = read_container(rt.alloc(), &ONE)?;
+    assert_eq!(rt; one.meta.len(), 1);
+    assert!(rt; is_one(one.values.as_slice()));
+    let three = read_container(rt.alloc(), &OF_PYTHON)?;
+    assert_eq!(rt; three.meta.len(), 2);
+    assert!(rt; are_three(three.values.as_slice()));
+    Ok(())
+}
+
+/// Why the first bytes with the second ones behind them are no container, if they are none.
+fn refusal(
+    rt: &HostRuntime,
+    front: &[u8],
+    behind: &[u8],
+) -> Result<Option<ContainerError>, AllocError> {
+    let mut bytes = Vec::from_slice(rt.alloc(), front)?;
+    bytes.extend_from_slice(behind)?;
+    match read_container(rt.alloc(), bytes.as_slice()) {
+        Ok(_) => Ok(None),
+        Err(error) => Ok(Some(error)),
+    }
+}
+
+#[test]
+fn faults_of_a_second_block(rt: HostRuntime) -> Result<(), Fail> {
+    let rows: [(&[u8], Option<ContainerError>); 6] = [
+        (b"\x02\x02\x04lakebridge-sync!", None),
+        (
+            b"\x02\x02\x04lakebridge-sync?",
+            Some(ContainerError::BadSync { at: 63 }),
+        ),
+        (
+            b"\x02\x02\x04lakebridge",
+            Some(ContainerError::Short { at: 60 }),
+        ),
+        (
+            b"\x02\x01\x04lakebridge-sync!",
+            Some(ContainerError::BadBlock { at: 61 }),
+        ),
+        (
+            b"\x02\x04\x04\x04lakebridge-sync!",
+            Some(ContainerError::BadBlock { at: 63 }),
+        ),
+        (
+            b"\x02\x02\x84lakebridge-sync!",
+            Some(ContainerError::Value(AvroError::Short { at: 62 })),
+        ),
+    ];
+    for (block, expected) in rows {
+        assert_eq!(rt; refusal(&rt, &ONE, block)?, expected);
+    }
+    Ok(())
+}
+
+#[test]
+fn faults_of_the_header(rt: HostRuntime) -> Result<(), Fail> {
+    let rows: [(&[u8], &[u8], ContainerError); 5] = [
+        (b"Ob", b"j", ContainerError::Short { at: 0 }),
+        (b"Obj", b"\x02", ContainerError::BadMagic),
+        (
+            b"Obj\x01",
+            b"\x00lakebridge-sync!",
+            ContainerError::BadSchema,
+        ),
+        (b"Obj\x01", b"\x02\x01", ContainerError::BadMeta { at: 5 }),
+        (
+            b"Obj\x01\x02\x16avro.schema\x0c\"long\"",
+            b"\x02\x14avro.codec\x0esnappy\x00\x00lakebridge-sync!",
+            ContainerError::Codec,
+        ),
+    ];
+    for (front, behind, expected) in rows {
+        assert_eq!(rt; refusal(&rt, front, behind)?, Some(expected));
+    }
+    Ok(())
+}
