@@ -1,5 +1,5 @@
 -- What is written is a container.
-use Rattle.std.proofs.Common.{◌≡◌, ℕ, ◌+◌, ◌*◌, ◌-◌, ◌^◌, ◌<◌, ◌≤◌, ◌||◌, ◌&&◌, pos, not, Bool, true, false, cond, List, [], ◌∷◌, ◌++◌, length, map, Option, Some, None, Ok, IsUtf8, refl, sym, ap, subst, ◌∙◌, append_assoc, arith, inl, inr, eqb, ne_eqb}
+use Rattle.std.proofs.Common.{◌≡◌, ℕ, ◌+◌, ◌*◌, ◌-◌, ◌^◌, ◌<◌, ◌≤◌, ◌||◌, ◌&&◌, pos, not, Bool, true, false, cond, List, [], ◌∷◌, ◌++◌, length, map, Option, Some, None, Result, Ok, Err, IfOk, Vec, Global, refl, sym, ap, subst, ◌∙◌, append_assoc, arith, inl, inr, eqb, ne_eqb}
 use Rattle.std.specs.Str.{bytes_eq}
 use Rattle.std.specs.List.{AllByRecursion, list_any}
 use Rattle.std.specs.List.Sorted.{IsPermutation}
@@ -12,6 +12,9 @@ use Rattle.avro_value.specs.Layout.{Layout, layout_of}
 use Rattle.avro_value.specs.ValueTree.{ValueTree, values_of, total}
 use Rattle.avro_value.specs.Spelling.{Concatenated, LengthPrefixed, KeyAndValue, Spells}
 use Rattle.avro_schema.specs.Reading.{schema_of}
+use Rattle.avro_schema.specs.Spelled.{IsSpelled}
+use Rattle.avro_schema.specs.Writing.{json_of}
+use Rattle.serde_json.specs.Written.{compact_text}
 use Rattle.avro_value.specs.Writing.{varint_of, length_prefixed, block_encoding, values_encoding}
 use Rattle.avro_value.specs.Fitting.{IsText, AreSound, Fits}
 use Rattle.avro_value.proofs.WriteLaws.{natural_written, bytes_written, text_written, blocks_written, joined, written}
@@ -105,3 +108,19 @@ container_written limit meta text pairs t marker vs low w free reads are fit sou
       number = written_blocks.0;
       are_blocks = written_blocks.1;
     }
+
+pub is_written : {E : Type 0} (limit : ℕ) (r : Result (Vec ℕ Global) E) (meta : Pairs) (text : List ℕ) (pairs : Pairs) (t : SchemaTree) (marker : List ℕ) (vs : List ValueTree)
+    → limit < 2 ^ 63 → length marker ≡ 16 → IsFree limit meta → AllByRecursion (Fits (layout_of t)) vs
+    → text ≡ compact_text (json_of t) → (IsSpelled t → schema_of text ≡ Ok t) → AreWritten meta text pairs
+    → IfOk r (λ b. b.items ≡ container_text pairs marker vs) → IfOk r (λ _. ArePairs pairs) → IfOk r (λ _. AreSound (values_of vs)) → IfOk r (λ _. length vs < 2 ^ 63) → IfOk r (λ _. length (values_encoding (values_of vs)) < 2 ^ 63)
+    → IfOk r (λ b. IsWritten limit b.items meta t marker vs)
+is_written limit (Ok b) meta text pairs t marker vs low len free fit is reads w exact are sound many small =
+    let container : IsSpelled t → IsContainer limit b.items pairs t vs = λ s. subst (λ (bytes : List ℕ). IsContainer limit bytes pairs t vs) (sym exact) (container_written limit meta text pairs t marker vs low w free (reads s) are fit sound len many small) in
+    record {
+      pairs = pairs;
+      metadata = subst (λ (bytes : List ℕ). AreWritten meta bytes pairs) is w;
+      exact = exact;
+      container = container;
+      read_back = λ s few. record { container = container s; few = few };
+    }
+is_written limit (Err e) meta text pairs t marker vs low len free fit is reads w exact are sound many small = tt

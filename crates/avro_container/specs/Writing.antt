@@ -1,16 +1,18 @@
 -- The bytes of a container that is written.
-use Rattle.std.specs.Prelude.{◌≡◌, ℕ, ◌+◌, ◌*◌, ◌^◌, ◌<◌, ◌≤◌, Bool, false, List, [], ◌∷◌, ◌++◌, length, IsUtf8, Ok, ◌==◌, if◌then◌else◌}
+use Rattle.std.specs.Prelude.{◌≡◌, ℕ, ◌+◌, ◌*◌, ◌^◌, ◌<◌, ◌≤◌, Bool, false, List, [], ◌∷◌, ◌++◌, length, ◌==◌, if◌then◌else◌}
 use Rattle.std.specs.List.{AllByRecursion, list_any}
 use Rattle.std.specs.List.Sorted.{IsPermutation, IsSortedBy}
 use Rattle.std.specs.Cmp.Lexicographic.{slice_cmp}
 use Rattle.std.specs.Ordering.{is_lt, nat_cmp}
 use Rattle.std.specs.Str.{bytes_eq}
 use Rattle.avro_schema.specs.Tree.{SchemaTree}
-use Rattle.avro_schema.specs.Reading.{schema_of}
-use Rattle.avro_value.specs.ValueTree.{ValueTree, values_of}
+use Rattle.avro_schema.specs.Spelled.{IsSpelled}
+use Rattle.avro_schema.specs.Writing.{json_of}
+use Rattle.serde_json.specs.Written.{compact_text}
+use Rattle.avro_value.specs.ValueTree.{ValueTree, values_of, value_count, total}
 use Rattle.avro_value.specs.Writing.{varint_of, length_prefixed, block_encoding, values_encoding}
 use Rattle.avro_value.specs.Fitting.{IsText}
-use Rattle.avro_container.specs.Format.{Pairs, magic, schema_name, codec_name, null_codec, IsContainer}
+use Rattle.avro_container.specs.Format.{Pairs, magic, schema_name, codec_name, null_codec, IsContainer, IsWithin}
 
 abbrev pub pairs_text : Pairs → List ℕ
 pairs_text [] = []
@@ -49,11 +51,11 @@ pub record AreWritten (meta : Pairs) (text : List ℕ) (pairs : Pairs) : Type 0 
   pub same : IsPermutation ((codec_name, null_codec) ∷ (schema_name, text) ∷ meta) pairs
   pub order : IsSortedBy is_before pairs
 
--- A container of the schema and the values, with this metadata.
+-- The bytes of a container of the schema and the values, with this metadata. They are one where a
+-- text can spell the schema, and are read back where reading may make as many values.
 pub record IsWritten (limit : ℕ) (bytes : List ℕ) (meta : Pairs) (t : SchemaTree) (marker : List ℕ) (vs : List ValueTree) : Type 0 where
-  pub text : List ℕ
   pub pairs : Pairs
-  pub metadata : AreWritten meta text pairs
-  pub schema : schema_of text ≡ Ok t
+  pub metadata : AreWritten meta (compact_text (json_of t)) pairs
   pub exact : bytes ≡ container_text pairs marker vs
-  pub container : IsContainer limit bytes pairs t vs
+  pub container : IsSpelled t → IsContainer limit bytes pairs t vs
+  pub read_back : IsSpelled t → total value_count vs ≤ limit → IsWithin limit bytes pairs t vs

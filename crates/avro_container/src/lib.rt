@@ -13,3 +13,4 @@ mod write;
 
 pub use container::{Container, Meta, Values, read_container};
 pub use error::ContainerError;
+pub use write::write_container;

@@ -2,7 +2,10 @@
 
 use crate::container::read_container;
 use crate::error::ContainerError;
+use crate::write::write_container;
+use avro_schema::{Schema, Shape};
 use avro_value::{AvroError, Value};
+use lake_basics::Items;
 use std::alloc::AllocError;
 use std::test::Fail;
 
@@ -19,6 +22,16 @@ const OF_PYTHON: [u8; 79] = [
     0xcb, 0x2a, 0x33, 0x66, 0x5e, 0x44, 0xd7, 0xfa, 0x5b, 0xbe, 0x28, 0xa4, 0x28, 0x98, 0x67,
 ];
 
+/// As avro-c 1.11 writes the same values.
+const OF_C: [u8; 88] = [
+    0x4f, 0x62, 0x6a, 0x01, 0x04, 0x14, 0x61, 0x76, 0x72, 0x6f, 0x2e, 0x63, 0x6f, 0x64, 0x65, 0x63,
+    0x08, 0x6e, 0x75, 0x6c, 0x6c, 0x16, 0x61, 0x76, 0x72, 0x6f, 0x2e, 0x73, 0x63, 0x68, 0x65, 0x6d,
+    0x61, 0x1e, 0x7b, 0x22, 0x74, 0x79, 0x70, 0x65, 0x22, 0x3a, 0x22, 0x6c, 0x6f, 0x6e, 0x67, 0x22,
+    0x7d, 0x00, 0x7e, 0xb9, 0x98, 0xab, 0x41, 0x77, 0x25, 0xed, 0xc2, 0x38, 0xa9, 0x80, 0x95, 0x02,
+    0x68, 0x37, 0x06, 0x08, 0x02, 0x7f, 0x80, 0x01, 0x7e, 0xb9, 0x98, 0xab, 0x41, 0x77, 0x25, 0xed,
+    0xc2, 0x38, 0xa9, 0x80, 0x95, 0x02, 0x68, 0x37,
+];
+
 fn is_one(values: &[Value]) -> bool {
     matches!(values, [Value::Long(1)])
 }
@@ -32,9 +45,12 @@ fn containers_are_read(rt: HostRuntime) -> Result<(), Fail> {
     let one = read_container(rt.alloc(), &ONE)?;
     assert_eq!(rt; one.meta.len(), 1);
     assert!(rt; is_one(one.values.as_slice()));
-    let three = read_container(rt.alloc(), &OF_PYTHON)?;
-    assert_eq!(rt; three.meta.len(), 2);
-    assert!(rt; are_three(three.values.as_slice()));
+    let others: [&[u8]; 2] = [&OF_PYTHON, &OF_C];
+    for bytes in others {
+        let three = read_container(rt.alloc(), bytes)?;
+        assert_eq!(rt; three.meta.len(), 2);
+        assert!(rt; are_three(three.values.as_slice()));
+    }
     Ok(())
 }
 
@@ -103,5 +119,22 @@ fn faults_of_the_header(rt: HostRuntime) -> Result<(), Fail> {
     for (front, behind, expected) in rows {
         assert_eq!(rt; refusal(&rt, front, behind)?, Some(expected));
     }
+    Ok(())
+}
+
+#[test]
+fn a_container_is_written(rt: HostRuntime) -> Result<(), Fail> {
+    let schema = Schema {
+        shape: Shape::Long,
+        logical: None,
+        precision: None,
+        scale: None,
+    };
+    let meta = Items::new(rt.alloc());
+    let values = [Value::Long(1)];
+    let written = write_container(rt.alloc(), &meta, &schema, &values, *b"lakebridge-sync!")?;
+    let expected =
+        b"Obj\x01\x04\x14avro.codec\x08null\x16avro.schema\x0c\"long\"\x00lakebridge-sync!\x02\x02\x02lakebridge-sync!";
+    assert_eq!(rt; written.as_slice(), expected.as_slice());
     Ok(())
 }

@@ -1,14 +1,23 @@
 //! Writing containers.
 
-ghost use Rattle.std.specs.Prelude.{◌≡◌, ◌++◌, ◌*◌, ◌<◌, ◌^◌, ◌∷◌, length, map, OnOk, IfOk};
+ghost use Rattle.std.specs.Prelude.{◌≡◌, Ok, ◌++◌, ◌*◌, ◌<◌, ◌^◌, ◌∷◌, length, map, OnOk, IfOk, IfErr};
+ghost use Rattle.std.specs.List.{AllByRecursion};
+ghost use Rattle.serde_json.specs.Written.{compact_text};
+ghost use Rattle.avro_schema.specs.Tree.{tree_of};
+ghost use Rattle.avro_schema.specs.Writing.{json_of};
+ghost use Rattle.avro_schema.specs.Spelled.{IsSpelled};
+ghost use Rattle.avro_schema.specs.Reading.{schema_of};
+ghost use Rattle.avro_value.specs.Layout.{layout_of};
 ghost use Rattle.avro_value.specs.ValueTree.{value_tree, values_of};
 ghost use Rattle.avro_value.specs.Writing.{values_encoding};
-ghost use Rattle.avro_value.specs.Fitting.{AreSound};
-ghost use Rattle.avro_container.specs.Writing.{pairs_text, meta_text, block_text, container_text, ArePairs, AreWritten};
+ghost use Rattle.avro_value.specs.Fitting.{AreSound, Fits};
+ghost use Rattle.avro_container.specs.Writing.{pairs_text, meta_text, block_text, container_text, ArePairs, IsFree, AreWritten, IsWritten};
 ghost use Rattle.avro_container.specs.Format.{schema_name, codec_name, null_codec};
 
 use crate::container::Meta;
-use avro_value::{Value, push_blob, push_bytes, push_natural, push_text, push_values};
+use crate::error::ContainerError;
+use avro_schema::Schema;
+use avro_value::{MAX_VALUES, Value, push_blob, push_bytes, push_natural, push_text, push_values};
 use lake_basics::{Blob, Text};
 use std::alloc::{AllocError, Global};
 
@@ -66,7 +75,7 @@ fn push_block(
 }
 
 /// A container with the metadata as it stands.
-pub fn container(
+fn container(
     alloc: Global,
     meta: &Vec<(Text, Blob)>,
     values: &[Value],
@@ -104,10 +113,59 @@ fn with_schema(alloc: Global, meta: &Meta, schema: &[u8]) -> Result<Vec<(Text, B
 }
 
 /// The metadata as it is written.
-pub fn metadata(alloc: Global, meta: &Meta, schema: &[u8]) -> Result<Vec<(Text, Blob)>, AllocError>
+fn metadata(alloc: Global, meta: &Meta, schema: &[u8]) -> Result<Vec<(Text, Blob)>, AllocError>
     ensures { IfOk result (λ ps. AreWritten meta.now schema.now ps.items) }
 {
     let mut pairs = with_schema(alloc, meta, schema)?;
     pairs.sort_by(|a, b| a.0.as_bytes().cmp(b.0.as_bytes()))?;
     Ok(pairs)
+}
+
+fn schema_text(alloc: Global, schema: &Schema) -> Result<Blob, AllocError>
+    ensures text { IfOk result (λ b. b ≡ compact_text (json_of (tree_of schema.now))) }
+    ensures reads_back { IfOk result (λ b. IsSpelled (tree_of schema.now)
+        → schema_of b ≡ Ok (tree_of schema.now)) }
+{
+    match schema.to_json(alloc) {
+        Ok(text) => Ok(text),
+        Err(_) => Err(AllocError),
+    }
+}
+
+fn written(
+    alloc: Global,
+    meta: &Meta,
+    schema: &Schema,
+    values: &[Value],
+    marker: [u8; 16],
+) -> Result<Vec<u8>, AllocError>
+    requires fit { AllByRecursion (Fits (layout_of (tree_of schema.now))) (map value_tree values.now) }
+    requires free { IsFree MAX_VALUES meta.now }
+    ensures { IfOk result (λ b. IsWritten MAX_VALUES b.items meta.now (tree_of schema.now) marker (map value_tree values.now)) }
+{
+    let text = schema_text(alloc, schema)?;
+    let pairs = metadata(alloc, meta, text.as_slice())?;
+    container(alloc, &pairs, values, marker)
+}
+
+/// A container of the schema and the values, in one block, or none where there are no values. Its
+/// metadata has the codec and the schema besides, and is in byte order of the names. The only error
+/// is want of memory.
+pub fn write_container(
+    alloc: Global,
+    meta: &Meta,
+    schema: &Schema,
+    values: &[Value],
+    marker: [u8; 16],
+) -> Result<Blob, ContainerError>
+    requires fit { AllByRecursion (Fits (layout_of (tree_of schema.now))) (map value_tree values.now) }
+    requires free { IsFree MAX_VALUES meta.now }
+    ensures written { IfOk result (λ b.
+        IsWritten MAX_VALUES b meta.now (tree_of schema.now) marker (map value_tree values.now)) }
+    ensures err { IfErr result (λ e. e ≡ ContainerError.Memory) }
+{
+    match written(alloc, meta, schema, values, marker) {
+        Ok(bytes) => Ok(Blob::from_vec(bytes)),
+        Err(_) => Err(ContainerError::Memory),
+    }
 }
