@@ -1,6 +1,6 @@
 -- How a run of store calls goes on. For the crates above too: `g.S.Store` is the store, and `g.met.S.Store.only_now` the law.
 use Rattle.std.proofs.Common.{inl, inr, ⊎_elim, ℕ, arith}
-use Rattle.lake_store.specs.Disk.{Files, MayLeave}
+use Rattle.lake_store.specs.Disk.{Disk, Files, MayLeave}
 use Rattle.lake_store.specs.Moments.{Elapses}
 use Rattle.lake_store.specs.Runs.{IsEachMoment, LeavesOnly}
 use Rattle.lake_store.specs.declared.store.Store.{Ghosts}
@@ -48,3 +48,8 @@ module _ {S : Type 0} (store : Ghosts S) where
         each = λ image left. so image (more.each image left);
         before = λ t image le left. ⊎_elim inl (λ p. inr (so image p)) (more.before t image le left);
       }
+
+-- a store that keeps another one inside has its moments
+pub elapses_inside : {S T : Type 0} (disk : T → Disk) (time : T → ℕ) (left_since : T → ℕ → Files → Type 0) (inside : S → T) (old new : S) → Elapses disk time left_since (inside old) (inside new)
+    → Elapses (λ (s : S). disk (inside s)) (λ (s : S). time (inside s)) (λ (s : S). left_since (inside s)) old new
+elapses_inside disk time left_since inside old new call = record { later = call.later; nothing_else = call.nothing_else; keeps = call.keeps }

@@ -1,17 +1,26 @@
 -- The names of a folder are in byte order, each once. For the crates above too.
-use Rattle.std.proofs.Common.{◌≡◌, ℕ, Bool, true, false, ◌&&◌, List, [], ◌∷◌, ◌++◌, map, filter_map, refl, sym, ◌∙◌, ap}
-use Rattle.std.specs.Prelude.{T, Option, Some, None}
+use Rattle.std.proofs.Common.{◌≡◌, ◌⊎◌, ⊎_elim, inl, inr, ℕ, ◌==◌, Bool, true, false, not, ◌&&◌, ◌||◌, List, [], ◌∷◌, ◌++◌, map, filter_map, refl, sym, ◌∙◌, ap, subst, arith}
+use Rattle.std.specs.Prelude.{T, Option, Some, None, Contains, ◌↔◌}
+use Rattle.std.specs.Str.{bytes_eq}
 use Rattle.std.specs.Ordering.{nat_cmp, is_eq, is_lt, ordering_then}
-use Rattle.std.specs.Cmp.Lexicographic.{slice_cmp}
-use Rattle.std.specs.List.{AllByRecursion, cons_option}
-use Rattle.std.specs.List.Sorted.{IsStrictlySortedBy}
+use Rattle.std.specs.Cmp.Lexicographic.{slice_cmp, texts_ties}
+use Rattle.std.specs.List.{AllByRecursion, cons_option, dedup, list_any}
+use Rattle.std.specs.List.Retain.{DiffersFromLast, IsFiltered}
+use Rattle.std.proofs.lemmas.Bool.{eqb-true}
+use Rattle.std.proofs.lemmas.List.Elements.{Contains-append_cases, Contains-append_right, Contains-push_cases}
+use Rattle.std.specs.List.Sorted.{IsPermutation, IsSorted, IsStrictlySortedBy}
+use Rattle.std.proofs.lemmas.Cmp.{nat_list_cmp_total, nat_list_eq_equiv}
+use Rattle.std.proofs.lemmas.List.Filters.{dedup_is}
+use Rattle.std.proofs.lemmas.List.Kept.{Contains-dedup, Contains-from_dedup, IsStrictlySortedBy-dedup}
+use Rattle.std.proofs.lemmas.List.Sorted.{Contains-permutation, IsPermutation-sym}
+use Rattle.std.proofs.lemmas.Slice.Eq.{bytes_eq-Decides}
 use Rattle.std.specs.FinMap as fin
 use Rattle.std.specs.FinMap.Entries.{below_all, is_sorted}
 use Rattle.std.specs.declared.cmp.Ordering.{Ordering}
 use Rattle.std.specs.declared.cmp.Ordering.TheVariants.{Less, Equal, Greater}
-use Rattle.lake_store.specs.Disk.{Files, front_of, name_behind, names_in}
-use Rattle.lake_store.proofs.DiskLaws.{path_here}
-use Rattle.lake_store.proofs.FolderLaws.{named}
+use Rattle.lake_store.specs.Disk.{Files, IsName, ListsFolder, front_of, is_name, name_behind, names_in}
+use Rattle.lake_store.proofs.DiskLaws.{is_path, path_here, same_path}
+use Rattle.lake_store.proofs.FolderLaws.{any-names_in, named}
 
 abbrev Entry : Type 0
 Entry = List ℕ × List ℕ
@@ -82,3 +91,87 @@ names_in_sorted files folder = names_sorted (front_of folder) (fin.keys files) (
 pub sorted_none : IsStrictlySortedBy (slice_cmp nat_cmp) []
 unfolding IsStrictlySortedBy
 sorted_none = tt
+
+-- what a test finds is in the list
+module _ {X : Type 0} (test : X → Bool) (x : X) (found : (y : X) → test y ≡ true → y ≡ x) (finds : (y : X) → y ≡ x → test y ≡ true) where
+  Contains-from_any : (ys : List X) → list_any test ys ≡ true → Contains ys x
+  Contains-from_any [] is = cc
+  Contains-from_any (y ∷ ys) is =
+      elim (test y) as (λ b. test y ≡ b → (b || list_any test ys) ≡ true → Contains (y ∷ ys) x) [
+        | true ↦ λ here _. (0, omega arith, found y here)
+        | false ↦ λ _ later. Contains-append_right (y ∷ []) ys x (Contains-from_any ys later)
+      ] refl is
+
+  or_true : (a b : Bool) → (a ≡ true) ⊎ (b ≡ true) → (a || b) ≡ true
+  or_true true b is = refl
+  or_true false b (inl is) = cc
+  or_true false b (inr is) = is
+
+  any_from_Contains : (ys : List X) → Contains ys x → list_any test ys ≡ true
+  any_from_Contains [] within = let lt = within.1 in absurd (omega arith)
+  any_from_Contains (y ∷ ys) within = or_true (test y) (list_any test ys) (⊎_elim
+      (λ (left : Contains (y ∷ []) x). inl (⊎_elim (λ (none : Contains [] x). let lt = none.1 in absurd (omega arith)) (finds y) (Contains-push_cases [] y x left)))
+      (λ (right : Contains ys x). inr (any_from_Contains ys right)) (Contains-append_cases (y ∷ []) ys x within))
+
+and_first : (a b : Bool) → (a && b) ≡ true → a ≡ true
+and_first true b is = refl
+and_first false b is = cc
+
+and_second : (a b : Bool) → (a && b) ≡ true → b ≡ true
+and_second true b is = is
+and_second false b is = cc
+
+and_both : (a b : Bool) → a ≡ true → b ≡ true → (a && b) ≡ true
+and_both true b p q = q
+and_both false b p q = cc
+
+slash_found : (b : ℕ) → (b == 47) ≡ true → b ≡ 47
+slash_found b is = eqb-true b 47 is
+
+slash_finds : (b : ℕ) → b ≡ 47 → (b == 47) ≡ true
+slash_finds b is = ap (λ c. c == 47) is
+
+not_true : (b : Bool) → not b ≡ true → b ≡ true → ⊥
+not_true true is here = cc
+not_true false is here = cc
+
+true_not : (b : Bool) → (b ≡ true → ⊥) → not b ≡ true
+true_not true apart = absurd (apart refl)
+true_not false apart = refl
+
+name_is : (name : List ℕ) → is_name name ≡ true → IsName name
+name_is [] is = cc
+name_is (c ∷ name) is = (λ none. cc, λ within. not_true _ is (any_from_Contains (λ b. b == 47) 47 slash_found slash_finds (c ∷ name) within))
+
+is_name_of : (name : List ℕ) → IsName name → is_name name ≡ true
+is_name_of [] is = absurd (is.0 refl)
+is_name_of (c ∷ name) is = true_not _ (λ any. is.1 (Contains-from_any (λ b. b == 47) 47 slash_found slash_finds (c ∷ name) any))
+
+-- the names of a folder are those of its files
+pub names_in_listed : (files : Files) (folder : List ℕ) → ListsFolder files folder (names_in files folder)
+names_in_listed files folder = record {
+  sorted = names_in_sorted files folder;
+  members = λ name.
+      let found : (y : List ℕ) → is_path name y ≡ true → y ≡ name = λ y is. sym (same_path name y is) in
+      let finds : (y : List ℕ) → y ≡ name → is_path name y ≡ true = λ y is. ap (is_path name) is ∙ path_here name in (
+        (λ within.
+            let both = sym (any-names_in files folder name) ∙ any_from_Contains (is_path name) name found finds (names_in files folder) within in
+            (name_is name (and_first _ _ both), and_second _ _ both)),
+        (λ is. Contains-from_any (is_path name) name found finds (names_in files folder)
+            (any-names_in files folder name ∙ and_both _ _ (is_name_of name is.0) is.1)),
+      );
+}
+
+-- sorting and dropping what stands twice
+module _ (xs ys zs : List (List ℕ)) (permuted : IsPermutation xs ys) (once : IsFiltered (DiffersFromLast bytes_eq) [] ys zs) where
+  made : zs ≡ dedup bytes_eq ys
+  made = dedup_is bytes_eq ys zs once
+
+  pub sorted_once : IsSorted (slice_cmp nat_cmp) ys → IsStrictlySortedBy (slice_cmp nat_cmp) zs
+  sorted_once sorted = subst (IsStrictlySortedBy (slice_cmp nat_cmp)) (sym made) (IsStrictlySortedBy-dedup nat_list_cmp_total texts_ties ys sorted)
+
+  pub same_members : (name : List ℕ) → Contains zs name ↔ Contains xs name
+  same_members name = (
+    (λ within. Contains-permutation ys xs name (IsPermutation-sym xs ys permuted) (Contains-from_dedup bytes_eq ys name (subst (λ l. Contains l name) made within))),
+    (λ within. subst (λ l. Contains l name) (sym made) (Contains-dedup nat_list_eq_equiv (λ x y. (bytes_eq-Decides x y).0) ys name (Contains-permutation xs ys name permuted within))),
+  )

@@ -4,32 +4,29 @@ use Rattle.std.specs.FinMap as map
 use Rattle.std.specs.FinSet as set
 use Rattle.lake_store.specs.Disk.{Disk, Files, Paths, MayLeave, SameElsewhere, moved, with_file, with_path}
 use Rattle.lake_store.specs.Moments.{Elapses}
-use Rattle.lake_store.specs.Past.{LeftSince, disk_before}
-use Rattle.lake_store.specs.Memory.{disk_of, left_since_of, time_of}
-use Rattle.lake_store.specs.declared.memory.MemoryStore.{MemoryStore}
+use Rattle.lake_store.specs.Past.{disk_before, disks_before, memory_of}
+use Rattle.lake_store.specs.Memory.{LeftBy, Memory, disk_of, left_since_of, time_of}
 use Rattle.lake_store.specs.declared.memory.Change.{Change}
 use Rattle.lake_store.specs.declared.memory.Change.TheVariants.{At, Moved, Synced}
 use Rattle.std.specs.Cmp.Lexicographic.{nat_list_cmp_total}
 use Rattle.lake_store.proofs.DiskLaws.{is_path, path_here, path_cases, get-insert_here, get-insert_other, get-remove_here, get-remove_other, contains-insert_other, contains-remove_here, contains-remove_other}
 use Rattle.lake_store.proofs.TreeLaws.{same_files, same_paths}
 
--- a call that keeps what it replaced
-pub elapses_by : (old new : MemoryStore) (change : Change) → new.past.items ≡ change ∷ old.past.items → disk_before change (disk_of new) ≡ disk_of old → Elapses disk_of time_of left_since_of old new
-elapses_by old new change is back = record {
-  later = subst (λ all. length old.past.items ≤ length all) (sym is) (omega arith);
-  nothing_else = λ t image le left. ⊎_elim (λ now. inr now.1) (λ before. inl (subst (λ d. LeftSince d old.past.items t image) back before)) (subst (λ all. LeftSince (disk_of new) all t image) is left);
-  keeps = λ t image le left. subst (λ all. LeftSince (disk_of new) all t image) (sym is) (inr (subst (λ d. LeftSince d old.past.items t image) (sym back) left));
+-- a call that changes the disk
+pub elapses_changed : (old new : Memory) → new.past ≡ old.disk ∷ old.past → Elapses disk_of time_of left_since_of old new
+elapses_changed old new is = record {
+  later = subst (λ all. length old.past ≤ length all) (sym is) (omega arith);
+  nothing_else = λ t image le left. ⊎_elim (λ now. inr now.1) (λ before. inl (subst (λ all. LeftBy all t image) is before)) left;
+  keeps = λ t image le left. inr (subst (λ all. LeftBy all t image) (sym is) left);
 }
 
--- a call that changes nothing
-pub elapses_same : (old new : MemoryStore) → new.past.items ≡ old.past.items → disk_of new ≡ disk_of old → Elapses disk_of time_of left_since_of old new
-elapses_same old new is same =
-    let both : (t : ℕ) (image : Files) → LeftSince (disk_of new) new.past.items t image ≡ LeftSince (disk_of old) old.past.items t image = λ t image. λ i. LeftSince (same i) (is i) t image in
-    record {
-      later = subst (λ all. length old.past.items ≤ length all) (sym is) (omega arith);
-      nothing_else = λ t image le left. inl (subst (λ (A : Type 0). A) (both t image) left);
-      keeps = λ t image le left. subst (λ (A : Type 0). A) (sym (both t image)) left;
-    }
+-- what it replaced is kept
+pub grown : (old new : Disk) (past past' : List Change) (change : Change) → past' ≡ change ∷ past → disk_before change new ≡ old → disks_before new past' ≡ old ∷ disks_before old past
+grown old new past past' change is back = ap (disks_before new) is ∙ ap (λ d. d ∷ disks_before d past) back
+
+-- the same, of a store that is seen as a disk and those before
+pub grown_by : (old : Memory) (files : Files) (dirty : Paths) (past past' : List Change) (new : Disk) (change : Change) → memory_of files dirty past ≡ old → past' ≡ change ∷ past → disk_before change new ≡ record { files = files; dirty = dirty } → disks_before new past' ≡ old.disk ∷ old.past
+grown_by old files dirty past past' new change view is back = grown (record { files = files; dirty = dirty }) new past past' change is back ∙ ap (λ (m : Memory). m.disk ∷ m.past) view
 
 pub same_disk : (a b : Disk) → a.files ≡ b.files → a.dirty ≡ b.dirty → a ≡ b
 same_disk a b files dirty = λ i. record { files = files i; dirty = dirty i }
@@ -96,18 +93,18 @@ pub marked : (s : Paths) (p : List ℕ) → set.contains s p ≡ true → set.in
 marked s p present = ap (with_path s p) (sym present) ∙ paths_back s s p (λ q apart. refl)
 
 -- a call that changes one path
-pub elapses_at : (old new : MemoryStore) (room : List Change) (p path : List ℕ) (bytes : Option (List ℕ)) (dirty : Bool) → new.past.items ≡ At path bytes dirty ∷ room → room ≡ old.past.items
-    → path ≡ p → bytes ≡ map.get old.files p → dirty ≡ set.contains old.dirty p → SameElsewhere p (disk_of old) (disk_of new) → Elapses disk_of time_of left_since_of old new
-elapses_at old new room p path bytes dirty is roomy named was was_dirty same =
-    elapses_by old new (At p (map.get old.files p) (set.contains old.dirty p)) (is ∙ (λ i. At (named i) (was i) (was_dirty i) ∷ roomy i)) (back_at (disk_of old) (disk_of new) p same)
+module _ (old : Memory) (files : Files) (dirty : Paths) (past room past' : List Change) (view : memory_of files dirty past ≡ old) (new : Disk) where
+  pub past_at : (p path : List ℕ) (bytes : Option (List ℕ)) (was : Bool) → past' ≡ At path bytes was ∷ room → room ≡ past
+      → path ≡ p → bytes ≡ map.get files p → was ≡ set.contains dirty p → SameElsewhere p (record { files = files; dirty = dirty }) new → disks_before new past' ≡ old.disk ∷ old.past
+  past_at p path bytes was is roomy named had was_dirty same =
+      grown_by old files dirty past past' new (At p (map.get files p) (set.contains dirty p)) view (is ∙ (λ i. At (named i) (had i) (was_dirty i) ∷ roomy i)) (back_at (record { files = files; dirty = dirty }) new p same)
 
--- a call that moves a file
-pub elapses_moved : (old new : MemoryStore) (room : List Change) (from to b from' to' : List ℕ) (dirty : Bool) → new.past.items ≡ Moved from' to' dirty ∷ room → room ≡ old.past.items
-    → from' ≡ from → to' ≡ to → dirty ≡ set.contains old.dirty to → map.get old.files from ≡ Some b → map.get old.files to ≡ None → disk_of new ≡ moved (disk_of old) from to b
-    → Elapses disk_of time_of left_since_of old new
-elapses_moved old new room from to b from' to' dirty is roomy named_from named_to was_dirty there free moves =
-    elapses_by old new (Moved from to (set.contains old.dirty to)) (is ∙ (λ i. Moved (named_from i) (named_to i) (was_dirty i) ∷ roomy i))
-    (ap (disk_before (Moved from to (set.contains old.dirty to))) moves ∙ back_moved (disk_of old) from to b there free)
+  -- a call that moves a file
+  pub past_moved : (from to b from' to' : List ℕ) (was : Bool) → past' ≡ Moved from' to' was ∷ room → room ≡ past
+      → from' ≡ from → to' ≡ to → was ≡ set.contains dirty to → map.get files from ≡ Some b → map.get files to ≡ None → new ≡ moved (record { files = files; dirty = dirty }) from to b → disks_before new past' ≡ old.disk ∷ old.past
+  past_moved from to b from' to' was is roomy named_from named_to was_dirty there free moves =
+      grown_by old files dirty past past' new (Moved from to (set.contains dirty to)) view (is ∙ (λ i. Moved (named_from i) (named_to i) (was_dirty i) ∷ roomy i))
+      (ap (disk_before (Moved from to (set.contains dirty to))) moves ∙ back_moved (record { files = files; dirty = dirty }) from to b there free)
 
 pub not_swap : (b c : Bool) → not b ≡ c → b ≡ not c
 not_swap true c is = ap not is

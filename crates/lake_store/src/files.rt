@@ -9,7 +9,7 @@ ghost use Rattle.std.specs.FinSet as set;
 ghost use Rattle.lake_store.specs.Crash;
 ghost use Rattle.lake_store.specs.Crash.{IsListing, IsNextChoice, all_torn, torn};
 ghost use Rattle.lake_store.specs.Disk;
-ghost use Rattle.lake_store.specs.Disk.{names_in};
+ghost use Rattle.lake_store.specs.Disk.{ListsFolder, names_in};
 
 use crate::names::Names;
 use crate::store::StoreError;
@@ -131,6 +131,7 @@ impl FileMap {
     /// The names of the files directly in a folder.
     pub fn names(&self, alloc: Global, folder: &str) -> Result<Names, StoreError>
         ensures names { IfOk result (λ names. names ≡ names_in self.now folder.now) }
+        ensures listed { IfOk result (ListsFolder self.now folder.now) }
         ensures sorted { IfOk result (IsStrictlySortedBy (slice_cmp nat_cmp)) }
         ensures few { IfOk result (λ names. length names ≤ MAX_NAMES) }
         ensures too_long { (n : ℕ) → IsErrOf result (StoreError.TooLong n)
@@ -148,7 +149,7 @@ impl FileMap {
 
     fn list(&self, alloc: Global, folder: &str) -> Result<Vec<Text>, AllocError>
         ensures names { IfOk result (λ names. names.items ≡ names_in self.now folder.now) }
-        ensures sorted { IfOk result (λ names. IsStrictlySortedBy (slice_cmp nat_cmp) names.items) }
+        ensures listed { IfOk result (λ names. ListsFolder self.now folder.now names.items) }
     {
         let front = front_of(alloc, folder)?;
         let mut names = Vec::new(alloc);

@@ -3,9 +3,8 @@ ghost use Rattle.std.specs.Prelude.{◌≡◌, drop, take, IfOk, OnErr, OnOk};
 ghost use Rattle.std.specs.FinMap as map;
 ghost use Rattle.std.specs.FinSet as set;
 ghost use Rattle.lake_store.specs.Crash.{IsCrashed};
-ghost use Rattle.lake_store.specs.Disk.{MayLeave, empty_disk, stored};
-ghost use Rattle.lake_store.specs.Memory.{disk_of, left_since_of, time_of};
-ghost use Rattle.lake_store.specs.Moments.{Elapses};
+ghost use Rattle.lake_store.specs.Disk.{MayLeave, stored};
+ghost use Rattle.lake_store.specs.Memory.{changed, empty_memory};
 
 use crate::files::{FileMap, PathSet};
 use crate::names::Names;
@@ -14,6 +13,7 @@ use lake_basics::limits::MAX_FILE_BYTES;
 use lake_basics::{Blob, Text};
 use std::alloc::{AllocError, Global};
 use std::collections::VecDeque;
+use std::marker::Model;
 use std::mem;
 
 /// What a call replaced.
@@ -52,11 +52,22 @@ pub struct MemoryStore {
     past: VecDeque<Change>,
 }
 
+impl Model for MemoryStore {
+    ghost use Rattle.lake_store.specs.Memory.{Memory, memory_code};
+
+    ghost Value = { Memory };
+
+    ghost coded = { memory_code };
+
+    ghost use Rattle.lake_store.specs.Past.{memory_of};
+
+    ghost view = { λ m. memory_of m.files m.dirty m.past.items };
+}
+
 impl MemoryStore {
     /// A store without files.
     pub fn new(alloc: Global) -> MemoryStore
-        ensures disk { disk_of result ≡ empty_disk }
-        ensures time { time_of result ≡ 0 }
+        ensures { result ≡ empty_memory }
     {
         MemoryStore {
             alloc,
@@ -68,9 +79,9 @@ impl MemoryStore {
 
     /// Sets the bytes of a file, durably.
     pub fn put(&mut self, path: &str, bytes: &[u8]) -> Result<(), AllocError>
-        ensures ok { OnOk result (disk_of self.new ≡ stored (disk_of self.old) path.now bytes.now) }
-        ensures err { OnErr result (disk_of self.new ≡ disk_of self.old) }
-        ensures elapses { Elapses disk_of time_of left_since_of self.old self.new }
+        ensures ok { OnOk result
+            (self.new ≡ changed self.old (stored self.old.disk path.now bytes.now)) }
+        ensures err { OnErr result (self.new ≡ self.old) }
     {
         let bytes = Blob::from_slice(self.alloc, bytes)?;
         let changed = Text::from_str(self.alloc, path)?;
@@ -87,10 +98,10 @@ impl MemoryStore {
 
     /// Becomes an image that a crash may leave: each dirty path, in byte order, follows its choice.
     pub fn crash(&mut self, alloc: Global, choices: &[u64]) -> Result<(), AllocError>
-        ensures ok { OnOk result (IsCrashed (disk_of self.old) choices.now (disk_of self.new)) }
-        ensures image { OnOk result (MayLeave (disk_of self.old) (disk_of self.new).files) }
-        ensures err { OnErr result (disk_of self.new ≡ disk_of self.old) }
-        ensures elapses { Elapses disk_of time_of left_since_of self.old self.new }
+        ensures ok { OnOk result (IsCrashed self.old.disk choices.now self.new.disk) }
+        ensures image { OnOk result (MayLeave self.old.disk self.new.disk.files) }
+        ensures past { OnOk result (self.new ≡ changed self.old self.new.disk) }
+        ensures err { OnErr result (self.new ≡ self.old) }
     {
         self.past.reserve(1)?;
         let mut image = self.files.copy()?;
@@ -104,8 +115,7 @@ impl MemoryStore {
 }
 
 impl Store for MemoryStore {
-    ghost use Rattle.lake_store.specs.Memory.{disk_of, left_since_of, time_of};
-    ghost use Rattle.lake_store.specs.Past.{counts_now, earlier, only_now};
+    ghost use Rattle.lake_store.specs.Memory.{counts_now, disk_of, earlier, left_since_of, only_now, time_of};
 
     ghost tells = { Unit {0} };
 
@@ -123,11 +133,11 @@ impl Store for MemoryStore {
 
     ghost may_contest = { λ _. ⊥ };
 
-    ghost earlier = { λ m t u image told le left. earlier (disk_of m) m.past.items t u image le left };
+    ghost earlier = { λ m t u image told le left. earlier m t u image le left };
 
-    ghost counts_now = { λ m t image told le may. counts_now (disk_of m) m.past.items t image le may };
+    ghost counts_now = { λ m t image told le may. counts_now m t image le may };
 
-    ghost only_now = { λ m image told left. only_now (disk_of m) m.past.items image left };
+    ghost only_now = { λ m image told left. only_now m image left };
 
     fn list(&mut self, alloc: Global, folder: &str) -> Result<Names, StoreError> {
         self.files.names(alloc, folder)

@@ -1,9 +1,10 @@
 //! Where lines of output go.
-ghost use Rattle.std.specs.Prelude.{◌≡◌, ◌≤◌, [], ◌++◌, List, ℕ, take, IsErrOf, OnErr, OnOk};
-ghost use Rattle.lake_store.specs.Cause.{Rose};
+ghost use Rattle.std.specs.Prelude.{◌≡◌, [], ◌++◌, List, ℕ, take, IsErrOf, OnErr, OnOk};
+ghost use Rattle.lake_store.specs.Cause.{HasFault};
 
 use std::alloc::{AllocError, Global};
 
+/// Why bytes weren't put out.
 #[derive(Clone, Copy, Debug, PartialEq, Eq)]
 pub enum SinkError {
     Memory,
@@ -21,6 +22,7 @@ impl From<AllocError> for SinkError {
     }
 }
 
+/// Where bytes are put out, one piece behind the other.
 pub trait Sink {
     /// Whether contracts know what has gone out.
     ghost tells: { Type 0 };
@@ -37,11 +39,9 @@ pub trait Sink {
     /// Puts a piece out. After a refusal a front of it may have gone out.
     fn put(&mut self, bytes: &[u8]) -> Result<(), SinkError>
         ensures ok { tells → OnOk result (output self.new ≡ output self.old ++ bytes.now) }
-        ensures err { tells → OnErr result ((n : ℕ) × (output self.new ≡ output self.old ++ take n bytes.now)) }
-        ensures later { faults self.old ≤ faults self.new }
-        ensures still { may_fail self.new → may_fail self.old }
-        ensures failed { IsErrOf result SinkError.Failed → Rose (faults self.old) (faults self.new) }
-        ensures named { IsErrOf result SinkError.Failed → may_fail self.old };
+        ensures err { tells → OnErr result
+            ((n : ℕ) × (output self.new ≡ output self.old ++ take n bytes.now)) }
+        ensures cause { HasFault faults may_fail self.old self.new (IsErrOf result SinkError.Failed) };
 }
 
 /// A sink in memory, whose puts of some numbers, from 0, fail.
@@ -54,10 +54,14 @@ pub struct MemorySink {
 }
 
 impl MemorySink {
-    ghost use Rattle.lake_store.specs.Sink.{sink_bytes};
+    ghost use Rattle.lake_store.specs.Sink.{failing_of, output_of, puts_of, sink_faults_of};
 
+    /// A sink to which nothing has gone out, and whose puts of these numbers fail.
     pub fn new(alloc: Global, failing: Vec<u64>) -> MemorySink
-        ensures { sink_bytes result ≡ [] }
+        ensures output { output_of result ≡ [] }
+        ensures failing { failing_of result ≡ failing.items }
+        ensures puts { puts_of result ≡ 0 }
+        ensures faults { sink_faults_of result ≡ 0 }
     {
         MemorySink {
             bytes: Vec::new(alloc),
@@ -67,26 +71,33 @@ impl MemorySink {
         }
     }
 
+    /// All that has gone out.
     pub fn bytes(&self) -> &[u8]
-        ensures { result.now ≡ sink_bytes self.now }
+        ensures { result.now ≡ output_of self.now }
     {
         self.bytes.as_slice()
     }
 }
 
 impl Sink for MemorySink {
-    ghost use Rattle.std.specs.Prelude.{◌≢◌, []};
-    ghost use Rattle.lake_store.specs.Sink.{sink_bytes};
+    ghost use Rattle.lake_store.specs.Sink.{PutsByNumber, SinkCanFail, output_of, sink_faults_of};
 
     ghost tells = { Unit {0} };
 
-    ghost output = { sink_bytes };
+    ghost output = { output_of };
 
-    ghost faults = { λ s. s.faults };
+    ghost faults = { sink_faults_of };
 
-    ghost may_fail = { λ s. s.failing.items ≢ [] };
+    ghost may_fail = { SinkCanFail };
 
-    fn put(&mut self, bytes: &[u8]) -> Result<(), SinkError> {
+    fn put(&mut self, bytes: &[u8]) -> Result<(), SinkError>
+        ensures ok { OnOk result (output_of self.new ≡ output_of self.old ++ bytes.now) }
+        ensures err { OnErr result
+            ((n : ℕ) × (output_of self.new ≡ output_of self.old ++ take n bytes.now)) }
+        ensures cause { HasFault sink_faults_of SinkCanFail self.old self.new
+            (IsErrOf result SinkError.Failed) }
+        ensures exact { PutsByNumber self.old self.new result }
+    {
         let put = self.puts;
         self.puts = put.saturating_add(1);
         if self.failing.as_slice().contains(&put) {

@@ -6,7 +6,7 @@ ghost use Rattle.std.specs.Ordering.{nat_cmp};
 ghost use Rattle.std.specs.Cmp.Lexicographic.{slice_cmp};
 ghost use Rattle.std.specs.List.Sorted.{IsStrictlySortedBy};
 ghost use Rattle.lake_store.specs.Cause.{HasContest, HasFault, HasNoContest, IsNotTooLong, IsTooLong};
-ghost use Rattle.lake_store.specs.Disk.{Disk, Files, HasLength, IsClean, IsPartlySynced, MayLeave, Moves, SameElsewhere, names_in, removed, stored, synced, written};
+ghost use Rattle.lake_store.specs.Disk.{Disk, Files, HasLength, IsClean, IsPartlySynced, ListsFolder, MayLeave, Moves, SameElsewhere, names_in, removed, stored, synced, written};
 ghost use Rattle.lake_store.specs.Moments.{Elapses};
 ghost use Rattle.lake_store.specs.declared.store.StoreError.TheVariants.{Memory};
 
@@ -69,6 +69,7 @@ pub trait Store {
     /// The names of the files directly in the folder, in byte order. It changes nothing.
     fn list(&mut self, alloc: Global, folder: &str) -> Result<Names, StoreError>
         ensures names { tells → IfOk result (λ names. names ≡ names_in (disk self.old).files folder.now) }
+        ensures listed { tells → IfOk result (ListsFolder (disk self.old).files folder.now) }
         ensures sorted { IfOk result (IsStrictlySortedBy (slice_cmp nat_cmp)) }
         ensures few { IfOk result (λ names. length names ≤ MAX_NAMES) }
         ensures too_long { (n : ℕ) → IsErrOf result (StoreError.TooLong n)
