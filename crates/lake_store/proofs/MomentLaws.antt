@@ -49,6 +49,17 @@ module _ {S : Type 0} (store : Ghosts S) where
         before = λ t image le left. ⊎_elim inl (λ p. inr (so image p)) (more.before t image le left);
       }
 
+  -- what has P and what has Q
+  pub both : (old new : S) (P Q : Files → Type 0) → LeavesOnly store old new P → LeavesOnly store old new Q → LeavesOnly store old new (λ image. P image × Q image)
+  both old new P Q one other told =
+      let p = one told in
+      let q = other told in
+      record {
+        later = p.later;
+        each = λ image left. (p.each image left, q.each image left);
+        before = λ t image le left. ⊎_elim inl (λ here. ⊎_elim inl (λ there. inr (here, there)) (q.before t image le left)) (p.before t image le left);
+      }
+
 -- a store that keeps another one inside has its moments
 pub elapses_inside : {S T : Type 0} (disk : T → Disk) (time : T → ℕ) (left_since : T → ℕ → Files → Type 0) (inside : S → T) (old new : S) → Elapses disk time left_since (inside old) (inside new)
     → Elapses (λ (s : S). disk (inside s)) (λ (s : S). time (inside s)) (λ (s : S). left_since (inside s)) old new

@@ -7,6 +7,7 @@ pub mod FuseLoan
 pub mod Memory
 pub mod Moments
 pub mod Past
+pub mod Publication
 pub mod Runs
 pub mod Sink
 pub mod Trees

@@ -6,6 +6,7 @@ mod files;
 mod fuse;
 mod memory;
 mod names;
+mod publication;
 mod sink;
 mod store;
 
@@ -14,6 +15,7 @@ pub use fuse::{FuseStore, Script};
 pub use lake_basics::{Blob, Items, ReadError, Text, TextError};
 pub use memory::MemoryStore;
 pub use names::Names;
+pub use publication::stage_and_publish;
 pub use sink::{MemorySink, Sink, SinkError};
 pub use store::{Store, StoreError};
 

@@ -1,28 +1,11 @@
 //! Stores, sinks and clocks do as told.
 use super::*;
+use std::alloc::Global;
 use std::test::Fail;
 
-#[test]
-fn a_crash_follows_its_choices(rt: HostRuntime) -> Result<(), Fail> {
-    let alloc = rt.alloc();
-    let mut store = MemoryStore::new(alloc);
-    store.write("d/a", b"aaaa")?;
-    store.sync()?;
-    store.write("d/b", b"bbbb")?;
-    store.write("d/c", b"cccc")?;
-    store.write("d/e", b"eeee")?;
-    store.crash(alloc, &[5, 0, 6])?;
-    let names = store.list(alloc, "d")?;
-    assert_eq!(rt; names.len(), 3);
-    assert!(rt; holds(alloc, &mut store, "d/a", b"aaaa")?);
-    assert!(rt; holds(alloc, &mut store, "d/b", b"bb")?);
-    assert!(rt; holds(alloc, &mut store, "d/e", b"###")?);
-    assert!(rt; store.read(alloc, "d/c")?.is_none());
-    Ok(())
-}
-
+// Whether a file has these bytes.
 fn holds(
-    alloc: std::alloc::Global,
+    alloc: Global,
     store: &mut MemoryStore,
     path: &str,
     bytes: &[u8],
@@ -33,23 +16,91 @@ fn holds(
     }
 }
 
+// A store after a crash with three dirty paths.
+fn crashed(alloc: Global, choices: &[u64]) -> Result<MemoryStore, StoreError> {
+    let mut store = MemoryStore::new(alloc);
+    store.write("d/b", b"bbbb")?;
+    store.write("d/c", b"cccc")?;
+    store.write("d/e", b"eeee")?;
+    store.crash(alloc, choices)?;
+    Ok(store)
+}
+
 #[test]
-fn a_fuse_fails_as_told(rt: HostRuntime) -> Result<(), Fail> {
+fn a_crash_follows_its_choices(rt: HostRuntime) -> Result<(), Fail> {
     let alloc = rt.alloc();
+    let mut store = crashed(alloc, &[5, 0, 6])?;
+    assert!(rt; holds(alloc, &mut store, "d/b", b"bb")?);
+    assert!(rt; holds(alloc, &mut store, "d/e", b"###")?);
+    assert!(rt; store.read(alloc, "d/c")?.is_none());
+    Ok(())
+}
+
+// A store whose call of number 1 fails.
+fn fuse(alloc: Global) -> Result<FuseStore, StoreError> {
+    let mut failing = Vec::new(alloc);
+    failing.push(1)?;
     let script = Script {
-        failing: vec![in alloc; 1]?,
+        failing,
         stop: None,
-        contested: vec![in alloc]?,
+        contested: Vec::new(alloc),
     };
-    let mut store = FuseStore::new(alloc, MemoryStore::new(alloc), script);
+    Ok(FuseStore::new(alloc, MemoryStore::new(alloc), script))
+}
+
+#[test]
+fn a_fuse_fails_at_its_calls(rt: HostRuntime) -> Result<(), Fail> {
+    let alloc = rt.alloc();
+    let mut store = fuse(alloc)?;
     store.write("a", b"1")?;
-    assert_eq!(rt; store.sync().is_err(), true);
+    assert_eq!(rt; store.sync(), Err(StoreError::Failed));
     store.sync()?;
-    store.set_stop(Some(1));
-    assert!(rt; store.read(alloc, "a")?.is_some());
-    assert_eq!(rt; store.read(alloc, "a").is_err(), true);
+    Ok(())
+}
+
+#[test]
+fn a_stop_counts_from_the_next_call(rt: HostRuntime) -> Result<(), Fail> {
+    let alloc = rt.alloc();
+    let mut store = fuse(alloc)?;
+    store.set_stop(Some(0));
+    assert_eq!(rt; store.remove("a"), Err(StoreError::Failed));
     store.set_stop(None);
     store.inner().crash(alloc, &[])?;
-    assert!(rt; store.read(alloc, "a")?.is_some());
+    assert!(rt; store.read_part(alloc, "a", 0, 1).is_err());
+    Ok(())
+}
+
+#[test]
+fn a_sink_fails_at_its_puts(rt: HostRuntime) -> Result<(), Fail> {
+    let mut failing = Vec::new(rt.alloc());
+    failing.push(1)?;
+    let mut sink = MemorySink::new(rt.alloc(), failing);
+    sink.put(b"a")?;
+    assert!(rt; sink.put(b"b").is_err());
+    sink.put(b"c")?;
+    assert_eq!(rt; sink.bytes(), b"ac".as_slice());
+    Ok(())
+}
+
+#[test]
+fn a_clock_stands_still(rt: HostRuntime) {
+    let mut clock = FixedClock::new(1_700_000_000_000);
+    assert_eq!(rt; clock.now_ms(), 1_700_000_000_000);
+}
+
+fn text(alloc: Global, bytes: &str) -> Result<Text, std::alloc::AllocError> {
+    Text::from_str(alloc, bytes)
+}
+
+#[test]
+fn names_are_in_byte_order(rt: HostRuntime) -> Result<(), Fail> {
+    let alloc = rt.alloc();
+    let mut found = Vec::new(alloc);
+    found.push(text(alloc, "b")?)?;
+    found.push(text(alloc, "a")?)?;
+    found.push(text(alloc, "b")?)?;
+    let names = Names::sort(found);
+    assert_eq!(rt; names.len(), 2);
+    assert!(rt; Names::new(alloc) < names);
     Ok(())
 }
