@@ -14,8 +14,9 @@ ghost use Rattle.lake_store.specs.Moments.{Elapses};
 
 use crate::memory::MemoryStore;
 use crate::names::Names;
-use crate::store::{MAX_FILE_BYTES, MAX_NAMES, Store, StoreError};
+use crate::store::{Store, StoreError};
 use lake_basics::Blob;
+use lake_basics::limits::{MAX_FILE_BYTES, MAX_NAMES};
 use std::alloc::Global;
 
 /// Calls that go wrong, by their numbers from 0.

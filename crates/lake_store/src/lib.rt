@@ -1,4 +1,4 @@
-//! The store that a lake table's metadata lies in: texts and bytes, files that a crash may damage, sinks and clocks.
+//! The store that a lake table's metadata lies in: files that a crash may damage, sinks and clocks.
 #![tactic(auto)]
 
 mod clock;

@@ -15,11 +15,15 @@ use lake_basics::Blob;
 use lake_basics::limits::{MAX_FILE_BYTES, MAX_NAMES};
 use std::alloc::{AllocError, AllocFailed, Global};
 
+/// Why a store refused a call.
 #[derive(Clone, Copy, Debug, PartialEq, Eq)]
 pub enum StoreError {
     Memory,
+    /// The store failed, and counted it.
     Failed,
+    /// A file or a list is too long to be given: it has so many bytes or names.
     TooLong { length: u64 },
+    /// Another writer's file came to the path, and was counted.
     Taken,
 }
 
