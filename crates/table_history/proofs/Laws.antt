@@ -1,12 +1,15 @@
 -- Laws of changes that every layer above needs.
-use Rattle.std.proofs.Common.{◌≡◌, ℕ, List, [], Contains, refl, inl, inr, ⊎_elim, ◌∷◌}
+use Rattle.std.proofs.Common.{◌≡◌, ℕ, List, [], Contains, refl, sym, subst, inl, inr, ⊎_elim, ◌∷◌, arith}
+use Rattle.std.specs.List.{IsDistinct}
+use Rattle.std.specs.Str.{bytes_eq}
+use Rattle.std.proofs.lemmas.Map.Keys.{IsDistinct-from_apart, IsDistinct-cons}
 use Rattle.table_history.specs.Row.{Row}
-use Rattle.table_history.specs.Rows.{HasDistinctPaths, SameRows}
+use Rattle.table_history.specs.Rows.{HasDistinctPaths, HasPath, SameRows}
 use Rattle.table_history.specs.Tables.{CanApply, IsAfter, IsDiff, LeadsTo}
 use Rattle.table_history.specs.declared.table.Table.{Table}
 use Rattle.table_history.specs.declared.table.Change.{Change}
 use Rattle.table_history.proofs.OrderLemmas.{diff_added_same, diff_removed_same}
-use Rattle.table_history.proofs.RowListLemmas.{Contains-none, Contains-head}
+use Rattle.table_history.proofs.RowListLemmas.{Contains-none, Contains-head, Contains-one}
 use Rattle.table_history.proofs.TableLemmas.{diff_leads, diff_removed_distinct, diff_removed_there, diff_added_distinct, diff_added_new, there_or_not}
 
 -- the tables before and after determine the removed paths and the added rows
@@ -83,3 +86,17 @@ same_without_change before after d row = (
   λ was. ⊎_elim (λ there. there) (λ gone. absurd (Contains-none row.path ((d.removed_paths row.path).1 (row, was, gone, refl)))) (there_or_not after row),
   λ there. ⊎_elim (λ was. was) (λ fresh. absurd (Contains-none row ((d.added_rows row).1 (there, fresh)))) (there_or_not before row),
 )
+
+-- a row of a new path may be added
+pub one_row_fits : (table : Table) (row : Row) (change : Change)
+    → change.removed ≡ [] → change.added ≡ row ∷ [] → (HasPath table.rows row.path → ⊥) → CanApply table change
+one_row_fits table row change none one new = record {
+  removed_distinct = subst (IsDistinct bytes_eq) (sym none) (IsDistinct-from_apart bytes_eq [] (λ i j d _ within. absurd (omega arith)));
+  removed_there = λ path h. absurd (Contains-none path (subst (λ l. Contains l path) none h));
+  added_distinct =
+      let single = IsDistinct-cons bytes_eq row.path [] tt (IsDistinct-from_apart bytes_eq [] (λ i j d _ within. absurd (omega arith))) in
+      subst HasDistinctPaths (sym one) single;
+  added_new = λ other h there.
+      let same : row ≡ other = Contains-one row other (subst (λ l. Contains l other) one h) in
+      absurd (new (subst (λ r. HasPath table.rows r.path) (sym same) there));
+}

@@ -28,7 +28,8 @@ pub enum Feature {
     SchemaType,
     /// A column name that isn't an Avro name.
     AvroName,
-    /// A partition column that isn't a top-level column, is named twice, or has another type than boolean, whole number, text and date.
+    /// A partition column that isn't a top-level column, is named twice, or has another type than
+    /// boolean, whole number, text and date.
     PartitionType,
     /// Other partition columns than before, or another kind of one.
     PartitionChange,

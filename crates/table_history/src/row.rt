@@ -6,7 +6,7 @@ use std::alloc::{AllocError, Global};
 use std::marker::Model;
 
 /// The value of a partition column. A date is its number of days since 1970-01-01.
-#[derive(PartialEq, Eq, Drop)]
+#[derive(Debug, PartialEq, Eq, Drop)]
 pub enum PartValue {
     Null,
     Boolean(bool),
@@ -17,6 +17,7 @@ pub enum PartValue {
 }
 
 impl PartValue {
+    /// An equal value.
     pub fn copy(&self, alloc: Global) -> Result<PartValue, AllocError>
         ensures { IfOk result (λ v. v ≡ self.now) }
     {
@@ -36,7 +37,7 @@ pub type Values = Items<PartValue>;
 
 /// A live file: its path in the table's folder, the values of the partition columns in their order,
 /// how many records it has, and its size in bytes. Both numbers are under 2^63.
-#[derive(PartialEq, Eq, Drop)]
+#[derive(Debug, PartialEq, Eq, Drop)]
 pub struct FileRow {
     pub path: Text,
     pub values: Values,
@@ -50,14 +51,25 @@ impl Model for FileRow {
 
     ghost Value = { Row };
 
-    ghost view = { λ r. record { path = r.path; values = r.values; count = r.count; size = r.size } };
+    ghost view = { λ r. record {
+      path = r.path;
+      values = r.values;
+      count = r.count;
+      size = r.size;
+    } };
 
-    ghost inverse = { λ r. record { path = r.path; values = r.values; count = r.count; size = r.size } };
+    ghost inverse = { λ r. record {
+      path = r.path;
+      values = r.values;
+      count = r.count;
+      size = r.size;
+    } };
 
     ghost invariant = { λ r. (r.count < 2 ^ 63) × (r.size < 2 ^ 63) };
 }
 
 impl FileRow {
+    /// An equal row.
     pub fn copy(&self, alloc: Global) -> Result<FileRow, AllocError>
         ensures { IfOk result (λ r. r ≡ self.now) }
     {
@@ -71,8 +83,8 @@ impl FileRow {
         })
     }
 
-    /// Whether the two rows are one.
-    pub fn is_same(&self, other: &FileRow) -> bool
+    // Whether the two rows are one.
+    pub(crate) fn is_same(&self, other: &FileRow) -> bool
         ensures { IsTrue result ↔ (self.now ≡ other.now) }
     {
         *self == *other

@@ -37,6 +37,7 @@ impl Model for FileRows {
 }
 
 impl FileRows {
+    /// No row.
     pub fn new(alloc: Global) -> FileRows
         ensures { result ≡ [] }
     {
@@ -93,7 +94,8 @@ impl FileRows {
         other: &FileRows,
         alloc: Global,
     ) -> Result<Vec<&'a FileRow>, AllocError>
-        ensures rows { IfOk result (λ v. (row : FileRow) → Contains (map (λ r. r.now) v.items) row
+        ensures rows { IfOk result (λ v. (row : FileRow)
+            → Contains (map (λ r. r.now) v.items) row
             ↔ (Contains self.now row × ¬ Contains other.now row)) }
         ensures distinct { IfOk result (λ v. HasDistinctPaths (map (λ r. r.now) v.items)) }
         ensures own_distinct { IfOk result (λ _. HasDistinctPaths self.now) }
@@ -114,7 +116,8 @@ impl FileRows {
         other: &FileRows,
         alloc: Global,
     ) -> Result<Vec<&'a FileRow>, AllocError>
-        ensures rows { IfOk result (λ v. (row : FileRow) → Contains (map (λ r. r.now) v.items) row
+        ensures rows { IfOk result (λ v. (row : FileRow)
+            → Contains (map (λ r. r.now) v.items) row
             ↔ (Contains self.now row × ¬ Contains other.now row)) }
         ensures order { IfOk result (λ v. IsInPathOrder (map (λ r. r.now) v.items)) }
         ensures own_distinct { IfOk result (λ _. HasDistinctPaths self.now) }

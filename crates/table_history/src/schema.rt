@@ -9,8 +9,8 @@ use lake_basics::Text;
 use std::alloc::{AllocError, Global};
 use std::marker::Model;
 
-/// The type of a column.
-#[derive(Drop)]
+/// The type of a column. Equal types have equal parts, whatever room their lists have.
+#[derive(Debug, Drop)]
 #[cycle(schema)]
 pub enum ColumnType {
     Boolean,
@@ -41,7 +41,8 @@ pub enum ColumnType {
     },
 }
 
-#[derive(Drop)]
+/// A column, or a field of a struct: its name, its type, and whether it may be null.
+#[derive(Debug, Drop)]
 #[cycle(schema)]
 pub struct Column {
     pub name: Text,
@@ -185,7 +186,8 @@ fn same_decimal(precision: u8, scale: u8, other: &ColumnType) -> bool
 
 #[cycle(same)]
 fn same_columns(columns: &Vec<Column>, others: &Vec<Column>) -> bool
-    ensures { result ≡ columns_eq (columns_view columns.now.items) (columns_view others.now.items) }
+    ensures { result
+        ≡ columns_eq (columns_view columns.now.items) (columns_view others.now.items) }
 {
     let others = others.as_slice();
     if columns.as_slice().len() != others.len() {
@@ -209,7 +211,7 @@ fn same_column(column: &Column, other: &Column) -> bool
 }
 
 /// The columns of a table, which a contract sees as plain trees.
-#[derive(Drop)]
+#[derive(Debug, Drop)]
 pub struct Schema {
     columns: Vec<Column>,
 }
@@ -228,6 +230,7 @@ impl Model for Schema {
 }
 
 impl Schema {
+    /// The schema of these columns.
     pub fn new(columns: Vec<Column>) -> Schema
         ensures { result ≡ columns_view columns.items }
     {
