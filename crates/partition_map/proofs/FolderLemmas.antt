@@ -18,7 +18,7 @@ use Rattle.table_history.specs.Path.{is_slash}
 use Rattle.table_history.specs.declared.row.PartValue.{PartValue}
 use Rattle.partition_map.specs.declared.folder.FolderStyle.{FolderStyle}
 use Rattle.partition_map.specs.Stands.{StandsInFolder}
-use Rattle.partition_map.specs.Folder.{is_equals, folder_components, last_components, unescaped, unescaped_text, IsNamedPart, IsValuePart, IsValuePartOrNone, named_part, value_part, hive_folders, PartCarries, CarriesValue, EachCarries, CarriesValues}
+use Rattle.partition_map.specs.Folder.{is_equals, folder_components, last_components, unescaped_bytes, unescaped_text, IsNamedPart, IsValuePart, IsValuePartOrNone, named_part, value_part, hive_folders, PartCarries, CarriesValue, EachCarries, CarriesValues}
 
 abbrev pub now_of : Bor (List ℕ) → List ℕ
 now_of part = part.now
@@ -74,7 +74,7 @@ module _ (style : FolderStyle) (column component part : List ℕ) where
   IsNamedPart-from_test is =
       ⊎_elim
       (λ t.
-      let parts = and_parts (list_any is_equals component) (bytes_eq (unescaped style (before_first is_equals component)) column) t in
+      let parts = and_parts (list_any is_equals component) (bytes_eq (unescaped_bytes style (before_first is_equals component)) column) t in
       let within : position_or_len is_equals component < length component = equals_within component parts.0 in
       let after : after_first is_equals component ≡ part = let e : Some (after_first is_equals component) ≡ Some part = sym (cond-true _ _ _ t) ∙ is in cc in
       let sign : get_or component (position_or_len is_equals component) 0 ≡ 61 = eqb-true _ 61 (passes_at_first is_equals component 0 within) in
@@ -86,10 +86,10 @@ module _ (style : FolderStyle) (column component part : List ℕ) where
             let before : k < position_or_len is_equals component = omega (arith, c.1, length-prefix_len (λ x. not (is_equals x)) component) in
             let at : get_or component k 61 ≡ 61 = sym (get_or-take (position_or_len is_equals component) component k 61 before) ∙ c.2 in
             true≢false (sym (ap is_equals at) ∙ fails_before_first is_equals component k 61 before);
-        unescapes = (bytes_decides (unescaped style (before_first is_equals component)) column).0 parts.1;
+        unescapes = (bytes_decides (unescaped_bytes style (before_first is_equals component)) column).0 parts.1;
       })
       (λ f. let e : None ≡ Some part = sym (cond-false _ _ _ f) ∙ is in absurd cc)
-      (cases_Bool (list_any is_equals component && bytes_eq (unescaped style (before_first is_equals component)) column))
+      (cases_Bool (list_any is_equals component && bytes_eq (unescaped_bytes style (before_first is_equals component)) column))
 
   named_part-IsNamedPart : IsNamedPart style column component part → named_part style column component ≡ Some part
   named_part-IsNamedPart h =
@@ -104,7 +104,7 @@ module _ (style : FolderStyle) (column component part : List ℕ) where
       let rest : after_first is_equals component ≡ part =
       let e : 61 ∷ part ≡ get_or component n 61 ∷ drop (suc n) component = sym behind ∙ drop-cons component n 61 within in
       let tail : drop (suc n) component ≡ part = cc in ap (λ k. drop k component) (let m : position_or_len is_equals component + 1 ≡ suc n = omega (arith, first) in m) ∙ tail in
-      cond-true _ _ _ (and_from (list_any is_equals component) _ (has_equals component (omega (arith, first, within))) ((bytes_decides _ column).1 (ap (unescaped style) name ∙ h.unescapes))) ∙ ap Some rest
+      cond-true _ _ _ (and_from (list_any is_equals component) _ (has_equals component (omega (arith, first, within))) ((bytes_decides _ column).1 (ap (unescaped_bytes style) name ∙ h.unescapes))) ∙ ap Some rest
 
 -- by the style
 styled : (b : Bool) (named : Option (List ℕ)) (component part : List ℕ) (P : Type 0) → (named ≡ Some part) ↔ P → ((if b then named else Some component) ≡ Some part) ↔ MatchBool b P (part ≡ component)
@@ -125,51 +125,51 @@ part_means style column component (Some part) is = (value_part_says style column
 pub no_part : (style : FolderStyle) (column component : List ℕ) → style.hive_style ≡ true → position_or_len is_equals component ≡ length component → None ≡ value_part style column component
 no_part style column component hive none = sym (cond-true style.hive_style _ _ hive ∙ unnamed style column component [] (none_equals component none))
 
-pub other_part : (style : FolderStyle) (column component name : List ℕ) (b : Bool) → style.hive_style ≡ true → name ≡ before_first is_equals component → b ≡ bytes_eq (unescaped style name) column → b ≡ false
+pub other_part : (style : FolderStyle) (column component name : List ℕ) (b : Bool) → style.hive_style ≡ true → name ≡ before_first is_equals component → b ≡ bytes_eq (unescaped_bytes style name) column → b ≡ false
     → None ≡ value_part style column component
 other_part style column component name b hive is named other =
-    let test : bytes_eq (unescaped style (before_first is_equals component)) column ≡ false = ap (λ l. bytes_eq (unescaped style l) column) (sym is) ∙ sym named ∙ other in
+    let test : bytes_eq (unescaped_bytes style (before_first is_equals component)) column ≡ false = ap (λ l. bytes_eq (unescaped_bytes style l) column) (sym is) ∙ sym named ∙ other in
     sym (cond-true style.hive_style _ _ hive ∙ cond-false _ _ _ (and_right (list_any is_equals component) _ test))
 
 pub found_part : (style : FolderStyle) (column component name part : List ℕ) (b : Bool) → style.hive_style ≡ true → name ≡ before_first is_equals component → part ≡ after_first is_equals component
-    → position_or_len is_equals component < length component → b ≡ bytes_eq (unescaped style name) column → b ≡ true → Some part ≡ value_part style column component
+    → position_or_len is_equals component < length component → b ≡ bytes_eq (unescaped_bytes style name) column → b ≡ true → Some part ≡ value_part style column component
 found_part style column component name part b hive is is' within named same =
-    let test : bytes_eq (unescaped style (before_first is_equals component)) column ≡ true = ap (λ l. bytes_eq (unescaped style l) column) (sym is) ∙ sym named ∙ same in
+    let test : bytes_eq (unescaped_bytes style (before_first is_equals component)) column ≡ true = ap (λ l. bytes_eq (unescaped_bytes style l) column) (sym is) ∙ sym named ∙ same in
     ap Some is' ∙ sym (cond-true style.hive_style _ _ hive ∙ cond-true _ _ _ (and_from (list_any is_equals component) _ (has_equals component within) test))
 
 -- ---- unescaping
 pub unescaped_plain : (style : FolderStyle) (part : List ℕ) → style.url_encode ≡ false → IsUtf8 part → Some part ≡ unescaped_text style part
 unescaped_plain style part plain utf8 =
-    let same : unescaped style part ≡ part = cond-false style.url_encode _ _ plain in
+    let same : unescaped_bytes style part ≡ part = cond-false style.url_encode _ _ plain in
     sym (cond-true _ _ _ (is_utf8-from_IsUtf8 _ (subst IsUtf8 (sym same) utf8)) ∙ ap Some same)
 
 pub unescaped_some : (style : FolderStyle) (part text : List ℕ) → style.url_encode ≡ true → text ≡ percent_decode part → IsUtf8 (percent_decode part) → Some text ≡ unescaped_text style part
 unescaped_some style part text encoded is utf8 =
-    let same : unescaped style part ≡ percent_decode part = cond-true style.url_encode _ _ encoded in
+    let same : unescaped_bytes style part ≡ percent_decode part = cond-true style.url_encode _ _ encoded in
     sym (cond-true _ _ _ (is_utf8-from_IsUtf8 _ (subst IsUtf8 (sym same) utf8)) ∙ ap Some (same ∙ sym is))
 
 pub unescaped_none : (style : FolderStyle) (part : List ℕ) → style.url_encode ≡ true → (IsUtf8 (percent_decode part) → ⊥) → None ≡ unescaped_text style part
 unescaped_none style part encoded other =
-    let same : unescaped style part ≡ percent_decode part = cond-true style.url_encode _ _ encoded in
+    let same : unescaped_bytes style part ≡ percent_decode part = cond-true style.url_encode _ _ encoded in
     sym (cond-false _ _ _ (false_from_ne_true _ (λ t. other (subst IsUtf8 same (IsUtf8-from_is_utf8 _ t)))))
 
 -- ---- one component
 module _ (part : List ℕ) (value : PartValue) where
   pub carries_no_text : None ≡ unescaped_text hive_folders part → PartCarries part value → ⊥
   carries_no_text is h =
-      let some : unescaped_text hive_folders part ≡ Some (unescaped hive_folders part) = cond-true _ _ _ (is_utf8-from_IsUtf8 _ h.utf8) in
-      let wrong : None ≡ Some (unescaped hive_folders part) = is ∙ some in absurd cc
+      let some : unescaped_text hive_folders part ≡ Some (unescaped_bytes hive_folders part) = cond-true _ _ _ (is_utf8-from_IsUtf8 _ h.utf8) in
+      let wrong : None ≡ Some (unescaped_bytes hive_folders part) = is ∙ some in absurd cc
 
   pub carries_text : (text : List ℕ) (b : Bool) → Some text ≡ unescaped_text hive_folders part → IsTrue b ↔ StandsInFolder text value → IsTrue b ↔ PartCarries part value
   carries_text text b is says =
       ⊎_elim
       (λ t.
-      let same : text ≡ unescaped hive_folders part = let e : Some text ≡ Some (unescaped hive_folders part) = is ∙ cond-true _ _ _ t in cc in (
+      let same : text ≡ unescaped_bytes hive_folders part = let e : Some text ≡ Some (unescaped_bytes hive_folders part) = is ∙ cond-true _ _ _ t in cc in (
         λ h. record { utf8 = IsUtf8-from_is_utf8 _ t; stands = subst (λ l. StandsInFolder l value) same (says.0 h) },
         λ h. says.1 (subst (λ l. StandsInFolder l value) (sym same) h.stands),
       ))
       (λ f. let e : Some text ≡ None = is ∙ cond-false _ _ _ f in absurd cc)
-      (cases_Bool (is_utf8 (unescaped hive_folders part)))
+      (cases_Bool (is_utf8 (unescaped_bytes hive_folders part)))
 
 module _ (column component : List ℕ) (value : PartValue) where
   pub carries_no_part : None ≡ value_part hive_folders column component → CarriesValue column component value → ⊥

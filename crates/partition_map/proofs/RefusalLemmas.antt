@@ -14,6 +14,10 @@ module _ (P : PartValue → Type 0) where
   pub read_value : (v : PartValue) → P v → IsErrOf {T = PartValue} (Ok v) BadValue ↔ ((w : PartValue) → P w → ⊥)
   read_value v p = (λ h. absurd cc, λ none. absurd (none v p))
 
+  -- the same, where another value is written for what stands
+  pub read_other : (x v : PartValue) → P v → IsErrOf {T = PartValue} (Ok x) BadValue ↔ ((w : PartValue) → P w → ⊥)
+  read_other x v p = (λ h. absurd cc, λ none. absurd (none v p))
+
   pub want_of_memory : (v : PartValue) → P v → IsErrOf {T = PartValue} (Err Memory) BadValue ↔ ((w : PartValue) → P w → ⊥)
   want_of_memory v p = (λ h. absurd cc, λ none. absurd (none v p))
 

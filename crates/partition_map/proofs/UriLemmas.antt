@@ -9,8 +9,8 @@ use Rattle.std.proofs.lemmas.List.Sums.{prefix_len_is, prefix_len_passes}
 use Rattle.std.proofs.lemmas.List.Folds.{length-prefix_len}
 use Rattle.lake_basics.specs.declared.limits.TheConstants.{MAX_PATH_BYTES}
 use Rattle.table_history.specs.Path.{IsPath, IsPathOfAnyLength, IsSegment, is_slash}
-use Rattle.std.proofs.Common.{Result, Ok, Err, IfOk, IfErr, ◌+◌, ◌/◌, ◌%◌, zero, suc, ◌≤◌, ◌≡◌, ◌≢◌, inl, inr, ℕ, ◌<◌, Bool, true, false, List, [], ◌∷◌, ◌++◌, length, take, drop, get_or, All, refl, sym, ap, subst, ◌∙◌, ⊎_elim, arith, drop-cons}
-use Rattle.std.specs.Prelude.{not, ◌&&◌, ◌||◌, ◌==◌, nat_lt, nat_le}
+use Rattle.std.proofs.Common.{Result, Ok, Err, IfOk, IfErr, ◌+◌, ◌/◌, ◌%◌, zero, suc, ◌≤◌, ◌≡◌, ◌≢◌, inl, inr, ℕ, ◌<◌, true, false, List, [], ◌∷◌, ◌++◌, length, take, drop, get_or, All, refl, sym, ap, subst, ◌∙◌, ⊎_elim, arith, drop-cons}
+use Rattle.std.specs.Prelude.{not, ◌||◌, ◌==◌, nat_lt, nat_le}
 use Rattle.std.proofs.lemmas.Bool.{cases_Bool, cases_lt, cond-true, cond-false, true≢false, and_parts, and_from, or_cases, or_left, or_right, eqb-true, eq-eqb, ltb-true, lt-ltb, not-true, and_left, and_right, lt-leb, not_from_false, false_from_ne_true}
 use Rattle.std.proofs.lemmas.Bool.Decides.{nat_tests}
 use Rattle.std.proofs.lemmas.List.Elements.{All-nil, All-cons, All-get_or, All-from_get_or, All-head, All-tail}
@@ -18,7 +18,7 @@ use Rattle.percent_encoding.specs.Percent.{percent_encode_byte, percent_decode}
 use Rattle.percent_encoding.proofs.PercentLemmas.{percent_decode-nil, percent_decode_not_percent, percent_decode-percent_encode_byte, IsByte}
 use Rattle.partition_map.proofs.PathFacts.{is_path_says, is_path_of_any_length_says}
 use Rattle.partition_map.specs.Uri.{is_plain, escaped_byte, escaped_path, is_scheme_byte, HasScheme, IsOutside, HasHexPair, IsPathByte, IsWellEscaped, NamesPath, BreaksLengthAlone, NamesNoPath, ExplainsRefusal}
-use Rattle.partition_map.specs.UriPath.{UriPath, inside_table, too_long, outside_table, no_path, has_scheme, is_outside, begins_hex, is_well_escaped, is_path, is_path_of_any_length, path_place, uri_path, RefusesPath, GivesPath}
+use Rattle.partition_map.specs.UriPath.{UriPath, inside_table, too_long, outside_table, no_path, has_scheme, is_outside, begins_hex, is_path_byte, is_well_escaped, is_path, is_path_of_any_length, path_place, uri_path, RefusesPath, GivesPath}
 use Rattle.partition_map.specs.declared.error.PartError.{PartError}
 use Rattle.partition_map.specs.declared.error.PartError.TheVariants.{Memory, OutsideTable, BadPath, TooLong, BadValue, ValueForm}
 
@@ -106,10 +106,7 @@ test-from_pair : (b : ℕ) (uri : List ℕ) → HasHexPair (b ∷ uri) 0 → beg
 test-from_pair b uri h =
     and_from (nat_lt 1 (length uri)) _ (lt-ltb 1 (length uri) (omega (arith, h.room))) (and_from (is_digit (get_or uri 0 0) 16) (is_digit (get_or uri 1 0) 16) h.high h.low)
 
-abbrev path_byte : ℕ → List ℕ → Bool
-path_byte b rest = not ((b == 63) || (b == 35)) && (not (b == 37) || begins_hex rest)
-
-byte_from_test : (b : ℕ) (uri : List ℕ) → path_byte b uri ≡ true → IsPathByte (b ∷ uri) 0
+byte_from_test : (b : ℕ) (uri : List ℕ) → is_path_byte b uri ≡ true → IsPathByte (b ∷ uri) 0
 byte_from_test b uri h =
     let parts = and_parts (not ((b == 63) || (b == 35))) (not (b == 37) || begins_hex uri) h in
     let plain : ((b == 63) || (b == 35)) ≡ false = not-true _ parts.0 in
@@ -121,7 +118,7 @@ byte_from_test b uri h =
           (or_cases (not (b == 37)) (begins_hex uri) parts.1);
     }
 
-test-from_byte : (b : ℕ) (uri : List ℕ) → IsPathByte (b ∷ uri) 0 → path_byte b uri ≡ true
+test-from_byte : (b : ℕ) (uri : List ℕ) → IsPathByte (b ∷ uri) 0 → is_path_byte b uri ≡ true
 test-from_byte b uri h =
     let plain : ((b == 63) || (b == 35)) ≡ false =
     false_from_ne_true _ (λ t. ⊎_elim (λ e. h.no_query (eqb-true b 63 e)) (λ e. h.no_fragment (eqb-true b 35 e)) (or_cases (b == 63) (b == 35) t)) in
@@ -139,13 +136,13 @@ well_escaped_cons b uri first rest (suc i) within = byte_next b uri i (rest i (o
 pub IsWellEscaped-from_test : (uri : List ℕ) → is_well_escaped uri ≡ true → IsWellEscaped uri
 IsWellEscaped-from_test [] h = λ i within. absurd (omega (arith, within))
 IsWellEscaped-from_test (b ∷ uri) h =
-    let parts = and_parts (path_byte b uri) (is_well_escaped uri) h in
+    let parts = and_parts (is_path_byte b uri) (is_well_escaped uri) h in
     well_escaped_cons b uri (byte_from_test b uri parts.0) (IsWellEscaped-from_test uri parts.1)
 
 pub test-from_IsWellEscaped : (uri : List ℕ) → IsWellEscaped uri → is_well_escaped uri ≡ true
 test-from_IsWellEscaped [] h = refl
 test-from_IsWellEscaped (b ∷ uri) h =
-    and_from (path_byte b uri) (is_well_escaped uri) (test-from_byte b uri (h 0 (omega arith))) (test-from_IsWellEscaped uri (λ i within. byte_rest b uri i (h (suc i) (omega (arith, within)))))
+    and_from (is_path_byte b uri) (is_well_escaped uri) (test-from_byte b uri (h 0 (omega arith))) (test-from_IsWellEscaped uri (λ i within. byte_rest b uri i (h (suc i) (omega (arith, within)))))
 
 -- ---- the function, by its cases
 pub uri_path-outside : (uri : List ℕ) → is_outside uri ≡ true → uri_path uri ≡ outside_table
@@ -278,17 +275,17 @@ percent_decode-escaped_path (b ∷ bs) h =
 
 -- a hex digit, which is none of the bytes that a URI gives a meaning
 record IsHex (c : ℕ) : Type 0 where
-  digit : is_digit c 16 ≡ true
-  low : 48 ≤ c
-  colon : c ≢ 58
-  query : c ≢ 63
+  hex : is_digit c 16 ≡ true
+  from_zero : 48 ≤ c
+  no_colon : c ≢ 58
+  no_question : c ≢ 63
 
 glyph : (d : ℕ) → d < 16 → IsHex (digit_glyph true d)
 glyph d h = record {
-  digit = grind (arith, nat_tests);
-  low = grind (arith, nat_tests);
-  colon = grind (arith, nat_tests);
-  query = grind (arith, nat_tests);
+  hex = grind (arith, nat_tests);
+  from_zero = grind (arith, nat_tests);
+  no_colon = grind (arith, nat_tests);
+  no_question = grind (arith, nat_tests);
 }
 
 -- a byte of an escaped text
@@ -299,10 +296,10 @@ plain_byte : (b : ℕ) → is_plain b ≡ true → IsUriByte b
 plain_byte b h = (λ e. true≢false (sym h ∙ ap is_plain e), λ e. true≢false (sym h ∙ ap is_plain e), λ e. true≢false (sym h ∙ ap is_plain e))
 
 hex_byte : (c : ℕ) → IsHex c → IsUriByte c
-hex_byte c h = (h.colon, h.query, λ e. absurd (omega (arith, h.low, e)))
+hex_byte c h = (h.no_colon, h.no_question, λ e. absurd (omega (arith, h.from_zero, e)))
 
 hex_no_percent : (c : ℕ) → IsHex c → c ≢ 37
-hex_no_percent c h e = absurd (omega (arith, h.low, e))
+hex_no_percent c h e = absurd (omega (arith, h.from_zero, e))
 
 escape_shape : (b : ℕ) → percent_encode_byte b ≡ 37 ∷ digit_glyph true (b / 16 % 16) ∷ digit_glyph true (b % 16) ∷ []
 unfolding percent_encode_byte
@@ -314,14 +311,14 @@ percent_byte = (λ e. absurd (omega (arith, e)), λ e. absurd (omega (arith, e))
 -- a byte that isn't `?`, `#` or `%` may stand in front
 before_escaped : (c : ℕ) (uri : List ℕ) → IsUriByte c → c ≢ 37 → is_well_escaped uri ≡ true → is_well_escaped (c ∷ uri) ≡ true
 before_escaped c uri plain other rest =
-    and_from (path_byte c uri) (is_well_escaped uri) (test-from_byte c uri (record { no_query = plain.1; no_fragment = plain.2; escape = λ e. absurd (other e) })) rest
+    and_from (is_path_byte c uri) (is_well_escaped uri) (test-from_byte c uri (record { no_query = plain.1; no_fragment = plain.2; escape = λ e. absurd (other e) })) rest
 
 -- and so may an escape
 before_escape : (high low : ℕ) (uri : List ℕ) → IsHex high → IsHex low → is_well_escaped uri ≡ true → is_well_escaped (37 ∷ high ∷ low ∷ uri) ≡ true
 before_escape high low uri h l rest =
-    let pair : HasHexPair (37 ∷ high ∷ low ∷ uri) 0 = record { room = omega arith; high = h.digit; low = l.digit } in
+    let pair : HasHexPair (37 ∷ high ∷ low ∷ uri) 0 = record { room = omega arith; high = h.hex; low = l.hex } in
     let byte : IsPathByte (37 ∷ high ∷ low ∷ uri) 0 = record { no_query = percent_byte.1; no_fragment = percent_byte.2; escape = λ _. pair } in
-    and_from (path_byte 37 (high ∷ low ∷ uri)) (is_well_escaped (high ∷ low ∷ uri)) (test-from_byte 37 (high ∷ low ∷ uri) byte)
+    and_from (is_path_byte 37 (high ∷ low ∷ uri)) (is_well_escaped (high ∷ low ∷ uri)) (test-from_byte 37 (high ∷ low ∷ uri) byte)
     (before_escaped high (low ∷ uri) (hex_byte high h) (hex_no_percent high h) (before_escaped low uri (hex_byte low l) (hex_no_percent low l) rest))
 
 is_well_escaped-escaped_path : (bs : List ℕ) → is_well_escaped (escaped_path bs) ≡ true

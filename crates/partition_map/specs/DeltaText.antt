@@ -15,7 +15,8 @@ digit n = 48 + n
 -- `YYYY-MM-DD`
 abbrev pub date_text : ℕ → ℕ → ℕ → List ℕ
 date_text year month day =
-    digit (year / 10 / 10 / 10) ∷ digit (year / 10 / 10 % 10) ∷ digit (year / 10 % 10) ∷ digit (year % 10)
+    digit (year / 10 / 10 / 10) ∷ digit (year / 10 / 10 % 10)
+    ∷ digit (year / 10 % 10) ∷ digit (year % 10)
     ∷ dash ∷ digit (month / 10) ∷ digit (month % 10)
     ∷ dash ∷ digit (day / 10) ∷ digit (day % 10) ∷ []
 

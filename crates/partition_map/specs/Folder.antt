@@ -1,4 +1,4 @@
--- Partition values in the folder of a file (the folders of Hive, and Hudi's with or without their style).
+-- Partition values in the folder of a file: in the style of Hive, or as Hudi may write them.
 use Rattle.std.specs.Prelude.{◌≡◌, ℕ, ◌-◌, nat_le, Bool, true, ◌&&◌, ◌==◌, if◌then◌else◌, List, [], ◌∷◌, ◌++◌, length, map, take, drop, Option, None, Some, MatchBool, Contains, IsUtf8, Vec}
 use Rattle.std.specs.Borrow.{Bor}
 use Rattle.std.specs.List.{slice_split, before_first, after_first, list_any}
@@ -32,19 +32,20 @@ last_components n path =
     else None
 
 -- Percent-decoding, where the folders of the table are escaped.
-abbrev pub unescaped : FolderStyle → List ℕ → List ℕ
-unescaped style part = if style.url_encode then percent_decode part else part
+abbrev pub unescaped_bytes : FolderStyle → List ℕ → List ℕ
+unescaped_bytes style part = if style.url_encode then percent_decode part else part
 
 -- The same as a text, which is UTF-8.
 abbrev pub unescaped_text : FolderStyle → List ℕ → Option (List ℕ)
-unescaped_text style part = if is_utf8 (unescaped style part) then Some (unescaped style part) else None
+unescaped_text style part =
+    if is_utf8 (unescaped_bytes style part) then Some (unescaped_bytes style part) else None
 
 -- A component is NAME=PART, cut at its first `=`, and the name unescapes to the column's.
 pub record IsNamedPart (style : FolderStyle) (column component part : List ℕ) : Type 0 where
   pub name : List ℕ
   pub split : component ≡ name ++ equals_sign ∷ part
   pub first : ¬ Contains name equals_sign
-  pub unescapes : unescaped style name ≡ column
+  pub unescapes : unescaped_bytes style name ≡ column
 
 -- The part of a component that spells the column's value: without hive style that is all of it.
 abbrev pub IsValuePart : FolderStyle → List ℕ → List ℕ → List ℕ → Type 0
@@ -53,18 +54,22 @@ IsValuePart style column component part =
 
 -- This part spells the column's value, or no part does.
 abbrev pub IsValuePartOrNone : FolderStyle → List ℕ → List ℕ → Option (Bor (List ℕ)) → Type 0
-IsValuePartOrNone style column component None = (part : List ℕ) → ¬ IsValuePart style column component part
-IsValuePartOrNone style column component (Some part) = IsValuePart style column component part.now
+IsValuePartOrNone style column component None =
+    (part : List ℕ) → ¬ IsValuePart style column component part
+IsValuePartOrNone style column component (Some part) =
+    IsValuePart style column component part.now
 
 -- The same as a function.
 abbrev pub named_part : FolderStyle → List ℕ → List ℕ → Option (List ℕ)
 named_part style column component =
-    if list_any is_equals component && bytes_eq (unescaped style (before_first is_equals component)) column
+    if list_any is_equals component
+    && bytes_eq (unescaped_bytes style (before_first is_equals component)) column
     then Some (after_first is_equals component)
     else None
 
 abbrev pub value_part : FolderStyle → List ℕ → List ℕ → Option (List ℕ)
-value_part style column component = if style.hive_style then named_part style column component else Some component
+value_part style column component =
+    if style.hive_style then named_part style column component else Some component
 
 -- Hive style, with escapes.
 abbrev pub hive_folders : FolderStyle
@@ -72,8 +77,8 @@ hive_folders = record { hive_style = true; url_encode = true }
 
 -- A part behind the first `=` unescapes to a text that stands for the value.
 pub record PartCarries (part : List ℕ) (value : PartValue) : Type 0 where
-  pub utf8 : IsUtf8 (unescaped hive_folders part)
-  pub stands : StandsInFolder (unescaped hive_folders part) value
+  pub utf8 : IsUtf8 (unescaped_bytes hive_folders part)
+  pub stands : StandsInFolder (unescaped_bytes hive_folders part) value
 
 -- A component spells the column's value, in hive style with escapes.
 pub record CarriesValue (column component : List ℕ) (value : PartValue) : Type 0 where
@@ -90,7 +95,8 @@ EachCarries (column ∷ columns) [] values = ⊥
 EachCarries (column ∷ columns) (component ∷ components) [] = ⊥
 
 -- The last components of the path's folder, as many as there are columns, spell the values.
-pub record CarriesValues (path : List ℕ) (columns : List (List ℕ)) (values : List PartValue) : Type 0 where
+pub record CarriesValues (path : List ℕ) (columns : List (List ℕ)) (values : List PartValue)
+    : Type 0 where
   pub front : List (List ℕ)
   pub components : List (List ℕ)
   pub last : folder_components path ≡ front ++ components

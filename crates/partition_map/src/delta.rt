@@ -10,8 +10,8 @@ use lake_basics::Text;
 use std::alloc::{AllocError, Global};
 use table_history::PartValue;
 
-/// The text of the value in a Delta commit, or None for null. `ValueForm` where the value is the empty
-/// text, which would be read as null, or a day outside the years 0000 to 9999.
+/// The text of the value in a Delta commit, or None for null. `ValueForm` where the value is the
+/// empty text, which would be read as null, or a day outside the years 0000 to 9999.
 pub fn to_delta_text(alloc: Global, value: &PartValue) -> Result<Option<Text>, PartError>
     ensures ok { IfOk result (IsDeltaText value.now) }
     ensures form { IsErrOf result PartError.ValueForm ↔ HasNoDeltaText value.now }

@@ -4,7 +4,7 @@ ghost use Rattle.std.specs.Borrow.{Bor};
 ghost use Rattle.std.specs.Cow.{cow_str_bytes};
 ghost use Rattle.std.specs.Option.{option_copied};
 ghost use Rattle.std.specs.Str.{bytes_eq};
-ghost use Rattle.partition_map.specs.Folder.{texts_of, folder_components, last_components, unescaped, unescaped_text, value_part, IsValuePartOrNone, PartCarries, CarriesValue, EachCarries, CarriesValues};
+ghost use Rattle.partition_map.specs.Folder.{texts_of, folder_components, last_components, unescaped_bytes, unescaped_text, value_part, IsValuePartOrNone, PartCarries, CarriesValue, EachCarries, CarriesValues};
 
 use crate::texts::stands_in_folder;
 use lake_basics::Text;
@@ -30,8 +30,8 @@ impl FolderStyle {
     };
 }
 
-/// Whether the last components of the path's folder spell the values of the columns, in their order,
-/// in hive style with escapes. True where there are no columns.
+/// Whether the last components of the path's folder spell the values of the columns, in their
+/// order, in hive style with escapes. True where there are no columns.
 pub fn path_carries(
     alloc: Global,
     path: &str,
@@ -121,8 +121,8 @@ fn folder_components(alloc: Global, path: &str) -> Result<Vec<&str>, AllocError>
     Ok(components)
 }
 
-/// The part of a folder's component that spells the column's value: in hive style what stands behind
-/// the first `=`. None where the part before it isn't the column's name.
+/// The part of a folder's component that spells the column's value: in hive style what stands
+/// behind the first `=`. None where the part before it isn't the column's name.
 pub fn value_part<'a>(
     alloc: Global,
     style: FolderStyle,
@@ -155,7 +155,7 @@ fn is_name_of(
     column: &str,
     name: &str,
 ) -> Result<bool, AllocError>
-    ensures { IfOk result (λ same. same ≡ bytes_eq (unescaped style name.now) column.now) }
+    ensures { IfOk result (λ same. same ≡ bytes_eq (unescaped_bytes style name.now) column.now) }
 {
     if !style.url_encode {
         return Ok(name == column);
@@ -164,8 +164,8 @@ fn is_name_of(
     Ok(name.as_slice() == column.as_bytes())
 }
 
-/// The text of a part of a component, percent-decoded where the table's folders are. None where that
-/// isn't UTF-8.
+/// The text of a part of a component, percent-decoded where the table's folders are. None where
+/// that isn't UTF-8.
 pub fn unescape<'a>(
     alloc: Global,
     style: FolderStyle,

@@ -1,6 +1,7 @@
 //! and relative URIs.
 #![tactic(auto)]
 
+mod avro;
 mod date;
 mod delta;
 mod error;
@@ -10,9 +11,13 @@ mod number;
 mod texts;
 mod uri;
 
+pub use avro::{from_avro_value, to_avro_value};
 pub use delta::to_delta_text;
 pub use error::PartError;
 pub use folder::{FolderStyle, last_components, path_carries, unescape, value_part};
 pub use kind::{PartKind, part_kind};
 pub use texts::{from_delta_text, from_hive};
 pub use uri::{decode_uri_path, encode_uri_path};
+
+#[cfg(test)]
+mod tests;

@@ -37,7 +37,8 @@ pub fn from_delta_text(
 }
 
 /// The value that a component of a hive folder stands for: the part behind `name=`, or the whole of
-/// a plain component, already unescaped where the table says so. `BadValue` where it stands for none.
+/// a plain component, already unescaped where the table says so. `BadValue` where it stands for
+/// none.
 pub fn from_hive(alloc: Global, kind: PartKind, component: &str) -> Result<PartValue, PartError>
     ensures ok { IfOk result (HiveStands kind component.now) }
     ensures bad { IsErrOf result PartError.BadValue
@@ -53,7 +54,8 @@ pub fn from_hive(alloc: Global, kind: PartKind, component: &str) -> Result<PartV
 
 fn text_value(alloc: Global, kind: PartKind, text: &str) -> Result<PartValue, PartError>
     ensures ok { IfOk result (IsTextOf kind text.now) }
-    ensures bad { IsErrOf result PartError.BadValue ↔ ((v : PartValue) → ¬ IsTextOf kind text.now v) }
+    ensures bad { IsErrOf result PartError.BadValue
+        ↔ ((v : PartValue) → ¬ IsTextOf kind text.now v) }
     ensures refused { IfErr result IsReadingError }
 {
     match kind {

@@ -1,9 +1,8 @@
 //! Paths as relative URIs, as Delta commits have them.
-ghost use Rattle.std.specs.Prelude.{◌≡◌, ◌++◌, ◌&&◌, ◌||◌, ◌==◌, not, IfOk, IfErr, OnOk, length, slice_index, string_bytes, take_while};
-ghost use Rattle.percent_encoding.specs.Percent.{percent_sign};
+ghost use Rattle.std.specs.Prelude.{◌≡◌, ◌++◌, ◌==◌, IfOk, IfErr, OnOk, length, slice_index, string_bytes, take_while};
 ghost use Rattle.table_history.specs.Path.{IsPath};
-ghost use Rattle.partition_map.specs.Uri.{is_plain, escaped_byte, escaped_path, is_scheme_byte, colon, question_mark, number_sign, NamesPath, ExplainsRefusal};
-ghost use Rattle.partition_map.specs.UriPath.{is_outside, begins_hex, is_well_escaped, path_place, uri_path, inside_table, GivesPath};
+ghost use Rattle.partition_map.specs.Uri.{is_plain, escaped_byte, escaped_path, is_scheme_byte, colon, NamesPath, ExplainsRefusal};
+ghost use Rattle.partition_map.specs.UriPath.{is_outside, begins_hex, is_path_byte, is_well_escaped, path_place, uri_path, inside_table, GivesPath};
 
 use crate::error::PartError;
 use lake_basics::Text;
@@ -122,7 +121,7 @@ fn is_well_escaped(uri: &[u8]) -> bool
 }
 
 fn is_path_byte(byte: u8, rest: &[u8]) -> bool
-    ensures { result ≡ (not ((byte == question_mark) || (byte == number_sign)) && (not (byte == percent_sign) || begins_hex rest.now)) }
+    ensures { result ≡ is_path_byte byte rest.now }
 {
     match byte {
         b'?' | b'#' => false,
