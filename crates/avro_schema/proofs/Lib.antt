@@ -3,5 +3,7 @@ pub mod Lookups
 pub mod Turns
 pub mod WrittenItems
 pub mod Flat
+pub mod Sound
+pub mod Texts
 pub mod Dots
 pub mod Repeats

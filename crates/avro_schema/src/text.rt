@@ -9,6 +9,7 @@ ghost use Rattle.lake_basics.specs.Outcome.{Gives, GivesUnlessMemory};
 ghost use Rattle.avro_schema.specs.Tree.{tree_of};
 ghost use Rattle.avro_schema.specs.Reading.{tree_at, schema_of, text_tree, is_memory};
 ghost use Rattle.avro_schema.specs.Writing.{json_of};
+ghost use Rattle.avro_schema.specs.Grammar.{IsSchemaText};
 ghost use Rattle.avro_schema.specs.Spelled.{IsSpelled};
 
 use crate::definitions::Definitions;
@@ -26,7 +27,8 @@ impl Schema {
     /// The schema that a JSON text is (Avro specification, "Schema Declaration"), with the field ids
     /// of Apache Iceberg.
     pub fn from_json(alloc: Global, bytes: &[u8]) -> Result<Schema, SchemaError>
-        ensures { GivesUnlessMemory is_memory tree_of result (schema_of bytes.now) }
+        ensures exact { GivesUnlessMemory is_memory tree_of result (schema_of bytes.now) }
+        ensures found { IfOk result (λ s. IsSchemaText bytes.now (tree_of s)) }
     {
         match read_schema(alloc, bytes) {
             Ok(schema) => Ok(schema),
