@@ -1,5 +1,5 @@
 -- Faults handed on.
-use Rattle.std.proofs.Common.{◌≡◌, Result, Ok, Err}
+use Rattle.std.proofs.Common.{◌≡◌, Result, Err}
 use Rattle.lake_basics.specs.Outcome.{FailsUnlessMemory}
 use Rattle.hudi_timeline.specs.declared.error.HudiError.{HudiError}
 use Rattle.hudi_timeline.specs.declared.error.HudiError.TheVariants.{Memory, Malformed, Unsupported, Limit}

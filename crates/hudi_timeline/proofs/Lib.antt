@@ -1,6 +1,7 @@
 pub mod DateLemmas
 pub mod ErrorLemmas
 pub mod EscapeLemmas
+pub mod GrammarLemmas
 pub mod LineLemmas
 pub mod PairLemmas
 pub mod TableLemmas

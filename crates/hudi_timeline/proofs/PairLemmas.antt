@@ -1,10 +1,10 @@
 -- Pairs, line by line.
-use Rattle.std.proofs.Common.{◌≡◌, ℕ, suc, ◌+◌, ◌<◌, List, [], ◌∷◌, ◌++◌, length, get_or, drop, Option, Some, None, Result, Ok, Err, Bool, true, false, not, refl, sym, ap, subst, ◌∙◌, arith, add-one, drop-cons}
+use Rattle.std.proofs.Common.{◌≡◌, ℕ, List, ◌∷◌, length, Result, Ok, Err, true, false, refl, sym}
 use Rattle.std.specs.Prelude.{filter, ◌==◌}
 use Rattle.hudi_timeline.specs.declared.error.HudiError.{HudiError}
 use Rattle.hudi_timeline.specs.declared.properties.line.LogicalLine.{LogicalLine}
 use Rattle.lake_basics.specs.Outcome.{◌>>=◌, each}
-use Rattle.hudi_timeline.specs.Pairs.{pair_at, pairs_with, in_order, is_filled}
+use Rattle.hudi_timeline.specs.Pairs.{pair_at, pairs_with, is_filled}
 use Rattle.std.specs.BTreeMap.{insert_entry}
 use Rattle.std.specs.Cmp.Lexicographic.{slice_cmp}
 use Rattle.std.specs.Ordering.{nat_cmp}

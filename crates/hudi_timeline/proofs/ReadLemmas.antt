@@ -1,27 +1,23 @@
 -- Properties that were written, read again.
-use Rattle.std.proofs.Common.{◌≡◌, ℕ, zero, suc, ◌+◌, ◌-◌, ◌*◌, ◌/◌, ◌%◌, ◌<◌, ◌≤◌, List, [], ◌∷◌, ◌++◌, length, get_or, take, drop, map, Option, Some, None, option_map, Result, Ok, Err, Bool, true, false, cond, not, nat_lt, nat_le, refl, sym, ap, subst, ◌∙◌, append_assoc, arith, inl, inr, ◌⊎◌}
-use Rattle.std.specs.Prelude.{◌==◌, ◌&&◌, ◌||◌, option_to_list, take_while, filter, is_some}
+use Rattle.std.proofs.Common.{◌≡◌, ℕ, ◌+◌, ◌-◌, ◌/◌, ◌%◌, ◌<◌, ◌≤◌, List, [], ◌∷◌, ◌++◌, length, get_or, take, drop, map, Some, None, Ok, Bool, true, false, cond, not, nat_lt, refl, sym, ap, subst, ◌∙◌, append_assoc, arith, inl, inr, ◌⊎◌}
+use Rattle.std.specs.Prelude.{◌==◌, ◌&&◌, take_while, filter, is_some}
 use Rattle.std.specs.Option.{unwrap_or}
 use Rattle.std.specs.Char.{IsScalar}
 use Rattle.std.specs.Char.Escape.{encode_utf16}
 use Rattle.std.specs.Char.Utf16.{utf16_chars, lone_unit_char, surrogate_pair_char, has_unpaired_surrogate, utf16_lossy_chars}
 use Rattle.std.specs.List.{flat_map, list_any, AllByRecursion}
-use Rattle.std.specs.Str.{chars, IsUtf8, all_scalars, encode_utf8_all}
-use Rattle.std.proofs.lemmas.Bool.{cases_Bool}
+use Rattle.std.specs.Str.{chars, IsUtf8, all_scalars}
 use Rattle.std.proofs.lemmas.Bool.Decides.{nat_tests}
 use Rattle.std.proofs.lemmas.Grind.{flat_map-append}
 use Rattle.std.proofs.lemmas.List.{append-nil, take_more}
 use Rattle.std.proofs.lemmas.List.Sums.{take_while-cons}
 use Rattle.std.proofs.lemmas.Str.{encodes-chars, scalars-chars, utf16_chars-nil, utf16_chars_lone, utf16_chars_pair}
-use Rattle.hudi_timeline.specs.declared.error.HudiError.{HudiError}
 use Rattle.hudi_timeline.specs.declared.properties.escape.Escape.TheVariants.{Outside}
-use Rattle.hudi_timeline.specs.declared.properties.line.LogicalLine.{LogicalLine}
 use Rattle.hudi_timeline.specs.Escapes.{units_from, utf16_text, unescaped}
-use Rattle.hudi_timeline.specs.Lines.{is_white, is_line_end, onto_first, lines_after, natural_lines, ends_escaped, trimmed, is_comment, is_continued, stepped, logical_from, logical_lines}
-use Rattle.lake_basics.specs.Outcome.{◌>>=◌, each}
-use Rattle.hudi_timeline.specs.Pairs.{is_key_end, key_len, value_of, pair_of, pair_at, is_filled, pairs_of_lines, in_order, properties_of}
+use Rattle.hudi_timeline.specs.Lines.{is_white, onto_first, lines_after, natural_lines, ends_escaped, trimmed, is_comment, is_continued, stepped, logical_from, logical_lines}
+use Rattle.lake_basics.specs.Outcome.{each}
+use Rattle.hudi_timeline.specs.Pairs.{key_len, value_of, pair_of, pair_at, is_filled, in_order, properties_of}
 use Rattle.hudi_timeline.specs.Written.{escaped_char, escaped, pair_text, properties_text, IsUtf8Pair}
-use Rattle.hudi_timeline.proofs.EscapeLemmas.{with_units}
 use Rattle.hudi_timeline.proofs.WrittenLemmas.{IsPiece, IsStart, onto_front, piece_none, piece_append, piece_char}
 
 scalar_small : (c : ℕ) → IsScalar c → c < 0x11_0000

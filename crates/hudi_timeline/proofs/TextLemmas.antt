@@ -1,7 +1,6 @@
 -- Runs of neighbours, objects of arrays, and what the text of an instant is read back as.
-use Rattle.std.proofs.Common.{◌≡◌, ◌≢◌, ℕ, zero, suc, ◌+◌, ◌<◌, ◌≤◌, ◌^◌, List, [], ◌∷◌, ◌++◌, length, get_or, length-drop, take, drop, map, Option, Some, None, nat_le, Bool, true, false, cond, Result, Ok, Err, Ordering, Less, Equal, Greater, refl, sym, ap, subst, ◌∙◌, append_assoc, arith, max, nat_lt, nat_cmp, is_eq}
+use Rattle.std.proofs.Common.{◌≡◌, ℕ, suc, ◌+◌, ◌<◌, ◌≤◌, ◌^◌, List, [], ◌∷◌, ◌++◌, length, get_or, length-drop, take, drop, map, Option, Some, None, nat_le, Bool, true, false, cond, Ok, Ordering, Less, Equal, Greater, refl, sym, ap, subst, ◌∙◌, append_assoc, arith, nat_lt, nat_cmp, is_eq}
 use Rattle.std.specs.Prelude.{◌||◌, codes, flat_map, All}
-use Rattle.std.specs.Cmp.{IsTotalOrder}
 use Rattle.std.specs.Cmp.Lexicographic.{slice_cmp}
 use Rattle.std.specs.List.{AllByRecursion, prefix_len}
 use Rattle.std.specs.List.Sorted.{IsSorted}
@@ -13,19 +12,17 @@ use Rattle.std.proofs.lemmas.Grind.{common_steps}
 use Rattle.std.proofs.lemmas.List.{append-nil}
 use Rattle.std.proofs.lemmas.Map.Text.{is_eq-slice_cmp}
 use Rattle.std.proofs.lemmas.Slice.Eq.{bytes_eq-Decides}
-use Rattle.serde_json.specs.Data.{Data, boolean, number, unsigned, string, array, object, Items, no_items, item, Members, no_members, member, put, depth, items_depth, members_depth}
+use Rattle.serde_json.specs.Data.{Data, string, array, Members, no_members, member, put, depth, items_depth, members_depth}
 use Rattle.serde_json.specs.Read.{max_depth}
 use Rattle.serde_json.specs.View.{items_of}
 use Rattle.serde_json.specs.Written.{compact_text, has_float, items_have_float, members_have_float}
 use Rattle.json_reading.specs.Json.{items, pairs, members_with, IsReadAgain}
-use Rattle.lake_basics.specs.Outcome.{◌>>=◌}
 use Rattle.lake_basics.specs.declared.limits.TheConstants.{MAX_ACTIONS}
-use Rattle.hudi_timeline.specs.declared.error.HudiError.{HudiError}
 use Rattle.hudi_timeline.specs.declared.instant.Instant.{Instant}
 use Rattle.hudi_timeline.specs.declared.instant.Stat.{Stat}
 use Rattle.hudi_timeline.proofs.PathForms.{is_path_of_any_length-true}
 use Rattle.hudi_timeline.specs.Instants.{stat, with_stats, with_partitions, with_ids, with_replaced, extra_text, instant, json_instant}
-use Rattle.hudi_timeline.specs.InstantText.{stat_data, onto_group, runs_by, arrays_by, partition_of, replaced_partition, id_data, put_text, extra_data, instant_data, stat_cmp, replaced_cmp, IsSoundStat, IsSound, IsWritable}
+use Rattle.hudi_timeline.specs.InstantText.{stat_data, onto_group, runs_by, arrays_by, partition_of, replaced_partition, id_data, put_text, extra_data, instant_data, stat_cmp, replaced_cmp, IsSoundStat, IsWritable}
 
 -- ---- runs
 
@@ -270,7 +267,7 @@ natural n small = grind (arith, common_steps)
 
 stat_again : (s : Stat) → IsSoundStat s → stat (stat_data s) ≡ Ok (Some s)
 unfolding stat
-stat_again s h = rw (is_path_of_any_length-true s.path h.path, natural s.writes h.writes, natural s.size h.size)
+stat_again s h = rw (is_path_of_any_length-true s.path h.path, natural s.writes h.writes, natural s.writes h.writes, natural s.size h.size, natural s.size h.size)
 
 stats_again : (found ss : List Stat) → AllByRecursion IsSoundStat ss → with_stats found (items (items_of (map stat_data ss))) ≡ Ok (found ++ ss)
 stats_again found [] h = ap Ok (sym (append-nil found))

@@ -1,5 +1,5 @@
 -- What a completed instant did, by the JSON that its file is.
-use Rattle.std.specs.Prelude.{ℕ, ◌+◌, nat_le, List, [], ◌∷◌, ◌++◌, length, if◌then◌else◌, Option, Some, None, option_to_list, Result, Ok, Err, codes}
+use Rattle.std.specs.Prelude.{ℕ, ◌+◌, ◌^◌, nat_le, nat_lt, option_and_then, List, [], ◌∷◌, ◌++◌, length, if◌then◌else◌, Option, Some, None, option_to_list, Result, Ok, Err, codes}
 use Rattle.serde_json.specs.Data.{Data}
 use Rattle.serde_json.specs.Find.{get, as_array, as_object}
 use Rattle.lake_basics.specs.declared.limits.TheConstants.{MAX_ACTIONS}
@@ -16,10 +16,17 @@ use Rattle.lake_basics.specs.Outcome.{◌>>=◌, required}
 abbrev pub text_member : List ℕ → Data → Result (List ℕ) HudiError
 text_member name d = required malformed (get name d) >>= text malformed
 
+abbrev pub if_small : ℕ → Option ℕ
+if_small n = if nat_lt n (2 ^ 63) then Some n else None
+
+-- a whole number from 0 to 2 ^ 63 - 1
+abbrev pub size_number : Data → Option ℕ
+size_number d = option_and_then if_small (count d)
+
 -- A size that isn't stated is 0.
 abbrev pub size : Option Data → Result ℕ HudiError
 size None = Ok 0
-size (Some d) = required malformed (count d)
+size (Some d) = required malformed (size_number d)
 
 -- The path of a data file may break the rule on its length alone, which is judged with the commit.
 abbrev pub data_path : Data → Result (List ℕ) HudiError
@@ -32,7 +39,7 @@ stat_at d (Some named) = do
   file_id ← text_member (codes "fileId") d
   partition_path ← text_member (codes "partitionPath") d
   number ← required malformed (get (codes "numWrites") d)
-  writes ← required malformed (count number)
+  writes ← required malformed (size_number number)
   bytes ← size (get (codes "fileSizeInBytes") d)
   Ok (Some (record { file_id = file_id; partition_path = partition_path; path = path; writes = writes; size = bytes }))
 

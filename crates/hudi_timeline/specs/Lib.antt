@@ -1,6 +1,7 @@
 pub mod Errors
 pub mod Escapes
 pub mod Group
+pub mod InstantGrammar
 pub mod InstantText
 pub mod Instants
 pub mod Lines

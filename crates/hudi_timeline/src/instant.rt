@@ -1,13 +1,17 @@
 //! Completed instants.
 
-ghost use Rattle.std.specs.Prelude.{◌≡◌, ◌++◌, [], Ok, codes, option_map, option_to_list};
+ghost use Rattle.std.specs.Prelude.{◌≡◌, ◌++◌, [], Ok, Some, IfOk, IsErrOf, codes, option_map, option_to_list};
 ghost use Rattle.serde_json.specs.Find.{get};
 ghost use Rattle.serde_json.specs.View.{view, items_view, members_view};
 ghost use Rattle.json_reading.specs.Json.{items, pairs, present, text, json};
 ghost use Rattle.lake_basics.specs.Outcome.{required};
 ghost use Rattle.table_history.specs.Path.{is_path_of_any_length};
 ghost use Rattle.hudi_timeline.specs.Errors.{Gives, GivesBy, malformed};
-ghost use Rattle.hudi_timeline.specs.Instants.{text_member, data_path, within_actions, size, stat, with_stats, with_partitions, with_ids, with_replaced, replaced, extra_text, instant, json_instant};
+ghost use Rattle.serde_json.specs.Data.{Data};
+ghost use Rattle.hudi_timeline.specs.InstantGrammar.{StatesInstant};
+ghost use Rattle.hudi_timeline.specs.InstantText.{IsSound};
+ghost use Rattle.hudi_timeline.specs.declared.instant.Instant.{Instant};
+ghost use Rattle.hudi_timeline.specs.Instants.{size_number, text_member, data_path, within_actions, size, stat, with_stats, with_partitions, with_ids, with_replaced, replaced, extra_text, instant, json_instant};
 
 use crate::error::HudiError;
 
@@ -74,12 +78,20 @@ fn has_path_form(bytes: &[u8]) -> bool
     path_form_of_any_length(bytes)
 }
 
+/// The whole number from 0 to 2^63 - 1 that the value is.
+fn size_in(value: &Value) -> Option<u64>
+    ensures { result ≡ size_number (view value.now) }
+{
+    let number = count_in(value)?;
+    if number < 1 << 63 { Some(number) } else { None }
+}
+
 fn size_of_stat(value: &Value) -> Result<u64, HudiError>
     ensures { Gives result (size (get (codes "fileSizeInBytes") (view value.now))) }
 {
     match value.get("fileSizeInBytes") {
         None => Ok(0),
-        Some(member) => count_in(member).ok_or(MALFORMED),
+        Some(member) => size_in(member).ok_or(MALFORMED),
     }
 }
 
@@ -98,7 +110,7 @@ fn stat_of(alloc: Global, value: &Value) -> Result<Option<Stat>, HudiError>
     let file_id = required_text(alloc, value, "fileId")?;
     let partition_path = required_text(alloc, value, "partitionPath")?;
     let writes = value.get("numWrites").ok_or(MALFORMED)?;
-    let writes = count_in(writes).ok_or(MALFORMED)?;
+    let writes = size_in(writes).ok_or(MALFORMED)?;
     let size = size_of_stat(value)?;
     Ok(Some(Stat {
         file_id,
@@ -233,9 +245,20 @@ fn json_of(alloc: Global, bytes: &[u8]) -> Result<Value, HudiError>
     }
 }
 
-/// The instant that the bytes of a completed file are.
-#[tactic(auto, unfolding(crate::specs::Instants::json_instant))]
+/// The instant that the bytes of a completed commit or replacecommit state. They are malformed, with
+/// line 0, where they are no JSON or state none.
 pub fn read_instant(alloc: Global, bytes: &[u8]) -> Result<Instant, HudiError>
+    ensures reading { Gives result (json_instant bytes.now) }
+    ensures grammar { IfOk result (λ i. (d : Data) × (json bytes.now ≡ Some d) × StatesInstant d i) }
+    ensures sound { IfOk result IsSound }
+    ensures malformed { IsErrOf result (HudiError.Malformed 0)
+        → (d : Data) (i : Instant) → json bytes.now ≡ Some d → ¬ StatesInstant d i }
+{
+    instant_of(alloc, bytes)
+}
+
+#[tactic(auto, unfolding(crate::specs::Instants::json_instant))]
+fn instant_of(alloc: Global, bytes: &[u8]) -> Result<Instant, HudiError>
     ensures { Gives result (json_instant bytes.now) }
 {
     let value = json_of(alloc, bytes)?;

@@ -1,11 +1,9 @@
 use Rattle.std.proofs.Common.{◌≡◌, ◌≤ℤ◌, ℕ, ℤ, Result, Ok, Err, IsErrOf, IsErrAnd, sym, subst, refl, to_z, of_z, w64}
-use Rattle.std.proofs.lemmas.Int.{ints, to_z-of_z}
-use Rattle.std.specs.Option.{option_copied}
-use Rattle.lake_basics.specs.declared.text.Text.{Text}
+use Rattle.std.proofs.lemmas.Int.{to_z-of_z}
 use Rattle.hudi_timeline.specs.declared.error.HudiError.{HudiError}
 use Rattle.hudi_timeline.specs.declared.error.HudiError.TheVariants.{Memory, Limit}
 use Rattle.table_history.specs.declared.limit.LimitKind.TheVariants.{Versions}
-use Rattle.hudi_timeline.specs.Time.{IsTime, IsTimeNumber, IsNext, IsPast9999}
+use Rattle.hudi_timeline.specs.Time.{IsTime, IsTimeNumber, IsPast9999}
 use Rattle.hudi_timeline.proofs.TimeLemmas.{next_later, next_past, not_past}
 use Rattle.hudi_timeline.proofs.time.next_instant.Goals as goal
 use Rattle.hudi_timeline.proofs.time.next_instant.Goals.{In-Some, In-None}

@@ -1,7 +1,7 @@
 use Rattle.std.proofs.Common.{◌≡◌, ap, subst, ◌∙◌, take}
 use Rattle.std.proofs.lemmas.List.{take_all}
 use Rattle.std.specs.List.{AllByRecursion}
-use Rattle.hudi_timeline.specs.Pairs.{properties_of, in_order}
+use Rattle.hudi_timeline.specs.Pairs.{properties_of}
 use Rattle.hudi_timeline.specs.Written.{properties_text, IsUtf8Pair}
 use Rattle.hudi_timeline.proofs.ReadLemmas.{texts_again, texts_more, utf8_more}
 use Rattle.hudi_timeline.proofs.properties.write.properties_text.Goals as goal
