@@ -1,4 +1,4 @@
--- That a store in memory knows what it was.
+-- That a store in memory knows what it was. For the crates above too, where they crash such a store or write to it.
 use Rattle.std.proofs.Common.{◌≡◌, ◌≢◌, ◌⊎◌, ◌||◌, not, inl, inr, ⊎_elim, ℕ, suc, ◌≤◌, Bool, true, false, List, [], ◌∷◌, length, refl, sym, ◌∙◌, ap, subst, arith, Some, None, Option}
 use Rattle.std.specs.FinMap as map
 use Rattle.std.specs.FinSet as set

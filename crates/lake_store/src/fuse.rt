@@ -41,6 +41,7 @@ pub struct FuseStore {
 }
 
 impl FuseStore {
+    /// A fuse round a store, at its call number 0.
     pub fn new(_alloc: Global, inner: MemoryStore, script: Script) -> FuseStore
         ensures inner { inner_of result ≡ inner }
         ensures script { script_of result ≡ script }
@@ -125,7 +126,8 @@ impl Store for FuseStore {
     ghost only_now = { λ s image told left. only_now s.inner image left };
 
     fn list(&mut self, alloc: Global, folder: &str) -> Result<Names, StoreError>
-        ensures names { IfOk result (λ names. names ≡ names_in (fuse_disk self.old).files folder.now) }
+        ensures names { IfOk result
+            (λ names. names ≡ names_in (fuse_disk self.old).files folder.now) }
         ensures listed { IfOk result (ListsFolder (fuse_disk self.old).files folder.now) }
         ensures sorted { IfOk result (IsStrictlySortedBy (slice_cmp nat_cmp)) }
         ensures few { IfOk result (λ names. length names ≤ MAX_NAMES) }
@@ -149,11 +151,12 @@ impl Store for FuseStore {
 
     fn read(&mut self, alloc: Global, path: &str) -> Result<Option<Blob>, StoreError>
         ensures bytes { IfOk result (λ bytes. bytes ≡ map.get (fuse_disk self.old).files path.now) }
-        ensures short { IfOk result (λ bytes. IfSome bytes (λ bytes. length bytes ≤ MAX_FILE_BYTES)) }
+        ensures short { IfOk result
+            (λ bytes. IfSome bytes (λ bytes. length bytes ≤ MAX_FILE_BYTES)) }
         ensures too_long { (n : ℕ) → IsErrOf result (StoreError.TooLong n)
             → (MAX_FILE_BYTES < n) × (HasLength (fuse_disk self.old).files path.now n) }
-        ensures too_large { (n : ℕ) → MAX_FILE_BYTES < n → HasLength (fuse_disk self.old).files path.now n
-            → IsTooLong n result }
+        ensures too_large { (n : ℕ) → MAX_FILE_BYTES < n
+            → HasLength (fuse_disk self.old).files path.now n → IsTooLong n result }
         ensures same { fuse_disk self.new ≡ fuse_disk self.old }
         ensures elapses { Elapses fuse_disk fuse_time fuse_left_since self.old self.new }
         ensures cause { HasFault faults_of FuseCanFail self.old self.new
@@ -176,7 +179,8 @@ impl Store for FuseStore {
         len: u32,
     ) -> Result<Option<Blob>, StoreError>
         ensures bytes { IfOk result (λ part.
-            part ≡ option_map (λ bytes. take len (drop from bytes)) (map.get (fuse_disk self.old).files path.now)) }
+            part ≡ option_map (λ bytes. take len (drop from bytes))
+            (map.get (fuse_disk self.old).files path.now)) }
         ensures short { IfOk result (λ part. IfSome part (λ bytes. length bytes ≤ len)) }
         ensures same { fuse_disk self.new ≡ fuse_disk self.old }
         ensures elapses { Elapses fuse_disk fuse_time fuse_left_since self.old self.new }
@@ -194,10 +198,12 @@ impl Store for FuseStore {
     }
 
     fn write(&mut self, path: &str, bytes: &[u8]) -> Result<(), StoreError>
-        ensures ok { OnOk result (fuse_disk self.new ≡ written (fuse_disk self.old) path.now bytes.now) }
+        ensures ok { OnOk result
+            (fuse_disk self.new ≡ written (fuse_disk self.old) path.now bytes.now) }
 
         // The file is absent or has any bytes, and a crash may damage it.
-        ensures err { OnErr result (SameElsewhere path.now (fuse_disk self.old) (fuse_disk self.new)) }
+        ensures err { OnErr result
+            (SameElsewhere path.now (fuse_disk self.old) (fuse_disk self.new)) }
         ensures elapses { Elapses fuse_disk fuse_time fuse_left_since self.old self.new }
         ensures cause { HasFault faults_of FuseCanFail self.old self.new
             (IsErrOf result StoreError.Failed) }
@@ -241,7 +247,8 @@ impl Store for FuseStore {
 
         // All is as before, or the file has moved.
         ensures err { OnErr result ((IsErrOf result StoreError.Taken → ⊥)
-            → (fuse_disk self.new ≡ fuse_disk self.old) ⊎ Moves from.now to.now (fuse_disk self.old) (fuse_disk self.new)) }
+            → (fuse_disk self.new ≡ fuse_disk self.old)
+            ⊎ Moves from.now to.now (fuse_disk self.old) (fuse_disk self.new)) }
         ensures elapses { Elapses fuse_disk fuse_time fuse_left_since self.old self.new }
         ensures cause { HasFault faults_of FuseCanFail self.old self.new
             (IsErrOf result StoreError.Failed) }
@@ -265,7 +272,8 @@ impl Store for FuseStore {
     fn remove(&mut self, path: &str) -> Result<(), StoreError>
         ensures ok { OnOk result (fuse_disk self.new ≡ removed (fuse_disk self.old) path.now) }
         ensures err { OnErr result
-            ((fuse_disk self.new ≡ fuse_disk self.old) ⊎ (fuse_disk self.new ≡ removed (fuse_disk self.old) path.now)) }
+            ((fuse_disk self.new ≡ fuse_disk self.old)
+            ⊎ (fuse_disk self.new ≡ removed (fuse_disk self.old) path.now)) }
         ensures elapses { Elapses fuse_disk fuse_time fuse_left_since self.old self.new }
         ensures cause { HasFault faults_of FuseCanFail self.old self.new
             (IsErrOf result StoreError.Failed) }

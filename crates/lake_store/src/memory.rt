@@ -1,4 +1,5 @@
-//! A store in memory. It keeps what each call replaced, so that what a crash might have left at a past moment is known.
+//! A store in memory. It keeps what each call replaced, so that what a crash might have left at a
+//! past moment is known.
 ghost use Rattle.std.specs.Prelude.{◌≡◌, drop, take, IfOk, OnErr, OnOk};
 ghost use Rattle.std.specs.FinMap as map;
 ghost use Rattle.std.specs.FinSet as set;
@@ -224,7 +225,8 @@ fn write_file(
     path: &str,
     bytes: Blob,
 ) -> Result<(Option<Blob>, bool), AllocError>
-    ensures before { IfOk result (λ before. (before.0 ≡ map.get files.old path.now) × (before.1 ≡ set.contains dirty.old path.now)) }
+    ensures before { IfOk result (λ before. (before.0 ≡ map.get files.old path.now)
+        × (before.1 ≡ set.contains dirty.old path.now)) }
     ensures files { OnOk result (files.new ≡ map.insert files.old path.now bytes) }
     ensures dirty { OnOk result (dirty.new ≡ set.insert dirty.old path.now) }
     ensures files_stay { OnErr result (files.new ≡ files.old) }

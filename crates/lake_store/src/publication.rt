@@ -22,7 +22,8 @@ pub fn stage_and_publish<S: Store>(
     ensures left { S.tells → IsStaged staged.now name.now bytes.now
         (IsErrOf result StoreError.Taken) (S.disk store.old) (S.disk store.new) }
     ensures any_moment { LeavesOnly ⟦<S as Store>⟧ store.old store.new
-        (IsStagedImage staged.now name.now bytes.now (IsErrOf result StoreError.Taken) (S.disk store.old)) }
+        (IsStagedImage staged.now name.now bytes.now (IsErrOf result StoreError.Taken)
+        (S.disk store.old)) }
     ensures cause { FailsBy ⟦<S as Store>⟧ store.old store.new (IsErrOf result StoreError.Failed) }
     ensures contest { IsContestedBy ⟦<S as Store>⟧ store.old store.new
         (IsErrOf result StoreError.Taken) }

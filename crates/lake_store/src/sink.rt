@@ -43,7 +43,8 @@ pub trait Sink {
             ((n : ℕ) × (output self.new ≡ output self.old ++ take n bytes.now)) }
         ensures later { faults self.old ≤ faults self.new }
         ensures still { may_fail self.new → may_fail self.old }
-        ensures failed { IsErrOf result SinkError.Failed → Rose (faults self.old) (faults self.new) }
+        ensures failed { IsErrOf result SinkError.Failed
+            → Rose (faults self.old) (faults self.new) }
         ensures named { IsErrOf result SinkError.Failed → may_fail self.old };
 }
 

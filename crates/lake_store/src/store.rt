@@ -72,7 +72,8 @@ pub trait Store {
 
     /// The names of the files directly in the folder, in byte order. It changes nothing.
     fn list(&mut self, alloc: Global, folder: &str) -> Result<Names, StoreError>
-        ensures names { tells → IfOk result (λ names. names ≡ names_in (disk self.old).files folder.now) }
+        ensures names { tells → IfOk result
+            (λ names. names ≡ names_in (disk self.old).files folder.now) }
         ensures listed { tells → IfOk result (ListsFolder (disk self.old).files folder.now) }
         ensures sorted { IfOk result (IsStrictlySortedBy (slice_cmp nat_cmp)) }
         ensures few { IfOk result (λ names. length names ≤ MAX_NAMES) }
@@ -82,21 +83,25 @@ pub trait Store {
             → IsTooLong (length (names_in (disk self.old).files folder.now)) result }
         ensures same { tells → disk self.new ≡ disk self.old }
         ensures elapses { tells → Elapses disk time left_since self.old self.new }
-        ensures cause { HasFault faults may_fail self.old self.new (IsErrOf result StoreError.Failed) }
+        ensures cause { HasFault faults may_fail self.old self.new
+            (IsErrOf result StoreError.Failed) }
         ensures contest { HasNoContest contests may_contest self.old self.new
             (IsErrOf result StoreError.Taken) };
 
     /// The file's bytes, or `None` where there is no file. It changes nothing.
     fn read(&mut self, alloc: Global, path: &str) -> Result<Option<Blob>, StoreError>
-        ensures bytes { tells → IfOk result (λ bytes. bytes ≡ map.get (disk self.old).files path.now) }
-        ensures short { IfOk result (λ bytes. IfSome bytes (λ bytes. length bytes ≤ MAX_FILE_BYTES)) }
+        ensures bytes { tells → IfOk result
+            (λ bytes. bytes ≡ map.get (disk self.old).files path.now) }
+        ensures short { IfOk result
+            (λ bytes. IfSome bytes (λ bytes. length bytes ≤ MAX_FILE_BYTES)) }
         ensures too_long { (n : ℕ) → IsErrOf result (StoreError.TooLong n)
             → (MAX_FILE_BYTES < n) × (tells → HasLength (disk self.old).files path.now n) }
-        ensures too_large { tells → (n : ℕ) → MAX_FILE_BYTES < n → HasLength (disk self.old).files path.now n
-            → IsTooLong n result }
+        ensures too_large { tells → (n : ℕ) → MAX_FILE_BYTES < n
+            → HasLength (disk self.old).files path.now n → IsTooLong n result }
         ensures same { tells → disk self.new ≡ disk self.old }
         ensures elapses { tells → Elapses disk time left_since self.old self.new }
-        ensures cause { HasFault faults may_fail self.old self.new (IsErrOf result StoreError.Failed) }
+        ensures cause { HasFault faults may_fail self.old self.new
+            (IsErrOf result StoreError.Failed) }
         ensures contest { HasNoContest contests may_contest self.old self.new
             (IsErrOf result StoreError.Taken) };
 
@@ -109,23 +114,28 @@ pub trait Store {
         len: u32,
     ) -> Result<Option<Blob>, StoreError>
         ensures bytes { tells → IfOk result (λ part.
-            part ≡ option_map (λ bytes. take len (drop from bytes)) (map.get (disk self.old).files path.now)) }
+            part ≡ option_map (λ bytes. take len (drop from bytes))
+            (map.get (disk self.old).files path.now)) }
         ensures short { IfOk result (λ part. IfSome part (λ bytes. length bytes ≤ len)) }
         ensures same { tells → disk self.new ≡ disk self.old }
         ensures elapses { tells → Elapses disk time left_since self.old self.new }
-        ensures cause { HasFault faults may_fail self.old self.new (IsErrOf result StoreError.Failed) }
+        ensures cause { HasFault faults may_fail self.old self.new
+            (IsErrOf result StoreError.Failed) }
         ensures not_too_long { IsNotTooLong result }
         ensures contest { HasNoContest contests may_contest self.old self.new
             (IsErrOf result StoreError.Taken) };
 
     /// Writes the file. Until a sync, a crash may leave it absent or with any bytes.
     fn write(&mut self, path: &str, bytes: &[u8]) -> Result<(), StoreError>
-        ensures ok { tells → OnOk result (disk self.new ≡ written (disk self.old) path.now bytes.now) }
+        ensures ok { tells → OnOk result
+            (disk self.new ≡ written (disk self.old) path.now bytes.now) }
 
         // The file is absent or has any bytes, and a crash may damage it.
-        ensures err { tells → OnErr result (SameElsewhere path.now (disk self.old) (disk self.new)) }
+        ensures err { tells → OnErr result
+            (SameElsewhere path.now (disk self.old) (disk self.new)) }
         ensures elapses { tells → Elapses disk time left_since self.old self.new }
-        ensures cause { HasFault faults may_fail self.old self.new (IsErrOf result StoreError.Failed) }
+        ensures cause { HasFault faults may_fail self.old self.new
+            (IsErrOf result StoreError.Failed) }
         ensures not_too_long { IsNotTooLong result }
         ensures contest { HasNoContest contests may_contest self.old self.new
             (IsErrOf result StoreError.Taken) };
@@ -135,7 +145,8 @@ pub trait Store {
         ensures ok { tells → OnOk result (disk self.new ≡ synced (disk self.old)) }
         ensures err { tells → OnErr result (IsPartlySynced (disk self.old) (disk self.new)) }
         ensures elapses { tells → Elapses disk time left_since self.old self.new }
-        ensures cause { HasFault faults may_fail self.old self.new (IsErrOf result StoreError.Failed) }
+        ensures cause { HasFault faults may_fail self.old self.new
+            (IsErrOf result StoreError.Failed) }
         ensures not_too_long { IsNotTooLong result }
         ensures contest { HasNoContest contests may_contest self.old self.new
             (IsErrOf result StoreError.Taken) };
@@ -153,9 +164,11 @@ pub trait Store {
 
         // All is as before, or the file has moved.
         ensures err { tells → OnErr result ((IsErrOf result StoreError.Taken → ⊥)
-            → (disk self.new ≡ disk self.old) ⊎ Moves from.now to.now (disk self.old) (disk self.new)) }
+            → (disk self.new ≡ disk self.old)
+            ⊎ Moves from.now to.now (disk self.old) (disk self.new)) }
         ensures elapses { tells → Elapses disk time left_since self.old self.new }
-        ensures cause { HasFault faults may_fail self.old self.new (IsErrOf result StoreError.Failed) }
+        ensures cause { HasFault faults may_fail self.old self.new
+            (IsErrOf result StoreError.Failed) }
         ensures contest { HasContest contests may_contest self.old self.new
             (IsErrOf result StoreError.Taken) }
         ensures not_too_long { IsNotTooLong result };
@@ -166,18 +179,19 @@ pub trait Store {
         ensures err { tells → OnErr result
             ((disk self.new ≡ disk self.old) ⊎ (disk self.new ≡ removed (disk self.old) path.now)) }
         ensures elapses { tells → Elapses disk time left_since self.old self.new }
-        ensures cause { HasFault faults may_fail self.old self.new (IsErrOf result StoreError.Failed) }
+        ensures cause { HasFault faults may_fail self.old self.new
+            (IsErrOf result StoreError.Failed) }
         ensures not_too_long { IsNotTooLong result }
         ensures contest { HasNoContest contests may_contest self.old self.new
             (IsErrOf result StoreError.Taken) };
 
     /// The moments since a time are among those since an earlier one.
-    ghost earlier: { (store : Self) (t u : ℕ) (image : Files) → tells → t ≤ u → left_since store u image
-        → left_since store t image };
+    ghost earlier: { (store : Self) (t u : ℕ) (image : Files) → tells → t ≤ u
+        → left_since store u image → left_since store t image };
 
     /// This moment is one of those since an earlier one.
-    ghost counts_now: { (store : Self) (t : ℕ) (image : Files) → tells → t ≤ time store → MayLeave (disk store) image
-        → left_since store t image };
+    ghost counts_now: { (store : Self) (t : ℕ) (image : Files) → tells → t ≤ time store
+        → MayLeave (disk store) image → left_since store t image };
 
     /// Since this moment there is no other.
     ghost only_now: { (store : Self) (image : Files) → tells → left_since store (time store) image
