@@ -62,8 +62,10 @@ fn many(
     found: &mut Vec<Value>,
     input: &mut Input<'_>,
 ) -> Result<(), ReadError<FaultAt>>
-    ensures { Gives (λ _. (map value_tree found.new.items, input.new.rest.now, input.new.budget)) result
-        (read_behind (map value_tree found.old.items) (many_at (object_at (layout schema.now)) count input.old.rest.now input.old.budget)) }
+    ensures { Gives (λ _. (map value_tree found.new.items, input.new.rest.now, input.new.budget))
+        result
+        (read_behind (map value_tree found.old.items)
+        (many_at (object_at (layout schema.now)) count input.old.rest.now input.old.budget)) }
 {
     for _ in 0..count {
         found.push(object(alloc, schema, input)?)?;
@@ -84,7 +86,8 @@ fn objects(
 ) -> Result<usize, ReadError<ContainerFault>>
     requires { length input.rest.now + after < 2 ^ 64 }
     ensures { Gives (λ budget. (map value_tree found.new.items, budget)) result
-        (objects_behind (map value_tree found.old.items) (objects_in (layout schema.now) count input.entry.rest.now after input.entry.budget)) }
+        (objects_behind (map value_tree found.old.items)
+        (objects_in (layout schema.now) count input.entry.rest.now after input.entry.budget)) }
 {
     match many(alloc, schema, count, found, &mut input) {
         Ok(()) => {}
@@ -114,8 +117,10 @@ fn block(
     found: &mut Vec<Value>,
     input: &mut Input<'_>,
 ) -> Result<(), ReadError<ContainerFault>>
-    ensures { Gives (λ _. (map value_tree found.new.items, input.new.rest.now, input.new.budget)) result
-        (block_behind (map value_tree found.old.items) (block_at (layout schema.now) marker.now input.old.rest.now input.old.budget)) }
+    ensures { Gives (λ _. (map value_tree found.new.items, input.new.rest.now, input.new.budget))
+        result
+        (block_behind (map value_tree found.old.items)
+        (block_at (layout schema.now) marker.now input.old.rest.now input.old.budget)) }
 {
     let whole = input.rest.len();
     let (count, rest) = natural(whole, input.rest)?;

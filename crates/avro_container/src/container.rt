@@ -92,7 +92,8 @@ pub fn read_container(alloc: Global, bytes: &[u8]) -> Result<Container, Containe
         → IsWithin MAX_VALUES bytes.now meta t vs
         → MatchResult result (λ c. IsThat c meta t vs) (λ e. e ≡ ContainerError.Memory) }
     // What is refused is the first fault of the input.
-    ensures refused { IfErr result (λ e. (e ≡ ContainerError.Memory) ⊎ IsRefused MAX_VALUES bytes.now e) }
+    ensures refused { IfErr
+        result (λ e. (e ≡ ContainerError.Memory) ⊎ IsRefused MAX_VALUES bytes.now e) }
     // The first fault of the input is refused, unless memory runs out.
     ensures first { (e : ContainerError) → IsRefused MAX_VALUES bytes.now e
         → (result ≡ Err e) ⊎ (result ≡ Err ContainerError.Memory) }

@@ -84,7 +84,8 @@ fn meta_in(
 
 #[tactic(auto, unfolding(crate::specs::Reading::header_at))]
 pub fn read_header(alloc: Global, bytes: &[u8]) -> Result<Header<'_>, ReadError<ContainerFault>>
-    ensures { Gives (λ h. (h.meta.items, h.marker.now, h.blocks.now)) result (header_at MAX_VALUES bytes.now) }
+    ensures { Gives (λ h. (h.meta.items, h.marker.now, h.blocks.now))
+        result (header_at MAX_VALUES bytes.now) }
 {
     let whole = bytes.len();
     let rest = match after_magic(bytes) {

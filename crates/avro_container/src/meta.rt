@@ -28,7 +28,8 @@ pub fn meta(alloc: Global, input: &mut Input<'_>) -> Result<Vec<(Text, Blob)>, R
 /// The blocks of the map. Each takes a byte at least.
 fn pairs(alloc: Global, input: &mut Input<'_>) -> Result<Vec<(Text, Blob)>, ReadError<FaultAt>>
     ensures { Gives (λ ps. (ps.items, input.new.rest.now, input.new.budget)) result
-        (all_blocks_at (entry_at (with_count (item_at bytes_at))) input.old.rest.now input.old.budget) }
+        (all_blocks_at (entry_at (with_count (item_at bytes_at)))
+        input.old.rest.now input.old.budget) }
 {
     let mut found = Vec::new(alloc);
     let fuel = input.rest.len() + 1;
@@ -47,8 +48,11 @@ fn block(
     found: &mut Vec<(Text, Blob)>,
     input: &mut Input<'_>,
 ) -> Result<bool, ReadError<FaultAt>>
-    ensures { Gives (λ more. (more, found.new.items, input.new.rest.now, input.new.budget)) result
-        (with_block found.old.items (one_block_at (entry_at (with_count (item_at bytes_at))) input.old.rest.now input.old.budget)) }
+    ensures { Gives (λ more. (more, found.new.items, input.new.rest.now, input.new.budget))
+        result
+        (with_block found.old.items
+        (one_block_at (entry_at (with_count (item_at bytes_at)))
+        input.old.rest.now input.old.budget)) }
 {
     let Some(block) = input.begin_block()? else {
         return Ok(false);
@@ -65,8 +69,11 @@ fn many(
     found: &mut Vec<(Text, Blob)>,
     input: &mut Input<'_>,
 ) -> Result<(), ReadError<FaultAt>>
-    ensures { Gives (λ _. (found.new.items, input.new.rest.now, input.new.budget)) result
-        (read_behind found.old.items (many_at (entry_at (with_count (item_at bytes_at))) count input.old.rest.now input.old.budget)) }
+    ensures { Gives (λ _. (found.new.items, input.new.rest.now, input.new.budget))
+        result
+        (read_behind found.old.items
+        (many_at (entry_at (with_count (item_at bytes_at)))
+        count input.old.rest.now input.old.budget)) }
 {
     for _ in 0..count {
         found.push(pair(alloc, input)?)?;

@@ -47,7 +47,8 @@ fn push_meta(out: &mut Vec<u8>, pairs: &Vec<(Text, Blob)>) -> Result<(), AllocEr
 
 /// The objects one behind the other.
 fn objects(alloc: Global, values: &[Value]) -> Result<Vec<u8>, AllocError>
-    ensures bytes { IfOk result (λ v. v.items ≡ values_encoding (values_of (map value_tree values.now))) }
+    ensures bytes { IfOk
+        result (λ v. v.items ≡ values_encoding (values_of (map value_tree values.now))) }
     ensures sound { IfOk result (λ _. AreSound (values_of (map value_tree values.now))) }
 {
     let mut out = Vec::new(alloc);
@@ -63,7 +64,8 @@ fn push_block(
     marker: &[u8],
 ) -> Result<(), AllocError>
     requires { count < 2 ^ 63 }
-    ensures { OnOk result (out.new.items ≡ out.old.items ++ block_text count objects.now marker.now) }
+    ensures { OnOk
+        result (out.new.items ≡ out.old.items ++ block_text count objects.now marker.now) }
 {
     if count == 0 {
         return Ok(());
@@ -81,11 +83,13 @@ fn container(
     values: &[Value],
     marker: [u8; 16],
 ) -> Result<Vec<u8>, AllocError>
-    ensures text { IfOk result (λ b. b.items ≡ container_text meta.now.items marker (map value_tree values.now)) }
+    ensures text { IfOk
+        result (λ b. b.items ≡ container_text meta.now.items marker (map value_tree values.now)) }
     ensures are { IfOk result (λ _. ArePairs meta.now.items) }
     ensures sound { IfOk result (λ _. AreSound (values_of (map value_tree values.now))) }
     ensures many { IfOk result (λ _. length (map value_tree values.now) < 2 ^ 63) }
-    ensures small { IfOk result (λ _. length (values_encoding (values_of (map value_tree values.now))) < 2 ^ 63) }
+    ensures small { IfOk
+        result (λ _. length (values_encoding (values_of (map value_tree values.now))) < 2 ^ 63) }
 {
     let objects = objects(alloc, values)?;
     let mut out = Vec::new(alloc);
@@ -98,7 +102,8 @@ fn container(
 
 /// The metadata with the codec and the schema before it.
 fn with_schema(alloc: Global, meta: &Meta, schema: &[u8]) -> Result<Vec<(Text, Blob)>, AllocError>
-    ensures { IfOk result (λ ps. ps.items ≡ (codec_name, null_codec) ∷ (schema_name, schema.now) ∷ meta.now) }
+    ensures { IfOk
+        result (λ ps. ps.items ≡ (codec_name, null_codec) ∷ (schema_name, schema.now) ∷ meta.now) }
 {
     let mut pairs = Vec::new(alloc);
     let codec = Text::from_str(alloc, "avro.codec")?;
@@ -139,9 +144,12 @@ fn written(
     values: &[Value],
     marker: [u8; 16],
 ) -> Result<Vec<u8>, AllocError>
-    requires fit { AllByRecursion (Fits (layout_of (tree_of schema.now))) (map value_tree values.now) }
+    requires fit { AllByRecursion (Fits (layout_of (tree_of schema.now)))
+        (map value_tree values.now) }
     requires free { IsFree MAX_VALUES meta.now }
-    ensures { IfOk result (λ b. IsWritten MAX_VALUES b.items meta.now (tree_of schema.now) marker (map value_tree values.now)) }
+    ensures { IfOk
+        result (λ b. IsWritten MAX_VALUES b.items meta.now (tree_of schema.now) marker
+        (map value_tree values.now)) }
 {
     let text = schema_text(alloc, schema)?;
     let pairs = metadata(alloc, meta, text.as_slice())?;
@@ -158,7 +166,8 @@ pub fn write_container(
     values: &[Value],
     marker: [u8; 16],
 ) -> Result<Blob, ContainerError>
-    requires fit { AllByRecursion (Fits (layout_of (tree_of schema.now))) (map value_tree values.now) }
+    requires fit { AllByRecursion (Fits (layout_of (tree_of schema.now)))
+        (map value_tree values.now) }
     requires free { IsFree MAX_VALUES meta.now }
     ensures written { IfOk result (λ b.
         IsWritten MAX_VALUES b meta.now (tree_of schema.now) marker (map value_tree values.now)) }

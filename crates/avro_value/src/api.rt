@@ -54,7 +54,8 @@ fn decoded(
     budget: usize,
 ) -> Result<(Value, usize, usize), AvroError>
     requires { at ≤ length bytes.now }
-    ensures { Answers (length bytes.now) result (value_at (layout schema.now) (drop at bytes.now) budget) }
+    ensures { Answers (length bytes.now)
+        result (value_at (layout schema.now) (drop at bytes.now) budget) }
 {
     let mut input = Input {
         rest: &bytes[at..],
@@ -173,11 +174,13 @@ fn encoded(alloc: Global, value: &Value) -> Result<Blob, AvroError>
 /// count per array or map that isn't empty.
 pub fn encode(alloc: Global, schema: &Schema, value: &Value) -> Result<Blob, AvroError>
     requires { Fits (layout_of (tree_of schema.now)) (value_tree value.now) }
-    ensures spelled { IfOk result (λ b. Spells (layout_of (tree_of schema.now)) (value_tree value.now) b) }
+    ensures spelled { IfOk
+        result (λ b. Spells (layout_of (tree_of schema.now)) (value_tree value.now) b) }
     ensures exact { IfOk result (λ b. b ≡ encoding (value_tree value.now)) }
     // Decoding it gives the value, where as many values may be made.
     ensures read_back { IfOk result (λ b. value_count (value_tree value.now) ≤ MAX_VALUES
-        → IsSpelled MAX_VALUES (layout_of (tree_of schema.now)) b 0 (value_tree value.now) (length b)) }
+        → IsSpelled MAX_VALUES (layout_of (tree_of schema.now)) b 0 (value_tree value.now)
+        (length b)) }
     ensures err { IfErr result (λ e. e ≡ AvroError.Memory) }
 {
     let _ = schema;

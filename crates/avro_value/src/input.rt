@@ -47,7 +47,8 @@ impl<'a> Input<'a> {
     /// Goes on behind an item that was read at the front.
     pub fn take<T>(&mut self, item: Result<(T, &'a [u8]), Fault>) -> Result<T, FaultAt>
         ensures { (read : Item T) → GivesAlways (λ x. (x.0, x.1.now)) item.entry read
-            → GivesAlways (λ v. (v, self.new.rest.now, self.new.budget)) result (item_reading self.old.rest.now self.old.budget read) }
+            → GivesAlways (λ v. (v, self.new.rest.now, self.new.budget)) result
+            (item_reading self.old.rest.now self.old.budget read) }
     {
         match item {
             Ok((value, rest)) => {
@@ -64,7 +65,8 @@ impl<'a> Input<'a> {
         item: Result<(&'a [u8], &'a [u8]), Fault>,
     ) -> Result<&'a [u8], FaultAt>
         ensures { (read : Item (List ℕ)) → GivesAlways (λ x. (x.0.now, x.1.now)) item.entry read
-            → GivesAlways (λ v. (v.now, self.new.rest.now, self.new.budget)) result (item_reading self.old.rest.now self.old.budget read) }
+            → GivesAlways (λ v. (v.now, self.new.rest.now, self.new.budget)) result
+            (item_reading self.old.rest.now self.old.budget read) }
     {
         match item {
             Ok((value, rest)) => {
@@ -81,7 +83,8 @@ impl<'a> Input<'a> {
         item: Result<(&'a str, &'a [u8]), Fault>,
     ) -> Result<&'a str, FaultAt>
         ensures { (read : Item (List ℕ)) → GivesAlways (λ x. (x.0.now, x.1.now)) item.entry read
-            → GivesAlways (λ v. (v.now, self.new.rest.now, self.new.budget)) result (item_reading self.old.rest.now self.old.budget read) }
+            → GivesAlways (λ v. (v.now, self.new.rest.now, self.new.budget)) result
+            (item_reading self.old.rest.now self.old.budget read) }
     {
         match item {
             Ok((value, rest)) => {
@@ -93,7 +96,8 @@ impl<'a> Input<'a> {
     }
 
     fn number(&mut self) -> Result<u64, FaultAt>
-        ensures { GivesAlways (λ v. (v, self.new.rest.now, self.new.budget)) result (item_at varint_at self.old.rest.now self.old.budget) }
+        ensures { GivesAlways (λ v. (v, self.new.rest.now, self.new.budget)) result
+            (item_at varint_at self.old.rest.now self.old.budget) }
     {
         let item = item::number(self.rest);
         self.take(item)
@@ -102,7 +106,8 @@ impl<'a> Input<'a> {
     /// Goes on to the items of the next block, or behind the last block.
     #[tactic(auto, unfolding(crate::specs::Reading::block_at, crate::specs::Reading::sized_at))]
     pub fn begin_block(&mut self) -> Result<Option<BlockHead>, FaultAt>
-        ensures { GivesAlways (λ v. (v, self.new.rest.now, self.new.budget)) result (block_at self.old.rest.now self.old.budget) }
+        ensures { GivesAlways (λ v. (v, self.new.rest.now, self.new.budget)) result
+            (block_at self.old.rest.now self.old.budget) }
     {
         let first = self.fault(Fault::BadLength);
         let z = self.number()?;

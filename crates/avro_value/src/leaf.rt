@@ -98,7 +98,8 @@ pub fn index(count: usize, input: &mut Input<'_>) -> Result<u32, ReadError<Fault
 
 pub fn symbol(symbols: usize, input: &mut Input<'_>) -> Result<Value, ReadError<FaultAt>>
     ensures { Gives (λ v. (value_tree v, input.new.rest.now, input.new.budget)) result
-        (map_reading ValueTree.enum_of (item_at (index_at (indices symbols)) input.old.rest.now input.old.budget)) }
+        (map_reading ValueTree.enum_of
+        (item_at (index_at (indices symbols)) input.old.rest.now input.old.budget)) }
 {
     Ok(Value::Enum(index(symbols, input)?))
 }

@@ -63,7 +63,8 @@ fn content(
 #[cycle(decode)]
 fn array(alloc: Global, schema: &Schema, input: &mut Input<'_>) -> Result<Value, ReadError<FaultAt>>
     ensures { Gives (λ v. (value_tree v, input.new.rest.now, input.new.budget)) result
-        (map_reading (λ vs. ValueTree.array_of (values_of vs)) (all_blocks_at (value_at (layout schema.now)) input.old.rest.now input.old.budget)) }
+        (map_reading (λ vs. ValueTree.array_of (values_of vs))
+        (all_blocks_at (value_at (layout schema.now)) input.old.rest.now input.old.budget)) }
 {
     let mut items = Vec::new(alloc);
     let fuel = input.rest.len() + 1;
@@ -84,8 +85,10 @@ fn block(
     values: &mut Vec<Value>,
     input: &mut Input<'_>,
 ) -> Result<bool, ReadError<FaultAt>>
-    ensures { Gives (λ more. (more, map value_tree values.new.items, input.new.rest.now, input.new.budget)) result
-        (with_block (map value_tree values.old.items) (one_block_at (value_at (layout schema.now)) input.old.rest.now input.old.budget)) }
+    ensures { Gives (λ more.
+        (more, map value_tree values.new.items, input.new.rest.now, input.new.budget)) result
+        (with_block (map value_tree values.old.items)
+        (one_block_at (value_at (layout schema.now)) input.old.rest.now input.old.budget)) }
 {
     let Some(block) = input.begin_block()? else {
         return Ok(false);
@@ -104,8 +107,10 @@ fn many(
     values: &mut Vec<Value>,
     input: &mut Input<'_>,
 ) -> Result<(), ReadError<FaultAt>>
-    ensures { Gives (λ _. (map value_tree values.new.items, input.new.rest.now, input.new.budget)) result
-        (read_behind (map value_tree values.old.items) (many_at (value_at (layout schema.now)) count input.old.rest.now input.old.budget)) }
+    ensures { Gives (λ _. (map value_tree values.new.items, input.new.rest.now, input.new.budget))
+        result
+        (read_behind (map value_tree values.old.items)
+        (many_at (value_at (layout schema.now)) count input.old.rest.now input.old.budget)) }
 {
     for _ in 0..count {
         values.push(value(alloc, schema, input)?)?;
@@ -121,7 +126,9 @@ fn entries(
     input: &mut Input<'_>,
 ) -> Result<Value, ReadError<FaultAt>>
     ensures { Gives (λ v. (value_tree v, input.new.rest.now, input.new.budget)) result
-        (map_reading (λ es. ValueTree.map_of (entries_of es)) (all_blocks_at (entry_at (value_at (layout schema.now))) input.old.rest.now input.old.budget)) }
+        (map_reading (λ es. ValueTree.map_of (entries_of es))
+        (all_blocks_at (entry_at (value_at (layout schema.now)))
+        input.old.rest.now input.old.budget)) }
 {
     let mut found = Vec::new(alloc);
     let fuel = input.rest.len() + 1;
@@ -142,8 +149,11 @@ fn block_of_entries(
     found: &mut Vec<(Text, Value)>,
     input: &mut Input<'_>,
 ) -> Result<bool, ReadError<FaultAt>>
-    ensures { Gives (λ more. (more, map entry_tree found.new.items, input.new.rest.now, input.new.budget)) result
-        (with_block (map entry_tree found.old.items) (one_block_at (entry_at (value_at (layout schema.now))) input.old.rest.now input.old.budget)) }
+    ensures { Gives (λ more.
+        (more, map entry_tree found.new.items, input.new.rest.now, input.new.budget)) result
+        (with_block (map entry_tree found.old.items)
+        (one_block_at (entry_at (value_at (layout schema.now)))
+        input.old.rest.now input.old.budget)) }
 {
     let Some(block) = input.begin_block()? else {
         return Ok(false);
@@ -162,8 +172,11 @@ fn many_entries(
     found: &mut Vec<(Text, Value)>,
     input: &mut Input<'_>,
 ) -> Result<(), ReadError<FaultAt>>
-    ensures { Gives (λ _. (map entry_tree found.new.items, input.new.rest.now, input.new.budget)) result
-        (read_behind (map entry_tree found.old.items) (many_at (entry_at (value_at (layout schema.now))) count input.old.rest.now input.old.budget)) }
+    ensures { Gives (λ _. (map entry_tree found.new.items, input.new.rest.now, input.new.budget))
+        result
+        (read_behind (map entry_tree found.old.items)
+        (many_at (entry_at (value_at (layout schema.now)))
+        count input.old.rest.now input.old.budget)) }
 {
     for _ in 0..count {
         found.push(one_entry(alloc, schema, input)?)?;
@@ -194,7 +207,8 @@ fn union(
     input: &mut Input<'_>,
 ) -> Result<Value, ReadError<FaultAt>>
     ensures { Gives (λ v. (value_tree v, input.new.rest.now, input.new.budget)) result
-        (union_at (layouts_of (map layout branches.now.items)) input.old.rest.now input.old.budget) }
+        (union_at (layouts_of (map layout branches.now.items))
+        input.old.rest.now input.old.budget) }
 {
     let index = leaf::index(branches.len(), input)?;
     let inner = value(alloc, &branches[index as usize], input)?;
@@ -209,7 +223,9 @@ fn record(
     input: &mut Input<'_>,
 ) -> Result<Value, ReadError<FaultAt>>
     ensures { Gives (λ v. (value_tree v, input.new.rest.now, input.new.budget)) result
-        (map_reading (λ vs. ValueTree.record_of (values_of vs)) (parts_at (layouts_of (map field_layout fields.now.items)) input.old.rest.now input.old.budget)) }
+        (map_reading (λ vs. ValueTree.record_of (values_of vs))
+        (parts_at (layouts_of (map field_layout fields.now.items))
+        input.old.rest.now input.old.budget)) }
 {
     let mut values = Vec::new(alloc);
     for field in fields {

@@ -162,7 +162,8 @@ pub fn push_value(out: &mut Vec<u8>, value: &Value) -> Result<(), AllocError>
 #[cycle(encode)]
 fn push_items(out: &mut Vec<u8>, items: &Vec<Value>) -> Result<(), AllocError>
     ensures bytes { OnOk result (out.new.items ≡ out.old.items
-        ++ block_encoding (length items.now.items) (values_encoding (values_of (map value_tree items.now.items)))) }
+        ++ block_encoding (length items.now.items)
+        (values_encoding (values_of (map value_tree items.now.items)))) }
     ensures short { length items.now.items < 2 ^ 63 }
     ensures sound { OnOk result (AreSound (values_of (map value_tree items.now.items))) }
 {
@@ -177,7 +178,8 @@ fn push_items(out: &mut Vec<u8>, items: &Vec<Value>) -> Result<(), AllocError>
 #[cycle(encode)]
 fn push_map(out: &mut Vec<u8>, entries: &Vec<(Text, Value)>) -> Result<(), AllocError>
     ensures bytes { OnOk result (out.new.items ≡ out.old.items
-        ++ block_encoding (length entries.now.items) (entries_encoding (entries_of (map entry_tree entries.now.items)))) }
+        ++ block_encoding (length entries.now.items)
+        (entries_encoding (entries_of (map entry_tree entries.now.items)))) }
     ensures short { length entries.now.items < 2 ^ 63 }
     ensures sound { OnOk result (EntriesAreSound (entries_of (map entry_tree entries.now.items))) }
 {
@@ -192,7 +194,9 @@ fn push_map(out: &mut Vec<u8>, entries: &Vec<(Text, Value)>) -> Result<(), Alloc
 /// Adds values one behind the other.
 #[cycle(encode)]
 pub fn push_values(out: &mut Vec<u8>, values: &[Value]) -> Result<(), AllocError>
-    ensures bytes { OnOk result (out.new.items ≡ out.old.items ++ values_encoding (values_of (map value_tree values.now))) }
+    ensures bytes { OnOk
+        result (out.new.items
+        ≡ out.old.items ++ values_encoding (values_of (map value_tree values.now))) }
     ensures sound { OnOk result (AreSound (values_of (map value_tree values.now))) }
 {
     for value in values {
@@ -204,7 +208,9 @@ pub fn push_values(out: &mut Vec<u8>, values: &[Value]) -> Result<(), AllocError
 /// Adds keys and values one behind the other.
 #[cycle(encode)]
 fn push_entries(out: &mut Vec<u8>, entries: &[(Text, Value)]) -> Result<(), AllocError>
-    ensures bytes { OnOk result (out.new.items ≡ out.old.items ++ entries_encoding (entries_of (map entry_tree entries.now))) }
+    ensures bytes { OnOk
+        result (out.new.items
+        ≡ out.old.items ++ entries_encoding (entries_of (map entry_tree entries.now))) }
     ensures sound { OnOk result (EntriesAreSound (entries_of (map entry_tree entries.now))) }
 {
     for pair in entries {
