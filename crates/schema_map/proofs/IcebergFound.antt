@@ -1,5 +1,5 @@
 -- What is read of JSON is what it spells in Iceberg, with the ids in it.
-use Rattle.std.proofs.Common.{◌≡◌, ℕ, zero, suc, ◌+◌, ◌≤◌, List, [], ◌∷◌, ◌++◌, Bool, true, false, not, Option, Some, None, Result, Ok, Err, refl, sym, ap, subst, ◌∙◌, arith, max, cond}
+use Rattle.std.proofs.Common.{◌≡◌, ℕ, zero, suc, ◌+◌, ◌≤◌, List, [], ◌∷◌, ◌++◌, Bool, true, not, Option, Some, None, Ok, refl, sym, ap, subst, ◌∙◌, arith, max}
 use Rattle.std.specs.Prelude.{ℤ, codes}
 use Rattle.std.specs.Str.{bytes_eq}
 use Rattle.std.proofs.lemmas.Slice.Eq.{bytes_eq-Decides}
@@ -7,9 +7,8 @@ use Rattle.serde_json.specs.Data.{Data, null, boolean, number, string, array, ob
 use Rattle.serde_json.specs.Find.{get, get_member}
 use Rattle.table_history.specs.TypeTree as tree
 use Rattle.table_history.specs.TypeTree.{TypeTree, ColumnTree, ColumnTrees, no_columns, column, columns_of}
-use Rattle.schema_map.specs.declared.fault.Fault.{Fault}
 use Rattle.schema_map.specs.declared.fault.Fault.TheVariants.{BadSchema}
-use Rattle.lake_basics.specs.Outcome.{◌>>=◌, required}
+use Rattle.lake_basics.specs.Outcome.{required}
 use Rattle.json_reading.specs.Json.{text_member, bool_member, int_member, list_member, items}
 use Rattle.schema_map.specs.Limits.{levels, column_levels}
 use Rattle.schema_map.specs.Iceberg.{iceberg_type, iceberg_shape, iceberg_nested, iceberg_struct, iceberg_list, iceberg_map, iceberg_columns, iceberg_column, iceberg_simple, iceberg_word, each_with_ids}
@@ -17,7 +16,7 @@ use Rattle.schema_map.specs.Shared.{decimal_or}
 use Rattle.schema_map.specs.IcebergSpelling.{IsIcebergType, AreIcebergColumns}
 use Rattle.schema_map.specs.Decimal.{decimal_of}
 use Rattle.schema_map.specs.Names.{have_own_names, columns_with_own_names}
-use Rattle.schema_map.proofs.Bound.{Binds, bound, was_there, was_text, was_bool, was_array, chosen, good}
+use Rattle.schema_map.proofs.Bound.{bound, was_there, was_text, was_bool, was_array, chosen, good}
 use Rattle.schema_map.proofs.DeltaFound.{own_found, named}
 use Rattle.schema_map.proofs.IcebergOnly.{not_not}
 

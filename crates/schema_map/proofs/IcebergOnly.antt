@@ -1,12 +1,11 @@
 -- What Iceberg's spelling is of a schema is read as the schema, with its ids.
-use Rattle.std.proofs.Common.{◌≡◌, ℕ, zero, suc, ◌+◌, ◌≤◌, List, [], ◌∷◌, ◌++◌, Bool, true, false, not, Result, Ok, Err, refl, sym, ap, ◌∙◌, arith, max}
+use Rattle.std.proofs.Common.{◌≡◌, ℕ, zero, suc, ◌+◌, ◌≤◌, List, [], ◌∷◌, ◌++◌, Bool, true, false, not, Result, Ok, refl, sym, ap, ◌∙◌, arith, max}
 use Rattle.std.specs.Prelude.{ℤ, Some, codes}
-use Rattle.serde_json.specs.Data.{Data, boolean, string, array, object, Items, Members}
+use Rattle.serde_json.specs.Data.{Data, boolean, string, object, Items, Members}
 use Rattle.serde_json.specs.Find.{get_member}
 use Rattle.table_history.specs.TypeTree as tree
 use Rattle.table_history.specs.TypeTree.{TypeTree, ColumnTree, ColumnTrees, no_columns, column, columns_of}
 use Rattle.schema_map.specs.declared.fault.Fault.{Fault}
-use Rattle.lake_basics.specs.Outcome.{◌>>=◌, required}
 use Rattle.json_reading.specs.Json.{items, int_member}
 use Rattle.schema_map.specs.Limits.{levels, column_levels}
 use Rattle.schema_map.specs.Iceberg.{iceberg_type, iceberg_shape, iceberg_nested, iceberg_struct, iceberg_list, iceberg_map, iceberg_columns, iceberg_column, iceberg_word, each_with_ids}

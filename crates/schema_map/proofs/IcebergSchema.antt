@@ -1,21 +1,21 @@
 -- A schema is read with its ids exactly where the JSON spells it in Iceberg, within the limits.
-use Rattle.std.proofs.Common.{◌≡◌, ℕ, ◌+◌, ◌≤◌, List, [], ◌∷◌, ◌++◌, Bool, true, false, Result, Ok, Err, refl, sym, ap, subst, ◌∙◌, arith, cond}
+use Rattle.std.proofs.Common.{◌≡◌, ℕ, ◌≤◌, List, [], ◌∷◌, ◌++◌, true, false, Result, Ok, Err, refl, ap, subst, ◌∙◌}
 use Rattle.std.proofs.lemmas.Bool.{le-ltb}
-use Rattle.std.specs.Prelude.{ℤ, codes, nat_lt, IfOk}
+use Rattle.std.specs.Prelude.{ℤ, nat_lt, IfOk}
 use Rattle.serde_json.specs.Data.{Data, null, boolean, number, string, array, object, Items, Members}
-use Rattle.table_history.specs.TypeTree.{ColumnTree, ColumnTrees, columns_of, struct_of}
+use Rattle.table_history.specs.TypeTree.{ColumnTree, ColumnTrees, columns_of}
 use Rattle.lake_basics.specs.declared.limits.TheConstants.{MAX_COLUMNS}
-use Rattle.lake_basics.specs.Outcome.{◌>>=◌, required, GivesUnlessMemory}
+use Rattle.lake_basics.specs.Outcome.{GivesUnlessMemory}
 use Rattle.json_reading.specs.Json.{items}
 use Rattle.schema_map.specs.declared.fault.Fault.{Fault}
 use Rattle.schema_map.specs.declared.fault.MapError.{MapError}
 use Rattle.schema_map.specs.Errors.{is_memory, in_column}
-use Rattle.schema_map.specs.Limits.{column_levels, column_count, max_type_levels, IsWithinLimits}
+use Rattle.schema_map.specs.Limits.{column_count, max_type_levels, IsWithinLimits}
 use Rattle.schema_map.specs.Iceberg.{iceberg_type, iceberg_column, iceberg_top_column, each_with_ids, iceberg_schema}
 use Rattle.schema_map.specs.IcebergSpelling.{IsIcebergSchema}
 use Rattle.schema_map.specs.Names.{have_own_names, columns_with_own_names}
 use Rattle.schema_map.specs.Shared.{column_name, schema_fields, schema_of}
-use Rattle.schema_map.proofs.Bound.{Binds, bound, good}
+use Rattle.schema_map.proofs.Bound.{bound, good}
 use Rattle.schema_map.proofs.DeltaFound.{own_found}
 use Rattle.schema_map.proofs.DeltaOnly.{column_list, columns_of-column_list}
 use Rattle.schema_map.proofs.DeltaSchema.{mapped, was_good, within_found, IsSchemaJson, fields_found, gives_same}

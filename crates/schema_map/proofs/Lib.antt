@@ -14,3 +14,9 @@ pub mod OwnIdsGiven
 pub mod IcebergOnly
 pub mod IcebergFound
 pub mod IcebergSchema
+pub mod Sound
+pub mod IcebergWritten
+pub mod IcebergSound
+pub mod Entries
+pub mod Flat
+pub mod AvroRefused

@@ -1,5 +1,5 @@
 -- No two paths of a schema get one id.
-use Rattle.std.proofs.Common.{◌≡◌, ℕ, List, [], ◌∷◌, ◌++◌, map, Bool, true, false, Result, Ok, Err, refl, sym, ap, subst, ◌∙◌, arith, cond}
+use Rattle.std.proofs.Common.{◌≡◌, ℕ, List, [], ◌∷◌, ◌++◌, map, Bool, true, false, Ok, Err, refl, sym, ap, subst, ◌∙◌, arith, cond}
 use Rattle.std.specs.Prelude.{◌⊎◌, ◌≤ℤ◌, ◌<ℤ◌, ◌+ℤ◌, ℤ, pos, int_lt, Option, Some, None, codes, not, ◌&&◌, ◌||◌}
 use Rattle.std.proofs.lemmas.Int.{ints}
 use Rattle.std.proofs.lemmas.Bool.{true≢false}
@@ -9,7 +9,6 @@ use Rattle.std.specs.List.{AllByRecursion}
 use Rattle.std.specs.Str.{bytes_eq}
 use Rattle.table_history.specs.TypeTree as tree
 use Rattle.table_history.specs.TypeTree.{TypeTree, ColumnTrees, no_columns, column}
-use Rattle.schema_map.specs.declared.fault.MapError.{MapError}
 use Rattle.schema_map.specs.declared.fault.MapError.TheVariants.{Limit}
 use Rattle.table_history.specs.declared.limit.LimitKind.TheVariants.{Versions}
 use Rattle.schema_map.specs.Names.{is_named, have_own_names}
@@ -17,7 +16,7 @@ use Rattle.schema_map.specs.Ids.{Path, below, inner_paths, column_paths, known_i
 use Rattle.lake_basics.specs.Outcome.{◌>>=◌}
 use Rattle.schema_map.specs.OwnIds.{IsAmong, AreDistinct, AreKnown, KeepsKnown}
 use Rattle.schema_map.specs.Sound.{IsSoundType, AreSound, IsSound}
-use Rattle.schema_map.proofs.Bound.{Binds, bound}
+use Rattle.schema_map.proofs.Bound.{bound}
 use mathlib.Core.Logic.{inl, inr}
 
 module _ {X : Type 0} where

@@ -88,7 +88,7 @@ two_digits : (n : ℕ) → 10 ≤ n → n < 100 → decimal n ≡ (48 + n / 10) 
 two_digits n large small = decimal_step n large (omega (arith, small)) ∙ ap (λ ds. ds ++ (48 + n % 10) ∷ []) (decimal_digit (n / 10) (omega (arith, small)))
 
 -- a number of one or two digits, with a byte behind it that is neither a digit nor a space
-number_by : (c : Bool) (n b : ℕ) (rest : List ℕ) → nat_lt n 10 ≡ c → n < 100 → is_digit b ≡ false → (b == 32) ≡ false → number_at (decimal n ++ b ∷ rest) ≡ Some (n, b ∷ rest)
+pub number_by : (c : Bool) (n b : ℕ) (rest : List ℕ) → nat_lt n 10 ≡ c → n < 100 → is_digit b ≡ false → (b == 32) ≡ false → number_at (decimal n ++ b ∷ rest) ≡ Some (n, b ∷ rest)
 unfolding number_at
 number_by true n b rest is small other space =
     let one = ltb-true n 10 is in

@@ -1,5 +1,5 @@
 -- Which JSON is a type or a schema in Delta's spelling.
-use Rattle.std.specs.Prelude.{◌≡◌, ◌≤◌, ℕ, List, true, Some, codes}
+use Rattle.std.specs.Prelude.{◌≡◌, ℕ, List, true, Some, codes}
 use Rattle.serde_json.specs.Data.{Data, boolean, string, array, object, Items, no_items, item, Members}
 use Rattle.serde_json.specs.Find.{get_member}
 use Rattle.table_history.specs.TypeTree as tree

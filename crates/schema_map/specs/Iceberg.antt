@@ -1,6 +1,6 @@
 -- Reading Iceberg's JSON of a type (Iceberg specification, "Appendix C: JSON serialization", Schemas) with its
 -- field ids, depth first, in at most so many levels.
-use Rattle.std.specs.Prelude.{ℕ, zero, suc, ℤ, ◌++◌, List, [], ◌∷◌, Bool, not, Option, Some, None, Result, Ok, Err, if◌then◌else◌, codes}
+use Rattle.std.specs.Prelude.{ℕ, zero, suc, ℤ, ◌++◌, List, [], ◌∷◌, not, Result, Ok, Err, if◌then◌else◌, codes}
 use Rattle.std.specs.Str.{bytes_eq}
 use Rattle.serde_json.specs.Data.{Data, null, boolean, number, string, array, object, Items}
 use Rattle.serde_json.specs.Find.{get}

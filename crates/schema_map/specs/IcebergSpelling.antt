@@ -1,6 +1,6 @@
 -- Which JSON is a type or a schema in Iceberg's spelling, and the field ids in it, depth first
 -- (Iceberg specification, "JSON serialization", Schemas).
-use Rattle.std.specs.Prelude.{◌≡◌, ◌++◌, ℕ, ℤ, List, [], ◌∷◌, Bool, true, not, Some, codes}
+use Rattle.std.specs.Prelude.{◌≡◌, ◌++◌, ℕ, ℤ, List, [], ◌∷◌, true, not, Some, codes}
 use Rattle.serde_json.specs.Data.{Data, boolean, string, array, object, Items, no_items, item, Members}
 use Rattle.serde_json.specs.Find.{get_member}
 use Rattle.json_reading.specs.Json.{int_member}

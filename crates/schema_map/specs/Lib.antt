@@ -12,3 +12,6 @@ pub mod Iceberg
 pub mod IcebergSpelling
 pub mod Ids
 pub mod OwnIds
+pub mod IcebergWriting
+pub mod NameMapping
+pub mod AvroWriting

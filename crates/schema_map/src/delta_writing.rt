@@ -33,7 +33,7 @@ fn decimal_json(alloc: Global, precision: u8, scale: u8) -> Result<Value, AllocE
     Ok(Value::String(decimal_text(alloc, precision, scale)?))
 }
 
-fn struct_json(alloc: Global, fields: Value) -> Result<Value, AllocError>
+pub(crate) fn struct_json(alloc: Global, fields: Value) -> Result<Value, AllocError>
     ensures { IfOk result (λ v. view v ≡ struct_data (view fields)) }
 {
     json!(in alloc; {"fields": fields, "type": "struct"})
