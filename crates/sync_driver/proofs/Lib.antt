@@ -1,2 +1,5 @@
+pub mod Commands
 pub mod Locations
 pub mod Spellings
+pub mod StepLaws
+pub mod Vacancy

@@ -1,6 +1,12 @@
+pub mod Answers
 pub mod Causes
+pub mod Firsts
+pub mod Folders
 pub mod Forms
+pub mod HudiPaths
+pub mod HudiTexts
 pub mod Lines
 pub mod Refusals
 pub mod Statuses
+pub mod Steps
 pub mod Tellings

@@ -1,8 +1,13 @@
 //! The commands of the bridge, over any store, clock and sink.
 #![tactic(auto)]
 
+mod first;
+mod hudi;
 mod line;
+mod paths;
+mod publish;
 mod refusal;
+mod source;
 mod status;
 mod tell;
 mod top;

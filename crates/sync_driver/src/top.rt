@@ -1,12 +1,16 @@
 //! The top call.
-ghost use Rattle.std.specs.Prelude.{◌≡◌, IfOk};
+ghost use Rattle.std.specs.Prelude.{◌≡◌, ◌↔◌, IsTrue, Ok};
+ghost use Rattle.sync_driver.specs.Answers.{Command, IsServed, line_of, status_of, status_of_refusal};
 ghost use Rattle.sync_driver.specs.Lines.{refusal_line};
 ghost use Rattle.sync_driver.specs.Tellings.{Tells};
 ghost use Rattle.sync_driver.specs.declared.status.Status.TheVariants.{Usage};
 
+use crate::first::first_sync;
+use crate::line::full_line;
+use crate::refusal::Refusal;
 use crate::status::Status;
-use crate::tell::refuse;
-use crate::words::{Command, Form, command_of};
+use crate::tell::{put_line, refuse};
+use crate::words::{Form, command_of};
 use lake_store::{Clock, Sink, Store};
 use std::alloc::Global;
 use table_history::Kind;
@@ -18,22 +22,61 @@ pub fn refuse_words<O: Sink>(alloc: Global, out: &mut O) -> Status
     refuse(alloc, out, Status::Usage)
 }
 
-/// Does what the words ask for, puts its line out, and answers how it ended.
+fn status_of_refusal(refusal: Refusal) -> Status
+    ensures { result ≡ status_of_refusal refusal }
+{
+    match refusal {
+        Refusal::Memory => Status::Memory,
+        Refusal::Absent => Status::Absent,
+        Refusal::Later => Status::Later,
+        Refusal::Contested => Status::Contested { target: Kind::Hudi },
+        Refusal::StoreFault => Status::StoreFault,
+    }
+}
+
+fn finish_full<O: Sink>(alloc: Global, out: &mut O, files: usize) -> Status
+    ensures { Tells ⟦<O as Sink>⟧ out.old out.new (line_of (Ok files)) (status_of (Ok files)) result }
+{
+    match full_line(alloc, Kind::Hudi, files, "0") {
+        Ok(line) => put_line(out, &line, Status::Done),
+        Err(_) => Status::Memory,
+    }
+}
+
+/// Puts the line of a first sync out, and answers how it ended.
+fn finish<O: Sink>(alloc: Global, out: &mut O, answer: Result<usize, Refusal>) -> Status
+    ensures { Tells ⟦<O as Sink>⟧ out.old out.new (line_of answer) (status_of answer) result }
+{
+    match answer {
+        Ok(files) => finish_full(alloc, out, files),
+        Err(refusal) => refuse(alloc, out, status_of_refusal(refusal)),
+    }
+}
+
+/// Whether the form is a sync from Delta to Hudi.
+fn is_served(form: Form) -> bool
+    ensures { IsTrue result ↔ IsServed form }
+{
+    matches!(form, Form::Sync(Kind::Delta, Kind::Hudi, None))
+}
+
+/// Does what the words ask for, puts its line out, and answers how it ended. The first word is the
+/// table's place, and the others are a form.
 pub fn run<S: Store, C: Clock, O: Sink>(
     alloc: Global,
     words: &[String],
-    _store: &mut S,
-    _clock: &mut C,
+    store: &mut S,
+    clock: &mut C,
     out: &mut O,
-) -> Status {
-    match command_of(words) {
-        Some(
-            Command {
-                location: _,
-                form: Form::Sync(Kind::Delta, Kind::Hudi, None),
-            },
-        ) => refuse(alloc, out, Status::Later),
-        Some(_) => refuse(alloc, out, Status::Later),
-        None => refuse(alloc, out, Status::Usage),
+) -> Status
+    ensures { Command ⟦<S as Store>⟧ ⟦<O as Sink>⟧ words.now store.old store.new out.old out.new result }
+{
+    let Some(command) = command_of(words) else {
+        return refuse(alloc, out, Status::Usage);
+    };
+    if is_served(command.form) {
+        let answer = first_sync(alloc, command.location, store, clock.now_ms());
+        return finish(alloc, out, answer);
     }
+    refuse(alloc, out, Status::Later)
 }
