@@ -20,3 +20,4 @@ pub mod IcebergSound
 pub mod Entries
 pub mod Flat
 pub mod AvroRefused
+pub mod AvroFields

@@ -14,4 +14,5 @@ pub mod Ids
 pub mod OwnIds
 pub mod IcebergWriting
 pub mod NameMapping
+pub mod Avro
 pub mod AvroWriting

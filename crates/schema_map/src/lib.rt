@@ -2,6 +2,7 @@
 //! field ids, and the Avro schema that Hudi keeps.
 #![tactic(auto)]
 
+mod avro;
 mod avro_names;
 mod avro_writing;
 mod decimal;
@@ -18,6 +19,7 @@ mod names;
 mod shared;
 mod word;
 
+pub use avro::from_avro;
 pub use avro_writing::to_avro;
 pub use delta::from_delta;
 pub use delta_writing::to_delta;
