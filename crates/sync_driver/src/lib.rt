@@ -15,3 +15,6 @@ mod words;
 
 pub use status::{Side, Status};
 pub use top::{refuse_words, run};
+
+#[cfg(test)]
+mod tests;
