@@ -15,3 +15,6 @@ mod write;
 
 pub use error::SchemaError;
 pub use schema::{Field, Schema, Shape};
+
+#[cfg(test)]
+mod tests;
