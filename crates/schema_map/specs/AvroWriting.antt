@@ -32,9 +32,9 @@ named_record_data name fields = object (member (codes "fields") fields (member (
 abbrev pub record_data : ℕ → Data → Data
 record_data n fields = named_record_data (record_name n) fields
 
--- the union of null and a type
+-- the union of the type null and another type
 abbrev pub optional_data : Data → Data
-optional_data kind = array (item null (item kind no_items))
+optional_data kind = array (item (string (codes "null")) (item kind no_items))
 
 abbrev pub nullable_data : Bool → Data → Data
 nullable_data true kind = optional_data kind

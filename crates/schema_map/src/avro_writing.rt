@@ -75,7 +75,7 @@ fn record_json(alloc: Global, number: u64, fields: Value) -> Result<Value, Alloc
 fn optional_json(alloc: Global, kind: Value) -> Result<Value, AllocError>
     ensures { IfOk result (λ v. view v ≡ optional_data (view kind)) }
 {
-    json!(in alloc; [null, kind])
+    json!(in alloc; ["null", kind])
 }
 
 fn nullable_json(alloc: Global, nullable: bool, kind: Value) -> Result<Value, AllocError>
@@ -91,7 +91,7 @@ fn nullable_json(alloc: Global, nullable: bool, kind: Value) -> Result<Value, Al
 fn optional_field_json(alloc: Global, name: &str, kind: Value) -> Result<Value, AllocError>
     ensures { IfOk result (λ v. view v ≡ avro_field_data true name.now (view kind)) }
 {
-    json!(in alloc; {"default": null, "name": name, "type": [null, kind]})
+    json!(in alloc; {"default": null, "name": name, "type": ["null", kind]})
 }
 
 fn required_field_json(alloc: Global, name: &str, kind: Value) -> Result<Value, AllocError>

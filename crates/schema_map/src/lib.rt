@@ -28,3 +28,6 @@ pub use iceberg::{Ids, from_iceberg};
 pub use iceberg_writing::iceberg_json;
 pub use ids::{ColumnPath, KnownIds, column_paths, to_iceberg};
 pub use mapping::name_mapping;
+
+#[cfg(test)]
+mod tests;
