@@ -123,7 +123,7 @@ avro_shape part logical precision scale (avro.fixed_of name size) = avro_fixed l
 avro_shape part logical precision scale (avro.enum_of name symbols) = Err SchemaType
 avro_shape part logical precision scale (avro.array_of items id) = avro_list part items
 avro_shape part logical precision scale (avro.map_of values key_id value_id) = avro_map part values
-avro_shape part logical precision scale (avro.union_of branches) = Err SchemaType
+avro_shape part logical precision scale (avro.union_of _) = Err SchemaType
 avro_shape part logical precision scale (avro.record_of name fields) = avro_struct part fields
 
 abbrev pub avro_level : NullableReader → Reader

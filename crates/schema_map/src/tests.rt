@@ -8,7 +8,7 @@ use lake_basics::{Items, Text};
 use serde_json::Value;
 use std::alloc::Global;
 use std::test::Fail;
-use table_history::LimitKind;
+use table_history::{LimitKind, Schema};
 
 const EVERY_DELTA_TYPE: &str =
     r#"{"fields":[{"metadata":{},"name":"a","nullable":true,"type":"boolean"},{"metadata":{},"name":"b","nullable":true,"type":"byte"},{"metadata":{},"name":"c","nullable":false,"type":"short"},{"metadata":{},"name":"d","nullable":true,"type":"integer"},{"metadata":{},"name":"e","nullable":true,"type":"long"},{"metadata":{},"name":"f","nullable":true,"type":"float"},{"metadata":{},"name":"g","nullable":true,"type":"double"},{"metadata":{},"name":"h","nullable":true,"type":"decimal(38,9)"},{"metadata":{},"name":"i","nullable":true,"type":"string"},{"metadata":{},"name":"j","nullable":true,"type":"binary"},{"metadata":{},"name":"k","nullable":true,"type":"date"},{"metadata":{},"name":"l","nullable":true,"type":"timestamp"},{"metadata":{},"name":"m","nullable":true,"type":"timestamp_ntz"},{"metadata":{},"name":"n","nullable":true,"type":{"fields":[{"metadata":{},"name":"x","nullable":false,"type":"long"}],"type":"struct"}},{"metadata":{},"name":"o","nullable":true,"type":{"containsNull":false,"elementType":"long","type":"array"}},{"metadata":{},"name":"p","nullable":true,"type":{"keyType":"string","type":"map","valueContainsNull":true,"valueType":"date"}}],"type":"struct"}"#;
@@ -31,6 +31,23 @@ const UNKNOWN_DELTA_TYPES: [&str; 3] = [
     r#"{"type":"struct","fields":[{"name":"v","type":"decimal(39,0)","nullable":true}]}"#,
     r#"{"type":"struct","fields":[{"name":"v","type":"decimal(3,4)","nullable":true}]}"#,
 ];
+
+/// The column of the type that has no row in the table of types.
+fn unknown_column(read: Result<Schema, MapError>) -> Option<Text> {
+    match read {
+        Err(MapError::SchemaType { column }) => Some(column),
+        _other => None,
+    }
+}
+
+/// The column that the writer refuses, and whether it does for the column's name.
+fn refused_column(written: Result<Text, MapError>) -> Option<(Text, bool)> {
+    match written {
+        Err(MapError::SchemaType { column }) => Some((column, false)),
+        Err(MapError::AvroName { column }) => Some((column, true)),
+        _other => None,
+    }
+}
 
 fn read_and_written(alloc: Global, text: &str) -> Result<Text, MapError> {
     let schema = from_delta(alloc, text.as_bytes())?;
@@ -68,10 +85,8 @@ fn bad_delta_texts_are_refused(rt: HostRuntime) -> Result<(), Fail> {
         assert!(rt; matches!(read, Err(MapError::BadSchema)), "{text}");
     }
     for text in UNKNOWN_DELTA_TYPES {
-        match from_delta(rt.alloc(), text.as_bytes()) {
-            Err(MapError::SchemaType { column }) => assert_eq!(rt; column.as_str(), "v"),
-            _ => assert!(rt; false, "{text}"),
-        }
+        let column = unknown_column(from_delta(rt.alloc(), text.as_bytes()));
+        assert_eq!(rt; column.expect(&rt, "a column").as_str(), "v", "{text}");
     }
     Ok(())
 }
@@ -143,10 +158,8 @@ fn avro_types_are_read(rt: HostRuntime) -> Result<(), Fail> {
         THE_AVRO_TYPES_IN_DELTA
     );
     for text in UNKNOWN_AVRO_TYPES {
-        match from_avro(rt.alloc(), text.as_bytes()) {
-            Err(MapError::SchemaType { column }) => assert_eq!(rt; column.as_str(), "v"),
-            _ => assert!(rt; false, "{text}"),
-        }
+        let column = unknown_column(from_avro(rt.alloc(), text.as_bytes()));
+        assert_eq!(rt; column.expect(&rt, "a column").as_str(), "v", "{text}");
     }
     let recursive = r#"{"type":"record","name":"r","fields":[{"name":"v","type":"r"}]}"#;
     let read = from_avro(rt.alloc(), recursive.as_bytes());
@@ -160,17 +173,15 @@ fn what_avro_cannot_spell_is_refused(rt: HostRuntime) -> Result<(), Fail> {
         rt.alloc(),
         r#"{"type":"struct","fields":[{"name":"a-b","type":"long","nullable":true}]}"#.as_bytes(),
     )?;
-    match to_avro(rt.alloc(), &dashed) {
-        Err(MapError::AvroName { column }) => assert_eq!(rt; column.as_str(), "a-b"),
-        _ => assert!(rt; false),
-    }
+    let (column, by_name) = refused_column(to_avro(rt.alloc(), &dashed)).expect(&rt, "a column");
+    assert_eq!(rt; column.as_str(), "a-b");
+    assert_eq!(rt; by_name, true);
     let keyed = from_delta(
         rt.alloc(),
         r#"{"type":"struct","fields":[{"name":"v","type":{"type":"map","keyType":"long","valueType":"long","valueContainsNull":true},"nullable":true}]}"#.as_bytes(),
     )?;
-    match to_avro(rt.alloc(), &keyed) {
-        Err(MapError::SchemaType { column }) => assert_eq!(rt; column.as_str(), "v"),
-        _ => assert!(rt; false),
-    }
+    let (column, by_name) = refused_column(to_avro(rt.alloc(), &keyed)).expect(&rt, "a column");
+    assert_eq!(rt; column.as_str(), "v");
+    assert_eq!(rt; by_name, false);
     Ok(())
 }
