@@ -1,6 +1,6 @@
 //! The named member of a JSON value, where it is of a kind.
 
-ghost use Rattle.std.specs.Prelude.{◌≡◌, option_map};
+ghost use Rattle.std.specs.Prelude.{◌≡◌, ◌<◌, ◌^◌, option_map, IfSome};
 ghost use Rattle.serde_json.specs.View.{view, items_view, members_view};
 ghost use Rattle.json_reading.specs.Json.{text_member, bool_member, whole, whole_member, int, int_member, count, count_member, list_member, object_member, present};
 
@@ -73,7 +73,8 @@ pub fn int_in(value: &Value) -> Option<i32>
 
 /// The number, where the value is a whole number from 0 to 2^63 - 1.
 pub fn count_in(value: &Value) -> Option<u64>
-    ensures { result ≡ count (view value.now) }
+    ensures is { result ≡ count (view value.now) }
+    ensures small { IfSome result (λ n. n < 2 ^ 63) }
 {
     let number = value.as_i64()?;
     if number < 0 {
@@ -91,7 +92,8 @@ pub fn int_of(value: &Value, name: &str) -> Option<i32>
 
 /// The member, where it is a whole number from 0 to 2^63 - 1.
 pub fn count_of(value: &Value, name: &str) -> Option<u64>
-    ensures { result ≡ count_member name.now (view value.now) }
+    ensures is { result ≡ count_member name.now (view value.now) }
+    ensures small { IfSome result (λ n. n < 2 ^ 63) }
 {
     count_in(value.get(name)?)
 }

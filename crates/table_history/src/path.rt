@@ -1,7 +1,7 @@
 //! The form of a path within a table's folder.
 ghost use Rattle.std.specs.Prelude.{◌≡◌, ◌↔◌, ◌≤◌, IsTrue, All};
 ghost use Rattle.std.specs.List.{slice_split};
-ghost use Rattle.table_history.specs.Path.{IsPathOfAnyLength, IsPath, IsSegment, is_slash, is_path};
+ghost use Rattle.table_history.specs.Path.{IsPathOfAnyLength, IsPath, IsSegment, is_slash, is_path, is_path_of_any_length};
 
 use lake_basics::limits::MAX_PATH_BYTES;
 
@@ -16,7 +16,8 @@ pub fn path_form(bytes: &[u8]) -> bool
 
 /// Whether the bytes are a path, but perhaps for their length.
 pub fn path_form_of_any_length(bytes: &[u8]) -> bool
-    ensures { IsTrue result ↔ IsPathOfAnyLength bytes.now }
+    ensures form { IsTrue result ↔ IsPathOfAnyLength bytes.now }
+    ensures test { result ≡ is_path_of_any_length bytes.now }
 {
     has_plain_segments(bytes) && str::from_utf8(bytes).is_ok()
 }
