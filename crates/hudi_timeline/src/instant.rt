@@ -5,7 +5,6 @@ ghost use Rattle.serde_json.specs.Find.{get};
 ghost use Rattle.serde_json.specs.View.{view, items_view, members_view};
 ghost use Rattle.json_reading.specs.Json.{items, pairs, present, text, json};
 ghost use Rattle.lake_basics.specs.Outcome.{required};
-ghost use Rattle.table_history.specs.Path.{is_path_of_any_length};
 ghost use Rattle.hudi_timeline.specs.Errors.{Gives, GivesBy, malformed};
 ghost use Rattle.serde_json.specs.Data.{Data};
 ghost use Rattle.hudi_timeline.specs.InstantGrammar.{StatesInstant};
@@ -65,17 +64,11 @@ fn data_path(alloc: Global, value: &Value) -> Result<Text, HudiError>
     ensures { Gives result (data_path (view value.now)) }
 {
     let path = text_in(alloc, value)?;
-    if has_path_form(path.as_bytes()) {
+    if path_form_of_any_length(path.as_bytes()) {
         Ok(path)
     } else {
         Err(MALFORMED)
     }
-}
-
-fn has_path_form(bytes: &[u8]) -> bool
-    ensures { result ≡ is_path_of_any_length bytes.now }
-{
-    path_form_of_any_length(bytes)
 }
 
 /// The whole number from 0 to 2^63 - 1 that the value is.
