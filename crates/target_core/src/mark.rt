@@ -1,0 +1,162 @@
+//! The mark that a target's commit carries, as compact JSON.
+
+ghost use Rattle.std.specs.Prelude.{◌≡◌, ◌↔◌, ◌≤◌, IfOk, IsTrue, false};
+ghost use Rattle.serde_json.specs.Data.{depth};
+ghost use Rattle.serde_json.specs.Read.{max_depth};
+ghost use Rattle.serde_json.specs.View.{view};
+ghost use Rattle.serde_json.specs.Written.{compact_text, has_float};
+ghost use Rattle.json_reading.specs.Json.{text_member, text_or_null_data};
+ghost use Rattle.target_core.specs.Mark.{IsMark, IsMarkData, IsMarkText, candidate, earlier_mark_data, mark_data};
+
+use json_reading::{json_text, text_of, text_value};
+use lake_basics::Text;
+use serde_json::{Value, json};
+use std::alloc::{AllocError, Global};
+use table_history::Kind;
+
+/// Which commit of a target carries it, and up to which commit of which source the target then
+/// stands.
+#[derive(Debug, Drop)]
+pub struct Mark {
+    /// The target commit's own Delta version or Iceberg metadata version in decimal, or its Hudi
+    /// instant.
+    pub at: Text,
+    /// The source's format.
+    pub source: Kind,
+    /// The position of the source's commit.
+    pub to: Text,
+    /// The id of the source's table, where the source states one.
+    pub table: Option<Text>,
+}
+
+/// The compact text of a mark, in version 2, which `read_mark` gives back.
+#[tactic(auto, using(crate::proofs::Marks::mark_no_float, crate::proofs::Marks::mark_shallow))]
+pub fn mark_text(alloc: Global, mark: &Mark) -> Result<Text, AllocError>
+    ensures text { IfOk result (λ t. t ≡ compact_text (mark_data mark.now)) }
+    ensures reads_back { IfOk result (λ t. IsMarkText t mark.now) }
+{
+    let value = mark_value(alloc, mark)?;
+    json_text(alloc, &value)
+}
+
+/// The mark that a text is, in version 2 or 1, or `None` exactly where it is none. In version 1 a
+/// mark has no id of the source's table.
+pub fn read_mark(alloc: Global, text: &str) -> Result<Option<Mark>, AllocError>
+    ensures { IfOk result (λ o. IsMark text.now o) }
+{
+    let value = match Value::from_str(alloc, text) {
+        Ok(value) => value,
+        Err(error) if error.is_memory() => return Err(AllocError),
+        Err(_) => return Ok(None),
+    };
+    let Some(mark) = candidate(alloc, &value)? else {
+        return Ok(None);
+    };
+    if spells(alloc, &value, &mark)? {
+        Ok(Some(mark))
+    } else {
+        Ok(None)
+    }
+}
+
+// The only mark that the value may be.
+fn candidate(alloc: Global, value: &Value) -> Result<Option<Mark>, AllocError>
+    ensures { IfOk result (λ o. o ≡ candidate (view value.now)) }
+{
+    let Some(at) = text_of(value, "at") else {
+        return Ok(None);
+    };
+    let Some(to) = text_of(value, "to") else {
+        return Ok(None);
+    };
+    let Some(word) = text_of(value, "source") else {
+        return Ok(None);
+    };
+    let Some(source) = Kind::from_word(word) else {
+        return Ok(None);
+    };
+    let table = text_member(alloc, value, "table")?;
+    let at = Text::from_str(alloc, at)?;
+    let to = Text::from_str(alloc, to)?;
+    Ok(Some(Mark {
+        at,
+        source,
+        to,
+        table,
+    }))
+}
+
+fn text_member(alloc: Global, value: &Value, name: &str) -> Result<Option<Text>, AllocError>
+    ensures { IfOk result (λ o. o ≡ text_member name.now (view value.now)) }
+{
+    match text_of(value, name) {
+        None => Ok(None),
+        Some(text) => Ok(Some(Text::from_str(alloc, text)?)),
+    }
+}
+
+// Whether the value is this mark in one of its two versions.
+#[tactic(auto, using(crate::proofs::Marks::mark_shallow, crate::proofs::Marks::mark_no_float, crate::proofs::Marks::earlier_shallow, crate::proofs::Marks::earlier_no_float))]
+fn spells(alloc: Global, value: &Value, mark: &Mark) -> Result<bool, AllocError>
+    requires { depth (view value.now) ≤ max_depth }
+    ensures { IfOk result (λ b. IsTrue b ↔ IsMarkData (view value.now) mark.now) }
+{
+    if is_same(alloc, value, &mark_value(alloc, mark)?)? {
+        return Ok(true);
+    }
+    if mark.table.is_some() {
+        return Ok(false);
+    }
+    is_same(alloc, value, &earlier_mark_value(alloc, mark)?)
+}
+
+// Whether the two are one, by their texts.
+fn is_same(alloc: Global, value: &Value, other: &Value) -> Result<bool, AllocError>
+    requires value { depth (view value.now) ≤ max_depth }
+    requires other { depth (view other.now) ≤ max_depth }
+    requires whole { has_float (view other.now) ≡ false }
+    ensures { IfOk result (λ b. IsTrue b ↔ (view value.now ≡ view other.now)) }
+{
+    let text = value.to_string(alloc)?;
+    let other_text = other.to_string(alloc)?;
+    Ok(text.as_str() == other_text.as_str())
+}
+
+// The object of six members.
+fn mark_value(alloc: Global, mark: &Mark) -> Result<Value, AllocError>
+    ensures { IfOk result (λ v. view v ≡ mark_data mark.now) }
+{
+    let table = text_or_null(alloc, &mark.table)?;
+    let source = mark.source.word();
+    json!(in alloc; {
+        "at": mark.at.as_str(),
+        "by": "lakebridge",
+        "source": source,
+        "table": table,
+        "to": mark.to.as_str(),
+        "version": 2u64,
+    })
+}
+
+// The object of five members, which says nothing of the table.
+fn earlier_mark_value(alloc: Global, mark: &Mark) -> Result<Value, AllocError>
+    ensures { IfOk result (λ v. view v ≡ earlier_mark_data mark.now) }
+{
+    let source = mark.source.word();
+    json!(in alloc; {
+        "at": mark.at.as_str(),
+        "by": "lakebridge",
+        "source": source,
+        "to": mark.to.as_str(),
+        "version": 1u64,
+    })
+}
+
+fn text_or_null(alloc: Global, text: &Option<Text>) -> Result<Value, AllocError>
+    ensures { IfOk result (λ v. view v ≡ text_or_null_data text.now) }
+{
+    match text {
+        None => Ok(Value::Null),
+        Some(text) => text_value(alloc, text.as_str()),
+    }
+}
