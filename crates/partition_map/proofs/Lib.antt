@@ -2,7 +2,6 @@ pub mod DigitLemmas
 pub mod DateLemmas
 pub mod DeltaLemmas
 pub mod RefusalLemmas
-pub mod PathFacts
 pub mod UriLemmas
 pub mod StandsLemmas
 pub mod FolderLemmas

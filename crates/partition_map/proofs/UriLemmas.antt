@@ -8,7 +8,7 @@ use Rattle.std.proofs.lemmas.List.Prefix.{front_fits, front_rest, front_reads}
 use Rattle.std.proofs.lemmas.List.Sums.{prefix_len_is, prefix_len_passes}
 use Rattle.std.proofs.lemmas.List.Folds.{length-prefix_len}
 use Rattle.lake_basics.specs.declared.limits.TheConstants.{MAX_PATH_BYTES}
-use Rattle.table_history.specs.Path.{IsPath, IsPathOfAnyLength, IsSegment, is_slash}
+use Rattle.table_history.specs.Path.{IsPath, IsPathOfAnyLength, IsSegment, is_slash, is_path, is_path_of_any_length}
 use Rattle.std.proofs.Common.{Result, Ok, Err, IfOk, IfErr, ◌+◌, ◌/◌, ◌%◌, zero, suc, ◌≤◌, ◌≡◌, ◌≢◌, inl, inr, ℕ, ◌<◌, true, false, List, [], ◌∷◌, ◌++◌, length, take, drop, get_or, All, refl, sym, ap, subst, ◌∙◌, ⊎_elim, arith, drop-cons}
 use Rattle.std.specs.Prelude.{not, ◌||◌, ◌==◌, nat_lt, nat_le}
 use Rattle.std.proofs.lemmas.Bool.{cases_Bool, cases_lt, cond-true, cond-false, true≢false, and_parts, and_from, or_cases, or_left, or_right, eqb-true, eq-eqb, ltb-true, lt-ltb, not-true, and_left, and_right, lt-leb, not_from_false, false_from_ne_true}
@@ -16,9 +16,9 @@ use Rattle.std.proofs.lemmas.Bool.Decides.{nat_tests}
 use Rattle.std.proofs.lemmas.List.Elements.{All-nil, All-cons, All-get_or, All-from_get_or, All-head, All-tail}
 use Rattle.percent_encoding.specs.Percent.{percent_encode_byte, percent_decode}
 use Rattle.percent_encoding.proofs.PercentLemmas.{percent_decode-nil, percent_decode_not_percent, percent_decode-percent_encode_byte, IsByte}
-use Rattle.partition_map.proofs.PathFacts.{is_path_says, is_path_of_any_length_says}
+use Rattle.table_history.proofs.PathTests.{path_decided, path_of_any_length_decided}
 use Rattle.partition_map.specs.Uri.{is_plain, escaped_byte, escaped_path, is_scheme_byte, HasScheme, IsOutside, HasHexPair, IsPathByte, IsWellEscaped, NamesPath, BreaksLengthAlone, NamesNoPath, ExplainsRefusal}
-use Rattle.partition_map.specs.UriPath.{UriPath, inside_table, too_long, outside_table, no_path, has_scheme, is_outside, begins_hex, is_path_byte, is_well_escaped, is_path, is_path_of_any_length, path_place, uri_path, RefusesPath, GivesPath}
+use Rattle.partition_map.specs.UriPath.{UriPath, inside_table, too_long, outside_table, no_path, has_scheme, is_outside, begins_hex, is_path_byte, is_well_escaped, path_place, uri_path, RefusesPath, GivesPath}
 use Rattle.partition_map.specs.declared.error.PartError.{PartError}
 use Rattle.partition_map.specs.declared.error.PartError.TheVariants.{Memory, OutsideTable, BadPath, TooLong, BadValue, ValueForm}
 
@@ -166,15 +166,15 @@ path_place-none path h none = cond-false (is_path path) _ _ h ∙ cond-false (is
 -- the same by what is known of a text without escapes
 pub no_path_at : (path : List ℕ) → (IsPathOfAnyLength path → ⊥) → path_place path ≡ no_path
 no_path_at path none =
-    let loose : is_path_of_any_length path ≡ false = false_from_ne_true (is_path_of_any_length path) (λ t. none ((is_path_of_any_length_says path).0 t)) in
-    path_place-none path (and_left (is_path_of_any_length path) (nat_le (length path) MAX_PATH_BYTES) loose) loose
+    let loose : is_path_of_any_length path ≡ false = false_from_ne_true (is_path_of_any_length path) (λ t. none ((path_of_any_length_decided path).0 t)) in
+    path_place-none path (and_right (nat_le (length path) MAX_PATH_BYTES) (is_path_of_any_length path) loose) loose
 
 pub too_long_at : (path : List ℕ) → IsPathOfAnyLength path → MAX_PATH_BYTES < length path → path_place path ≡ too_long path
 too_long_at path form long =
-    path_place-too_long path (and_right (is_path_of_any_length path) (nat_le (length path) MAX_PATH_BYTES) (lt-leb (length path) MAX_PATH_BYTES long)) ((is_path_of_any_length_says path).1 form)
+    path_place-too_long path (and_left (nat_le (length path) MAX_PATH_BYTES) (is_path_of_any_length path) (lt-leb (length path) MAX_PATH_BYTES long)) ((path_of_any_length_decided path).1 form)
 
 pub inside_at : (path : List ℕ) → IsPathOfAnyLength path → length path ≤ MAX_PATH_BYTES → path_place path ≡ inside_table path
-inside_at path form short = path_place-inside path ((is_path_says path).1 (record { form = form; short = short }))
+inside_at path form short = path_place-inside path ((path_decided path).1 (record { form = form; short = short }))
 
 -- what the relations say of a URI that names this
 abbrev pub MeansPath : List ℕ → UriPath → Type 0
@@ -192,19 +192,19 @@ place_means uri h w =
       relative = not_outside uri h;
       well_escaped = well;
       decodes = refl;
-      is_path = (is_path_says path).0 is;
+      is_path = (path_decided path).0 is;
     }))
     (λ not_path. ⊎_elim
     (λ any. subst (MeansPath uri) (sym (path_place-too_long path not_path any)) (record {
       relative = not_outside uri h;
       well_escaped = well;
       decodes = refl;
-      any_length = (is_path_of_any_length_says path).0 any;
-      long = λ is. true≢false (sym ((is_path_says path).1 is) ∙ not_path);
+      any_length = (path_of_any_length_decided path).0 any;
+      long = λ is. true≢false (sym ((path_decided path).1 is) ∙ not_path);
     }))
     (λ none. subst (MeansPath uri) (sym (path_place-none path not_path none)) (record {
       relative = not_outside uri h;
-      none = λ _ is. true≢false (sym ((is_path_of_any_length_says path).1 is) ∙ none);
+      none = λ _ is. true≢false (sym ((path_of_any_length_decided path).1 is) ∙ none);
     }))
     (cases_Bool (is_path_of_any_length path)))
     (cases_Bool (is_path path))
@@ -230,7 +230,7 @@ pub uri_path-NamesPath : (uri path : List ℕ) → NamesPath uri path → uri_pa
 uri_path-NamesPath uri path h =
     let outside : is_outside uri ≡ false = false_from_ne_true (is_outside uri) (λ t. h.relative (IsOutside-from_test uri t)) in
     let well : is_well_escaped uri ≡ true = test-from_IsWellEscaped uri h.well_escaped in
-    uri_path-place uri outside well ∙ ap path_place (sym h.decodes) ∙ path_place-inside path ((is_path_says path).1 h.is_path)
+    uri_path-place uri outside well ∙ ap path_place (sym h.decodes) ∙ path_place-inside path ((path_decided path).1 h.is_path)
 
 pub names : (uri : List ℕ) (r : Result (List ℕ) PartError) → GivesPath (uri_path uri) r → IfOk r (NamesPath uri)
 names uri (Ok path) h = NamesPath-uri_path uri path h

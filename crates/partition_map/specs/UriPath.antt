@@ -1,11 +1,8 @@
 -- What a relative URI names, as one function.
-use Rattle.std.specs.Prelude.{◌≡◌, ℕ, Bool, true, not, ◌&&◌, ◌||◌, ◌==◌, nat_lt, nat_le, if◌then◌else◌, List, [], ◌∷◌, length, slice_index, take_while, Result, Ok, Err}
+use Rattle.std.specs.Prelude.{◌≡◌, ℕ, Bool, true, not, ◌&&◌, ◌||◌, ◌==◌, nat_lt, if◌then◌else◌, List, [], ◌∷◌, length, slice_index, take_while, Result, Ok, Err}
 use Rattle.std.specs.Char.{is_digit, is_ascii_alphabetic}
-use Rattle.std.specs.List.{slice_split, list_all}
-use Rattle.std.specs.Str.{is_utf8, bytes_eq}
 use Rattle.percent_encoding.specs.Percent.{percent_sign, percent_decode}
-use Rattle.lake_basics.specs.declared.limits.TheConstants.{MAX_PATH_BYTES}
-use Rattle.table_history.specs.Path.{is_slash}
+use Rattle.table_history.specs.Path.{is_path, is_path_of_any_length}
 use Rattle.partition_map.specs.Uri.{slash, colon, question_mark, number_sign, is_scheme_byte}
 use Rattle.partition_map.specs.declared.error.PartError.{PartError}
 use Rattle.partition_map.specs.declared.error.PartError.TheVariants.{Memory, OutsideTable, BadPath, TooLong, BadValue, ValueForm}
@@ -43,20 +40,6 @@ is_path_byte b rest =
 abbrev pub is_well_escaped : List ℕ → Bool
 is_well_escaped [] = true
 is_well_escaped (b ∷ rest) = is_path_byte b rest && is_well_escaped rest
-
--- A segment isn't empty, `.` or `..`.
-abbrev pub is_segment : List ℕ → Bool
-is_segment segment =
-    not (bytes_eq segment [])
-    && (not (bytes_eq segment (46 ∷ [])) && not (bytes_eq segment (46 ∷ 46 ∷ [])))
-
--- The form of a path, but perhaps for its length, and with it.
-abbrev pub is_path_of_any_length : List ℕ → Bool
-is_path_of_any_length path =
-    is_utf8 path && (list_all (nat_le 32) path && list_all is_segment (slice_split is_slash path))
-
-abbrev pub is_path : List ℕ → Bool
-is_path path = is_path_of_any_length path && nat_le (length path) MAX_PATH_BYTES
 
 -- A text without escapes, of the table's folder.
 abbrev pub path_place : List ℕ → UriPath
