@@ -1,5 +1,6 @@
 -- A text stands for one value at most.
-use Rattle.std.proofs.Common.{◌≡◌, ℕ, ℤ, List, [], ◌∷◌, codes, false, Option, None, Some, sym, ap, ◌∙◌, ⊎_elim, ◌↔◌, IsTrue, FitsSigned, w32, to_z, subst, arith}
+use Rattle.partition_map.specs.declared.error.PartError.{PartError}
+use Rattle.std.proofs.Common.{Result, Ok, Err, IfOk, ◌≡◌, ℕ, ℤ, List, [], ◌∷◌, codes, false, Option, None, Some, sym, ap, ◌∙◌, ⊎_elim, ◌↔◌, IsTrue, FitsSigned, w32, to_z, subst, arith}
 use Rattle.table_history.specs.declared.row.PartValue.{PartValue}
 use Rattle.table_history.specs.declared.row.PartValue.TheVariants as value
 use Rattle.partition_map.specs.declared.kind.PartKind.TheVariants as kind
@@ -26,6 +27,11 @@ pub delta_same : (k : kind.the_data) (text : Option (List ℕ)) (v w : PartValue
 delta_same k None v w h h' = h ∙ sym h'
 delta_same k (Some []) v w h h' = h ∙ sym h'
 delta_same k (Some (c ∷ text)) v w h h' = spelled_same k (c ∷ text) v w h h'
+
+-- what a reader gives is the only value that the text stands for
+pub delta_only : (k : kind.the_data) (text : Option (List ℕ)) (r : Result PartValue PartError) → IfOk r (DeltaStands k text) → IfOk r (λ v. (w : PartValue) → DeltaStands k text w → w ≡ v)
+delta_only k text (Ok v) h = λ w h'. delta_same k text w v h' h
+delta_only k text (Err e) h = h
 
 pub hive_same : (k : kind.the_data) (text : List ℕ) (v w : PartValue) → HiveStands k text v → HiveStands k text w → v ≡ w
 hive_same k text v w h h' =

@@ -17,6 +17,8 @@ use table_history::PartValue;
 /// alone or as a branch of a union. `BadValue` where it is neither.
 pub fn from_avro_value(alloc: Global, kind: PartKind, value: &Value) -> Result<PartValue, PartError>
     ensures ok { IfOk result (AvroStands kind (value_tree value.now)) }
+    ensures only { IfOk result
+        (λ v. (w : PartValue) → AvroStands kind (value_tree value.now) w → w ≡ v) }
     ensures bad { IsErrOf result PartError.BadValue
         ↔ ((v : PartValue) → ¬ AvroStands kind (value_tree value.now) v) }
     ensures refused { IfErr result IsReadingError }
@@ -37,6 +39,8 @@ fn branch_of(value: &Value) -> &Value
 // The partition value that the value of a branch stands for.
 fn branch_value(alloc: Global, kind: PartKind, value: &Value) -> Result<PartValue, PartError>
     ensures ok { IfOk result (BranchStands kind (value_tree value.now)) }
+    ensures only { IfOk result
+        (λ v. (w : PartValue) → BranchStands kind (value_tree value.now) w → w ≡ v) }
     ensures bad { IsErrOf result PartError.BadValue
         ↔ ((v : PartValue) → ¬ BranchStands kind (value_tree value.now) v) }
     ensures refused { IfErr result IsReadingError }

@@ -20,6 +20,8 @@ pub fn from_delta_text(
     text: Option<&str>,
 ) -> Result<PartValue, PartError>
     ensures ok { IfOk result (DeltaStands kind (option_copied text.entry)) }
+    ensures only { IfOk result
+        (λ v. (w : PartValue) → DeltaStands kind (option_copied text.entry) w → w ≡ v) }
     ensures bad { IsErrOf result PartError.BadValue
         ↔ ((v : PartValue) → ¬ DeltaStands kind (option_copied text.entry) v) }
     ensures refused { IfErr result IsReadingError }
@@ -41,6 +43,7 @@ pub fn from_delta_text(
 /// none.
 pub fn from_hive(alloc: Global, kind: PartKind, component: &str) -> Result<PartValue, PartError>
     ensures ok { IfOk result (HiveStands kind component.now) }
+    ensures only { IfOk result (λ v. (w : PartValue) → HiveStands kind component.now w → w ≡ v) }
     ensures bad { IsErrOf result PartError.BadValue
         ↔ ((v : PartValue) → ¬ HiveStands kind component.now v) }
     ensures refused { IfErr result IsReadingError }
@@ -54,6 +57,7 @@ pub fn from_hive(alloc: Global, kind: PartKind, component: &str) -> Result<PartV
 
 fn text_value(alloc: Global, kind: PartKind, text: &str) -> Result<PartValue, PartError>
     ensures ok { IfOk result (IsTextOf kind text.now) }
+    ensures only { IfOk result (λ v. (w : PartValue) → IsTextOf kind text.now w → w ≡ v) }
     ensures bad { IsErrOf result PartError.BadValue
         ↔ ((v : PartValue) → ¬ IsTextOf kind text.now v) }
     ensures refused { IfErr result IsReadingError }
