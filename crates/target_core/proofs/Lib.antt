@@ -1,1 +1,4 @@
 pub mod Marks
+pub mod Underway
+pub mod Steps
+pub mod Along

@@ -1,1 +1,14 @@
 pub mod Mark
+pub mod Folders
+pub mod Views
+pub mod Changes
+pub mod Outcome
+pub mod Sizes
+pub mod Conditions
+pub mod Refusals
+pub mod SeenView
+pub mod Meaning
+pub mod TargetMeanings
+pub mod Gained
+pub mod Publishing
+pub mod Progress

@@ -1,0 +1,55 @@
+-- How a list of commits is gone along.
+use Rattle.std.proofs.Common.{◌≡◌, ℕ, suc, ◌+◌, ◌<◌, List, [], ◌∷◌, ◌++◌, length, take, drop, get_or, Option, Some, refl, sym, ◌∙◌, ap, subst, add-one, drop-cons, append_assoc, arith, ◌≤◌}
+use Rattle.std.proofs.lemmas.List.{take_more}
+use Rattle.std.proofs.lemmas.Option.{slice_get_within, get_or_from_slice_get}
+use Rattle.std.specs.Prelude.{slice_get}
+use Rattle.lake_store.specs.Cause.{HasContest, HasFault, HasNoContest}
+use Rattle.table_history.specs.TypeTree.{ColumnTrees}
+use Rattle.table_history.specs.declared.limit.LimitKind.{LimitKind}
+use Rattle.table_history.specs.declared.table.Commit.{Commit}
+use Rattle.target_core.specs.declared.target.TargetError.{TargetError}
+use Rattle.target_core.specs.declared.target.TargetError.TheVariants.{Memory, StoreFault, Contested, Limit, Unsupported}
+use Rattle.target_core.specs.Conditions.{CanCommit, CanFollow}
+use Rattle.target_core.specs.Refusals.{IsCommitRefusal}
+use Rattle.target_core.specs.Views.{IsAdvanced, Origin, View}
+
+-- the next one stands first in what is left
+left_here : (commits : List Commit) (i : ℕ) (commit : Commit) → slice_get commits i ≡ Some commit → drop i commits ≡ commit ∷ drop (i + 1) commits
+left_here commits i commit at =
+    let within : i < length commits = slice_get_within commits i commit at in
+    let next : drop (suc i) commits ≡ drop (i + 1) commits = ap (λ (n : ℕ). drop n commits) (sym (add-one i)) in
+    drop-cons commits i commit within ∙ ap (λ (cs : List Commit). get_or commits i commit ∷ cs) next ∙ ap (λ (x : Commit). x ∷ drop (i + 1) commits) (get_or_from_slice_get commits i commit commit at)
+
+pub can_here : (image : ColumnTrees → Option ColumnTrees) (unfit : View → List (List ℕ) → List Commit → TargetError → Type 0) (origin : Origin) (view : View) (commits : List Commit) (i : ℕ) (commit : Commit) → slice_get commits i ≡ Some commit
+    → CanFollow image unfit origin view (drop i commits) → CanFollow image unfit origin view (commit ∷ drop (i + 1) commits)
+can_here image unfit origin view commits i commit at can = subst (CanFollow image unfit origin view) (left_here commits i commit at) can
+
+pub more_before : (commits : List Commit) (i : ℕ) (commit : Commit) → slice_get commits i ≡ Some commit → (rest : List Commit) → take i commits ++ commit ∷ rest ≡ take (i + 1) commits ++ rest
+more_before commits i commit at rest =
+    let within : i < length commits = slice_get_within commits i commit at in
+    let more : take (i + 1) commits ≡ take i commits ++ commit ∷ [] = take_more commits i commit within ∙ ap (λ (x : Commit). take i commits ++ x ∷ []) (get_or_from_slice_get commits i commit commit at) in
+    sym (append_assoc (take i commits) (commit ∷ []) rest) ∙ ap (λ (cs : List Commit). cs ++ rest) (sym more)
+
+pub refused_in : (P Q : LimitKind → ℕ → Type 0) (e : TargetError) → ((which : LimitKind) (number : ℕ) → P which number → Q which number) → IsCommitRefusal P e → IsCommitRefusal Q e
+refused_in P Q Memory is was = was
+refused_in P Q StoreFault is was = was
+refused_in P Q Contested is was = was
+refused_in P Q (Limit which number) is was = is which number was
+refused_in P Q (Unsupported feature path) is was = was
+
+-- counts of a store, over a run and one call more
+module _ {S : Type 0} (count : S → ℕ) (may : S → Type 0) (old mid new : S) (Refused : Type 0) where
+  pub fails_further : HasFault count may old mid ⊥ → HasFault count may mid new Refused → HasFault count may old new ⊥
+  fails_further run call = record {
+    later = omega (arith, run.later, call.later);
+    still = λ m. run.still (call.still m);
+    rose = λ never. absurd never;
+    allowed = λ never. absurd never;
+  }
+
+  pub uncontested_further : HasNoContest count may old mid ⊥ → HasContest count may mid new Refused → (Refused → ⊥) → HasNoContest count may old new ⊥
+  uncontested_further run call never = record {
+    same = call.same never ∙ run.same;
+    still = λ m. run.still (call.still m);
+    never = λ none. none;
+  }

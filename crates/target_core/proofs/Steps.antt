@@ -1,0 +1,178 @@
+-- How a target goes from commit to commit.
+use Rattle.std.proofs.Common.{◌≡◌, inl, inr, ℕ, zero, suc, ◌+◌, ◌<◌, ◌≤◌, List, [], ◌∷◌, ◌++◌, length, take, get_or, Option, Some, Bool, true, false, refl, sym, ◌∙◌, ap, subst, arith, below_more}
+use Rattle.std.proofs.lemmas.List.{take_more, length-take-le}
+use Rattle.std.proofs.lemmas.Option.{slice_get_within, get_or_from_slice_get}
+use Rattle.std.specs.Prelude.{slice_get}
+use Rattle.std.specs.FinMap as map
+use Rattle.lake_store.specs.Disk.{Disk, Files, MayLeave}
+use Rattle.lake_store.specs.Runs.{IsEachMoment, LeavesAlone}
+use Rattle.lake_store.specs.declared.store.Store.{Ghosts}
+use Rattle.lake_store.proofs.MomentLaws.{goes_further, started, weaker}
+use Rattle.lake_store.proofs.RunLaws.{NowOnly, alone_by_reading, alone_further, alone_of_fewer, reading_begins}
+use Rattle.table_history.specs.TypeTree.{ColumnTrees}
+use Rattle.table_history.specs.declared.table.Change.{Change}
+use Rattle.table_history.specs.declared.table.Commit.{Commit}
+use Rattle.target_core.specs.Folders.{after_crash}
+use Rattle.target_core.specs.Gained.{Carries, Gained, GainedSome, StillCarries}
+use Rattle.target_core.specs.Meaning.{Meaning}
+use Rattle.target_core.specs.Publishing.{LeavesSome, Publishes}
+use Rattle.target_core.specs.Views.{IsAdvanced, IsAdvancedAll, Origin, Standing, View, standing_at}
+use Rattle.target_core.proofs.Underway.{IsUnderWay}
+
+module _ (image : ColumnTrees → Option ColumnTrees) (origin : Origin) where
+  pub commits_after : (start : View) (commits : List Commit) (last : View) → IsAdvancedAll image origin start commits last → last.commits ≡ start.commits + length commits
+  commits_after start [] last is = subst (λ (v : View). v.commits ≡ start.commits + 0) is (omega arith)
+  commits_after start (commit ∷ commits) last is = commits_after is.0 commits last is.2 ∙ omega (arith, is.1.commits)
+
+  advanced_more : (start : View) (commits : List Commit) (here : View) (commit : Commit) (next : View) → IsAdvancedAll image origin start commits here → IsAdvanced image origin here commit next → IsAdvancedAll image origin start (commits ++ commit ∷ []) next
+  advanced_more start [] here commit next is step = (next, subst (λ (v : View). IsAdvanced image origin v commit next) (sym is) step, refl)
+  advanced_more start (first ∷ commits) here commit next is step = (is.0, is.1, advanced_more is.0 commits here commit next is.2 step)
+
+  take_here : (commits : List Commit) (i : ℕ) (commit : Commit) → slice_get commits i ≡ Some commit → take (i + 1) commits ≡ take i commits ++ commit ∷ []
+  take_here commits i commit at =
+      let within : i < length commits = slice_get_within commits i commit at in
+      take_more commits i commit within ∙ ap (λ (x : Commit). take i commits ++ x ∷ []) (get_or_from_slice_get commits i commit commit at)
+
+  -- one commit more of a list
+  pub advanced_take : (start : View) (commits : List Commit) (i : ℕ) (here : View) (commit : Commit) (next : View) → slice_get commits i ≡ Some commit → IsAdvancedAll image origin start (take i commits) here → IsAdvanced image origin here commit next
+      → IsAdvancedAll image origin start (take (i + 1) commits) next
+  advanced_take start commits i here commit next at is step =
+      subst (λ (cs : List Commit). IsAdvancedAll image origin start cs next) (sym (take_here commits i commit at)) (advanced_more start (take i commits) here commit next is step)
+
+module _ (target : Meaning) (origin : Origin) where
+  pub gained_none : (start : View) (before : Files) (commits : List Commit) (files : Files) → target.reads files start → StillCarries target start.commits before files → Gained target origin start before commits 0 files
+  gained_none start before commits files stands earlier = record { within = omega arith; view = start; leads = refl; stands = stands; each = λ i commit lt at. absurd (omega arith); earlier = earlier }
+
+  module _ (start : View) (before : Files) (commits : List Commit) (i : ℕ) (here : View) (mid : Files) (leads : IsAdvancedAll target.image origin start (take i commits) here)
+      (within : i ≤ length commits) (each : Carries target origin start.commits commits i mid) (earlier : StillCarries target start.commits before mid)
+      (commit : Commit) (at : slice_get commits i ≡ Some commit) where
+    count_here : here.commits ≡ start.commits + i
+    count_here = commits_after target.image origin start (take i commits) here leads ∙ ap (λ (n : ℕ). start.commits + n) (length-take-le i commits within)
+
+    within_here : i < length commits
+    within_here = slice_get_within commits i commit at
+
+    -- the first i are still there
+    pub each_still : (files : Files) → StillCarries target here.commits mid files → Carries target origin start.commits commits i files
+    each_still files still k c lt is = still (start.commits + k + 1) c.change (standing_at origin c.position) (omega (arith, count_here)) (each k c lt is)
+
+    pub earlier_still : (files : Files) → StillCarries target here.commits mid files → StillCarries target start.commits before files
+    earlier_still files still c change standing le was = still c change standing (omega (arith, count_here)) (earlier c change standing le was)
+
+    -- and the new one carries its own
+    new_one : (files : Files) → Gained target origin here mid (commit ∷ []) 1 files → (c : Commit) → slice_get commits i ≡ Some c → target.carries files (start.commits + i + 1) c.change (standing_at origin c.position)
+    new_one files step c is =
+        let one : commit ≡ c = cc (at, is) in
+        let sum : here.commits + 0 + 1 ≡ start.commits + i + 1 = omega (arith, count_here) in
+        subst (λ (n : ℕ). target.carries files n c.change (standing_at origin c.position)) sum (step.each 0 c (omega arith) (ap (λ (x : Commit). Some x) one))
+
+    pub each_more : (files : Files) → Gained target origin here mid (commit ∷ []) 1 files → Carries target origin start.commits commits (i + 1) files
+    each_more files step k c lt is =
+        below_more (λ (k : ℕ). (c : Commit) → slice_get commits k ≡ Some c → target.carries files (start.commits + k + 1) c.change (standing_at origin c.position)) i
+        (λ k lt c is. each_still files step.earlier k c lt is) (new_one files step) k lt c is
+
+    -- a step of one commit goes on from what was gained
+    pub gained_more : (n : ℕ) (files : Files) → Gained target origin here mid (commit ∷ []) n files → Gained target origin start before commits (i + n) files
+    gained_more zero files step =
+        let same : i ≡ i + 0 = omega arith in
+        subst (λ (k : ℕ). Gained target origin start before commits k files) same
+        (record {
+          within = within;
+          view = step.view;
+          leads = subst (λ (v : View). IsAdvancedAll target.image origin start (take i commits) v) step.leads leads;
+          stands = step.stands;
+          each = each_still files step.earlier;
+          earlier = earlier_still files step.earlier;
+        })
+    gained_more (suc zero) files step = record {
+      within = omega (arith, within_here);
+      view = step.view;
+      leads = subst (λ (v : View). IsAdvancedAll target.image origin start (take (i + 1) commits) v) step.leads.2 (advanced_take target.image origin start commits i here commit step.leads.0 at leads step.leads.1);
+      stands = step.stands;
+      each = each_more files step;
+      earlier = earlier_still files step.earlier;
+    }
+    gained_more (suc (suc n)) files step = absurd (omega (arith, step.within))
+
+    pub gained_some : (files : Files) → GainedSome target origin here mid (commit ∷ []) files → GainedSome target origin start before commits files
+    gained_some files step = record { count = i + step.count; gained = gained_more step.count files step.gained }
+
+    pub leaves_some : (files : Files) → LeavesSome target origin here mid (commit ∷ []) files → LeavesSome target origin start before commits files
+    leaves_some files was = (gained_some files was.0, was.1)
+
+-- runs of a store
+module _ {S : Type 0} (store : Ghosts S) (target : Meaning) (origin : Origin) (start : View) (commits : List Commit) where
+  -- before the first commit
+  pub under_way_none : NowOnly store → (s : S) → store.tells → target.settled (store.disk s)
+      → ((files : Files) → MayLeave (store.disk s) files → target.reads files start × StillCarries target start.commits (store.disk s).files files × target.settled (after_crash files))
+      → IsUnderWay store target origin start commits 0 start s s
+  under_way_none only_now s told settled crash = record {
+    within = omega arith;
+    leads = refl;
+    each = λ i commit lt at. absurd (omega arith);
+    earlier = λ c change standing le was. was;
+    moments = started store only_now s (LeavesSome target origin start (store.disk s).files commits)
+        (λ t files may.
+        let left = crash files may in
+        (record { count = 0; gained = gained_none target origin start (store.disk s).files commits files left.0 left.1 }, left.2)) told;
+    settled = settled;
+    bytes = alone_by_reading store (target.reached (store.disk s).files) s s (reading_begins store only_now s told);
+  }
+
+  module _ (i : ℕ) (here : View) (old mid new : S) (so_far : IsUnderWay store target origin start commits i here old mid) (commit : Commit) (at : slice_get commits i ≡ Some commit)
+      (U : Type 0) (done : Bool) (step : Publishes store target origin here (commit ∷ []) U done mid new) (told : store.tells)
+      (stays : (a b : Files) → ((path : List ℕ) → target.reached a path → map.get b path ≡ map.get a path) → (path : List ℕ) → target.reached a path → target.reached b path) where
+    files_old : Files
+    files_old = (store.disk old).files
+
+    moments_on : U → IsEachMoment store old new (LeavesSome target origin start (store.disk old).files commits)
+    moments_on u = goes_further store old mid new (LeavesSome target origin start (store.disk old).files commits) (λ t. so_far.moments)
+        (weaker store mid new (LeavesSome target origin here (store.disk mid).files (commit ∷ [])) (LeavesSome target origin start (store.disk old).files commits)
+        (λ files was. leaves_some target origin start (store.disk old).files commits i here (store.disk mid).files so_far.leads so_far.within so_far.each so_far.earlier commit at files was)
+        (λ t. step.moments u)) told
+
+    bytes_on : LeavesAlone store (target.reached (store.disk old).files) old new
+    bytes_on = alone_further store (target.reached (store.disk old).files) old mid new (λ t. so_far.bytes)
+        (λ t. alone_of_fewer store (target.reached (store.disk mid).files) (target.reached (store.disk old).files) mid new
+        (λ path was. stays (store.disk old).files (store.disk mid).files (λ p r. so_far.bytes.disk.files p r) path was) step.bytes) told
+
+    -- one commit more
+    pub under_way_more : U → done ≡ true → (next : View) → IsAdvanced target.image origin here commit next → IsUnderWay store target origin start commits (i + 1) next old new
+    under_way_more u is_done next advanced = record {
+      within = let lt : i < length commits = slice_get_within commits i commit at in omega (arith, lt);
+      leads = advanced_take target.image origin start commits i here commit next at so_far.leads advanced;
+      each = each_more target origin start (store.disk old).files commits i here (store.disk mid).files so_far.leads so_far.within so_far.each so_far.earlier commit at (store.disk new).files (step.all is_done);
+      earlier = earlier_still target origin start (store.disk old).files commits i here (store.disk mid).files so_far.leads so_far.within so_far.each so_far.earlier commit at (store.disk new).files step.earlier;
+      moments = moments_on u;
+      settled = step.settled u;
+      bytes = bytes_on;
+    }
+
+    -- or a refusal
+    pub refused_on : (V : Type 0) → (V → U) → Publishes store target origin start commits V false old new
+    refused_on V is = record {
+      all = λ never. cc;
+      at_return = λ v. gained_some target origin start (store.disk old).files commits i here (store.disk mid).files so_far.leads so_far.within so_far.each so_far.earlier commit at (store.disk new).files (step.at_return (is v));
+      moments = λ v. moments_on (is v);
+      settled = λ v. step.settled (is v);
+      earlier = earlier_still target origin start (store.disk old).files commits i here (store.disk mid).files so_far.leads so_far.within so_far.each so_far.earlier commit at (store.disk new).files step.earlier;
+      bytes = bytes_on;
+    }
+
+    -- behind which the commits before it are published
+    pub before_on : Carries target origin start.commits commits i (store.disk new).files
+    before_on = each_still target origin start (store.disk old).files commits i here (store.disk mid).files so_far.leads so_far.within so_far.each so_far.earlier commit at (store.disk new).files step.earlier
+
+  -- all of them
+  pub all_on : (n : ℕ) (here : View) (old new : S) → n ≡ length commits → IsUnderWay store target origin start commits n here old new → target.reads (store.disk new).files here → (V : Type 0) → Publishes store target origin start commits V true old new
+  all_on n here old new is so_far stands V =
+      let gained : Gained target origin start (store.disk old).files commits n (store.disk new).files
+      = record { within = so_far.within; view = here; leads = so_far.leads; stands = stands; each = so_far.each; earlier = so_far.earlier } in
+      record {
+        all = λ is_true. subst (λ (k : ℕ). Gained target origin start (store.disk old).files commits k (store.disk new).files) is gained;
+        at_return = λ v. record { count = n; gained = gained };
+        moments = λ v. so_far.moments;
+        settled = λ v. so_far.settled;
+        earlier = so_far.earlier;
+        bytes = so_far.bytes;
+      }

@@ -1,0 +1,164 @@
+use Rattle.std.proofs.Common.{◌≡◌, ◌<◌, ℕ, ◌+◌, true, false, Option, Some, Err, Result, List, [], ◌∷◌, ◌++◌, append-nil, length, take, drop, refl, sym, ◌∙◌, ap, subst, arith}
+use Rattle.std.proofs.lemmas.Option.{slice_get-get_or}
+use Rattle.std.proofs.lemmas.Result.{err_from_is_err_and}
+use Rattle.std.specs.Prelude.{IfErr, is_ok, slice_get}
+use Rattle.std.specs.Option.{option_copied}
+use Rattle.lake_store.specs.Runs.{IsOutside}
+use Rattle.lake_store.proofs.RunLaws.{alone_by_reading, alone_further, reading_begins}
+use Rattle.table_history.specs.declared.table.Commit.{Commit}
+use Rattle.target_core.specs.Folders.{folder_of}
+use Rattle.target_core.specs.Outcome.{Uncontested}
+use Rattle.target_core.specs.Progress.{IsRefusedAt}
+use Rattle.target_core.specs.Publishing.{Publishes}
+use Rattle.target_core.specs.Refusals.{IsCommitRefusal}
+use Rattle.target_core.specs.TargetMeanings.{meaning}
+use Rattle.target_core.specs.Views.{Origin}
+use Rattle.target_core.specs.declared.target.TargetError.{TargetError}
+use Rattle.target_core.proofs.Along.{can_here, fails_further, more_before, refused_in, uncontested_further}
+use Rattle.target_core.proofs.Steps.{advanced_take, all_on, before_on, refused_on, under_way_more, under_way_none}
+use Rattle.target_core.proofs.in_order.follow.Goals as goal
+
+-- nothing is published yet, and a crash leaves a settled target as it reads
+pub loop-commit-init : goal.loop-commit-init
+loop-commit-init g c =
+    let target = g.T.Target in
+    let law = g.met.T.Target in
+    let store = g.S.Store in
+    let t = c.args.target.now in
+    let s = c.args.store.now in
+    let start = target.view t c.args.kept.now in
+    let origin : Origin = record { source = c.args.source; table = option_copied c.args.table } in
+    let reading = reading_begins store g.met.S.Store.only_now s in
+    record {
+      alone = λ told. alone_by_reading store (IsOutside (folder_of (target.kind t))) s s (reading told);
+      none = λ told none. reading told;
+      view = refl;
+      can = c.requires.can;
+      counted = c.requires.counted;
+      stands = λ told was settled. was;
+      under_way = λ told was settled. under_way_none store (meaning target t) origin start c.args.commits.now g.met.S.Store.only_now s told settled
+          (λ files may.
+          let reads = law.kept_view t c.args.kept.now (store.disk s).files was in (
+            law.crash_reads t (store.disk s) files start settled (λ path own clean. may path clean) reads,
+            λ n change standing le carries. law.crash_carries t (store.disk s) files start n change standing settled (λ path own clean. may path clean) reads le carries,
+            law.crash_settled t (store.disk s) files settled (λ path own clean. may path clean),
+          ));
+      ahead = λ told commits which number was. was;
+      cause = record { later = omega arith; still = λ m. m; rose = λ never. absurd never; allowed = λ never. absurd never };
+      contest = record { same = refl; still = λ m. m; never = λ never. never };
+    }
+
+pub commit-requires-clause-can : goal.commit-requires-clause-can
+commit-requires-clause-can g c =
+    let target = g.T.Target in
+    let t = c.args.target.now in
+    let i = c.loop-commit.commit-index in
+    let commit : Commit = c.commit-item.result in
+    let origin : Origin = record { source = c.args.source; table = option_copied c.args.table } in
+    let at : slice_get c.args.commits.now i ≡ Some commit = slice_get-get_or c.args.commits.now i commit c.loop-commit-test.true ∙ ap (λ (x : Commit). Some x) (sym c.commit-item.is) in
+    (can_here (target.image t) (target.unfit t) origin (target.view t c.loop-commit.kept) c.args.commits.now i commit at c.loop-commit.invariant.can).0
+
+pub loop-commit-preserved : goal.loop-commit-preserved
+loop-commit-preserved g c =
+    let target = g.T.Target in
+    let law = g.met.T.Target in
+    let store = g.S.Store in
+    let t = c.args.target.now in
+    let s = c.args.store.now in
+    let mid = c.loop-commit.store in
+    let so_far = c.loop-commit.invariant in
+    let start = target.view t c.args.kept.now in
+    let here = target.view t c.loop-commit.kept in
+    let next = target.view t c.commit.new.kept in
+    let i = c.loop-commit.commit-index in
+    let step = c.in_ok-commit.ensures in
+    let commit : Commit = c.commit-item.result in
+    let commits : List Commit = c.args.commits.now in
+    let origin : Origin = record { source = c.args.source; table = option_copied c.args.table } in
+    let at : slice_get commits i ≡ Some commit = slice_get-get_or commits i commit c.loop-commit-test.true ∙ ap (λ (x : Commit). Some x) (sym c.commit-item.is) in
+    record {
+      alone = alone_further store (IsOutside (folder_of (target.kind t))) s mid c.commit.new.store so_far.alone step.alone;
+      none = λ told none. absurd (omega (arith, none));
+      view = advanced_take (target.image t) origin start commits i here commit next at so_far.view step.view;
+      can = (can_here (target.image t) (target.unfit t) origin here commits i commit at so_far.can).1 next step.view;
+      counted = step.counted;
+      stands = λ told was settled. step.stands told (so_far.stands told was settled) (so_far.under_way told was settled).settled;
+      under_way = λ told was settled.
+          let way = so_far.under_way told was settled in
+          under_way_more store (meaning target t) origin start commits i here s mid c.commit.new.store way commit at (Unit {0}) true
+          (step.publishes told (so_far.stands told was settled) way.settled) told (law.reached_stays t) tt refl next step.view;
+      ahead = λ told cs which number was.
+          subst (λ (xs : List Commit). target.passes t start (store.disk s).files origin c.args.now_ms xs which number) (more_before commits i commit at cs)
+          (so_far.ahead told (commit ∷ cs) which number (step.ahead told cs which number was));
+      cause = fails_further store.faults store.may_fail s mid c.commit.new.store _ so_far.cause step.cause;
+      contest = uncontested_further store.contests store.may_contest s mid c.commit.new.store _ so_far.contest step.contest (λ contested. cc);
+    }
+
+pub returns-in_err-commit-clause-alone : goal.returns-in_err-commit-clause-alone
+returns-in_err-commit-clause-alone g c =
+    alone_further g.S.Store (IsOutside (folder_of (g.T.Target.kind c.args.target.now))) c.args.store.now c.loop-commit.store c.commit.new.store c.loop-commit.invariant.alone c.in_err-commit.ensures.alone
+
+pub returns-in_err-commit-clause-publishes : goal.returns-in_err-commit-clause-publishes
+returns-in_err-commit-clause-publishes g c told was settled =
+    let target = g.T.Target in
+    let store = g.S.Store in
+    let t = c.args.target.now in
+    let s = c.args.store.now in
+    let so_far = c.loop-commit.invariant in
+    let start = target.view t c.args.kept.now in
+    let i = c.loop-commit.commit-index in
+    let commit : Commit = c.commit-item.result in
+    let commits : List Commit = c.args.commits.now in
+    let origin : Origin = record { source = c.args.source; table = option_copied c.args.table } in
+    let at : slice_get commits i ≡ Some commit = slice_get-get_or commits i commit c.loop-commit-test.true ∙ ap (λ (x : Commit). Some x) (sym c.commit-item.is) in
+    let exit = err_from_is_err_and c.from_residual.result c.from_residual.ensures.1 in
+    let way = so_far.under_way told was settled in
+    subst (λ (r : Result ℕ TargetError). Publishes store (meaning target t) origin start commits (Uncontested r) (is_ok r) s c.commit.new.store) (sym exit.1)
+    (refused_on store (meaning target t) origin start commits i (target.view t c.loop-commit.kept) s c.loop-commit.store c.commit.new.store way commit at _ false
+    (c.in_err-commit.ensures.publishes told (so_far.stands told was settled) way.settled) told (g.met.T.Target.reached_stays t) _
+    (λ uncontested e. uncontested (exit.2 ∙ e)))
+
+pub returns-in_err-commit-clause-refusal : goal.returns-in_err-commit-clause-refusal
+returns-in_err-commit-clause-refusal g c told =
+    let target = g.T.Target in
+    let store = g.S.Store in
+    let t = c.args.target.now in
+    let s = c.args.store.now in
+    let so_far = c.loop-commit.invariant in
+    let start = target.view t c.args.kept.now in
+    let here = target.view t c.loop-commit.kept in
+    let i = c.loop-commit.commit-index in
+    let commit : Commit = c.commit-item.result in
+    let commits : List Commit = c.args.commits.now in
+    let origin : Origin = record { source = c.args.source; table = option_copied c.args.table } in
+    let at : slice_get commits i ≡ Some commit = slice_get-get_or commits i commit c.loop-commit-test.true ∙ ap (λ (x : Commit). Some x) (sym c.commit-item.is) in
+    let exit = err_from_is_err_and c.from_residual.result c.from_residual.ensures.1 in
+    let files = (store.disk s).files in
+    let Settled : Type 0 = target.stands_for t c.args.kept.now files × target.settled t (store.disk s) in
+    let Refused : TargetError → Type 0 = IsRefusedAt (meaning target t) (target.passes t start files origin c.args.now_ms) Settled origin start commits (store.disk c.commit.new.store).files in
+    subst (λ (r : Result ℕ TargetError). IfErr r Refused) (sym exit.1)
+    (record {
+      place = i;
+      within = c.loop-commit-test.true;
+      cause = subst (λ (e : TargetError). IsCommitRefusal (target.passes t start files origin c.args.now_ms (take (i + 1) commits)) e) (sym exit.2)
+          (refused_in (target.passes t here (store.disk c.loop-commit.store).files origin c.args.now_ms (commit ∷ [])) (target.passes t start files origin c.args.now_ms (take (i + 1) commits)) _
+          (λ which number passed. subst (λ (cs : List Commit). target.passes t start files origin c.args.now_ms cs which number) (more_before commits i commit at [] ∙ append-nil (take (i + 1) commits))
+          (so_far.ahead told (commit ∷ []) which number passed))
+          (c.in_err-commit.ensures.refusal told));
+      before = λ was.
+          let way = so_far.under_way told was.0 was.1 in
+          before_on store (meaning target t) origin start commits i here s c.loop-commit.store c.commit.new.store way commit at _ false
+          (c.in_err-commit.ensures.publishes told (so_far.stands told was.0 was.1) way.settled) told (g.met.T.Target.reached_stays t);
+    })
+
+pub returns-clause-publishes : goal.returns-clause-publishes
+returns-clause-publishes g c told was settled =
+    let target = g.T.Target in
+    let store = g.S.Store in
+    let t = c.args.target.now in
+    let so_far = c.loop-commit.invariant in
+    let start = target.view t c.args.kept.now in
+    let origin : Origin = record { source = c.args.source; table = option_copied c.args.table } in
+    let whole : c.loop-commit.commit-index ≡ length c.args.commits.now = omega arith in
+    all_on store (meaning target t) origin start c.args.commits.now c.loop-commit.commit-index (target.view t c.loop-commit.kept) c.args.store.now c.loop-commit.store whole (so_far.under_way told was settled)
+    (g.met.T.Target.kept_view t c.loop-commit.kept (store.disk c.loop-commit.store).files (so_far.stands told was settled)) (Unit {0})

@@ -1,0 +1,20 @@
+-- What inspecting a target tells.
+use Rattle.std.specs.Prelude.{ℕ, List, []}
+use Rattle.lake_store.specs.Disk.{Files}
+use Rattle.table_history.specs.declared.kind.Kind.{Kind}
+use Rattle.target_core.specs.Conditions.{IsPublishable}
+use Rattle.target_core.specs.Views.{IsOfSource, View, absent}
+use Rattle.target_core.specs.declared.target.Seen.{Seen}
+use Rattle.target_core.specs.declared.target.Seen.TheVariants.{Absent, Ours, Foreign}
+
+-- Absent where nothing is published; ours where the newest commit's mark names this source, with what the files hold; and else foreign, with the first path at fault.
+abbrev pub IsSeen : {K : Type 0} → (View → Type 0) → (List ℕ → Type 0) → (K → View) → (K → Type 0) → Kind → Seen K → Type 0
+IsSeen reads is_foreign view stands_for source Absent = reads (absent [])
+IsSeen reads is_foreign view stands_for source (Ours kept) = stands_for kept × IsOfSource source (view kept)
+IsSeen reads is_foreign view stands_for source (Foreign path) = is_foreign path
+
+-- the table of ours may be published, also where the store tells nothing
+abbrev pub IsSeenSound : {K : Type 0} → (K → View) → Seen K → Type 0
+IsSeenSound view Absent = Unit {0}
+IsSeenSound view (Ours kept) = IsPublishable (view kept).table
+IsSeenSound view (Foreign path) = Unit {0}

@@ -1,0 +1,384 @@
+//! A target, by what its files stand for and what a commit makes of them.
+
+ghost use Rattle.std.specs.Prelude.{◌≡◌, ◌<◌, ◌≤◌, ◌^◌, ◌⊎◌, ℕ, List, [], ◌∷◌, None, Option, Some, IfErr, IfOk, IsErrOf, OnOk, is_ok, option_map};
+ghost use Rattle.std.specs.Option.{option_copied};
+ghost use Rattle.std.specs.FinMap as map;
+ghost use Rattle.lake_store.specs.Disk.{Disk, Files, IsClean};
+ghost use Rattle.lake_store.specs.Runs.{ChangesOnlyIn, FailsBy, IsContestedBy, IsIn, IsUncontestedBy, OnlyReads};
+ghost use Rattle.table_history.specs.Rows.{HasPath, SameRows};
+ghost use Rattle.table_history.specs.TypeTree.{ColumnTrees};
+ghost use Rattle.table_history.specs.declared.kind.Kind.{Kind};
+ghost use Rattle.table_history.specs.declared.limit.LimitKind.{LimitKind};
+ghost use Rattle.table_history.specs.declared.table.Change.{Change};
+ghost use Rattle.table_history.specs.declared.table.Commit.{Commit};
+ghost use Rattle.table_history.specs.declared.table.Table.{Table};
+ghost use Rattle.target_core.specs.Conditions.{CanCommit, Fits, IsPublishable};
+ghost use Rattle.target_core.specs.Changes.{SameRowChange};
+ghost use Rattle.target_core.specs.Folders.{MayLeaveIn, SameIn, after_crash, folder_of};
+ghost use Rattle.target_core.specs.Meaning.{meaning_of};
+ghost use Rattle.target_core.specs.Outcome.{Uncontested, answer_of};
+ghost use Rattle.target_core.specs.Publishing.{Publishes};
+ghost use Rattle.target_core.specs.Refusals.{IsCommitRefusal, IsFitsRefusal, IsInspectRefusal, IsOfCommit, IsOfInspect};
+ghost use Rattle.target_core.specs.SeenView.{IsSeen, IsSeenSound};
+ghost use Rattle.target_core.specs.Views.{IsAdvanced, IsOfSource, IsUnpublished, Origin, SameView, Standing, View, absent, standing_of};
+ghost use Rattle.target_core.specs.declared.target.TargetError.{TargetError};
+ghost use Rattle.table_history.specs.declared.limit.LimitKind.TheVariants.{File, Names};
+ghost use Rattle.lake_basics.specs.declared.limits.TheConstants.{MAX_FILE_BYTES, MAX_NAMES};
+ghost use Rattle.target_core.specs.declared.target.TargetError.TheVariants.{Memory};
+
+use crate::mark::Mark;
+use lake_basics::Text;
+use lake_basics::limits::{MAX_FILE_BYTES, MAX_NAMES};
+use lake_store::{Store, StoreError};
+use std::alloc::{AllocError, AllocFailed, Global};
+use table_history::{Commit, Feature, Kind, LimitKind, Table};
+
+/// Why a target refused a call.
+#[derive(Debug, Drop)]
+pub enum TargetError {
+    Memory,
+    /// The store failed, and counted it.
+    StoreFault,
+    /// Another writer published first.
+    Contested,
+    /// A number would be passed.
+    Limit { which: LimitKind, number: u64 },
+    /// The target's format can't hold the commit. The path is the row's or the top-level column's
+    /// name, and empty where the partition columns are others.
+    Unsupported { feature: Feature, path: Text },
+}
+
+impl From<AllocError> for TargetError {
+    ghost from_gives = { λ _ e. e ≡ Memory };
+
+    fn from(_: AllocError) -> Self {
+        TargetError::Memory
+    }
+}
+
+impl<T: Drop> From<AllocFailed<T>> for TargetError {
+    ghost from_gives = { λ _ e. e ≡ Memory };
+
+    fn from(_: AllocFailed<T>) -> Self {
+        TargetError::Memory
+    }
+}
+
+/// What a target answers for a store's refusal, where a file that is too long passes the number of
+/// bytes.
+impl From<StoreError> for TargetError {
+    ghost from_gives = { λ error e. e ≡ answer_of File MAX_FILE_BYTES error };
+
+    fn from(error: StoreError) -> Self {
+        TargetError::at_limit(error, LimitKind::File, MAX_FILE_BYTES)
+    }
+}
+
+impl TargetError {
+    /// What a target answers for a store's refusal of a list, where a folder with too many names
+    /// passes their number.
+    pub fn of_list(error: StoreError) -> TargetError
+        ensures { result ≡ answer_of Names MAX_NAMES error }
+    {
+        TargetError::at_limit(error, LimitKind::Names, MAX_NAMES)
+    }
+
+    fn at_limit(error: StoreError, which: LimitKind, number: u64) -> TargetError
+        ensures { result ≡ answer_of which number error }
+    {
+        match error {
+            StoreError::Memory => TargetError::Memory,
+            StoreError::Failed => TargetError::StoreFault,
+            StoreError::TooLong { .. } => TargetError::Limit { which, number },
+            StoreError::Taken => TargetError::Contested,
+        }
+    }
+}
+
+/// What inspecting a target finds.
+#[derive(Drop)]
+pub enum Seen<A: Drop> {
+    /// Nothing is published.
+    Absent,
+    /// The newest commit is one of ours for this source.
+    Ours(A),
+    /// Anything else, with the first path at fault.
+    Foreign(Text),
+}
+
+/// The metadata of one format, as the target of a sync: what its files stand for, and the calls
+/// that read them and publish commits.
+pub trait Target {
+    /// What a caller keeps of a target between two commits.
+    type Kept: Drop;
+
+    /// The target's format. All of its files lie in that format's folder.
+    ghost kind: { Self → Kind };
+
+    /// A schema as the format's types hold it, where they can.
+    ghost image: { Self → ColumnTrees → Option ColumnTrees };
+
+    /// By the format's own rules the files stand for this view.
+    ghost reads: { Self → Files → View → Type 0 };
+
+    /// For a source of this format the files are neither without a commit nor all ours, and this is
+    /// the first path at fault.
+    ghost is_foreign: { Self → Kind → Files → List ℕ → Type 0 };
+
+    /// What inspecting lists or reads passes this number.
+    ghost is_crowded: { Self → Files → LimitKind → ℕ → Type 0 };
+
+    /// These commits of a source with these partition columns don't fit a target at this view, for
+    /// this cause.
+    ghost unfit: { Self → View → List (List ℕ) → List Commit → TargetError → Type 0 };
+
+    /// From this view, over these files and at this time, publishing these commits one behind the
+    /// other passes this number at the last of them.
+    ghost passes: { Self → View → Files → Origin → ℕ → List Commit → LimitKind → ℕ → Type 0 };
+
+    /// The published commit of this number, counted from 1, carries this change of the rows and
+    /// this mark, and nothing more.
+    ghost carries: { Self → Files → ℕ → Change → Standing → Type 0 };
+
+    /// A published commit reaches the file at this path.
+    ghost reached: { Self → Files → List ℕ → Type 0 };
+
+    /// Nothing that a published commit reaches is dirty, and no leftover is in the way of a commit.
+    ghost settled: { Self → Disk → Type 0 };
+
+    /// What is kept has the files' number of commits and their newest version or instant.
+    ghost counted: { Self → Self.Kept → Files → Type 0 };
+
+    /// All that is kept is what the files hold.
+    ghost stands_for: { Self → Self.Kept → Files → Type 0 };
+
+    /// What is kept, as a view.
+    ghost view: { Self → Self.Kept → View };
+
+    /// The target's format.
+    fn kind(&self) -> Kind
+        ensures { result ≡ kind self.now };
+
+    /// The table after the newest commit, its schema in the format's types.
+    fn table<'a>(&self, kept: &'a Self::Kept) -> &'a Table
+        ensures { result.now ≡ (view self.now kept.now).table };
+
+    /// The newest commit's mark.
+    fn mark<'a>(&self, kept: &'a Self::Kept) -> Option<&'a Mark>
+        ensures { option_map (λ mark. standing_of mark.now) result
+            ≡ (view self.now kept.now).mark };
+
+    /// How many commits are published.
+    fn commits(&self, kept: &Self::Kept) -> u64
+        ensures { result ≡ (view self.now kept.now).commits };
+
+    /// Reads what the target stands at. It changes no file.
+    fn inspect<S: Store>(
+        &self,
+        alloc: Global,
+        store: &mut S,
+        source: Kind,
+    ) -> Result<Seen<Self::Kept>, TargetError>
+        ensures seen { S.tells → IfOk result (IsSeen (reads self.now (S.disk store.old).files)
+            (is_foreign self.now source (S.disk store.old).files) (view self.now)
+            (λ kept. stands_for self.now kept (S.disk store.old).files) source) }
+        ensures sound { IfOk result (IsSeenSound (view self.now)) }
+        ensures refusal { S.tells → IfErr result
+            (IsInspectRefusal (is_crowded self.now (S.disk store.old).files)) }
+        ensures few { IfErr result IsOfInspect }
+        ensures only_reads { S.tells → OnlyReads ⟦<S as Store>⟧ store.old store.new }
+        ensures cause { FailsBy ⟦<S as Store>⟧ store.old store.new
+            (IsErrOf result TargetError.StoreFault) }
+        ensures contest { IsUncontestedBy ⟦<S as Store>⟧ store.old store.new
+            (IsErrOf result TargetError.Contested) };
+
+    /// What is kept before the first commit, of a target with these partition columns.
+    fn fresh(&self, alloc: Global, partition: &[Text]) -> Result<Self::Kept, TargetError>
+        ensures view { IfOk result (λ kept. view self.now kept ≡ absent partition.now) }
+        ensures stands { IfOk result (λ kept. (files : Files) → reads self.now files (absent [])
+            → stands_for self.now kept files) }
+        ensures memory { IfErr result (λ e. e ≡ TargetError.Memory) };
+
+    /// Whether these commits of a source with these partition columns can be published over what is
+    /// kept. It reads no file.
+    fn fits(
+        &self,
+        alloc: Global,
+        kept: &Self::Kept,
+        partition: &[Text],
+        commits: &[Commit],
+    ) -> Result<(), TargetError>
+        ensures fits { OnOk result
+            (Fits (unfit self.now) (view self.now kept.now) partition.now commits.now) }
+        ensures refusal { IfErr result
+            (IsFitsRefusal (unfit self.now (view self.now kept.now) partition.now commits.now)) };
+
+    /// Publishes one commit, which carries the change and a mark of its position in the source of
+    /// this format and table id. `now_ms` is the time in milliseconds since 1970-01-01. After a
+    /// refusal `kept` is spent.
+    fn commit<S: Store>(
+        &self,
+        alloc: Global,
+        store: &mut S,
+        kept: &mut Self::Kept,
+        commit: &Commit,
+        source: Kind,
+        table: Option<&Text>,
+        now_ms: u64,
+    ) -> Result<(), TargetError>
+        requires now { now_ms < 2 ^ 63 }
+        requires counted { S.tells → counted self.now kept.old (S.disk store.old).files }
+        requires can { CanCommit (unfit self.now) (view self.now kept.old) commit.now }
+
+        // It touches its own folder alone, at each moment and whatever it answers.
+        ensures alone { S.tells
+            → ChangesOnlyIn ⟦<S as Store>⟧ (folder_of (kind self.now)) store.old store.new }
+
+        // What is kept goes on by the commit.
+        ensures view { OnOk result (IsAdvanced (image self.now)
+            (record { source = source; table = option_copied table.entry })
+            (view self.now kept.old) commit.now (view self.now kept.new)) }
+        ensures counted { S.tells → OnOk result
+            (counted self.now kept.new (S.disk store.new).files) }
+
+        // Where it stood for the files and these were settled, so do the files.
+        ensures stands { S.tells → stands_for self.now kept.old (S.disk store.old).files
+            → settled self.now (S.disk store.old)
+            → OnOk result (stands_for self.now kept.new (S.disk store.new).files) }
+        ensures publishes { S.tells → stands_for self.now kept.old (S.disk store.old).files
+            → settled self.now (S.disk store.old)
+            → Publishes ⟦<S as Store>⟧
+            (meaning_of (kind self.now) (image self.now) (reads self.now) (carries self.now)
+            (reached self.now) (settled self.now))
+            (record { source = source; table = option_copied table.entry })
+            (view self.now kept.old) (commit.now ∷ [])
+            (Uncontested result) (is_ok result) store.old store.new }
+
+        // A number is passed at this commit, and what is passed later was passed from here on.
+        ensures refusal { S.tells → IfErr result (IsCommitRefusal
+            (passes self.now (view self.now kept.old) (S.disk store.old).files
+            (record { source = source; table = option_copied table.entry }) now_ms
+            (commit.now ∷ []))) }
+        ensures few { IfErr result IsOfCommit }
+        ensures ahead { S.tells → OnOk result
+            ((commits : List Commit) (which : LimitKind) (number : ℕ)
+            → passes self.now (view self.now kept.new) (S.disk store.new).files
+            (record { source = source; table = option_copied table.entry }) now_ms
+            commits which number
+            → passes self.now (view self.now kept.old) (S.disk store.old).files
+            (record { source = source; table = option_copied table.entry }) now_ms
+            (commit.now ∷ commits) which number) }
+        ensures cause { FailsBy ⟦<S as Store>⟧ store.old store.new
+            (IsErrOf result TargetError.StoreFault) }
+        ensures contest { IsContestedBy ⟦<S as Store>⟧ store.old store.new
+            (IsErrOf result TargetError.Contested) };
+
+    /// Files stand for one view at most, and for absent with any partition columns or with none.
+    ghost one_view: { (t : Self) (files : Files) (v w : View) → reads t files v → reads t files w
+        → SameView v w ⊎ (IsUnpublished v × IsUnpublished w) };
+
+    ghost absent_any: { (t : Self) (files : Files) (p q : List (List ℕ))
+        → reads t files (absent p) → reads t files (absent q) };
+
+    /// What the format's types hold, they hold as it is, and it is as large and has the same kinds.
+    ghost image_again: { (t : Self) (schema held : ColumnTrees) → image t schema ≡ Some held
+        → image t held ≡ Some held };
+
+    ghost image_publishable: { (t : Self) (table : Table) (held : ColumnTrees)
+        → image t table.schema ≡ Some held → IsPublishable table
+        → IsPublishable
+        (record { schema = held; partition = table.partition; rows = table.rows }) };
+
+    /// A target without a mark has no commit.
+    ghost marked: { (t : Self) (files : Files) (v : View) → reads t files v → v.mark ≡ None
+        → IsUnpublished v };
+
+    /// Foreign is neither absent nor ours, and has one first path at fault.
+    ghost not_foreign: { (t : Self) (source : Kind) (files : Files) (path : List ℕ) (v : View)
+        → is_foreign t source files path → reads t files v
+        → (IsUnpublished v → ⊥) × (IsOfSource source v → ⊥) };
+
+    ghost one_path: { (t : Self) (source : Kind) (files : Files) (p q : List ℕ)
+        → is_foreign t source files p → is_foreign t source files q → p ≡ q };
+
+    /// Of a list that fits, the first commit fits, and the others over what it leaves.
+    ghost fits_first: { (t : Self) (v : View) (partition : List (List ℕ)) (commit : Commit)
+        (commits : List Commit) → Fits (unfit t) v partition (commit ∷ commits)
+        → Fits (unfit t) v partition (commit ∷ []) };
+
+    ghost fits_rest: { (t : Self) (origin : Origin) (v next : View) (partition : List (List ℕ))
+        (commit : Commit) (commits : List Commit) → v.table.partition ≡ partition
+        → Fits (unfit t) v partition (commit ∷ commits) → IsAdvanced (image t) origin v commit next
+        → Fits (unfit t) next partition commits };
+
+    /// What fits a target that has a commit is of the same partition columns.
+    ghost fits_partition: { (t : Self) (v : View) (partition : List (List ℕ))
+        (commits : List Commit) → Fits (unfit t) v partition commits → (IsUnpublished v → ⊥)
+        → v.table.partition ≡ partition };
+
+    /// A commit carries one change of the rows and one mark, and the newest one's is the view's.
+    ghost one_change: { (t : Self) (files : Files) (c : ℕ) (a b : Change) (m n : Standing)
+        → carries t files c a m → carries t files c b n → SameRowChange a b × (m ≡ n) };
+
+    ghost newest: { (t : Self) (files : Files) (v : View) (change : Change) (m : Standing)
+        → reads t files v → carries t files v.commits change m → v.mark ≡ Some m };
+
+    /// What is kept shows the view that the files stand for, and their newest commit.
+    ghost kept_view: { (t : Self) (kept : Self.Kept) (files : Files) → stands_for t kept files
+        → reads t files (view t kept) };
+
+    ghost kept_counted: { (t : Self) (kept : Self.Kept) (files : Files) → stands_for t kept files
+        → counted t kept files };
+
+    /// Published commits reach paths of the target's folder, and as long as these files stay they
+    /// reach them.
+    ghost reached_in: { (t : Self) (files : Files) (path : List ℕ) → reached t files path
+        → IsIn (folder_of (kind t)) path };
+
+    ghost reached_stays: { (t : Self) (a b : Files)
+        → ((path : List ℕ) → reached t a path → map.get b path ≡ map.get a path)
+        → (path : List ℕ) → reached t a path → reached t b path };
+
+    ghost reached_clean: { (t : Self) (disk : Disk) (path : List ℕ) → settled t disk
+        → reached t disk.files path → IsClean disk path };
+
+    /// What a target reads as, and all else that is said of its files, depends on its own folder
+    /// alone.
+    ghost reads_own: { (t : Self) (a b : Files) (v : View) → SameIn (folder_of (kind t)) a b
+        → reads t a v → reads t b v };
+
+    ghost foreign_own: { (t : Self) (source : Kind) (a b : Files) (path : List ℕ)
+        → SameIn (folder_of (kind t)) a b → is_foreign t source a path
+        → is_foreign t source b path };
+
+    ghost carries_own: { (t : Self) (a b : Files) (c : ℕ) (change : Change) (m : Standing)
+        → SameIn (folder_of (kind t)) a b → carries t a c change m → carries t b c change m };
+
+    ghost passes_own: { (t : Self) (v : View) (a b : Files) (origin : Origin) (now : ℕ)
+        (commits : List Commit) (which : LimitKind) (number : ℕ) → SameIn (folder_of (kind t)) a b
+        → passes t v a origin now commits which number
+        → passes t v b origin now commits which number };
+
+    ghost kept_own: { (t : Self) (kept : Self.Kept) (a b : Files) → SameIn (folder_of (kind t)) a b
+        → stands_for t kept a → stands_for t kept b };
+
+    ghost counted_own: { (t : Self) (kept : Self.Kept) (a b : Files)
+        → SameIn (folder_of (kind t)) a b → counted t kept a → counted t kept b };
+
+    /// So does whether it is settled, and fewer dirty paths leave it so.
+    ghost settled_own: { (t : Self) (a b : Disk) → SameIn (folder_of (kind t)) a.files b.files
+        → ((path : List ℕ) → IsIn (folder_of (kind t)) path → IsClean a path → IsClean b path)
+        → settled t a → settled t b };
+
+    /// A crash leaves a settled target as it reads, with its commits, and settled.
+    ghost crash_reads: { (t : Self) (disk : Disk) (image : Files) (v : View) → settled t disk
+        → MayLeaveIn (folder_of (kind t)) disk image → reads t disk.files v → reads t image v };
+
+    ghost crash_carries: { (t : Self) (disk : Disk) (image : Files) (v : View) (c : ℕ)
+        (change : Change) (m : Standing) → settled t disk
+        → MayLeaveIn (folder_of (kind t)) disk image → reads t disk.files v → c ≤ v.commits
+        → carries t disk.files c change m → carries t image c change m };
+
+    ghost crash_settled: { (t : Self) (disk : Disk) (image : Files) → settled t disk
+        → MayLeaveIn (folder_of (kind t)) disk image → settled t (after_crash image) };
+}
