@@ -20,11 +20,11 @@ use Rattle.file_links.proofs.SlotLemmas.{some_same, slot_within, in_use_within, 
 pub free_kept : (v v' : Chains) → AreSound v → AddsChain v v' → length (slots_in v' 0) ≡ length (slots_in v 0)
 free_kept v v' sound a =
     elim (cases_lt 0 (chain_count v)) [
-      inl h ↦ ap length (a.lists 0 h)
-    | inr h ↦ (let d = get_or-eq_default v.count.items 0 {n = 0} (let k = sound.links.count_length in omega arith) in
-        let e = counted v 0 in
-        let none : chain_count v ≡ 0 = omega arith in
-        let f = ap length (ap (slots_in v') (sym none) ∙ a.added) in omega (arith, d, e, f))
+      | inl h ↦ ap length (a.lists 0 h)
+      | inr h ↦ (let d = get_or-eq_default v.count.items 0 {n = 0} (let k = sound.links.count_length in omega arith) in
+          let e = counted v 0 in
+          let none : chain_count v ≡ 0 = omega arith in
+          let f = ap length (ap (slots_in v') (sym none) ∙ a.added) in omega (arith, d, e, f))
     ]
 
 pub grown_chain : (w v v' : Chains) (n m : ℕ) → AreSound v → Grows w v n m → AddsChain v v' → n ≤ chain_count v → Grows w v' (n + 1) m
@@ -47,9 +47,9 @@ grown_slot w v v' n m g a = record {
   lists = λ c n h. a.lists c (let f = g.chains_kept in omega (arith, h, f)) n ∙ g.lists c n h;
   marks = λ s h. a.marks s (let f = g.slots in omega (arith, h, f)) ∙ g.marks s h;
   new_marks = λ s h k. elim (cases_lt s (slot_count v)) [
-      inl l ↦ a.marks s l ∙ g.new_marks s h l
+    | inl l ↦ a.marks s l ∙ g.new_marks s h l
     | inr l ↦ (let same : s ≡ slot_count v = (let e = a.slots in omega (arith, l, k, e)) in ap (chain_of v') same ∙ a.mark)
-    ];
+  ];
 }
 
 pub past_none : (xs : List (Option Held)) (n t : ℕ) (v : Option Held) → length xs ≤ t → slice_get (xs ++ replicate n None) t ≡ Some v → v ≡ None
@@ -93,8 +93,8 @@ growth_new a a' mo mr i t k h e =
 pub growth_was : (a a' : Inside) (mo mr : ℕ) → IsGrowth a a' mo mr → (t : ℕ) (k : Held) → slice_get a'.held.items t ≡ Some (Some k) → slice_get a.held.items t ≡ Some (Some k)
 growth_was a a' mo mr i t k e =
     elim (cases_lt t (length a.held.items)) [
-      inl h ↦ sym (growth_kept a a' mo mr i t h) ∙ e
-    | inr h ↦ absurd (growth_new a a' mo mr i t k h e)
+      | inl h ↦ sym (growth_kept a a' mo mr i t h) ∙ e
+      | inr h ↦ absurd (growth_new a a' mo mr i t k h e)
     ]
 
 pub growth_links : (a a' : Inside) (mo mr : ℕ) → AreLinks a → IsGrowth a a' mo mr → AreLinks a'
@@ -104,9 +104,9 @@ growth_links a a' mo mr links i = record {
   owners = i.owners_sound;
   owner_chains = λ k. i.owners.chains_enough;
   owner_marks = λ o k. elim (cases_lt o (slot_count a.owners)) [
-      inl h ↦ (let e = i.owners.marks o h in let r = links.owner_marks o h in omega (arith, e, r))
+    | inl h ↦ (let e = i.owners.marks o h in let r = links.owner_marks o h in omega (arith, e, r))
     | inr h ↦ (let e = i.owners.new_marks o h k in omega (arith, e))
-    ];
+  ];
   row_chains = λ o k. (let e = i.rows.chains_enough in omega (arith, e, k));
   row_chain = λ k. (let e = i.rows.chains_enough in omega (arith, e));
   row_slots = row_slots';
@@ -114,15 +114,15 @@ growth_links a a' mo mr links i = record {
   bucket_chains = λ k. (let e = i.buckets.chains in omega (arith, e));
   bucket_fit = (let e = i.buckets.chains in let f = i.buckets_sound.links.slots_fit in omega (arith, e, f));
   free_row = λ t e. elim (cases_lt t (length a.held.items)) [
-      inl h ↦ i.rows.marks t (let r = links.row_slots in omega (arith, h, r)) ∙ links.free_row t (sym (growth_kept a a' mo mr i t h) ∙ e)
+    | inl h ↦ i.rows.marks t (let r = links.row_slots in omega (arith, h, r)) ∙ links.free_row t (sym (growth_kept a a' mo mr i t h) ∙ e)
     | inr h ↦ i.rows.new_marks t (let r = links.row_slots in omega (arith, h, r)) (let w = slice_get_within a'.held.items t None e in let r = row_slots' in omega (arith, w, r))
-    ];
+  ];
   free_bucket = λ t e. elim (cases_lt t (length a.held.items)) [
-      inl h ↦ i.buckets.free t (sym (growth_kept a a' mo mr i t h) ∙ e)
+    | inl h ↦ i.buckets.free t (sym (growth_kept a a' mo mr i t h) ∙ e)
     | inr h ↦ i.buckets.new t h (let w = slice_get_within a'.held.items t None e in let r = row_slots' in let b = i.bucket_slots in omega (arith, w, r, b))
-    ];
+  ];
   owned = λ t k e. (let was = growth_was a a' mo mr i t k e in let r = links.owned t k was in
-    (r.0, i.rows.marks t (slot_within a links t (Some k) was) ∙ r.1, i.owners.marks r.0 (in_use_within a links r.0 r.2) ∙ r.2));
+      (r.0, i.rows.marks t (slot_within a links t (Some k) was) ∙ r.1, i.owners.marks r.0 (in_use_within a links r.0 r.2) ∙ r.2));
   bucket = λ t k e. i.buckets.row t k (growth_was a a' mo mr i t k e);
   distinct = λ t u k l e f same. links.distinct t u k l (growth_was a a' mo mr i t k e) (growth_was a a' mo mr i u l f) same;
 }
@@ -133,25 +133,25 @@ growth_links a a' mo mr links i = record {
 pub growth_rows : (a a' : Inside) (mo mr : ℕ) → AreLinks a → IsGrowth a a' mo mr → (o : ℕ) → rows_of (view_of a') o ≡ rows_of (view_of a) o
 growth_rows a a' mo mr links i o =
     elim (cases_eq (chain_of a.owners o) 1) [
-      inl u ↦ (let h = in_use_within a links o u in let hc = links.row_chains o h in
-        rows_at a' links' o ∙ rows_in_use a' o (i.owners.marks o h ∙ u)
-        ∙ ap (λ l. Some (entries a'.held.items l)) (i.rows.lists (o + 1) (λ e. (let z : ⊥ = omega arith in z)) hc)
-        ∙ ap Some (entries_same a.held.items a'.held.items (slots_in a.rows (o + 1)) (λ s m. growth_kept a a' mo mr i s
-            (let w = links.rows.links.within (o + 1) s hc m in let r = links.row_slots in omega (arith, w, r))))
-        ∙ sym (rows_in_use a o u) ∙ sym (rows_at a links o))
-    | inr n ↦ no_rows a' links' o (λ u. n (elim (cases_lt o (slot_count a.owners)) [
-          inl h ↦ sym (i.owners.marks o h) ∙ u
+      | inl u ↦ (let h = in_use_within a links o u in let hc = links.row_chains o h in
+          rows_at a' links' o ∙ rows_in_use a' o (i.owners.marks o h ∙ u)
+          ∙ ap (λ l. Some (entries a'.held.items l)) (i.rows.lists (o + 1) (λ e. (let z : ⊥ = omega arith in z)) hc)
+          ∙ ap Some (entries_same a.held.items a'.held.items (slots_in a.rows (o + 1)) (λ s m. growth_kept a a' mo mr i s
+          (let w = links.rows.links.within (o + 1) s hc m in let r = links.row_slots in omega (arith, w, r))))
+          ∙ sym (rows_in_use a o u) ∙ sym (rows_at a links o))
+      | inr n ↦ no_rows a' links' o (λ u. n (elim (cases_lt o (slot_count a.owners)) [
+        | inl h ↦ sym (i.owners.marks o h) ∙ u
         | inr h ↦ absurd (let e = i.owners.new_marks o h (in_use_within a' links' o u) in let z : ⊥ = omega (arith, e, u) in z)
-        ])) ∙ sym (no_rows a links o n)
+      ])) ∙ sym (no_rows a links o n)
     ]
   where
     links' : AreLinks a'
     links' = growth_links a a' mo mr links i
 
 pub growth : (a a' : Inside) (mo mr wo wr : ℕ) → AreLinks a → IsGrowth a a' mo mr
-  → (wo ≤ length (slots_in a.owners 0) → mo ≡ 0) → wo ≤ mo + length (slots_in a.owners 0)
-  → (wr ≤ length (slots_in a.rows 0) → mr ≡ 0) → wr ≤ mr + length (slots_in a.rows 0)
-  → Reserves (view_of a) (view_of a') wo wr
+    → (wo ≤ length (slots_in a.owners 0) → mo ≡ 0) → wo ≤ mo + length (slots_in a.owners 0)
+    → (wr ≤ length (slots_in a.rows 0) → mr ≡ 0) → wr ≤ mr + length (slots_in a.rows 0)
+    → Reserves (view_of a) (view_of a') wo wr
 growth a a' mo mr wo wr links i eo ho er hr = record {
   same = growth_rows a a' mo mr links i;
   owner_room = (let e = i.owners.free in omega (arith, e, ho));

@@ -21,8 +21,8 @@ get_set_same xs i v h = slice_get-get_or (slice_set xs i v) i v (let e = length-
 pub get_set_other : {X : Type 0} (xs : List X) (i j : ℕ) (v : X) → j ≢ i → slice_get (slice_set xs i v) j ≡ slice_get xs j
 get_set_other xs i j v n =
     elim (cases_lt j (length xs)) [
-      inl h ↦ slice_get-get_or (slice_set xs i v) j v (let e = length-set xs i v in omega arith) ∙ ap Some (get_or-set_other xs i j v v n) ∙ sym (slice_get-get_or xs j v h)
-    | inr h ↦ slice_get_past (slice_set xs i v) j (let e = length-set xs i v in omega arith) ∙ sym (slice_get_past xs j h)
+      | inl h ↦ slice_get-get_or (slice_set xs i v) j v (let e = length-set xs i v in omega arith) ∙ ap Some (get_or-set_other xs i j v v n) ∙ sym (slice_get-get_or xs j v h)
+      | inr h ↦ slice_get_past (slice_set xs i v) j (let e = length-set xs i v in omega arith) ∙ sym (slice_get_past xs j h)
     ]
 
 pub some_same : {X : Type 0} (x y : X) → Some x ≡ Some y → x ≡ y
@@ -37,8 +37,8 @@ pub has-contains : (rows : List Entry) (e : Entry) → HasEntry rows e → Conta
 has-contains [] e m = absurd m
 has-contains (x ∷ xs) e m =
     elim m [
-      inl f ↦ (0, omega arith, f)
-    | inr t ↦ (let r = has-contains xs e t in (suc r.0, (let h = r.1 in omega (arith, h)), r.2))
+      | inl f ↦ (0, omega arith, f)
+      | inr t ↦ (let r = has-contains xs e t in (suc r.0, (let h = r.1 in omega (arith, h)), r.2))
     ]
 
 pub has_entry_at : (rows : List Entry) (k : ℕ) (e : Entry) → k < length rows → slice_index_or rows k e ≡ e → HasEntry rows e
@@ -61,27 +61,27 @@ pub entries_has : (held : List (Option Held)) (xs : List ℕ) (s : ℕ) (h : Hel
 entries_has held [] s h m e = absurd m
 entries_has held (x ∷ xs) s h m e =
     elim m [
-      inl f ↦ (let P : ℕ → Type 0 = λ v. HasEntry (entries held (v ∷ xs)) (record { slot = s; held = h }) in subst P (sym f)
-        (let Q : List Entry → Type 0 = λ l. HasEntry l (record { slot = s; held = h }) in subst Q (sym (entry_here held s xs h e)) (inl refl)))
-    | inr t ↦ with_entry_keeps x (slice_get held x) (entries held xs) (record { slot = s; held = h }) (entries_has held xs s h t e)
+      | inl f ↦ (let P : ℕ → Type 0 = λ v. HasEntry (entries held (v ∷ xs)) (record { slot = s; held = h }) in subst P (sym f)
+          (let Q : List Entry → Type 0 = λ l. HasEntry l (record { slot = s; held = h }) in subst Q (sym (entry_here held s xs h e)) (inl refl)))
+      | inr t ↦ with_entry_keeps x (slice_get held x) (entries held xs) (record { slot = s; held = h }) (entries_has held xs s h t e)
     ]
 
 pub with_entry_found : (held : List (Option Held)) (x : ℕ) (rest : List Entry) (e : Entry) (o : Option (Option Held)) → slice_get held x ≡ o → HasEntry (with_entry x o rest) e
-  → ((x ≡ e.slot) × (slice_get held e.slot ≡ Some (Some e.held))) ⊎ HasEntry rest e
+    → ((x ≡ e.slot) × (slice_get held e.slot ≡ Some (Some e.held))) ⊎ HasEntry rest e
 with_entry_found held x rest e None f m = inr m
 with_entry_found held x rest e (Some None) f m = inr m
 with_entry_found held x rest e (Some (Some h)) f m =
     elim m [
-      inl g ↦ inl (ap (λ r. r.slot) g, (let P : Entry → Type 0 = λ r. slice_get held r.slot ≡ Some (Some r.held) in subst P g f))
-    | inr t ↦ inr t
+      | inl g ↦ inl (ap (λ r. r.slot) g, (let P : Entry → Type 0 = λ r. slice_get held r.slot ≡ Some (Some r.held) in subst P g f))
+      | inr t ↦ inr t
     ]
 
 pub entries_found : (held : List (Option Held)) (xs : List ℕ) (e : Entry) → HasEntry (entries held xs) e → Has xs e.slot × (slice_get held e.slot ≡ Some (Some e.held))
 entries_found held [] e m = absurd m
 entries_found held (x ∷ xs) e m =
     elim (with_entry_found held x (entries held xs) e (slice_get held x) refl m) [
-      inl f ↦ (inl f.0, f.1)
-    | inr t ↦ (let r = entries_found held xs e t in (inr r.0, r.1))
+      | inl f ↦ (inl f.0, f.1)
+      | inr t ↦ (let r = entries_found held xs e t in (inr r.0, r.1))
     ]
 
 -- a write to a slot that isn't among these
@@ -115,11 +115,11 @@ pub entries_without : (held : List (Option Held)) (s : ℕ) (v : Option Held) (x
 entries_without held s v [] = refl
 entries_without held s v (x ∷ xs) =
     elim (cases_eq x s) [
-      inl e ↦ ap (entries (slice_set held s v)) (without-same s x xs e) ∙ entries_without held s v xs ∙ sym (without_entry_here s x (slice_get held x) (entries held xs) e)
-    | inr n ↦ ap (entries (slice_set held s v)) (without-other s x xs n)
-        ∙ ap (λ o. with_entry x o (entries (slice_set held s v) (without s xs))) (get_set_other held s x v n)
-        ∙ ap (with_entry x (slice_get held x)) (entries_without held s v xs)
-        ∙ sym (without_entry_other s x (slice_get held x) (entries held xs) n)
+      | inl e ↦ ap (entries (slice_set held s v)) (without-same s x xs e) ∙ entries_without held s v xs ∙ sym (without_entry_here s x (slice_get held x) (entries held xs) e)
+      | inr n ↦ ap (entries (slice_set held s v)) (without-other s x xs n)
+          ∙ ap (λ o. with_entry x o (entries (slice_set held s v) (without s xs))) (get_set_other held s x v n)
+          ∙ ap (with_entry x (slice_get held x)) (entries_without held s v xs)
+          ∙ sym (without_entry_other s x (slice_get held x) (entries held xs) n)
     ]
 
 -- each of these slots holds a row
@@ -151,8 +151,8 @@ get-tabulate f start (suc n) (suc i) h = get-tabulate f (suc start) n i (omega a
 pub in_use_within : (a : Inside) → AreLinks a → (o : ℕ) → chain_of a.owners o ≡ 1 → o < slot_count a.owners
 in_use_within a links o e =
     elim (cases_lt o (slot_count a.owners)) [
-      inl h ↦ h
-    | inr h ↦ absurd (let d = get_or-eq_default a.owners.chain.items 0 {n = o} (let k = links.owners.links.chain_length in omega arith) in let z : ⊥ = omega arith in z)
+      | inl h ↦ h
+      | inr h ↦ absurd (let d = get_or-eq_default a.owners.chain.items 0 {n = o} (let k = links.owners.links.chain_length in omega arith) in let z : ⊥ = omega arith in z)
     ]
 
 pub rows_in_use : (a : Inside) (o : ℕ) → chain_of a.owners o ≡ 1 → owner_rows a o ≡ Some (entries a.held.items (slots_in a.rows (o + 1)))
@@ -167,23 +167,23 @@ owner_at a o h = get-tabulate (owner_rows a) 0 (slot_count a.owners) o h ∙ ap 
 pub rows_at : (a : Inside) → AreLinks a → (o : ℕ) → rows_of (view_of a) o ≡ owner_rows a o
 rows_at a links o =
     elim (cases_lt o (slot_count a.owners)) [
-      inl h ↦ ap joined (owner_at a o h)
-    | inr h ↦ ap joined (slice_get_past (view_of a).owners o (let e = length-tabulate (owner_rows a) 0 (slot_count a.owners) in omega arith))
-        ∙ sym (rows_unused a o (λ e. (let k = in_use_within a links o e in let z : ⊥ = omega arith in z)))
+      | inl h ↦ ap joined (owner_at a o h)
+      | inr h ↦ ap joined (slice_get_past (view_of a).owners o (let e = length-tabulate (owner_rows a) 0 (slot_count a.owners) in omega arith))
+          ∙ sym (rows_unused a o (λ e. (let k = in_use_within a links o e in let z : ⊥ = omega arith in z)))
     ]
 
 pub some_rows : (a : Inside) → AreLinks a → (o : ℕ) (rows : List Entry) → rows_of (view_of a) o ≡ Some rows → (chain_of a.owners o ≡ 1) × (entries a.held.items (slots_in a.rows (o + 1)) ≡ rows)
 some_rows a links o rows e =
     elim (cases_eq (chain_of a.owners o) 1) [
-      inl u ↦ (u, some_same _ _ (sym (rows_in_use a o u) ∙ sym (rows_at a links o) ∙ e))
-    | inr n ↦ absurd (let f : None ≡ Some rows = sym (rows_unused a o n) ∙ sym (rows_at a links o) ∙ e in let z : ⊥ = cc in z)
+      | inl u ↦ (u, some_same _ _ (sym (rows_in_use a o u) ∙ sym (rows_at a links o) ∙ e))
+      | inr n ↦ absurd (let f : None ≡ Some rows = sym (rows_unused a o n) ∙ sym (rows_at a links o) ∙ e in let z : ⊥ = cc in z)
     ]
 
 pub is_owner : (a : Inside) → AreLinks a → (o : ℕ) → IsSome (rows_of (view_of a) o) → chain_of a.owners o ≡ 1
 is_owner a links o h =
     elim (cases_eq (chain_of a.owners o) 1) [
-      inl u ↦ u
-    | inr n ↦ absurd (let P : Option (List Entry) → Type 0 = λ v. IsSome v in let none : Option (List Entry) = None in let k : IsSome none = subst P (rows_at a links o ∙ rows_unused a o n) h in let z : ⊥ = cc in z)
+      | inl u ↦ u
+      | inr n ↦ absurd (let P : Option (List Entry) → Type 0 = λ v. IsSome v in let none : Option (List Entry) = None in let k : IsSome none = subst P (rows_at a links o ∙ rows_unused a o n) h in let z : ⊥ = cc in z)
     ]
 
 -- a slot holds a row where its owner has it
@@ -198,11 +198,12 @@ pub slot_within : (a : Inside) → AreLinks a → (s : ℕ) (v : Option Held) �
 slot_within a links s v e = let h = slice_get_within a.held.items s v e in let k = links.row_slots in omega arith
 
 pub slot_owned : (a : Inside) → AreLinks a → (o s : ℕ) (h : Held) → slice_get a.held.items s ≡ Some (Some h) → chain_of a.rows s ≡ o + 1 → chain_of a.owners o ≡ 1 → Owns (view_of a) o (record { slot = s; held = h })
-slot_owned a links o s h e m u =
-    ( entries a.held.items (slots_in a.rows (o + 1))
-    , rows_at a links o ∙ rows_in_use a o u
-    , has-contains (entries a.held.items (slots_in a.rows (o + 1))) (record { slot = s; held = h }) (entries_has a.held.items (slots_in a.rows (o + 1)) s h
-        (let P : ℕ → Type 0 = λ c. Has (slots_in a.rows c) s in subst P m (links.rows.placed s (slot_within a links s (Some h) e))) e) )
+slot_owned a links o s h e m u = (
+  entries a.held.items (slots_in a.rows (o + 1)),
+  rows_at a links o ∙ rows_in_use a o u,
+  has-contains (entries a.held.items (slots_in a.rows (o + 1))) (record { slot = s; held = h }) (entries_has a.held.items (slots_in a.rows (o + 1)) s h
+      (let P : ℕ → Type 0 = λ c. Has (slots_in a.rows c) s in subst P m (links.rows.placed s (slot_within a links s (Some h) e))) e),
+)
 
 pub slot_holds : (a : Inside) → AreLinks a → (s : ℕ) (h : Held) → slice_get a.held.items s ≡ Some (Some h) → Holds (view_of a) s h
 slot_holds a links s h e = let r = links.owned s h e in (r.0, slot_owned a links r.0 s h e r.1 r.2)
@@ -232,7 +233,7 @@ pub elsewhere : (w : Chains) → AreSound w → (c s : ℕ) → c < chain_count 
 elsewhere w sound c s h n m = n (sound.links.marked c s h m)
 
 pub option_map_rows : (a : Inside) → AreLinks a → (f : List Entry → List Entry) (o : ℕ) → chain_of a.owners o ≡ 1
-  → option_map f (rows_of (view_of a) o) ≡ Some (f (entries a.held.items (slots_in a.rows (o + 1))))
+    → option_map f (rows_of (view_of a) o) ≡ Some (f (entries a.held.items (slots_in a.rows (o + 1))))
 option_map_rows a links f o u = ap (option_map f) (rows_at a links o ∙ rows_in_use a o u)
 
 pub no_rows : (a : Inside) → AreLinks a → (o : ℕ) → chain_of a.owners o ≢ 1 → rows_of (view_of a) o ≡ None
@@ -242,7 +243,7 @@ no_rows a links o n = rows_at a links o ∙ rows_unused a o n
 pub one_less : (w : Chains) → AreSound w → (s c : ℕ) → s < slot_count w → chain_of w s ≡ c → length (without s (slots_in w c)) + 1 ≡ length (slots_in w c)
 one_less w sound s c h e =
     length-without (next_in w c) (previous_in w c) s END (slots_in w c) END (sound.links.linked c there) (end_absent w sound.links c there)
-      (let P : ℕ → Type 0 = λ k. Has (slots_in w k) s in subst P e (sound.placed s h))
+    (let P : ℕ → Type 0 = λ k. Has (slots_in w k) s in subst P e (sound.placed s h))
   where
     there : c < chain_count w
     there = let r = sound.range s h in omega (arith, r, e)
@@ -274,75 +275,84 @@ insertion_links a a' o s h links i = record {
   bucket_chains = λ k. (let r = links.bucket_chains (let f = i.buckets.slots in omega arith) in let f = i.buckets.slots in let g = i.buckets.chains in omega arith);
   bucket_fit = (let r = links.bucket_fit in let g = i.buckets.chains in omega arith);
   free_row = λ t e. elim (cases_eq t s) [
-      inl f ↦ absurd (not_free t f e)
+    | inl f ↦ absurd (not_free t f e)
     | inr n ↦ mark_away a.rows a'.rows s (o + 1) i.rows t n ∙ links.free_row t (was t n (None) e)
-    ];
+  ];
   free_bucket = λ t e. elim (cases_eq t s) [
-      inl f ↦ absurd (not_free t f e)
+    | inl f ↦ absurd (not_free t f e)
     | inr n ↦ mark_away a.buckets a'.buckets s (bucket_of (chain_count a.buckets) h.row.path) i.buckets t n ∙ links.free_bucket t (was t n None e)
-    ];
+  ];
   owned = λ t k e. elim (cases_eq t s) [
-      inl f ↦ (o, ap (chain_of a'.rows) f ∙ mark_here a.rows a'.rows s (o + 1) links.rows i.slot i.rows, ap (λ w. chain_of w o) i.owners ∙ i.owner)
+    | inl f ↦ (o, ap (chain_of a'.rows) f ∙ mark_here a.rows a'.rows s (o + 1) links.rows i.slot i.rows, ap (λ w. chain_of w o) i.owners ∙ i.owner)
     | inr n ↦ (let r = links.owned t k (was t n (Some k) e) in (r.0, mark_away a.rows a'.rows s (o + 1) i.rows t n ∙ r.1, ap (λ w. chain_of w r.0) i.owners ∙ r.2))
-    ];
+  ];
   bucket = λ t k e. elim (cases_eq t s) [
-      inl f ↦ (ap (chain_of a'.buckets) f ∙ mark_here a.buckets a'.buckets s (bucket_of (chain_count a.buckets) h.row.path) links.buckets bucket_slot i.buckets
+    | inl f ↦ (ap (chain_of a'.buckets) f ∙ mark_here a.buckets a'.buckets s (bucket_of (chain_count a.buckets) h.row.path) links.buckets bucket_slot i.buckets
         ∙ ap (λ q. bucket_of (chain_count a.buckets) q.row.path) (now t k f e) ∙ ap (λ n. bucket_of n k.row.path) (sym i.buckets.chains))
     | inr n ↦ mark_away a.buckets a'.buckets s (bucket_of (chain_count a.buckets) h.row.path) i.buckets t n ∙ links.bucket t k (was t n (Some k) e) ∙ ap (λ n. bucket_of n k.row.path) (sym i.buckets.chains)
-    ];
+  ];
   distinct = λ t u k l e f same. elim (cases_eq t s) [
-      inl ts ↦ (elim (cases_eq u s) [
-        inl us ↦ ts ∙ sym us
+    | inl ts ↦ (elim (cases_eq u s) [
+      | inl us ↦ ts ∙ sym us
       | inr un ↦ absurd (i.fresh (u, l, slot_holds a links u l (was u un (Some l) f), sym same ∙ ap (λ q. q.row.path) (sym (now t k ts e))))
-      ])
+    ])
     | inr tn ↦ (elim (cases_eq u s) [
-        inl us ↦ absurd (i.fresh (t, k, slot_holds a links t k (was t tn (Some k) e), same ∙ ap (λ q. q.row.path) (sym (now u l us f))))
+      | inl us ↦ absurd (i.fresh (t, k, slot_holds a links t k (was t tn (Some k) e), same ∙ ap (λ q. q.row.path) (sym (now u l us f))))
       | inr un ↦ links.distinct t u k l (was t tn (Some k) e) (was u un (Some l) f) same
-      ])
-    ];
+    ])
+  ];
 }
   where
     longer : length a'.held.items ≡ length a.held.items
     longer = ap length i.held ∙ length-set a.held.items s (Some h)
+
     bucket_slot : s < slot_count a.buckets
     bucket_slot = let e = links.row_slots in let f = links.bucket_slots in let k = i.slot in omega arith
+
     was : (t : ℕ) → t ≢ s → (v : Option Held) → slice_get a'.held.items t ≡ Some v → slice_get a.held.items t ≡ Some v
     was t n v e = sym (get_set_other a.held.items s t (Some h) n) ∙ sym (ap (λ l. slice_get l t) i.held) ∙ e
+
     set_here : slice_get a'.held.items s ≡ Some (Some h)
     set_here = ap (λ l. slice_get l s) i.held ∙ get_set_same a.held.items s (Some h) (let e = links.row_slots in let k = i.slot in omega arith)
+
     now : (t : ℕ) (k : Held) → t ≡ s → slice_get a'.held.items t ≡ Some (Some k) → h ≡ k
     now t k f e = some_same h k (some_same (Some h) (Some k) (sym set_here ∙ ap (slice_get a'.held.items) (sym f) ∙ e))
+
     not_free : (t : ℕ) → t ≡ s → slice_get a'.held.items t ≡ Some None → ⊥
     not_free t f e = let g : Some h ≡ None = some_same (Some h) None (sym set_here ∙ ap (slice_get a'.held.items) (sym f) ∙ e) in cc
 
 pub insertion : (a a' : Inside) (o s : ℕ) (h : Held) → AreLinks a → IsInsertion a a' o s h → Inserts (view_of a) (view_of a') o s h
 insertion a a' o s h links i = record {
   free = λ w. (let r = holds_slot a links w.1.0 s w.0 w.1.1 in
-    let e = links.rows.links.marked (w.1.0 + 1) s (links.row_chains w.1.0 (in_use_within a links w.1.0 r.2)) r.0 in let f = i.free in let z : ⊥ = omega arith in z);
+      let e = links.rows.links.marked (w.1.0 + 1) s (links.row_chains w.1.0 (in_use_within a links w.1.0 r.2)) r.0 in let f = i.free in let z : ⊥ = omega arith in z);
   here = rows_at a' links' o ∙ rows_in_use a' o (ap (λ w. chain_of w o) i.owners ∙ i.owner)
-    ∙ ap (λ l. Some (entries a'.held.items l)) (i.rows.here ∙ ap (λ l. l ++ s ∷ []) (without-absent s (slots_in a.rows (o + 1)) (not_in o i.owner)))
-    ∙ ap Some (entries-append a'.held.items (slots_in a.rows (o + 1)) (s ∷ []) ∙ ap (λ l. l ++ entries a'.held.items (s ∷ [])) (kept o i.owner) ∙ ap (λ l. entries a.held.items (slots_in a.rows (o + 1)) ++ l) (entry_here a'.held.items s [] h set_here))
-    ∙ sym (option_map_rows a links (λ rows. rows ++ record { slot = s; held = h } ∷ []) o i.owner);
+      ∙ ap (λ l. Some (entries a'.held.items l)) (i.rows.here ∙ ap (λ l. l ++ s ∷ []) (without-absent s (slots_in a.rows (o + 1)) (not_in o i.owner)))
+      ∙ ap Some (entries-append a'.held.items (slots_in a.rows (o + 1)) (s ∷ []) ∙ ap (λ l. l ++ entries a'.held.items (s ∷ [])) (kept o i.owner) ∙ ap (λ l. entries a.held.items (slots_in a.rows (o + 1)) ++ l) (entry_here a'.held.items s [] h set_here))
+      ∙ sym (option_map_rows a links (λ rows. rows ++ record { slot = s; held = h } ∷ []) o i.owner);
   others = λ p n. elim (cases_eq (chain_of a.owners p) 1) [
-      inl u ↦ (rows_at a' links' p ∙ rows_in_use a' p (ap (λ w. chain_of w p) i.owners ∙ u)
+    | inl u ↦ (rows_at a' links' p ∙ rows_in_use a' p (ap (λ w. chain_of w p) i.owners ∙ u)
         ∙ ap (λ l. Some (entries a'.held.items l)) (i.rows.others (p + 1) (links.row_chains p (in_use_within a links p u)) (λ e. n (omega arith)) ∙ without-absent s (slots_in a.rows (p + 1)) (not_in p u))
         ∙ ap Some (kept p u)
         ∙ sym (rows_in_use a p u) ∙ sym (rows_at a links p))
     | inr m ↦ no_rows a' links' p (λ e. m (sym (ap (λ w. chain_of w p) i.owners) ∙ e)) ∙ sym (no_rows a links p m)
-    ];
+  ];
   owner_room = ap (λ w. length (slots_in w FREE)) i.owners;
   room = ap (λ l. length l + 1) (i.rows.others 0 some_chain (λ e. (let z : ⊥ = omega arith in z)))
-    ∙ one_less a.rows links.rows s 0 i.slot i.free;
+      ∙ one_less a.rows links.rows s 0 i.slot i.free;
 }
   where
     links' : AreLinks a'
     links' = insertion_links a a' o s h links i
+
     some_chain : 0 < chain_count a.rows
     some_chain = links.row_chain (let k = i.slot in omega arith)
+
     not_in : (p : ℕ) → chain_of a.owners p ≡ 1 → Has (slots_in a.rows (p + 1)) s → ⊥
     not_in p u m = let e = links.rows.links.marked (p + 1) s (links.row_chains p (in_use_within a links p u)) m in let f = i.free in let z : ⊥ = omega arith in z
+
     kept : (p : ℕ) → chain_of a.owners p ≡ 1 → entries a'.held.items (slots_in a.rows (p + 1)) ≡ entries a.held.items (slots_in a.rows (p + 1))
     kept p u = ap (λ l. entries l (slots_in a.rows (p + 1))) i.held ∙ entries_other a.held.items s (Some h) (slots_in a.rows (p + 1)) (not_in p u)
+
     set_here : slice_get a'.held.items s ≡ Some (Some h)
     set_here = ap (λ l. slice_get l s) i.held ∙ get_set_same a.held.items s (Some h) (let e = links.row_slots in let k = i.slot in omega arith)
 
@@ -355,13 +365,13 @@ pub place_of : (xs : List ℕ) (s : ℕ) → Has xs s → (i : ℕ) × (i < leng
 place_of [] s m = absurd m
 place_of (x ∷ xs) s m =
     elim m [
-      inl e ↦ (0, omega arith, ap Some e)
-    | inr t ↦ (let r = place_of xs s t in (suc r.0, (let h = r.1 in omega (arith, h)), r.2))
+      | inl e ↦ (0, omega arith, ap Some e)
+      | inr t ↦ (let r = place_of xs s t in (suc r.0, (let h = r.1 in omega (arith, h)), r.2))
     ]
 
 -- the number at the next place of a chain is where the link leads
 pub linked-at : (next previous : ℕ → ℕ) (start : ℕ) (xs : List ℕ) (end k s : ℕ) → Linked next previous start xs end → (Has xs end → ⊥) → slice_get xs k ≡ Some s
-  → slice_get xs (k + 1) ≡ cond (nat_eq (next s) end) None (Some (next s))
+    → slice_get xs (k + 1) ≡ cond (nat_eq (next s) end) None (Some (next s))
 linked-at next previous start [] end k s h gone e = absurd (let f : None ≡ Some s = sym (slice_get_past [] k (omega arith)) ∙ e in let z : ⊥ = cc in z)
 linked-at next previous start (x ∷ xs) end zero s h gone e =
     ap (slice_get (x ∷ xs)) (let f : 0 + 1 ≡ suc 0 = omega arith in f) ∙ first-linked next previous x xs end h.2 (λ m. gone (inr m)) ∙ ap (λ v. cond (nat_eq (next v) end) None (Some (next v))) (some_same x s e)
@@ -401,57 +411,62 @@ removal_links a a' s links i = record {
   bucket_chains = λ k. (let r = links.bucket_chains (let f = i.buckets.slots in omega arith) in let f = i.buckets.slots in let g = i.buckets.chains in omega arith);
   bucket_fit = (let r = links.bucket_fit in let g = i.buckets.chains in omega arith);
   free_row = λ t e. elim (cases_eq t s) [
-      inl f ↦ ap (chain_of a'.rows) f ∙ mark_here a.rows a'.rows s 0 links.rows slot i.rows
+    | inl f ↦ ap (chain_of a'.rows) f ∙ mark_here a.rows a'.rows s 0 links.rows slot i.rows
     | inr n ↦ mark_away a.rows a'.rows s 0 i.rows t n ∙ links.free_row t (was t n (None) e)
-    ];
+  ];
   free_bucket = λ t e. elim (cases_eq t s) [
-      inl f ↦ ap (chain_of a'.buckets) f ∙ mark_here a.buckets a'.buckets s 0 links.buckets (let e = links.row_slots in let g = links.bucket_slots in let k = slot in omega arith) i.buckets
+    | inl f ↦ ap (chain_of a'.buckets) f ∙ mark_here a.buckets a'.buckets s 0 links.buckets (let e = links.row_slots in let g = links.bucket_slots in let k = slot in omega arith) i.buckets
     | inr n ↦ mark_away a.buckets a'.buckets s 0 i.buckets t n ∙ links.free_bucket t (was t n None e)
-    ];
+  ];
   owned = λ t k e. elim (cases_eq t s) [
-      inl f ↦ absurd (emptied t k f e)
+    | inl f ↦ absurd (emptied t k f e)
     | inr n ↦ (let r = links.owned t k (was t n (Some k) e) in (r.0, mark_away a.rows a'.rows s 0 i.rows t n ∙ r.1, ap (λ w. chain_of w r.0) i.owners ∙ r.2))
-    ];
+  ];
   bucket = λ t k e. elim (cases_eq t s) [
-      inl f ↦ absurd (emptied t k f e)
+    | inl f ↦ absurd (emptied t k f e)
     | inr n ↦ mark_away a.buckets a'.buckets s 0 i.buckets t n ∙ links.bucket t k (was t n (Some k) e) ∙ ap (λ n. bucket_of n k.row.path) (sym i.buckets.chains)
-    ];
+  ];
   distinct = λ t u k l e f same. elim (cases_eq t s) [
-      inl ts ↦ absurd (emptied t k ts e)
+    | inl ts ↦ absurd (emptied t k ts e)
     | inr tn ↦ (elim (cases_eq u s) [
-        inl us ↦ absurd (emptied u l us f)
+      | inl us ↦ absurd (emptied u l us f)
       | inr un ↦ links.distinct t u k l (was t tn (Some k) e) (was u un (Some l) f) same
-      ])
-    ];
+    ])
+  ];
 }
   where
     held_now : (h : Held) × (slice_get a.held.items s ≡ Some (Some h))
     held_now = known_held a (view_of a) refl links s i.held_here
+
     slot : s < slot_count a.rows
     slot = slot_within a links s (Some held_now.0) held_now.1
+
     longer : length a'.held.items ≡ length a.held.items
     longer = ap length i.held ∙ length-set a.held.items s None
+
     was : (t : ℕ) → t ≢ s → (v : Option Held) → slice_get a'.held.items t ≡ Some v → slice_get a.held.items t ≡ Some v
     was t n v e = sym (get_set_other a.held.items s t None n) ∙ sym (ap (λ l. slice_get l t) i.held) ∙ e
+
     set_here : slice_get a'.held.items s ≡ Some None
     set_here = ap (λ l. slice_get l s) i.held ∙ get_set_same a.held.items s None (slice_get_within a.held.items s (Some held_now.0) held_now.1)
+
     emptied : (t : ℕ) (k : Held) → t ≡ s → slice_get a'.held.items t ≡ Some (Some k) → ⊥
     emptied t k f e = let g : None ≡ Some k = some_same None (Some k) (sym set_here ∙ ap (slice_get a'.held.items) (sym f) ∙ e) in cc
 
 pub removal : (a a' : Inside) (s : ℕ) → AreLinks a → IsRemoval a a' s → Unlinks (view_of a) (view_of a') s
 removal a a' s links i = record {
   rows = λ p. elim (cases_eq (chain_of a.owners p) 1) [
-      inl u ↦ (rows_at a' links' p ∙ rows_in_use a' p (ap (λ w. chain_of w p) i.owners ∙ u)
+    | inl u ↦ (rows_at a' links' p ∙ rows_in_use a' p (ap (λ w. chain_of w p) i.owners ∙ u)
         ∙ ap (λ l. Some (entries a'.held.items l)) (i.rows.others (p + 1) (links.row_chains p (in_use_within a links p u)) (λ e. (let z : ⊥ = omega arith in z)))
         ∙ ap (λ l. Some (entries l (without s (slots_in a.rows (p + 1))))) i.held
         ∙ ap Some (entries_without a.held.items s None (slots_in a.rows (p + 1)))
         ∙ sym (option_map_rows a links (without_slot s) p u))
     | inr m ↦ no_rows a' links' p (λ e. m (sym (ap (λ w. chain_of w p) i.owners) ∙ e)) ∙ sym (ap (option_map (without_slot s)) (no_rows a links p m))
-    ];
+  ];
   room = ap length i.rows.here ∙ length-append (without s (slots_in a.rows 0)) (s ∷ [])
-    ∙ ap (λ l. length l + 1) (without-absent s (slots_in a.rows 0) absent);
+      ∙ ap (λ l. length l + 1) (without-absent s (slots_in a.rows 0) absent);
   others = λ owner o h w n. elim (cases_eq (chain_of a.owners o) 1) [
-      inl u ↦ (let r = holds_slot a links owner s h w in
+    | inl u ↦ (let r = holds_slot a links owner s h w in
         let e = links.rows.links.marked (owner + 1) s (links.row_chains owner (in_use_within a links owner r.2)) r.0 in
         let away : Has (slots_in a.rows (o + 1)) s → ⊥ = λ m. (let f = links.rows.links.marked (o + 1) s (links.row_chains o (in_use_within a links o u)) m in n (omega arith)) in
         rows_at a' links' o ∙ rows_in_use a' o (ap (λ w. chain_of w o) i.owners ∙ u)
@@ -460,36 +475,38 @@ removal a a' s links i = record {
         ∙ ap Some (entries_other a.held.items s None (slots_in a.rows (o + 1)) away)
         ∙ sym (rows_in_use a o u) ∙ sym (rows_at a links o))
     | inr m ↦ no_rows a' links' o (λ e. m (sym (ap (λ w. chain_of w o) i.owners) ∙ e)) ∙ sym (no_rows a links o m)
-    ];
+  ];
   owner_room = ap (λ w. length (slots_in w FREE)) i.owners;
   fewer = λ owner rows h e m. (let r = holds_slot a links owner s h (rows, e, m) in
-    let q = some_rows a links owner rows e in
-    let within = in_use_within a links owner r.2 in
-    let chain = links.row_chains owner within in
-    let one = length-without (next_in a.rows (owner + 1)) (previous_in a.rows (owner + 1)) s END (slots_in a.rows (owner + 1)) END (links.rows.links.linked (owner + 1) chain) (end_absent a.rows links.rows.links (owner + 1) chain) r.0 in
-    let before = length-entries a.held.items (slots_in a.rows (owner + 1)) (all_held a links owner within) in
-    let same = ap length q.1 in
-    let after' = length-entries a'.held.items (slots_in a'.rows (owner + 1)) (all_held a' links' owner (let f = ap slot_count i.owners in omega (arith, within, f))) in
-    let moved' = ap length (i.rows.others (owner + 1) chain (λ e. (let z : ⊥ = omega arith in z))) in
-    let list : entries a'.held.items (slots_in a'.rows (owner + 1)) ≡ without_slot s rows =
+      let q = some_rows a links owner rows e in
+      let within = in_use_within a links owner r.2 in
+      let chain = links.row_chains owner within in
+      let one = length-without (next_in a.rows (owner + 1)) (previous_in a.rows (owner + 1)) s END (slots_in a.rows (owner + 1)) END (links.rows.links.linked (owner + 1) chain) (end_absent a.rows links.rows.links (owner + 1) chain) r.0 in
+      let before = length-entries a.held.items (slots_in a.rows (owner + 1)) (all_held a links owner within) in
+      let same = ap length q.1 in
+      let after' = length-entries a'.held.items (slots_in a'.rows (owner + 1)) (all_held a' links' owner (let f = ap slot_count i.owners in omega (arith, within, f))) in
+      let moved' = ap length (i.rows.others (owner + 1) chain (λ e. (let z : ⊥ = omega arith in z))) in
+      let list : entries a'.held.items (slots_in a'.rows (owner + 1)) ≡ without_slot s rows =
       ap (entries a'.held.items) (i.rows.others (owner + 1) chain (λ e. (let z : ⊥ = omega arith in z)))
       ∙ ap (λ l. entries l (without s (slots_in a.rows (owner + 1)))) i.held
       ∙ entries_without a.held.items s None (slots_in a.rows (owner + 1))
       ∙ ap (without_slot s) q.1 in
-    let list' = ap length list in
-    omega (arith, one, before, same, after', moved', list'));
+      let list' = ap length list in
+      omega (arith, one, before, same, after', moved', list'));
 }
   where
     links' : AreLinks a'
     links' = removal_links a a' s links i
+
     held_now : (h : Held) × (slice_get a.held.items s ≡ Some (Some h))
     held_now = known_held a (view_of a) refl links s i.held_here
+
     absent : Has (slots_in a.rows 0) s → ⊥
     absent m =
-      let slot = slot_within a links s (Some held_now.0) held_now.1 in
-      let e = links.rows.links.marked 0 s (links.row_chain (let k = slot in omega arith)) m in
-      let r = links.owned s held_now.0 held_now.1 in
-      let f = r.1 in let z : ⊥ = omega arith in z
+        let slot = slot_within a links s (Some held_now.0) held_now.1 in
+        let e = links.rows.links.marked 0 s (links.row_chain (let k = slot in omega arith)) m in
+        let r = links.owned s held_now.0 held_now.1 in
+        let f = r.1 in let z : ⊥ = omega arith in z
 
 -- what changes the owners' chains alone
 pub record IsOwnerMove (a a' : Inside) (o ch : ℕ) : Type 0 where
@@ -509,9 +526,9 @@ owner_links a a' o ch links i = record {
   owners = i.owners_sound;
   owner_chains = λ k. (let e = i.owners.slots in let f = i.owners.chains in let r = links.owner_chains (omega (arith, k, e)) in omega (arith, r, f));
   owner_marks = λ p k. elim (cases_eq p o) [
-      inl f ↦ (let e = ap (chain_of a'.owners) f ∙ mark_here a.owners a'.owners o ch links.owners i.within i.owners in let g = i.is_mark in omega (arith, e, g))
+    | inl f ↦ (let e = ap (chain_of a'.owners) f ∙ mark_here a.owners a'.owners o ch links.owners i.within i.owners in let g = i.is_mark in omega (arith, e, g))
     | inr n ↦ (let e = i.owners.slots in let f = mark_away a.owners a'.owners o ch i.owners p n in let r = links.owner_marks p (omega (arith, k, e)) in omega (arith, r, f))
-    ];
+  ];
   row_chains = λ p k. (let e = i.owners.slots in let r = links.row_chains p (omega arith) in let f = ap chain_count i.rows in omega arith);
   row_chain = λ k. (let r = links.row_chain (let f = ap slot_count i.rows in omega arith) in let f = ap chain_count i.rows in omega arith);
   row_slots = ap slot_count i.rows ∙ links.row_slots ∙ sym (ap (λ v. length v.items) i.held);
@@ -521,18 +538,19 @@ owner_links a a' o ch links i = record {
   free_row = λ t e. ap (λ w. chain_of w t) i.rows ∙ links.free_row t (was t None e);
   free_bucket = λ t e. ap (λ w. chain_of w t) i.buckets ∙ links.free_bucket t (was t None e);
   owned = λ t k e. (let r = links.owned t k (was t (Some k) e) in
-    (r.0, ap (λ w. chain_of w t) i.rows ∙ r.1, mark_away a.owners a'.owners o ch i.owners r.0 (λ f. filled t k (was t (Some k) e) (r.1 ∙ ap (λ x. x + 1) f)) ∙ r.2));
+      (r.0, ap (λ w. chain_of w t) i.rows ∙ r.1, mark_away a.owners a'.owners o ch i.owners r.0 (λ f. filled t k (was t (Some k) e) (r.1 ∙ ap (λ x. x + 1) f)) ∙ r.2));
   bucket = λ t k e. ap (λ w. chain_of w t) i.buckets ∙ links.bucket t k (was t (Some k) e) ∙ ap (λ n. bucket_of n k.row.path) (sym (ap chain_count i.buckets));
   distinct = λ t u k l e f same. links.distinct t u k l (was t (Some k) e) (was u (Some l) f) same;
 }
   where
     was : (t : ℕ) (v : Option Held) → slice_get a'.held.items t ≡ Some v → slice_get a.held.items t ≡ Some v
     was t v e = sym (ap (λ w. slice_get w.items t) i.held) ∙ e
+
     filled : (t : ℕ) (k : Held) → slice_get a.held.items t ≡ Some (Some k) → chain_of a.rows t ≡ o + 1 → ⊥
     filled t k e m =
-      let P : List ℕ → Type 0 = λ l. Has l t in
-      let Q : ℕ → Type 0 = λ c. Has (slots_in a.rows c) t in
-      subst P i.empty (subst Q m (links.rows.placed t (slot_within a links t (Some k) e)))
+        let P : List ℕ → Type 0 = λ l. Has l t in
+        let Q : ℕ → Type 0 = λ c. Has (slots_in a.rows c) t in
+        subst P i.empty (subst Q m (links.rows.placed t (slot_within a links t (Some k) e)))
 
 -- the rows of the other owners are as they were
 pub owner_others : (a a' : Inside) (o ch : ℕ) → AreLinks a → IsOwnerMove a a' o ch → (p : ℕ) → p ≢ o → rows_of (view_of a') p ≡ rows_of (view_of a) p
@@ -547,9 +565,9 @@ pub owner_begun : (a a' : Inside) (o : ℕ) → AreLinks a → IsOwnerMove a a' 
 owner_begun a a' o links i free = record {
   free = no_rows a links o (λ e. (let z : ⊥ = omega arith in z));
   owner_room = ap (λ l. length l + 1) (i.owners.others 0 (let r = links.owners.range o i.within in omega (arith, r, free)) (λ e. (let z : ⊥ = omega arith in z)))
-    ∙ one_less a.owners links.owners o 0 i.within free;
+      ∙ one_less a.owners links.owners o 0 i.within free;
   here = rows_at a' (owner_links a a' o 1 links i) o ∙ rows_in_use a' o (mark_here a.owners a'.owners o 1 links.owners i.within i.owners)
-    ∙ ap (λ w. Some (entries a'.held.items (slots_in w (o + 1)))) i.rows ∙ ap (λ l. Some (entries a'.held.items l)) i.empty;
+      ∙ ap (λ w. Some (entries a'.held.items (slots_in w (o + 1)))) i.rows ∙ ap (λ l. Some (entries a'.held.items l)) i.empty;
   others = owner_others a a' o 1 links i;
   room = ap (λ w. length (slots_in w 0)) i.rows;
 }
@@ -561,21 +579,21 @@ unused_empty a links o h n = split (slots_in a.rows (o + 1)) refl
     split : (xs : List ℕ) → slots_in a.rows (o + 1) ≡ xs → slots_in a.rows (o + 1) ≡ []
     split [] e = e
     split (x ∷ xs) e =
-      let P : List ℕ → Type 0 = λ l. Has l x in
-      let m : Has (slots_in a.rows (o + 1)) x = subst P (sym e) (inl refl) in
-      let mark = links.rows.links.marked (o + 1) x (links.row_chains o h) m in
-      let k = held_of a links x (links.rows.links.within (o + 1) x (links.row_chains o h) m) (λ z. (let y : ⊥ = omega arith in y)) in
-      let r = links.owned x k.0 k.1 in
-      let same : r.0 ≡ o = (let f = r.1 in omega arith) in
-      absurd (n (sym (ap (chain_of a.owners) same) ∙ r.2))
+        let P : List ℕ → Type 0 = λ l. Has l x in
+        let m : Has (slots_in a.rows (o + 1)) x = subst P (sym e) (inl refl) in
+        let mark = links.rows.links.marked (o + 1) x (links.row_chains o h) m in
+        let k = held_of a links x (links.rows.links.within (o + 1) x (links.row_chains o h) m) (λ z. (let y : ⊥ = omega arith in y)) in
+        let r = links.owned x k.0 k.1 in
+        let same : r.0 ≡ o = (let f = r.1 in omega arith) in
+        absurd (n (sym (ap (chain_of a.owners) same) ∙ r.2))
 
 -- a chain that has a slot is there
 pub nonempty_chain : (w : Chains) → AreSound w → (c s : ℕ) → Has (slots_in w c) s → c < chain_count w
 nonempty_chain w sound c s m =
     elim (cases_lt c (chain_count w)) [
-      inl h ↦ h
-    | inr h ↦ absurd (let d = get_or-eq_default w.count.items 0 {n = c} (let k = sound.links.count_length in omega arith) in
-        let e = counted w c in let f = has-some (slots_in w c) s m in let z : ⊥ = omega arith in z)
+      | inl h ↦ h
+      | inr h ↦ absurd (let d = get_or-eq_default w.count.items 0 {n = c} (let k = sound.links.count_length in omega arith) in
+          let e = counted w c in let f = has-some (slots_in w c) s m in let z : ⊥ = omega arith in z)
     ]
 
 pub first_has : (xs : List ℕ) (s : ℕ) → slice_get xs 0 ≡ Some s → Has xs s
@@ -599,8 +617,15 @@ first_row v o s rows e f = split rows e f
   where
     split : (rows : List Entry) → rows_of v o ≡ Some rows → Some s ≡ slot_at rows 0 → (h : Held) × Owns v o (record { slot = s; held = h })
     split [] e f = absurd (let g : Some s ≡ None = f in let z : ⊥ = cc in z)
-    split (x ∷ xs) e f = (x.held, (x ∷ xs, e, has-contains (x ∷ xs) (record { slot = s; held = x.held })
-      (inl (let g : s ≡ x.slot = some_same s x.slot f in ap (λ k. record { slot = k; held = x.held }) (sym g)))))
+    split (x ∷ xs) e f = (
+      x.held,
+      (
+        x ∷ xs,
+        e,
+        has-contains (x ∷ xs) (record { slot = s; held = x.held })
+            (inl (let g : s ≡ x.slot = some_same s x.slot f in ap (λ k. record { slot = k; held = x.held }) (sym g))),
+      ),
+    )
 
 pub the_rows : (o : Option (List Entry)) → IsSome o → (rows : List Entry) × (o ≡ Some rows)
 the_rows None h = absurd (let none : Option (List Entry) = None in let k : IsSome none = h in let z : ⊥ = cc in z)
@@ -660,11 +685,12 @@ owner_ended a a' o links i v d e = record {
   where
     links' : AreLinks a'
     links' = owner_links a a' o 0 links i
+
     in_use : Has (slots_in a.owners 0) o → ⊥
     in_use m =
-      let u = (empty_chain a links o e).0 in
-      let r = links.owners.range o i.within in
-      let f = links.owners.links.marked 0 o (omega (arith, r, u)) m in let z : ⊥ = omega (arith, u, f) in z
+        let u = (empty_chain a links o e).0 in
+        let r = links.owners.range o i.within in
+        let f = links.owners.links.marked 0 o (omega (arith, r, u)) m in let z : ⊥ = omega (arith, u, f) in z
 
 -- one step of a walk over a chain
 pub step : (w : Chains) → AreSound w → (c s k : ℕ) → c < chain_count w → slice_get (slots_in w c) k ≡ Some s → after s (slots_in w (chain_of w s)) ≡ slice_get (slots_in w c) (k + 1)
@@ -677,8 +703,8 @@ step w sound c s k h e =
 
 -- no row has a path that none of its chain has
 pub not_found : (a : Inside) → AreLinks a → (path : List ℕ) (n : ℕ) → length (slots_in a.buckets (bucket_of (chain_count a.buckets) path)) ≤ n
-  → ((i s : ℕ) (h : Held) → i < n → slice_get (slots_in a.buckets (bucket_of (chain_count a.buckets) path)) i ≡ Some s → slice_get a.held.items s ≡ Some (Some h) → h.row.path ≢ path)
-  → HoldsPath (view_of a) path → ⊥
+    → ((i s : ℕ) (h : Held) → i < n → slice_get (slots_in a.buckets (bucket_of (chain_count a.buckets) path)) i ≡ Some s → slice_get a.held.items s ≡ Some (Some h) → h.row.path ≢ path)
+    → HoldsPath (view_of a) path → ⊥
 not_found a links path n long all w =
     let r = holds_slot a links w.2.0 w.0 w.1 w.2.1 in
     let b = links.bucket w.0 w.1 r.1 in
@@ -692,13 +718,13 @@ not_found a links path n long all w =
 pub none_past : (xs : List ℕ) (k : ℕ) → slice_get xs k ≡ None → length xs ≤ k
 none_past xs k e =
     elim (cases_lt k (length xs)) [
-      inl h ↦ absurd (let f : Some (get_or xs k 0) ≡ None = sym (slice_get-get_or xs k 0 h) ∙ e in let z : ⊥ = cc in z)
-    | inr h ↦ h
+      | inl h ↦ absurd (let f : Some (get_or xs k 0) ≡ None = sym (slice_get-get_or xs k 0 h) ∙ e in let z : ⊥ = cc in z)
+      | inr h ↦ h
     ]
 
 pub not_found_at : (a : Inside) (v : OwnedRows) → view_of a ≡ v → AreLinks a → (path : List ℕ) (n b : ℕ) → b ≡ bucket_of (chain_count a.buckets) path → length (slots_in a.buckets b) ≤ n
-  → ((i s : ℕ) (h : Held) → i < n → slice_get (slots_in a.buckets b) i ≡ Some s → slice_get a.held.items s ≡ Some (Some h) → h.row.path ≢ path)
-  → HoldsPath v path → ⊥
+    → ((i s : ℕ) (h : Held) → i < n → slice_get (slots_in a.buckets b) i ≡ Some s → slice_get a.held.items s ≡ Some (Some h) → h.row.path ≢ path)
+    → HoldsPath v path → ⊥
 not_found_at a v e links path n b f long all w =
     let P : ℕ → Type 0 = λ c. length (slots_in a.buckets c) ≤ n in
     let Q : ℕ → Type 0 = λ c. (i s : ℕ) (h : Held) → i < n → slice_get (slots_in a.buckets c) i ≡ Some s → slice_get a.held.items s ≡ Some (Some h) → h.row.path ≢ path in
@@ -731,4 +757,3 @@ one_row a v e links s h k x f =
     let P : OwnedRows → Type 0 = λ z. Holds z s h in
     let x' = subst P (sym e) x in
     some_same h k (some_same (Some h) (Some k) (sym (holds_slot a links x'.0 s h x'.1).1 ∙ f))
-

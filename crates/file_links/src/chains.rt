@@ -64,7 +64,13 @@ fn detach(chains: &mut Chains, slot: u32)
     let previous = at(&chains.previous, slot);
     let count = at(&chains.count, chain);
     put(&mut chains.first, &mut chains.next, chain, previous, next);
-    put(&mut chains.last, &mut chains.previous, chain, next, previous);
+    put(
+        &mut chains.last,
+        &mut chains.previous,
+        chain,
+        next,
+        previous,
+    );
     write(&mut chains.count, chain, count - 1);
 }
 

@@ -44,6 +44,7 @@ pub struct Links {
 }
 
 const FREE: u32 = 0;
+
 const IN_USE: u32 = 1;
 
 impl Model for Links {
@@ -352,3 +353,6 @@ fn bucket_of(buckets: &Chains, path: &[u8]) -> u32
     let others = buckets.chain_count() as u64 - 1;
     1 + (hash_of(path) % others) as u32
 }
+
+#[cfg(test)]
+mod tests;

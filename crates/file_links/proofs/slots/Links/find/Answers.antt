@@ -14,8 +14,8 @@ pub returns-in_default-clause-found : goal.returns-in_default-clause-found
 returns-in_default-clause-found c =
     let none : c.loop-step.place ≡ None = grind arith in
     not_found_at c.self.inside c.args.self.now c.self.view_is c.self.invariant c.args.path.now c.loop-step._step c.bucket_of-bucket.result c.bucket_of-bucket.ensures.value
-      (none_past (slots_in c.self.inside.buckets c.bucket_of-bucket.result) c.loop-step._step (sym c.loop-step.invariant.0 ∙ none))
-      c.loop-step.invariant.1
+    (none_past (slots_in c.self.inside.buckets c.bucket_of-bucket.result) c.loop-step._step (sym c.loop-step.invariant.0 ∙ none))
+    c.loop-step.invariant.1
 
 pub has_path-requires : goal.has_path-requires
 has_path-requires c =
@@ -35,21 +35,21 @@ next-place-requires-clause-slot c =
 
 pub loop-step-preserved : goal.loop-step-preserved
 loop-step-preserved c =
-    let at = sym c.loop-step.invariant.0 ∙ c.in-Some.is in
-    ( c.next-place.ensures ∙ step c.self.inside.buckets c.self.invariant.buckets c.bucket_of-bucket.result c.in-Some.slot c.loop-step._step c.bucket_of-bucket.ensures.range at
-    , λ i s h lt e f same. elim (cases_eq i c.loop-step._step) [
-        inl k ↦ (let s_is : s ≡ c.in-Some.slot = some_same s c.in-Some.slot (sym e ∙ ap (slice_get (slots_in c.self.inside.buckets c.bucket_of-bucket.result)) k ∙ at) in
-          let g : slice_get c.deref.result.now c.in-Some.slot ≡ Some (Some h) = ap (λ l. slice_get l c.in-Some.slot) c.deref.ensures.value ∙ ap (slice_get c.self.inside.held.items) (sym s_is) ∙ f in
-          let t = c.has_path.ensures.not h g same in let n = c.if-has_path.false in cc)
-      | inr k ↦ c.loop-step.invariant.1 i s h (omega arith) e f same
-      ]
+    let at = sym c.loop-step.invariant.0 ∙ c.in-Some.is in (
+      c.next-place.ensures ∙ step c.self.inside.buckets c.self.invariant.buckets c.bucket_of-bucket.result c.in-Some.slot c.loop-step._step c.bucket_of-bucket.ensures.range at,
+      λ i s h lt e f same. elim (cases_eq i c.loop-step._step) [
+        | inl k ↦ (let s_is : s ≡ c.in-Some.slot = some_same s c.in-Some.slot (sym e ∙ ap (slice_get (slots_in c.self.inside.buckets c.bucket_of-bucket.result)) k ∙ at) in
+            let g : slice_get c.deref.result.now c.in-Some.slot ≡ Some (Some h) = ap (λ l. slice_get l c.in-Some.slot) c.deref.ensures.value ∙ ap (slice_get c.self.inside.held.items) (sym s_is) ∙ f in
+            let t = c.has_path.ensures.not h g same in let n = c.if-has_path.false in cc)
+        | inr k ↦ c.loop-step.invariant.1 i s h (omega arith) e f same
+      ],
     )
 
 pub returns-clause-found : goal.returns-clause-found
 returns-clause-found c =
     not_found_at c.self.inside c.args.self.now c.self.view_is c.self.invariant c.args.path.now c.loop-step._step c.bucket_of-bucket.result c.bucket_of-bucket.ensures.value
-      (let e = c.count-step-end.ensures in let t = c.loop-step-test.false in omega (arith, e, t))
-      c.loop-step.invariant.1
+    (let e = c.count-step-end.ensures in let t = c.loop-step-test.false in omega (arith, e, t))
+    c.loop-step.invariant.1
 
 pub returns-then-is_empty-clause-only : goal.returns-then-is_empty-clause-only
 returns-then-is_empty-clause-only c slot held w same = absurd (returns-then-is_empty-clause-found c (slot, held, w, same))

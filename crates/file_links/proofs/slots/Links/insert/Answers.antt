@@ -53,7 +53,7 @@ invariant_of-self c =
     let P : OwnedRows → Type 0 = λ v. IsSome (rows_of v c.args.owner) in
     let Q : OwnedRows → Type 0 = λ v. HoldsPath v c.args.held.row.path in
     let b : c.bucket_of-bucket.result ≡ bucket_of (chain_count c.self.inside.buckets) c.args.held.row.path =
-      c.bucket_of-bucket.ensures.value ∙ ap (bucket_of (chain_count c.self.inside.buckets)) c.path.ensures in
+    c.bucket_of-bucket.ensures.value ∙ ap (bucket_of (chain_count c.self.inside.buckets)) c.path.ensures in
     insertion_links c.self.inside _ c.args.owner c.unwrap-slot.result c.args.held c.self.invariant (record {
       slot = r.0;
       free = r.1;
@@ -74,7 +74,7 @@ returns c =
     let P : OwnedRows → Type 0 = λ v. IsSome (rows_of v c.args.owner) in
     let Q : OwnedRows → Type 0 = λ v. HoldsPath v c.args.held.row.path in
     let b : c.bucket_of-bucket.result ≡ bucket_of (chain_count c.self.inside.buckets) c.args.held.row.path =
-      c.bucket_of-bucket.ensures.value ∙ ap (bucket_of (chain_count c.self.inside.buckets)) c.path.ensures in
+    c.bucket_of-bucket.ensures.value ∙ ap (bucket_of (chain_count c.self.inside.buckets)) c.path.ensures in
     let S : OwnedRows → Type 0 = λ v. Inserts v (view_of (record { alloc = c.self.inside.alloc; held = c.set_row.new.held; rows = c.move_to.new.self; buckets = c.move_to-2.new.self; owners = c.self.inside.owners })) c.args.owner c.unwrap-slot.result c.args.held in
     subst S c.self.view_is (insertion c.self.inside (record { alloc = c.self.inside.alloc; held = c.set_row.new.held; rows = c.move_to.new.self; buckets = c.move_to-2.new.self; owners = c.self.inside.owners }) c.args.owner c.unwrap-slot.result c.args.held c.self.invariant (record {
       slot = r.0;

@@ -16,7 +16,7 @@ returns c owner place rows e m =
     let h = in_use_within c.self.inside c.self.invariant owner r.0 in
     let all = all_held c.self.inside c.self.invariant owner h in
     let at : slice_get (slots_in c.self.inside.rows (owner + 1)) place ≡ Some c.args.slot =
-      sym (slot_entry c.self.inside.held.items (slots_in c.self.inside.rows (owner + 1)) place all) ∙ ap (λ l. slot_at l place) r.1 ∙ m in
+    sym (slot_entry c.self.inside.held.items (slots_in c.self.inside.rows (owner + 1)) place all) ∙ ap (λ l. slot_at l place) r.1 ∙ m in
     c.next.ensures
     ∙ step c.self.inside.rows c.self.invariant.rows (owner + 1) c.args.slot place (c.self.invariant.row_chains owner h) at
     ∙ sym (slot_entry c.self.inside.held.items (slots_in c.self.inside.rows (owner + 1)) (place + 1) all)

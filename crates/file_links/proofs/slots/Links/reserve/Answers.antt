@@ -13,7 +13,7 @@ invariant_of-self c = held_links c.self.inside _ c.self.invariant refl refl refl
 pub returns-in_err-reserve-clause-err : goal.returns-in_err-reserve-clause-err
 returns-in_err-reserve-clause-err c =
     let e : view_of (record { alloc = c.self.inside.alloc; held = c.reserve.new.self; rows = c.self.inside.rows; buckets = c.self.inside.buckets; owners = c.self.inside.owners }) ≡ c.args.self.now =
-      held_view c.self.inside (record { alloc = c.self.inside.alloc; held = c.reserve.new.self; rows = c.self.inside.rows; buckets = c.self.inside.buckets; owners = c.self.inside.owners }) refl refl c.reserve.ensures.items ∙ c.self.view_is in
+    held_view c.self.inside (record { alloc = c.self.inside.alloc; held = c.reserve.new.self; rows = c.self.inside.rows; buckets = c.self.inside.buckets; owners = c.self.inside.owners }) refl refl c.reserve.ensures.items ∙ c.self.view_is in
     grind (arith, e)
 
 pub invariant_of-self-2 : goal.invariant_of-self-2
@@ -42,4 +42,4 @@ returns-clause-ok c =
       buckets = (let P : List (Option Held) → Type 0 = λ l. AreBuckets l c.in_ok-buckets.buckets in subst P c.deref.ensures.value c.in_ok-buckets.ensures.buckets);
       held = c.add_free.ensures ∙ ap (λ l. l ++ replicate c.growth-more_rows.result None) c.in_ok-reserve.ensures.items;
     })
-      c.growth-more_owners.ensures.enough c.growth-more_owners.ensures.room c.growth-more_rows.ensures.enough c.growth-more_rows.ensures.room)
+    c.growth-more_owners.ensures.enough c.growth-more_owners.ensures.room c.growth-more_rows.ensures.enough c.growth-more_rows.ensures.room)

@@ -60,12 +60,12 @@ pub returns-clause-rest : goal.returns-clause-rest
 returns-clause-rest c =
     let P : OwnedRows → Type 0 = λ v. Unlinks v (view_of (record { alloc = c.self.inside.alloc; held = c.set_row.new.held; rows = c.move_to.new.self; buckets = c.move_to-2.new.self; owners = c.self.inside.owners })) c.args.slot in
     subst P c.self.view_is
-      (removal c.self.inside (record { alloc = c.self.inside.alloc; held = c.set_row.new.held; rows = c.move_to.new.self; buckets = c.move_to-2.new.self; owners = c.self.inside.owners }) c.args.slot c.self.invariant (record {
-        held_here = (let Q : OwnedRows → Type 0 = λ v. IsHeld v c.args.slot in subst Q (sym c.self.view_is) c.requires);
-        rows_sound = c.move_to.ensures.sound;
-        rows = c.move_to.ensures.moves;
-        buckets_sound = c.move_to-2.ensures.sound;
-        buckets = c.move_to-2.ensures.moves;
-        owners = refl;
-        held = c.set_row.ensures.after;
-      }))
+    (removal c.self.inside (record { alloc = c.self.inside.alloc; held = c.set_row.new.held; rows = c.move_to.new.self; buckets = c.move_to-2.new.self; owners = c.self.inside.owners }) c.args.slot c.self.invariant (record {
+      held_here = (let Q : OwnedRows → Type 0 = λ v. IsHeld v c.args.slot in subst Q (sym c.self.view_is) c.requires);
+      rows_sound = c.move_to.ensures.sound;
+      rows = c.move_to.ensures.moves;
+      buckets_sound = c.move_to-2.ensures.sound;
+      buckets = c.move_to-2.ensures.moves;
+      owners = refl;
+      held = c.set_row.ensures.after;
+    }))
