@@ -1,21 +1,20 @@
 -- Chains that grow by a chain or a slot at a time.
-use Rattle.std.proofs.Common.{◌≡◌, ◌≢◌, ◌+◌, ◌<◌, ◌≤◌, ℕ, zero, suc, List, [], ◌∷◌, ◌++◌, length, refl, sym, ◌∙◌, ap, subst, inl, inr, arith, get_or, slice_index, slice_get, Option, None, Some, replicate, ◌⊎◌, cond, nat_eq}
+use Rattle.std.proofs.Common.{◌≡◌, ◌+◌, ◌<◌, ◌≤◌, ℕ, zero, suc, List, [], ◌∷◌, ◌++◌, length, refl, sym, ◌∙◌, ap, subst, inl, inr, arith, slice_index, slice_get, Option, None, Some, replicate, cond, nat_eq}
 use Rattle.std.proofs.lemmas.Bool.{cases_eq, cases_lt}
 use Rattle.std.proofs.lemmas.List.{length-append, length-replicate}
 use Rattle.std.proofs.Math.ListN.{get_or-eq_default}
 use Rattle.file_links.specs.declared.chains.Chains.{Chains}
-use Rattle.file_links.specs.Chains.{chain_count, slot_count, chain_of, next_in, previous_in, slots_in, AreSound, AddsChain, AddsSlot, Grows}
+use Rattle.file_links.specs.Chains.{chain_count, slot_count, chain_of, slots_in, AreSound, AddsChain, AddsSlot, Grows}
 use Rattle.std.proofs.lemmas.Option.{slice_get_past, slice_get_within}
 use Rattle.file_links.specs.declared.slots.Held.{Held}
 use Rattle.file_links.specs.declared.slots.Links.TheInside.{Inside}
-use Rattle.file_links.specs.Linked.{Has, Linked, END}
+use Rattle.file_links.specs.Linked.{Has}
 use Rattle.file_links.specs.Hash.{bucket_of}
 use Rattle.file_links.specs.Buckets.{AreBuckets}
 use Rattle.file_links.specs.Rows.{OwnedRows, rows_of, Reserves}
-use Rattle.file_links.specs.Slots.{with_entry, entries, owner_rows, tabulate, view_of, AreLinks}
-use Rattle.file_links.proofs.LinkedLemmas.{not_again}
-use Rattle.file_links.proofs.ChainLemmas.{counted, end_absent}
-use Rattle.file_links.proofs.SlotLemmas.{some_same, slot_within, in_use_within, rows_at, rows_in_use, rows_unused, no_rows, owner_at, length-tabulate}
+use Rattle.file_links.specs.Slots.{with_entry, entries, tabulate, view_of, AreLinks}
+use Rattle.file_links.proofs.ChainLemmas.{counted}
+use Rattle.file_links.proofs.SlotLemmas.{some_same, slot_within, in_use_within, rows_at, rows_in_use, no_rows}
 
 pub free_kept : (v v' : Chains) → AreSound v → AddsChain v v' → length (slots_in v' 0) ≡ length (slots_in v 0)
 free_kept v v' sound a =

@@ -1,5 +1,5 @@
 -- Laws of rows in slots.
-use Rattle.std.proofs.Common.{◌≡◌, ◌≢◌, ◌⊎◌, ◌+◌, ◌-◌, ◌<◌, ◌≤◌, ℕ, zero, suc, List, [], ◌∷◌, ◌++◌, length, Option, None, Some, cond, nat_eq, slice_get, slice_set, slice_index, option_map, refl, sym, ◌∙◌, ap, subst, inl, inr, arith, get_or, set, rules, IsSome, add-zero, not, Contains, slice_index_or}
+use Rattle.std.proofs.Common.{◌≡◌, ◌≢◌, ◌⊎◌, ◌+◌, ◌<◌, ◌≤◌, ℕ, zero, suc, List, [], ◌∷◌, ◌++◌, length, Option, None, Some, cond, nat_eq, slice_get, slice_set, slice_index, option_map, refl, sym, ◌∙◌, ap, subst, inl, inr, arith, get_or, IsSome, add-zero, not, Contains, slice_index_or}
 use Rattle.std.proofs.lemmas.Bool.{eq-eqb, ne_eqb, cases_eq, cases_lt}
 use Rattle.std.proofs.lemmas.List.{get_or-set_same, get_or-set_other, length-set, length-append}
 use Rattle.std.proofs.lemmas.Option.{slice_get_past, slice_get_within, slice_get-get_or}
@@ -12,7 +12,7 @@ use Rattle.file_links.specs.Chains.{chain_count, slot_count, chain_of, next_in, 
 use Rattle.file_links.specs.Hash.{bucket_of}
 use Rattle.file_links.specs.Rows.{Entry, OwnedRows, joined, rows_of, Owns, Holds, IsHeld, HoldsPath, without_slot, slot_at, AddsOwner, Inserts, Unlinks, DropsOwner}
 use Rattle.file_links.specs.Slots.{with_entry, entries, owner_rows, tabulate, view_of, AreLinks, FREE}
-use Rattle.file_links.proofs.LinkedLemmas.{without-absent, has-append, has-left, has-last, has-without, without-has, without-same, without-other, length-without, first-linked, after-linked}
+use Rattle.file_links.proofs.LinkedLemmas.{without-absent, without-same, without-other, length-without, first-linked, after-linked}
 use Rattle.file_links.proofs.ChainLemmas.{end_absent, counted, has-some}
 
 pub get_set_same : {X : Type 0} (xs : List X) (i : ℕ) (v : X) → i < length xs → slice_get (slice_set xs i v) i ≡ Some v

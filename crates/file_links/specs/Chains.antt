@@ -1,5 +1,5 @@
 -- What chains of slots mean.
-use Rattle.std.specs.Prelude.{◌≡◌, ◌≢◌, ◌+◌, ◌-◌, ◌<◌, ◌≤◌, ℕ, List, [], ◌∷◌, ◌++◌, length, sum, slice_index, slice_set, cond, nat_eq}
+use Rattle.std.specs.Prelude.{◌≡◌, ◌≢◌, ◌+◌, ◌-◌, ◌<◌, ◌≤◌, ℕ, List, [], ◌∷◌, ◌++◌, length, sum, slice_index, slice_set}
 use Rattle.file_links.specs.declared.chains.Chains.{Chains}
 use Rattle.file_links.specs.Linked.{Has, Linked, walk, follow, without, END}
 

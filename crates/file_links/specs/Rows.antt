@@ -1,5 +1,5 @@
 -- Held rows by owner, as the callers of `Links` see them.
-use Rattle.std.specs.Prelude.{◌≡◌, ◌≢◌, ◌+◌, ◌<◌, ◌≤◌, ℕ, List, [], ◌∷◌, ◌++◌, Bool, not, Option, None, Some, nat_eq, length, slice_get, option_map, filter, IsSome, Contains}
+use Rattle.std.specs.Prelude.{◌≡◌, ◌≢◌, ◌+◌, ◌≤◌, ℕ, List, [], ◌∷◌, ◌++◌, not, Option, None, Some, nat_eq, length, slice_get, option_map, filter, Contains}
 use Rattle.file_links.specs.declared.slots.Held.{Held}
 
 -- a held row with its slot

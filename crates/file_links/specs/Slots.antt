@@ -1,5 +1,5 @@
 -- What the slots of `Links` mean.
-use Rattle.std.specs.Prelude.{◌≡◌, ◌+◌, ◌^◌, ◌<◌, ◌≤◌, ℕ, zero, suc, List, [], ◌∷◌, ◌++◌, Option, None, Some, cond, nat_eq, length, slice_get}
+use Rattle.std.specs.Prelude.{◌≡◌, ◌+◌, ◌^◌, ◌<◌, ◌≤◌, ℕ, zero, suc, List, [], ◌∷◌, Option, None, Some, cond, nat_eq, length, slice_get}
 use Rattle.file_links.specs.declared.slots.Held.{Held}
 use Rattle.file_links.specs.declared.slots.Links.TheInside.{Inside}
 use Rattle.file_links.specs.Chains.{chain_count, slot_count, chain_of, slots_in, AreSound}

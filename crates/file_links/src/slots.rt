@@ -47,6 +47,10 @@ const FREE: u32 = 0;
 
 const IN_USE: u32 = 1;
 
+const FNV_OFFSET_BASIS: u64 = 14_695_981_039_346_656_037;
+
+const FNV_PRIME: u64 = 1_099_511_628_211;
+
 impl Model for Links {
     ghost use Rattle.file_links.specs.Rows.{OwnedRows};
 
@@ -59,12 +63,12 @@ impl Model for Links {
     ghost invariant = { AreLinks };
 }
 
-// The FNV-1a hash.
+// The FNV-1a hash of 64 bits.
 fn hash_of(bytes: &[u8]) -> u64
     ensures { result ≡ fnv bytes.now }
 {
-    bytes.iter().fold(14_695_981_039_346_656_037, |hash, byte| {
-        (hash ^ u64::from(*byte)).wrapping_mul(1_099_511_628_211)
+    bytes.iter().fold(FNV_OFFSET_BASIS, |hash, byte| {
+        (hash ^ u64::from(*byte)).wrapping_mul(FNV_PRIME)
     })
 }
 

@@ -3,37 +3,35 @@
 ghost use Rattle.std.specs.Prelude.{◌≡◌, ◌<◌, IsSome, IsTrue};
 ghost use Rattle.file_links.specs.Rows.{rows_of, IsHeld};
 
-use super::{Held, IN_USE, Links, free_count};
+use super::{FREE, Held, IN_USE, Links, free_count};
 use lake_basics::{Items, Text};
 use std::alloc::{AllocError, Global};
 use std::process::Abort;
 use std::test::Fail;
 use table_history::FileRow;
 
-impl Links {
-    fn owner_room(&self) -> u32
-        ensures { result ≡ self.now.owner_room }
-    {
-        free_count(&self.owners)
-    }
+fn owner_room(links: &Links) -> u32
+    ensures { result ≡ links.now.owner_room }
+{
+    free_count(&links.owners)
+}
 
-    fn room(&self) -> u32
-        ensures { result ≡ self.now.room }
-    {
-        free_count(&self.rows)
-    }
+fn room(links: &Links) -> u32
+    ensures { result ≡ links.now.room }
+{
+    free_count(&links.rows)
+}
 
-    fn has_owner(&self, owner: u32) -> bool
-        ensures { IsTrue result → IsSome (rows_of self.now owner) }
-    {
-        (owner as usize) < self.owners.slot_count() && self.owners.chain(owner) == IN_USE
-    }
+fn has_owner(links: &Links, owner: u32) -> bool
+    ensures { IsTrue result → IsSome (rows_of links.now owner) }
+{
+    (owner as usize) < links.owners.slot_count() && links.owners.chain(owner) == IN_USE
+}
 
-    fn has_row(&self, slot: u32) -> bool
-        ensures { IsTrue result → IsHeld self.now slot }
-    {
-        matches!(self.held.get(slot as usize), Some(Some(_)))
-    }
+fn has_row(links: &Links, slot: u32) -> bool
+    ensures { IsTrue result → IsHeld links.now slot }
+{
+    (slot as usize) < links.rows.slot_count() && links.rows.chain(slot) != FREE
 }
 
 // A row whose path is a number.
@@ -51,29 +49,29 @@ fn held(alloc: Global, name: u32) -> Result<Held, AllocError> {
 }
 
 fn add_owner(rt: &impl Abort, links: &mut Links) -> u32 {
-    assert!(rt; links.owner_room() > 0);
+    assert!(rt; owner_room(links) > 0);
     links.add_owner()
 }
 
 fn insert(rt: &impl Abort, links: &mut Links, owner: u32, held: Held) -> u32 {
-    assert!(rt; links.room() > 0);
-    assert!(rt; links.has_owner(owner));
+    assert!(rt; room(links) > 0);
+    assert!(rt; has_owner(links, owner));
     assert!(rt; links.find(held.path()).is_none());
     links.insert(owner, held)
 }
 
 fn unlink(rt: &impl Abort, links: &mut Links, slot: u32) -> Held {
-    assert!(rt; links.has_row(slot));
+    assert!(rt; has_row(links, slot));
     links.unlink(slot)
 }
 
 fn drop_owner(rt: &impl Abort, links: &mut Links, owner: u32) {
-    assert!(rt; links.has_owner(owner));
+    assert!(rt; has_owner(links, owner));
     links.drop_owner(owner);
 }
 
 fn owner_of(rt: &impl Abort, links: &Links, slot: u32) -> u32 {
-    assert!(rt; links.has_row(slot));
+    assert!(rt; has_row(links, slot));
     links.owner_of(slot)
 }
 
@@ -82,7 +80,7 @@ fn find(links: &Links, alloc: Global, name: u32) -> Result<Option<u32>, AllocErr
 }
 
 fn next(rt: &impl Abort, links: &Links, slot: u32) -> Option<u32> {
-    assert!(rt; links.has_row(slot));
+    assert!(rt; has_row(links, slot));
     links.next(slot)
 }
 
@@ -94,7 +92,7 @@ fn slots_of(
     owner: u32,
 ) -> Result<Vec<u32>, AllocError> {
     let mut slots = Vec::new(alloc);
-    assert!(rt; links.has_owner(owner));
+    assert!(rt; has_owner(links, owner));
     let mut place = links.first(owner);
     for _row in 0..links.held.len() {
         if let Some(slot) = place {
@@ -116,7 +114,7 @@ fn a_freed_slot_is_used_again(rt: HostRuntime) -> Result<(), Fail> {
     let a = insert(&rt, &mut links, 0, held(alloc, 10)?);
     let b = insert(&rt, &mut links, 0, held(alloc, 11)?);
     let c = insert(&rt, &mut links, 1, held(alloc, 12)?);
-    assert_eq!(rt; links.room(), 0);
+    assert_eq!(rt; room(&links), 0);
     assert_eq!(rt; unlink(&rt, &mut links, b), held(alloc, 11)?);
     assert_eq!(rt; slots_of(&rt, &links, alloc, 0)?.as_slice(), [a].as_slice());
     let d = insert(&rt, &mut links, 1, held(alloc, 13)?);
@@ -129,8 +127,8 @@ fn a_freed_slot_is_used_again(rt: HostRuntime) -> Result<(), Fail> {
     drop_owner(&rt, &mut links, 0);
     assert_eq!(rt; find(&links, alloc, 10)?, None);
     assert_eq!(rt; find(&links, alloc, 12)?, Some(c));
-    assert_eq!(rt; links.room(), 1);
-    assert_eq!(rt; links.owner_room(), 1);
+    assert_eq!(rt; room(&links), 1);
+    assert_eq!(rt; owner_room(&links), 1);
     Ok(())
 }
 
@@ -267,11 +265,11 @@ fn a_refused_reserve_leaves_the_rows(rt: HostRuntime) -> Result<(), Fail> {
     let a = insert(&rt, &mut links, owner, held(alloc, 1)?);
     let b = insert(&rt, &mut links, owner, held(alloc, 2)?);
     if links.reserve(3, 5).is_err() {
-        assert_eq!(rt; links.room(), 0);
-        assert_eq!(rt; links.owner_room(), 0);
+        assert_eq!(rt; room(&links), 0);
+        assert_eq!(rt; owner_room(&links), 0);
     } else {
-        assert!(rt; links.room() >= 5);
-        assert!(rt; links.owner_room() >= 3);
+        assert!(rt; room(&links) >= 5);
+        assert!(rt; owner_room(&links) >= 3);
     }
     assert_eq!(rt;
         slots_of(&rt, &links, alloc, owner)?.as_slice(),

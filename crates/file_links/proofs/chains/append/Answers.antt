@@ -1,6 +1,4 @@
-use Rattle.std.proofs.Common.{rules, ◌≡◌, ◌≢◌, ◌+◌, ◌<◌, ◌≤◌, ℕ, length, slice_index, slice_set, arith, sym, ◌∙◌, ap}
-use Rattle.file_links.specs.Linked.{follow, END}
-use Rattle.file_links.specs.Chains.{chain_count, slot_count, chain_of, AreSound, Detaches}
+use Rattle.std.proofs.Common.{arith}
 use Rattle.file_links.proofs.ChainLemmas.{last_fits, appends_made}
 use Rattle.file_links.proofs.chains.append.Goals as goal
 

@@ -1,7 +1,5 @@
-use Rattle.std.proofs.Common.{rules, ◌≡◌, ◌≢◌, ◌+◌, ◌<◌, ◌≤◌, ℕ, length, slice_index, slice_set, arith, sym, ◌∙◌, ap}
-use Rattle.file_links.specs.Linked.{follow, END}
-use Rattle.file_links.specs.Chains.{chain_count, slot_count, chain_of, AreSound, Detaches}
-use Rattle.file_links.proofs.ChainLemmas.{previous_fits, next_fits, some_counted}
+use Rattle.std.proofs.Common.{rules, arith}
+use Rattle.file_links.proofs.ChainLemmas.{previous_fits, next_fits}
 use Rattle.file_links.proofs.chains.detach.Goals as goal
 
 pub put-requires-clause-place : goal.put-requires-clause-place

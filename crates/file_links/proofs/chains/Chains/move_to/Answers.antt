@@ -1,4 +1,4 @@
-use Rattle.std.proofs.Common.{rules, ◌≡◌, ◌≢◌, ◌+◌, ◌<◌, ◌≤◌, ℕ, length, slice_index, slice_set, arith, sym, ◌∙◌, ap}
+use Rattle.std.proofs.Common.{arith}
 use Rattle.file_links.proofs.ChainLemmas.{detached_sound, appended_sound, moved}
 use Rattle.file_links.proofs.chains.Chains.move_to.Goals as goal
 

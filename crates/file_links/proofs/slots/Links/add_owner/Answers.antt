@@ -1,8 +1,8 @@
-use Rattle.std.proofs.Common.{rules, arith, sym, ◌∙◌, ap, subst, refl, ◌≡◌, ◌<◌, ◌+◌, ◌-◌, ℕ, Some, None, List, slice_get, IsSome, length}
-use Rattle.file_links.specs.Chains.{slots_in, chain_count, slot_count, chain_of, Moves}
+use Rattle.std.proofs.Common.{arith, subst, refl, ◌≡◌, Some, slice_get}
+use Rattle.file_links.specs.Chains.{slots_in}
 use Rattle.file_links.specs.Rows.{OwnedRows, AddsOwner}
 use Rattle.file_links.specs.Slots.{view_of}
-use Rattle.file_links.proofs.SlotLemmas.{first_slot, unused_empty, IsOwnerMove, owner_links, owner_begun}
+use Rattle.file_links.proofs.SlotLemmas.{first_slot, unused_empty, owner_links, owner_begun}
 use Rattle.file_links.proofs.slots.Links.add_owner.Goals as goal
 
 pub move_to-requires-clause-slot : goal.move_to-requires-clause-slot

@@ -1,8 +1,6 @@
-use Rattle.std.proofs.Common.{rules, arith, sym, ◌∙◌, ap, subst, refl, ◌≡◌, ◌<◌, ◌+◌, ◌-◌, ℕ, Some, None, List, [], slice_get, IsSome, length, option_map}
-use Rattle.file_links.specs.Chains.{slots_in, chain_count, slot_count, chain_of, Moves}
-use Rattle.file_links.specs.Rows.{OwnedRows, Entry, DropsOwner, rows_of}
-use Rattle.file_links.specs.Slots.{view_of}
-use Rattle.file_links.proofs.SlotLemmas.{DropsRows, the_rows, first_row, no_first, drops_more, fewer, empty_chain, in_use_within, IsOwnerMove, owner_links, owner_ended}
+use Rattle.std.proofs.Common.{arith, sym, ◌∙◌, ap, subst, refl, ◌≡◌, Some, None, []}
+use Rattle.file_links.specs.Rows.{OwnedRows, rows_of}
+use Rattle.file_links.proofs.SlotLemmas.{DropsRows, the_rows, first_row, no_first, drops_more, fewer, empty_chain, in_use_within, owner_links, owner_ended}
 use Rattle.file_links.proofs.slots.Links.drop_owner.Goals as goal
 
 pub unlink-requires : goal.unlink-requires

@@ -1,10 +1,7 @@
-use Rattle.std.proofs.Common.{rules, arith, sym, ◌∙◌, ap, subst, refl, ◌≡◌, ◌≢◌, ◌<◌, ◌≤◌, ◌+◌, ◌-◌, ◌⊎◌, inl, inr, ℕ, Some, None, List, [], slice_get, IsSome, IsTrue, true, length, option_map}
+use Rattle.std.proofs.Common.{arith, sym, ◌∙◌, ap, ◌≡◌, inl, inr, Some, None, slice_get, length}
 use Rattle.std.proofs.lemmas.Bool.{cases_eq}
-use Rattle.file_links.specs.declared.slots.Held.{Held}
-use Rattle.file_links.specs.Chains.{slots_in, chain_count, slot_count, chain_of}
-use Rattle.file_links.specs.Hash.{bucket_of}
-use Rattle.file_links.specs.Rows.{OwnedRows, Entry, Holds, HoldsPath}
-use Rattle.file_links.proofs.SlotLemmas.{known_holds, none_past, none_held, not_found_at, bucket_slot, step, has_at, some_same, one_path}
+use Rattle.file_links.specs.Chains.{slots_in}
+use Rattle.file_links.proofs.SlotLemmas.{known_holds, none_past, none_held, not_found_at, bucket_slot, step, some_same, one_path}
 use Rattle.file_links.proofs.slots.Links.find.Goals as goal
 
 pub returns-then-is_empty-clause-found : goal.returns-then-is_empty-clause-found

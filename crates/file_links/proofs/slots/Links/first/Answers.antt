@@ -1,4 +1,4 @@
-use Rattle.std.proofs.Common.{rules, arith, sym, ◌∙◌, ap, subst, ◌≡◌, ◌<◌, ◌+◌, IsSome, option_map, slice_get, w32, Fits, List, Some}
+use Rattle.std.proofs.Common.{arith, sym, ◌∙◌, ap, subst, ◌≡◌, ◌+◌, IsSome, Some}
 use Rattle.file_links.specs.Chains.{slots_in}
 use Rattle.file_links.specs.Rows.{OwnedRows, rows_of, slot_at}
 use Rattle.file_links.proofs.SlotLemmas.{is_owner, in_use_within, some_rows, slot_entry, all_held}

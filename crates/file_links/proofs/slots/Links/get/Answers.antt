@@ -1,5 +1,4 @@
-use Rattle.std.proofs.Common.{rules, arith, sym, ◌∙◌, ap, subst, ◌≡◌, ◌<◌, ◌+◌, ◌-◌, ℕ, Some, List, slice_get, IsSome, length}
-use Rattle.std.specs.Option.{option_copied}
+use Rattle.std.proofs.Common.{arith, Some}
 use Rattle.std.proofs.lemmas.Option.{slice_get_within}
 use Rattle.file_links.proofs.SlotLemmas.{known_held, known_holds, one_row}
 use Rattle.file_links.proofs.slots.Links.get.Goals as goal

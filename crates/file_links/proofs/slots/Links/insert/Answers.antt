@@ -1,9 +1,9 @@
-use Rattle.std.proofs.Common.{rules, arith, sym, ◌∙◌, ap, subst, refl, ◌≡◌, ◌<◌, ◌+◌, ◌-◌, ℕ, Some, List, slice_get, IsSome, length, Fits, w32}
-use Rattle.file_links.specs.Chains.{slots_in, chain_count, slot_count, chain_of, Moves}
+use Rattle.std.proofs.Common.{arith, sym, ◌∙◌, ap, subst, refl, ◌≡◌, ℕ, Some, slice_get, IsSome}
+use Rattle.file_links.specs.Chains.{slots_in, chain_count, Moves}
 use Rattle.file_links.specs.Hash.{bucket_of}
-use Rattle.file_links.specs.Rows.{OwnedRows, IsHeld, HoldsPath, Inserts, rows_of}
+use Rattle.file_links.specs.Rows.{OwnedRows, HoldsPath, Inserts, rows_of}
 use Rattle.file_links.specs.Slots.{view_of}
-use Rattle.file_links.proofs.SlotLemmas.{is_owner, in_use_within, first_slot, IsInsertion, insertion, insertion_links}
+use Rattle.file_links.proofs.SlotLemmas.{is_owner, in_use_within, first_slot, insertion, insertion_links}
 use Rattle.file_links.proofs.slots.Links.insert.Goals as goal
 
 pub bucket_of-bucket-requires-clause-chains : goal.bucket_of-bucket-requires-clause-chains

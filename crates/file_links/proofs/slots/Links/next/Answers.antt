@@ -1,5 +1,5 @@
-use Rattle.std.proofs.Common.{rules, arith, sym, ◌∙◌, ap, subst, ◌≡◌, ◌<◌, ◌+◌, Some, List, slice_get}
-use Rattle.file_links.specs.Chains.{slots_in, chain_of}
+use Rattle.std.proofs.Common.{sym, ◌∙◌, ap, subst, ◌≡◌, ◌+◌, Some, slice_get}
+use Rattle.file_links.specs.Chains.{slots_in}
 use Rattle.file_links.specs.Rows.{OwnedRows, rows_of, slot_at}
 use Rattle.file_links.proofs.SlotLemmas.{known_held, slot_within, some_rows, slot_entry, all_held, in_use_within, step}
 use Rattle.file_links.proofs.slots.Links.next.Goals as goal

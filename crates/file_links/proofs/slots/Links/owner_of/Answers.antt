@@ -1,5 +1,4 @@
-use Rattle.std.proofs.Common.{rules, arith, sym, ◌∙◌, ap, subst, ◌≡◌, ◌<◌, ◌+◌, ◌-◌, ℕ, Some, List}
-use Rattle.file_links.specs.Chains.{slots_in, chain_of}
+use Rattle.std.proofs.Common.{arith, sym, subst, ◌+◌, Some}
 use Rattle.file_links.specs.Rows.{OwnedRows, Owns}
 use Rattle.file_links.proofs.SlotLemmas.{known_held, slot_within, holds_slot, in_use_within}
 use Rattle.file_links.proofs.slots.Links.owner_of.Goals as goal

@@ -1,10 +1,10 @@
-use Rattle.std.proofs.Common.{rules, arith, sym, ◌∙◌, ap, subst, refl, ◌≡◌, ◌≤◌, ◌+◌, ◌++◌, ℕ, List, Option, None, length, replicate, OnErr}
+use Rattle.std.proofs.Common.{arith, ◌∙◌, ap, subst, refl, ◌≡◌, ◌+◌, ◌++◌, ℕ, List, Option, None, replicate}
 use Rattle.file_links.specs.declared.slots.Held.{Held}
 use Rattle.file_links.specs.Chains.{Grows}
 use Rattle.file_links.specs.Buckets.{AreBuckets}
 use Rattle.file_links.specs.Rows.{OwnedRows, Reserves}
 use Rattle.file_links.specs.Slots.{view_of}
-use Rattle.file_links.proofs.GrowLemmas.{IsGrowth, growth_links, growth, held_links, held_view}
+use Rattle.file_links.proofs.GrowLemmas.{growth_links, growth, held_links, held_view}
 use Rattle.file_links.proofs.slots.Links.reserve.Goals as goal
 
 pub invariant_of-self : goal.invariant_of-self

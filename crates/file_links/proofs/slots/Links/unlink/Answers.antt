@@ -1,8 +1,8 @@
-use Rattle.std.proofs.Common.{rules, arith, sym, ◌∙◌, ap, subst, refl, ◌≡◌, ◌<◌, ◌+◌, ◌-◌, ℕ, Some, List, slice_get, IsSome, length}
+use Rattle.std.proofs.Common.{arith, sym, subst, refl, Some}
 use Rattle.std.proofs.lemmas.Option.{slice_get_within}
 use Rattle.file_links.specs.Rows.{OwnedRows, IsHeld, Unlinks}
 use Rattle.file_links.specs.Slots.{view_of}
-use Rattle.file_links.proofs.SlotLemmas.{known_held, known_holds, one_row, slot_within, IsRemoval, removal, removal_links}
+use Rattle.file_links.proofs.SlotLemmas.{known_held, known_holds, one_row, slot_within, removal, removal_links}
 use Rattle.file_links.proofs.slots.Links.unlink.Goals as goal
 
 pub move_to-requires-clause-slot : goal.move_to-requires-clause-slot
