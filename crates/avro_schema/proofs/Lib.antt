@@ -4,6 +4,8 @@ pub mod Turns
 pub mod WrittenItems
 pub mod Flat
 pub mod Sound
+pub mod Complete
+pub mod OwnNames
 pub mod Texts
 pub mod Dots
 pub mod Repeats

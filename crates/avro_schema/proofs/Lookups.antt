@@ -1,9 +1,9 @@
 -- Looking names up.
-use Rattle.std.proofs.Common.{◌≡◌, ℕ, Bool, true, false, cond, List, [], ◌∷◌, ◌++◌, Option, None, Some, refl, ap, option_map}
+use Rattle.std.proofs.Common.{◌≡◌, ℕ, Bool, true, false, cond, List, [], ◌∷◌, Some, refl, ap, option_map}
 use Rattle.std.specs.Str.{bytes_eq}
 use Rattle.std.specs.Map.{lookup}
 use Rattle.avro_schema.specs.declared.schema.Schema.{Schema}
-use Rattle.avro_schema.specs.Tree.{tree_of, SchemaTree}
+use Rattle.avro_schema.specs.Tree.{tree_of}
 use Rattle.indexmap.specs.IndexMap.{insert_entry}
 use Rattle.avro_schema.specs.Names.{Definition, definition_of, with_definition}
 use Rattle.avro_schema.specs.State.{definitions_of}

@@ -6,7 +6,7 @@ use Rattle.std.proofs.Math.Bool.{and-false}
 use Rattle.std.proofs.lemmas.Cmp.{nat_list_eq_equiv}
 use Rattle.std.proofs.lemmas.List.Folds.{list_any-append, list_any_at}
 use Rattle.avro_schema.specs.declared.schema.Schema.{the_lemmas}
-use Rattle.avro_schema.specs.declared.schema.Field.{Field, out-Field, fold_out-Field}
+use Rattle.avro_schema.specs.declared.schema.Field.{Field}
 use Rattle.avro_schema.specs.Tree.{field_of}
 use Rattle.avro_schema.specs.Names.{are_distinct}
 use Rattle.avro_schema.specs.Reading.{field_name}

@@ -1,7 +1,6 @@
 -- What is read is declared.
-use Rattle.std.proofs.Common.{◌≡◌, ℕ, zero, suc, ◌+◌, ◌-◌, ◌<◌, ◌≤◌, Bool, true, false, ◌||◌, ◌&&◌, not, cond, List, [], ◌∷◌, ◌++◌, length, take, map, Option, Some, None, Result, Ok, Err, ℤ, refl, ap, sym, subst, ◌∙◌, inl, inr, arith, add-one, codes, is_some, option_map}
+use Rattle.std.proofs.Common.{◌≡◌, ℕ, zero, suc, ◌+◌, ◌-◌, ◌<◌, ◌≤◌, Bool, true, false, ◌||◌, ◌&&◌, not, cond, List, [], ◌∷◌, ◌++◌, length, take, map, Option, Some, None, Ok, Err, ℤ, refl, ap, subst, ◌∙◌, inl, inr, arith, codes, is_some}
 use Rattle.std.specs.Prelude.{nat_lt, ◌==◌}
-use Rattle.std.specs.List.{list_any}
 use Rattle.std.specs.Str.{bytes_eq}
 use Rattle.std.proofs.lemmas.Bool.{eqb-false, ltb-false}
 use Rattle.std.proofs.lemmas.Slice.Eq.{bytes_eq-Decides}
@@ -10,14 +9,14 @@ use Rattle.serde_json.specs.Find.{get, as_str, as_array}
 use Rattle.lake_basics.specs.Outcome.{◌>>=◌, each}
 use Rattle.json_reading.specs.Json.{text_member, list_member, items, text}
 use Rattle.avro_schema.specs.declared.error.SchemaFault.TheVariants.{BadSchema, Recursive}
-use Rattle.avro_schema.specs.Tree.{SchemaTree, schema_tree, ShapeTree, BranchTrees, branch, branches_of, FieldTrees, field, FieldTree, fields_of}
+use Rattle.avro_schema.specs.Tree.{SchemaTree, schema_tree, ShapeTree, branches_of, FieldTree, fields_of}
 use Rattle.avro_schema.specs.Sizes.{level_count, shape_level_count, branch_level_count, field_level_count, type_count, shape_type_count, branch_type_count, field_type_count}
-use Rattle.avro_schema.specs.Names.{full_name, namespace_of, primitive_of, is_name, Definition, definition_of, with_definition, are_distinct}
-use Rattle.avro_schema.specs.Reading.{Reading, State, SchemaRead, Reader, needed, checked, size_member, id_member, space_in, is_open, is_new, proper_name, new_name, counted, used_type, used_name, one_type, word_or_name, annotated, defined, fixed_type, symbols_in, enum_type, array_type, map_type, field_type, field_name, in_turn, record_with, record_type, other_type, object_type, single_type, union_type, type_by, type_with, type_at}
-use Rattle.avro_schema.specs.Grammar.{Place, inside, IsNoComplexWord, Annotates, IsPrimitive, SaysName, StandsFor, DefinesName, SaysType, field_names, Declares, DeclaresComplex, DeclaresBranches, DeclaresFields}
+use Rattle.avro_schema.specs.Names.{full_name, namespace_of, primitive_of, is_name, definition_of, are_distinct}
+use Rattle.avro_schema.specs.Reading.{Reading, State, SchemaRead, Reader, needed, checked, size_member, id_member, space_in, is_open, is_new, proper_name, new_name, counted, used_type, used_name, one_type, word_or_name, annotated, defined, fixed_type, symbols_in, enum_type, array_type, map_type, field_type, field_name, in_turn, record_type, other_type, object_type, single_type, union_type, type_by, type_at}
+use Rattle.avro_schema.specs.Grammar.{Place, is_a_fault, IsNoComplexWord, IsPrimitive, SaysName, DefinesName, SaysType, field_names, Declares, DeclaresBranches, DeclaresFields}
 
 abbrev pub place : List ℕ → State → Place
-place space st = record { space = space; open_names = st.open_names }
+place space st = record { space = space; open_names = st.open_names; own_use = is_a_fault }
 
 -- The schema was found in these levels, with so many of its types counted before.
 pub record Found (space : List ℕ) (d : Data) (st : State) (t : SchemaTree) (after : State) (n : ℕ) (before : ℕ) : Type 0 where
@@ -64,13 +63,13 @@ pick : (P : ShapeTree → Type 0) (b : Bool) (x shape : ShapeTree) (o : Option S
 pick P true x shape o here later e = let same : x ≡ shape = cc in subst P same here
 pick P false x shape o here later e = later e
 
-IsLeaf : ShapeTree → Type 0
+unfoldable pub IsLeaf : ShapeTree → Type 0
 IsLeaf shape = (shape_type_count shape ≡ 0) × (shape_level_count shape ≡ 1)
 
 no_shape : (shape : ShapeTree) → ◌≡◌ {A = Option ShapeTree} None (Some shape) → IsLeaf shape
 no_shape shape e = absurd cc
 
-leaf : (word : List ℕ) (shape : ShapeTree) → primitive_of word ≡ Some shape → IsLeaf shape
+pub leaf : (word : List ℕ) (shape : ShapeTree) → primitive_of word ≡ Some shape → IsLeaf shape
 unfolding IsLeaf
 leaf word shape = pick IsLeaf (bytes_eq word (codes "null")) ShapeTree.null shape _ (refl, refl) (pick IsLeaf (bytes_eq word (codes "boolean")) ShapeTree.boolean shape _ (refl, refl) (pick IsLeaf (bytes_eq word (codes "int")) ShapeTree.int shape _ (refl, refl) (pick IsLeaf (bytes_eq word (codes "long")) ShapeTree.long shape _ (refl, refl) (pick IsLeaf (bytes_eq word (codes "float")) ShapeTree.float shape _ (refl, refl) (pick IsLeaf (bytes_eq word (codes "double")) ShapeTree.double shape _ (refl, refl) (pick IsLeaf (bytes_eq word (codes "bytes")) ShapeTree.bytes shape _ (refl, refl) (pick IsLeaf (bytes_eq word (codes "string")) ShapeTree.text shape _ (refl, refl) (no_shape shape))))))))
 
@@ -98,7 +97,7 @@ fits_by space d st name u t after left false is declares e =
 
 used_by : (space : List ℕ) (d : Data) (st : State) (name : List ℕ) (t : SchemaTree) (after : State) (left : ℕ) (o : Option SchemaTree) → SaysName d name → is_open (full_name space name) st ≡ false → definition_of (full_name space name) st.definitions ≡ o → used_type left o st ≡ Ok (t, after) → Found space d st t after left 0
 used_by space d st name t after left None says closed is e = absurd cc
-used_by space d st name t after left (Some (schema_tree shape l p s)) says closed is e = fits_by space d st name (schema_tree shape l p s) t after left _ refl (inr (inl (name, says, (closed, is), refl))) e
+used_by space d st name t after left (Some (schema_tree shape l p s)) says closed is e = fits_by space d st name (schema_tree shape l p s) t after left _ refl (inr (inl (name, says, inl (closed, is), refl))) e
 
 open_by : (space : List ℕ) (d : Data) (st : State) (name : List ℕ) (t : SchemaTree) (after : State) (left : ℕ) (b : Bool) → SaysName d name → is_open (full_name space name) st ≡ b → cond b (Err Recursive) (used_type left (definition_of (full_name space name) st.definitions) st) ≡ Ok (t, after) → Found space d st t after left 0
 open_by space d st name t after left true says is e = absurd cc
@@ -126,7 +125,7 @@ fresh_parts true o e = absurd cc
 fresh_parts false None e = (refl, refl)
 fresh_parts false (Some t) e = absurd cc
 
-name_found : (space : List ℕ) (d : Data) (st : State) (name : List ℕ) → new_name space d st ≡ Ok name → DefinesName (place space st) st.definitions d name
+pub name_found : (space : List ℕ) (d : Data) (st : State) (name : List ℕ) → new_name space d st ≡ Ok name → DefinesName (place space st) st.definitions d name
 name_found space d st name e =
     let a = bound (proper_name d) _ _ e in
     let full = full_name (space_in (text_member (codes "namespace") d) space) a.0 in
@@ -135,7 +134,7 @@ name_found space d st name e =
     let fresh = fresh_parts _ _ (checked_is _ _ b.1) in
     let same : full ≡ name = ok_is _ _ b.2 in
     let P : List ℕ → Type 0 = λ x. DefinesName (place space st) st.definitions d x in
-    subst P same (a.0, proper.0, proper.1, refl, fresh.0, fresh.1)
+    subst P same ((a.0, proper.0, proper.1, refl), fresh.0, fresh.1)
 
 fixed_found : (n : ℕ) (space : List ℕ) (d : Data) (st : State) (t : SchemaTree) (after : State) → SaysType d (codes "fixed") → fixed_type space d st ≡ Ok (t, after) → Found space d st t after (suc n) 1
 fixed_found n space d st t after says e =
@@ -222,7 +221,7 @@ fields_after space d ds st name part t id next fs after n named typed identified
     let levels_rest : field_level_count (fields_of fs) ≤ n = rest.levels in
     let types : next.budget + type_count t ≡ st.budget + 0 = h.types in
     let types_rest : after.budget + field_type_count (fields_of fs) ≡ next.budget = rest.types in
-    let O : List (List ℕ) → Type 0 = λ o. DeclaresFields (record { space = space; open_names = o }) next.definitions ds (fields_of fs) after.definitions in
+    let O : List (List ℕ) → Type 0 = λ o. DeclaresFields (record { space = space; open_names = o; own_use = is_a_fault }) next.definitions ds (fields_of fs) after.definitions in
     record {
       declares = (named, identified, (part, next.definitions, typed, h.declares, subst O h.same_open rest.declares));
       same_open = rest.same_open ∙ h.same_open;
@@ -253,11 +252,11 @@ fields_found n finds space (d ∷ ds) st fs after e =
 
 -- ---- all of them
 
-chosen : {R : Type 0} (P : Type 0) (b : Bool) (x y z : R) → (b ≡ true → x ≡ z → P) → (b ≡ false → y ≡ z → P) → cond b x y ≡ z → P
+pub chosen : {R : Type 0} (P : Type 0) (b : Bool) (x y z : R) → (b ≡ true → x ≡ z → P) → (b ≡ false → y ≡ z → P) → cond b x y ≡ z → P
 chosen P true x y z f g e = f refl e
 chosen P false x y z f g e = g refl e
 
-take_front : (xs ys : List (List ℕ)) → take (length xs) (xs ++ ys) ≡ xs
+pub take_front : (xs ys : List (List ℕ)) → take (length xs) (xs ++ ys) ≡ xs
 take_front [] ys = refl
 take_front (x ∷ xs) ys = ap (λ (zs : List (List ℕ)). x ∷ zs) (take_front xs ys)
 
@@ -286,7 +285,7 @@ other_found : (n : ℕ) (space : List ℕ) (d : Data) (word : List ℕ) (st : St
 other_found n space d word st t after (Some shape) says plain is e = leaf_found space d st word shape _ _ _ t after n (word, is, inr (says, plain, (refl, refl, refl))) (leaf word shape is) e
 other_found n space d word st t after None says plain is e = used_found space d st word t after (suc n) (is, inr (says, plain)) e
 
-word_is : (d : Data) (word other : List ℕ) → SaysType d word → bytes_eq word other ≡ true → SaysType d other
+pub word_is : (d : Data) (word other : List ℕ) → SaysType d word → bytes_eq word other ≡ true → SaysType d other
 word_is d word other says same = says ∙ ap Some ((bytes_eq-Decides word other).0 same)
 
 object_found : (n : ℕ) → Finds (type_at n) n → (space : List ℕ) (d : Data) (word : List ℕ) (st : State) (t : SchemaTree) (after : State) → SaysType d word → object_type (suc n) (type_at n) space d word st ≡ Ok (t, after) → Found space d st t after (suc n) 0
@@ -299,7 +298,7 @@ object_found n finds space d word st t after says =
     chosen P (bytes_eq word (codes "map")) _ _ _ (λ is r. counted_found _ space d st t after (suc n) (λ s f. map_found n finds space d s t after (word_is d word _ says is) f) r) (λ no4 r.
     other_found n space d word st t after _ says (no0, no1, no2, no3, no4) refl r)))))
 
-single_found : (n : ℕ) → Finds (type_at n) n → (space : List ℕ) (d : Data) (st : State) (t : SchemaTree) (after : State) → single_type (suc n) (type_at n) space d st ≡ Ok (t, after) → Found space d st t after (suc n) 0
+pub single_found : (n : ℕ) → Finds (type_at n) n → (space : List ℕ) (d : Data) (st : State) (t : SchemaTree) (after : State) → single_type (suc n) (type_at n) space d st ≡ Ok (t, after) → Found space d st t after (suc n) 0
 single_found n finds space null st t after e = absurd cc
 single_found n finds space (boolean b) st t after e = absurd cc
 single_found n finds space (number x) st t after e = absurd cc
@@ -338,7 +337,7 @@ branches_found n finds space (d ∷ ds) st ts after e =
     let types : one.0.1.budget + type_count one.0.0 ≡ st.budget + 0 = h.types in
     let types_rest : more.0.1.budget + branch_type_count (branches_of more.0.0) ≡ one.0.1.budget = rest.types in
     let same : ◌≡◌ {A = List SchemaTree × State} (one.0.0 ∷ more.0.0, more.0.1) (ts, after) = ok_is _ _ more.2 in
-    let O : List (List ℕ) → Type 0 = λ o. DeclaresBranches (record { space = space; open_names = o }) one.0.1.definitions ds (branches_of more.0.0) more.0.1.definitions in
+    let O : List (List ℕ) → Type 0 = λ o. DeclaresBranches (record { space = space; open_names = o; own_use = is_a_fault }) one.0.1.definitions ds (branches_of more.0.0) more.0.1.definitions in
     let P : List SchemaTree × State → Type 0 = λ x. BranchesFound space (d ∷ ds) st x.0 x.1 (suc n) in
     subst P same (record {
       declares = (no_array n space d st one.0 one.1, (one.0.1.definitions, h.declares, subst O h.same_open rest.declares));

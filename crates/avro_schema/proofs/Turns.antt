@@ -1,5 +1,5 @@
 -- A loop that reads one after another: what it has read, before what the rest gives.
-use Rattle.std.proofs.Common.{◌≡◌, List, [], ◌∷◌, ◌++◌, Result, Ok, Err}
+use Rattle.std.proofs.Common.{List, ◌++◌, Ok}
 use Rattle.lake_basics.specs.Outcome.{◌>>=◌}
 use Rattle.avro_schema.specs.Reading.{State, Reading}
 

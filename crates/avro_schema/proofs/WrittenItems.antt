@@ -1,11 +1,11 @@
 -- A loop that writes items: what it has written, before what is written of the rest.
-use Rattle.std.proofs.Common.{◌≡◌, ℕ, suc, ◌+◌, ◌<◌, ◌≤◌, List, [], ◌∷◌, ◌++◌, length, get_or, drop, map, Option, ℤ, refl, ap, sym, subst, ◌∙◌, add-one, arith, rules, drop-cons}
+use Rattle.std.proofs.Common.{◌≡◌, ℕ, suc, ◌+◌, ◌<◌, ◌≤◌, List, [], ◌∷◌, ◌++◌, length, get_or, drop, map, Option, ℤ, refl, ap, sym, subst, ◌∙◌, add-one, rules, drop-cons}
 use Rattle.std.proofs.Math.ListN.{drop_of_length-le}
 use Rattle.serde_json.specs.Data.{Data, Items, no_items, item}
 use Rattle.serde_json.specs.View.{view, items_view}
 use Rattle.serde_json.specs.declared.value.Value.{Value}
 use Rattle.avro_schema.specs.declared.schema.Schema.{Schema, the_lemmas}
-use Rattle.avro_schema.specs.declared.schema.Field.{Field, out-Field, fold_out-Field}
+use Rattle.avro_schema.specs.declared.schema.Field.{Field}
 use Rattle.avro_schema.specs.Tree.{SchemaTree, BranchTrees, branch, FieldTrees, field, FieldTree, tree_of, field_of, branches_of, fields_of}
 use Rattle.avro_schema.specs.Writing.{Written, written_as, schema_json, branches_json, fields_json, field_json}
 

@@ -1,26 +1,40 @@
 -- Which schema a JSON value is (Avro specification, "Schema Declaration" and "Names"). A text is read
 -- depth-first, and a name stands for a type that was defined before it.
-use Rattle.std.specs.Prelude.{◌≡◌, ◌≤◌, ℕ, ◌⊎◌, List, [], ◌∷◌, ◌++◌, map, Bool, true, false, Option, Some, None, Ok, Err, codes}
+use Rattle.std.specs.Prelude.{◌≡◌, ◌≤◌, ℕ, ◌⊎◌, List, [], ◌∷◌, ◌++◌, map, true, false, Option, Some, None, Ok, codes}
 use Rattle.std.specs.List.{list_any}
 use Rattle.std.specs.Str.{bytes_eq}
-use Rattle.serde_json.specs.Data.{Data, string, array, Items}
+use Rattle.serde_json.specs.Data.{Data, string, Items}
 use Rattle.serde_json.specs.Find.{get, as_array}
-use Rattle.lake_basics.specs.Outcome.{each}
 use Rattle.json_reading.specs.Json.{json, text_member, list_member, items}
 use Rattle.avro_schema.specs.Tree.{SchemaTree, schema_tree, ShapeTree, BranchTrees, no_branches, branch, FieldTrees, no_fields, field}
 use Rattle.avro_schema.specs.Sizes.{max_levels, max_types, level_count, type_count}
 use Rattle.avro_schema.specs.Names.{full_name, namespace_of, primitive_of, is_name, Definition, definition_of, with_definition, are_distinct}
 use Rattle.avro_schema.specs.Reading.{size_member, id_member, space_in}
 
--- where a type stands: the namespace of the named type around it, and the full names of the types
--- that are being defined around it, the outermost first
+-- What the use of a name inside its own definition is taken for. A schema has no such use. Where
+-- other faults are looked for, it may stand for any type.
+pub data OwnUse : Type 0 where
+  is_a_fault : OwnUse
+  is_any_type : OwnUse
+
+-- where a type stands: the namespace of the named type around it, the full names of the types that
+-- are being defined around it, the outermost first, and what a use of those is taken for
 pub record Place : Type 0 where
   pub space : List ℕ
   pub open_names : List (List ℕ)
+  pub own_use : OwnUse
 
 -- inside the definition of that full name
 abbrev pub inside : Place → List ℕ → Place
-inside at name = record { space = namespace_of name; open_names = at.open_names ++ name ∷ [] }
+inside at name = record { space = namespace_of name; open_names = at.open_names ++ name ∷ []; own_use = at.own_use }
+
+-- The place is inside the definition of that full name.
+abbrev pub IsInside : Place → List ℕ → Type 0
+IsInside at name = list_any (bytes_eq name) at.open_names ≡ true
+
+-- The place is not inside the definition of that full name.
+abbrev pub IsOutside : Place → List ℕ → Type 0
+IsOutside at name = list_any (bytes_eq name) at.open_names ≡ false
 
 -- None of the words by which an object says which complex type it is.
 abbrev pub IsNoComplexWord : List ℕ → Type 0
@@ -42,13 +56,16 @@ SaysName d name = (primitive_of name ≡ None) × ((d ≡ string name) ⊎ ((tex
 
 -- The full name stands for the type: it was defined before, and isn't used inside its definition.
 abbrev pub StandsFor : Place → List Definition → List ℕ → SchemaTree → Type 0
-StandsFor at before name t = (list_any (bytes_eq name) at.open_names ≡ false) × (definition_of name before ≡ Some t)
+StandsFor at before name t = (IsOutside at name × (definition_of name before ≡ Some t)) ⊎ (IsInside at name × (at.own_use ≡ is_any_type))
+
+-- The object has this full name.
+abbrev pub IsNamed : Place → Data → List ℕ → Type 0
+IsNamed at d name = (own : List ℕ) × (text_member (codes "name") d ≡ Some own) × (is_name own ≡ true)
+    × (name ≡ full_name (space_in (text_member (codes "namespace") d) at.space) own)
 
 -- The object defines this full name, which has no type yet.
 abbrev pub DefinesName : Place → List Definition → Data → List ℕ → Type 0
-DefinesName at before d name = (own : List ℕ) × (text_member (codes "name") d ≡ Some own) × (is_name own ≡ true)
-    × (name ≡ full_name (space_in (text_member (codes "namespace") d) at.space) own)
-    × (list_any (bytes_eq name) at.open_names ≡ false) × (definition_of name before ≡ None)
+DefinesName at before d name = IsNamed at d name × IsOutside at name × (definition_of name before ≡ None)
 
 -- The object says its type by that word.
 abbrev pub SaysType : Data → List ℕ → Type 0
@@ -103,14 +120,18 @@ abbrev mutual
   DeclaresFields at before (d ∷ ds) (field name t id fs) after = (text_member (codes "name") d ≡ Some name) × (id_member (codes "field-id") d ≡ Ok id)
       × ((part : Data) × (between : List Definition) × (get (codes "type") d ≡ Some part) × Declares at before part t between × DeclaresFields at between ds fs after)
 
-abbrev pub top : Place
-top = record { space = []; open_names = [] }
+abbrev pub top : OwnUse → Place
+top own_use = record { space = []; open_names = []; own_use = own_use }
 
--- The bytes are a text of the schema.
-pub record IsSchemaText (bytes : List ℕ) (t : SchemaTree) : Type 0 where
+-- The bytes are a text of the schema, where the use of a name inside its own definition is taken so.
+pub record IsTextOf (own_use : OwnUse) (bytes : List ℕ) (t : SchemaTree) : Type 0 where
   pub value : Data
   pub behind : List Definition
   pub reads : json bytes ≡ Some value
-  pub declares : Declares top [] value t behind
+  pub declares : Declares (top own_use) [] value t behind
   pub levels : level_count t ≤ max_levels
   pub types : type_count t ≤ max_types
+
+-- The bytes are a text of the schema.
+abbrev pub IsSchemaText : List ℕ → SchemaTree → Type 0
+IsSchemaText = IsTextOf is_a_fault

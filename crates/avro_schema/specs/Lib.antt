@@ -3,6 +3,7 @@ pub mod Sizes
 pub mod Names
 pub mod Reading
 pub mod Grammar
+pub mod Refusals
 pub mod State
 pub mod Writing
 pub mod Spelled

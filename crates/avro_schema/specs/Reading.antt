@@ -1,10 +1,10 @@
 -- The schema that a JSON value is, read depth-first, and the first fault where it is none: the
 -- function that `Schema::from_json` gives. Grammar.antt says what it means.
-use Rattle.std.specs.Prelude.{◌≡◌, ℕ, ℤ, pos, negsuc, nat_le, zero, suc, ◌+◌, ◌-◌, ◌==◌, ◌||◌, ◌&&◌, not, List, [], ◌∷◌, ◌++◌, map, length, take, Bool, true, false, Option, Some, None, option_map, option_and_then, is_some, Result, Ok, Err, nat_lt, if◌then◌else◌, codes}
+use Rattle.std.specs.Prelude.{ℕ, ℤ, pos, negsuc, nat_le, zero, suc, ◌-◌, ◌==◌, ◌||◌, ◌&&◌, not, List, [], ◌∷◌, ◌++◌, map, length, take, Bool, true, false, Option, Some, None, option_map, option_and_then, is_some, Result, Ok, Err, nat_lt, if◌then◌else◌, codes}
 use Rattle.std.specs.List.{list_any}
 use Rattle.std.specs.Str.{bytes_eq}
 use Rattle.serde_json.specs.Data.{Data, null, boolean, number, string, array, object, Items}
-use Rattle.serde_json.specs.Find.{get, as_str, as_array}
+use Rattle.serde_json.specs.Find.{get, as_array}
 use Rattle.lake_basics.specs.Outcome.{◌>>=◌, required, each, with_fault}
 use Rattle.avro_schema.specs.declared.error.SchemaFault.{SchemaFault}
 use Rattle.avro_schema.specs.declared.error.SchemaFault.TheVariants.{BadSchema, Recursive}

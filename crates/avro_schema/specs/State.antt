@@ -1,5 +1,5 @@
 -- What a schema text has defined so far, as the reading sees it.
-use Rattle.std.specs.Prelude.{ℕ, List, [], ◌∷◌, map}
+use Rattle.std.specs.Prelude.{ℕ, List, [], ◌∷◌}
 use Rattle.avro_schema.specs.declared.schema.Schema.{Schema}
 use Rattle.avro_schema.specs.declared.definitions.Definitions.{Definitions}
 use Rattle.avro_schema.specs.Tree.{tree_of}

@@ -5,12 +5,15 @@ ghost use Rattle.avro_schema.specs.declared.error.SchemaError.TheVariants.{Memor
 use std::alloc::AllocError;
 
 /// Why no schema was read, or none written.
-#[derive(Clone, Copy, Debug, PartialEq, Eq)]
+#[derive(Clone, Copy, Debug, PartialEq, Eq, thiserror::Error)]
 pub enum SchemaError {
+    #[error("out of memory")]
     Memory,
     /// The text is no schema, for another cause than `Recursive`.
+    #[error("the text is no Avro schema")]
     BadSchema,
     /// A name is used inside its own definition.
+    #[error("a name is used inside its own definition")]
     Recursive,
 }
 

@@ -6,10 +6,11 @@ ghost use Rattle.serde_json.specs.Written.{compact_text, has_float};
 ghost use Rattle.json_reading.specs.Json.{json};
 ghost use Rattle.serde_json.specs.View.{view};
 ghost use Rattle.lake_basics.specs.Outcome.{Gives, GivesUnlessMemory};
-ghost use Rattle.avro_schema.specs.Tree.{tree_of};
+ghost use Rattle.avro_schema.specs.Tree.{SchemaTree, tree_of};
 ghost use Rattle.avro_schema.specs.Reading.{tree_at, schema_of, text_tree, is_memory};
 ghost use Rattle.avro_schema.specs.Writing.{json_of};
 ghost use Rattle.avro_schema.specs.Grammar.{IsSchemaText};
+ghost use Rattle.avro_schema.specs.Refusals.{IsRefused};
 ghost use Rattle.avro_schema.specs.Spelled.{IsSpelled};
 
 use crate::definitions::Definitions;
@@ -28,7 +29,11 @@ impl Schema {
     /// of Apache Iceberg.
     pub fn from_json(alloc: Global, bytes: &[u8]) -> Result<Schema, SchemaError>
         ensures exact { GivesUnlessMemory is_memory tree_of result (schema_of bytes.now) }
+        // What is read is a schema of the text, and a text of a schema is read as it.
         ensures found { IfOk result (λ s. IsSchemaText bytes.now (tree_of s)) }
+        ensures reads { (t : SchemaTree) → IsSchemaText bytes.now t → schema_of bytes.now ≡ Ok t }
+        // A refusal names a fault that the text has.
+        ensures refused { IfErr result (λ e. IsRefused bytes.now e) }
     {
         match read_schema(alloc, bytes) {
             Ok(schema) => Ok(schema),

@@ -17,11 +17,12 @@ use crate::input::Input;
 use crate::value::Value;
 use crate::{item, reader, writer};
 use avro_schema::Schema;
+use lake_basics::limits::MAX_AVRO_VALUES;
 use lake_basics::{Blob, ReadError};
 use std::alloc::Global;
 
 /// As many values may be made in one call.
-pub const MAX_VALUES: usize = 16_777_216;
+pub const MAX_VALUES: usize = MAX_AVRO_VALUES as usize;
 
 /// The fault at its place in an input of that length.
 fn error(fault: FaultAt, len: usize) -> AvroError

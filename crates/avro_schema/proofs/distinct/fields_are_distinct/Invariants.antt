@@ -1,4 +1,4 @@
-use Rattle.std.proofs.Common.{◌≡◌, Bool, true, map, take}
+use Rattle.std.proofs.Common.{◌≡◌, true, map, take}
 use Rattle.avro_schema.specs.Tree.{field_of}
 use Rattle.avro_schema.specs.Names.{are_distinct}
 use Rattle.avro_schema.specs.Reading.{field_name}

@@ -1,7 +1,5 @@
-use Rattle.std.proofs.Common.{◌≡◌, Bool, true, map, take}
-use Rattle.avro_schema.specs.Tree.{field_of}
+use Rattle.std.proofs.Common.{◌≡◌, true, map, take}
 use Rattle.avro_schema.specs.Names.{are_distinct}
-use Rattle.avro_schema.specs.Reading.{field_name}
 use Rattle.avro_schema.proofs.distinct.texts_are_distinct.Given as goal
 
 abbrev pub invariant-loop-text : goal.invariant-loop-text

@@ -1,4 +1,4 @@
-use Rattle.std.proofs.Common.{◌≡◌, ◌≤◌, ◌↔◌, drop, map}
+use Rattle.std.proofs.Common.{◌≤◌, ◌↔◌, drop, map}
 use Rattle.avro_schema.specs.Tree.{tree_of, field_of, branches_of, fields_of}
 use Rattle.avro_schema.specs.Sizes.{branch_level_count, field_level_count}
 use Rattle.avro_schema.proofs.size.+levels.Given as goal
