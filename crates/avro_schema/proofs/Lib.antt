@@ -6,6 +6,10 @@ pub mod Flat
 pub mod Sound
 pub mod Complete
 pub mod OwnNames
+pub mod WrittenMembers
+pub mod Respelled
+pub mod Depths
+pub mod Plain
 pub mod Texts
 pub mod Dots
 pub mod Repeats

@@ -10,10 +10,13 @@ use Rattle.json_reading.specs.Json.{json}
 use Rattle.avro_schema.specs.Tree.{SchemaTree}
 use Rattle.avro_schema.specs.Sizes.{max_levels, max_types, type_count}
 use Rattle.avro_schema.specs.Reading.{Reading, start, type_at, tree_at, text_tree, schema_of, error_of, needed}
-use Rattle.avro_schema.specs.Grammar.{OwnUse, is_a_fault, is_any_type, IsTextOf, IsSchemaText}
+use Rattle.avro_schema.specs.Grammar.{top, OwnUse, is_a_fault, is_any_type, IsTextOf, IsSchemaText}
 use Rattle.avro_schema.specs.Refusals.{IsRecursive, HasOtherFault}
 use Rattle.avro_schema.proofs.Sound.{finds, bound, needed_is, ok_is}
 use Rattle.avro_schema.proofs.Complete.{Meets, meets, meets_then}
+use Rattle.avro_schema.specs.Writing.{json_of}
+use Rattle.avro_schema.specs.Spelled.{IsSpelled}
+use Rattle.avro_schema.proofs.Respelled.{spelt}
 use Rattle.avro_schema.proofs.OwnNames.{uses, passed_needed, passed_last}
 
 tree_found : (bytes : List ℕ) (d : Data) (t : SchemaTree) → json bytes ≡ Some d → tree_at d ≡ Ok t → IsSchemaText bytes t
@@ -67,3 +70,9 @@ unfolding tree_at
 recursive_text bytes e =
     let a = passed_needed (json bytes) tree_at e in
     (a.0, a.1, uses max_levels [] a.0 start (passed_last (type_at max_levels [] a.0 start) (λ t. t.0) a.2))
+
+-- The text that says the JSON of a schema is one of the schema.
+pub spelled_text : (bytes : List ℕ) (t : SchemaTree) → json bytes ≡ Some (json_of t) → IsSpelled t → schema_of bytes ≡ Ok t
+spelled_text bytes t e s =
+    let declared = spelt (top is_a_fault) [] t s.behind s.stands in
+    text_read bytes t (record { value = json_of t; behind = s.behind; reads = e; declares = declared.0; levels = s.levels; types = s.types })

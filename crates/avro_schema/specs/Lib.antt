@@ -7,3 +7,4 @@ pub mod Refusals
 pub mod State
 pub mod Writing
 pub mod Spelled
+pub mod Plain

@@ -41,7 +41,7 @@ checked test = if test then Ok tt else Err BadSchema
 
 -- ---- numbers and texts
 
-abbrev below_2_31 : ℤ → Option ℕ
+abbrev pub below_2_31 : ℤ → Option ℕ
 below_2_31 (pos n) = if nat_le n 2147483647 then Some n else None
 below_2_31 (negsuc n) = None
 

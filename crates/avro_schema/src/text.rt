@@ -12,6 +12,7 @@ ghost use Rattle.avro_schema.specs.Writing.{json_of};
 ghost use Rattle.avro_schema.specs.Grammar.{IsSchemaText};
 ghost use Rattle.avro_schema.specs.Refusals.{IsRefused};
 ghost use Rattle.avro_schema.specs.Spelled.{IsSpelled};
+ghost use Rattle.avro_schema.specs.Plain.{IsPlain};
 
 use crate::definitions::Definitions;
 use crate::error::{SchemaError, SchemaFault};
@@ -49,6 +50,8 @@ impl Schema {
         ensures text { IfOk result (λ b. b ≡ compact_text (json_of (tree_of self.now))) }
         ensures reads_back { IfOk result (λ b. IsSpelled (tree_of self.now)
             → schema_of b ≡ Ok (tree_of self.now)) }
+        // A text can spell each schema that gives no name twice and keeps to the grammar.
+        ensures plain { IsPlain (tree_of self.now) → IsSpelled (tree_of self.now) }
         ensures memory { IfErr result (λ e. e ≡ SchemaError.Memory) }
     {
         let mut names = IndexSet::new(alloc);
