@@ -1,5 +1,5 @@
 -- What a target's files stand for, and what a commit makes of it.
-use Rattle.std.specs.Prelude.{◌≡◌, ◌↔◌, ℕ, ◌+◌, List, [], ◌∷◌, Contains, Option, Some, None, unwrap_or}
+use Rattle.std.specs.Prelude.{◌≡◌, ◌↔◌, ℕ, ◌+◌, List, [], ◌∷◌, Contains, Option, Some, None, ◌<◌}
 use Rattle.table_history.specs.TypeTree.{ColumnTrees}
 use Rattle.table_history.specs.Rows.{HasDistinctPaths, SameRows}
 use Rattle.table_history.specs.Tables.{IsRowAfter, empty_table}
@@ -38,6 +38,10 @@ absent partition = record { commits = 0; mark = None; table = empty_table partit
 abbrev pub IsUnpublished : View → Type 0
 IsUnpublished view = view ≡ absent view.table.partition
 
+-- a commit is published, and the newest one has a mark
+abbrev pub IsPublished : View → Type 0
+IsPublished view = (0 < view.commits) × ((standing : Standing) × (view.mark ≡ Some standing))
+
 -- the newest commit's mark names a source of this format
 abbrev pub IsOfSource : Kind → View → Type 0
 IsOfSource source view = (standing : Standing) × (view.mark ≡ Some standing) × (standing.origin.source ≡ source)
@@ -50,6 +54,11 @@ pub record SameView (a b : View) : Type 0 where
   pub partition : a.table.partition ≡ b.table.partition
   pub schema : a.table.schema ≡ b.table.schema
 
+-- the schema that the change states, as the target's types hold it, or else the one before
+abbrev pub IsSchemaAfter : (ColumnTrees → Option ColumnTrees) → Option ColumnTrees → ColumnTrees → ColumnTrees → Type 0
+IsSchemaAfter image None before after = after ≡ before
+IsSchemaAfter image (Some stated) before after = image stated ≡ Some after
+
 -- `next` is one commit more: the rows after the change, the schema as the target's types hold it, and a mark of the commit's position.
 pub record IsAdvanced (image : ColumnTrees → Option ColumnTrees) (origin : Origin) (view : View) (commit : Commit) (next : View) : Type 0 where
   pub commits : next.commits ≡ view.commits + 1
@@ -57,7 +66,7 @@ pub record IsAdvanced (image : ColumnTrees → Option ColumnTrees) (origin : Ori
   pub rows : (row : Row) → Contains next.table.rows row ↔ IsRowAfter view.table.rows commit.change.removed commit.change.added row
   pub distinct : HasDistinctPaths next.table.rows
   pub partition : next.table.partition ≡ view.table.partition
-  pub schema : image (unwrap_or commit.change.schema view.table.schema) ≡ Some next.table.schema
+  pub schema : IsSchemaAfter image commit.change.schema view.table.schema next.table.schema
 
 -- `last` is these commits more, the first of them first
 abbrev pub IsAdvancedAll : (ColumnTrees → Option ColumnTrees) → Origin → View → List Commit → View → Type 0

@@ -20,7 +20,7 @@ ghost use Rattle.target_core.specs.Outcome.{Uncontested, answer_of};
 ghost use Rattle.target_core.specs.Publishing.{Publishes};
 ghost use Rattle.target_core.specs.Refusals.{IsCommitRefusal, IsFitsRefusal, IsInspectRefusal, IsOfCommit, IsOfInspect};
 ghost use Rattle.target_core.specs.SeenView.{IsSeen, IsSeenSound};
-ghost use Rattle.target_core.specs.Views.{IsAdvanced, IsOfSource, IsUnpublished, Origin, SameView, Standing, View, absent, standing_of};
+ghost use Rattle.target_core.specs.Views.{IsAdvanced, IsOfSource, IsPublished, IsUnpublished, Origin, SameView, Standing, View, absent, standing_of};
 ghost use Rattle.target_core.specs.declared.target.TargetError.{TargetError};
 ghost use Rattle.table_history.specs.declared.limit.LimitKind.TheVariants.{File, Names};
 ghost use Rattle.lake_basics.specs.declared.limits.TheConstants.{MAX_FILE_BYTES, MAX_NAMES};
@@ -280,18 +280,15 @@ pub trait Target {
     ghost absent_any: { (t : Self) (files : Files) (p q : List (List ℕ))
         → reads t files (absent p) → reads t files (absent q) };
 
-    /// What the format's types hold, they hold as it is, and it is as large and has the same kinds.
-    ghost image_again: { (t : Self) (schema held : ColumnTrees) → image t schema ≡ Some held
-        → image t held ≡ Some held };
-
+    /// What the format's types hold of a table that may be published may be published too.
     ghost image_publishable: { (t : Self) (table : Table) (held : ColumnTrees)
         → image t table.schema ≡ Some held → IsPublishable table
         → IsPublishable
         (record { schema = held; partition = table.partition; rows = table.rows }) };
 
-    /// A target without a mark has no commit.
-    ghost marked: { (t : Self) (files : Files) (v : View) → reads t files v → v.mark ≡ None
-        → IsUnpublished v };
+    /// A target has no commit, or its newest commit has a mark.
+    ghost published: { (t : Self) (files : Files) (v : View) → reads t files v
+        → IsUnpublished v ⊎ IsPublished v };
 
     /// Foreign is neither absent nor ours, and has one first path at fault.
     ghost not_foreign: { (t : Self) (source : Kind) (files : Files) (path : List ℕ) (v : View)
@@ -313,7 +310,7 @@ pub trait Target {
 
     /// What fits a target that has a commit is of the same partition columns.
     ghost fits_partition: { (t : Self) (v : View) (partition : List (List ℕ))
-        (commits : List Commit) → Fits (unfit t) v partition commits → (IsUnpublished v → ⊥)
+        (commits : List Commit) → Fits (unfit t) v partition commits → 0 < v.commits
         → v.table.partition ≡ partition };
 
     /// A commit carries one change of the rows and one mark, and the newest one's is the view's.
