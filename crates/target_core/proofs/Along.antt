@@ -1,5 +1,5 @@
 -- How a list of commits is gone along.
-use Rattle.std.proofs.Common.{◌≡◌, ℕ, suc, ◌+◌, ◌<◌, List, [], ◌∷◌, ◌++◌, length, take, drop, get_or, Option, Some, refl, sym, ◌∙◌, ap, subst, add-one, drop-cons, append_assoc, arith, ◌≤◌}
+use Rattle.std.proofs.Common.{◌≡◌, ℕ, suc, ◌+◌, ◌<◌, List, [], ◌∷◌, ◌++◌, length, take, drop, get_or, Option, Some, sym, ◌∙◌, ap, subst, add-one, drop-cons, append_assoc, arith}
 use Rattle.std.proofs.lemmas.List.{take_more}
 use Rattle.std.proofs.lemmas.Option.{slice_get_within, get_or_from_slice_get}
 use Rattle.std.specs.Prelude.{slice_get}
@@ -9,9 +9,9 @@ use Rattle.table_history.specs.declared.limit.LimitKind.{LimitKind}
 use Rattle.table_history.specs.declared.table.Commit.{Commit}
 use Rattle.target_core.specs.declared.target.TargetError.{TargetError}
 use Rattle.target_core.specs.declared.target.TargetError.TheVariants.{Memory, StoreFault, Contested, Limit, Unsupported}
-use Rattle.target_core.specs.Conditions.{CanCommit, CanFollow}
+use Rattle.target_core.specs.Conditions.{CanFollow}
 use Rattle.target_core.specs.Refusals.{IsCommitRefusal}
-use Rattle.target_core.specs.Views.{IsAdvanced, Origin, View}
+use Rattle.target_core.specs.Views.{Origin, View}
 
 -- the next one stands first in what is left
 left_here : (commits : List Commit) (i : ℕ) (commit : Commit) → slice_get commits i ≡ Some commit → drop i commits ≡ commit ∷ drop (i + 1) commits

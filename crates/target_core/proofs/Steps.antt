@@ -1,31 +1,31 @@
 -- How a target goes from commit to commit.
-use Rattle.std.proofs.Common.{◌≡◌, inl, inr, ℕ, zero, suc, ◌+◌, ◌<◌, ◌≤◌, List, [], ◌∷◌, ◌++◌, length, take, get_or, Option, Some, Bool, true, false, refl, sym, ◌∙◌, ap, subst, arith, below_more}
+use Rattle.std.proofs.Common.{◌≡◌, ℕ, zero, suc, ◌+◌, ◌<◌, ◌≤◌, List, [], ◌∷◌, ◌++◌, length, take, Option, Some, Bool, true, false, sym, ◌∙◌, ap, subst, arith, below_more}
 use Rattle.std.proofs.lemmas.List.{take_more, length-take-le}
 use Rattle.std.proofs.lemmas.Option.{slice_get_within, get_or_from_slice_get}
 use Rattle.std.specs.Prelude.{slice_get}
 use Rattle.std.specs.FinMap as map
-use Rattle.lake_store.specs.Disk.{Disk, Files, MayLeave}
+use Rattle.lake_store.specs.Disk.{Files, MayLeave}
 use Rattle.lake_store.specs.Runs.{IsEachMoment, LeavesAlone}
 use Rattle.lake_store.specs.declared.store.Store.{Ghosts}
 use Rattle.lake_store.proofs.MomentLaws.{goes_further, started, weaker}
 use Rattle.lake_store.proofs.RunLaws.{NowOnly, alone_by_reading, alone_further, alone_of_fewer, reading_begins}
 use Rattle.table_history.specs.TypeTree.{ColumnTrees}
-use Rattle.table_history.specs.declared.table.Change.{Change}
 use Rattle.table_history.specs.declared.table.Commit.{Commit}
 use Rattle.target_core.specs.Folders.{after_crash}
 use Rattle.target_core.specs.Gained.{Carries, Gained, GainedSome, StillCarries}
 use Rattle.target_core.specs.Meaning.{Meaning}
 use Rattle.target_core.specs.Publishing.{LeavesSome, Publishes}
-use Rattle.target_core.specs.Views.{IsAdvanced, IsAdvancedAll, Origin, Standing, View, standing_at}
+use Rattle.target_core.specs.Views.{IsAdvanced, IsAdvancedAll, Origin, View, standing_at}
+use Rattle.target_core.proofs.Same.{advanced_same, advanced_to, same_refl, same_sym}
 use Rattle.target_core.proofs.Underway.{IsUnderWay}
 
 module _ (image : ColumnTrees → Option ColumnTrees) (origin : Origin) where
   pub commits_after : (start : View) (commits : List Commit) (last : View) → IsAdvancedAll image origin start commits last → last.commits ≡ start.commits + length commits
-  commits_after start [] last is = subst (λ (v : View). v.commits ≡ start.commits + 0) is (omega arith)
+  commits_after start [] last is = omega (arith, is.commits)
   commits_after start (commit ∷ commits) last is = commits_after is.0 commits last is.2 ∙ omega (arith, is.1.commits)
 
   advanced_more : (start : View) (commits : List Commit) (here : View) (commit : Commit) (next : View) → IsAdvancedAll image origin start commits here → IsAdvanced image origin here commit next → IsAdvancedAll image origin start (commits ++ commit ∷ []) next
-  advanced_more start [] here commit next is step = (next, subst (λ (v : View). IsAdvanced image origin v commit next) (sym is) step, refl)
+  advanced_more start [] here commit next is step = (next, advanced_same image origin here start commit next (same_sym start here is) step, same_refl next)
   advanced_more start (first ∷ commits) here commit next is step = (is.0, is.1, advanced_more is.0 commits here commit next is.2 step)
 
   take_here : (commits : List Commit) (i : ℕ) (commit : Commit) → slice_get commits i ≡ Some commit → take (i + 1) commits ≡ take i commits ++ commit ∷ []
@@ -41,7 +41,7 @@ module _ (image : ColumnTrees → Option ColumnTrees) (origin : Origin) where
 
 module _ (target : Meaning) (origin : Origin) where
   pub gained_none : (start : View) (before : Files) (commits : List Commit) (files : Files) → target.reads files start → StillCarries target start.commits before files → Gained target origin start before commits 0 files
-  gained_none start before commits files stands earlier = record { within = omega arith; view = start; leads = refl; stands = stands; each = λ i commit lt at. absurd (omega arith); earlier = earlier }
+  gained_none start before commits files stands earlier = record { within = omega arith; view = start; leads = same_refl start; stands = stands; each = λ i commit lt at. absurd (omega arith); earlier = earlier }
 
   module _ (start : View) (before : Files) (commits : List Commit) (i : ℕ) (here : View) (mid : Files) (leads : IsAdvancedAll target.image origin start (take i commits) here)
       (within : i ≤ length commits) (each : Carries target origin start.commits commits i mid) (earlier : StillCarries target start.commits before mid)
@@ -79,7 +79,7 @@ module _ (target : Meaning) (origin : Origin) where
         (record {
           within = within;
           view = step.view;
-          leads = subst (λ (v : View). IsAdvancedAll target.image origin start (take i commits) v) step.leads leads;
+          leads = advanced_to target.image origin start (take i commits) here step.view step.leads leads;
           stands = step.stands;
           each = each_still files step.earlier;
           earlier = earlier_still files step.earlier;
@@ -87,7 +87,7 @@ module _ (target : Meaning) (origin : Origin) where
     gained_more (suc zero) files step = record {
       within = omega (arith, within_here);
       view = step.view;
-      leads = subst (λ (v : View). IsAdvancedAll target.image origin start (take (i + 1) commits) v) step.leads.2 (advanced_take target.image origin start commits i here commit step.leads.0 at leads step.leads.1);
+      leads = advanced_to target.image origin start (take (i + 1) commits) step.leads.0 step.view step.leads.2 (advanced_take target.image origin start commits i here commit step.leads.0 at leads step.leads.1);
       stands = step.stands;
       each = each_more files step;
       earlier = earlier_still files step.earlier;
@@ -108,7 +108,7 @@ module _ {S : Type 0} (store : Ghosts S) (target : Meaning) (origin : Origin) (s
       → IsUnderWay store target origin start commits 0 start s s
   under_way_none only_now s told settled crash = record {
     within = omega arith;
-    leads = refl;
+    leads = same_refl start;
     each = λ i commit lt at. absurd (omega arith);
     earlier = λ c change standing le was. was;
     moments = started store only_now s (LeavesSome target origin start (store.disk s).files commits)

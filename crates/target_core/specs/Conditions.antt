@@ -36,13 +36,21 @@ pub record IsPublishable (table : Table) : Type 0 where
 pub record Fits (unfit : View → List (List ℕ) → List Commit → TargetError → Type 0) (view : View) (partition : List (List ℕ)) (commits : List Commit) : Type 0 where
   pub never : (e : TargetError) → unfit view partition commits e → ⊥
 
--- The change fits the table, the table after it may be published, and the commit fits the target.
-pub record CanCommit (unfit : View → List (List ℕ) → List Commit → TargetError → Type 0) (view : View) (commit : Commit) : Type 0 where
+-- The change fits the table, and the table after it may be published.
+pub record CanPublish (view : View) (commit : Commit) : Type 0 where
   pub change : CanApply view.table commit.change
   pub after : (table : Table) → IsAfter view.table commit.change table → IsPublishable table
+
+-- And the commit fits the target.
+pub record CanCommit (unfit : View → List (List ℕ) → List Commit → TargetError → Type 0) (view : View) (commit : Commit) : Type 0 where
+  pub publish : CanPublish view commit
   pub fits : Fits unfit view view.table.partition (commit ∷ [])
 
 -- each commit in turn, over what the commits before it leave
+abbrev pub CanPublishAll : (ColumnTrees → Option ColumnTrees) → Origin → View → List Commit → Type 0
+CanPublishAll image origin view [] = Unit {0}
+CanPublishAll image origin view (commit ∷ commits) = CanPublish view commit × ((next : View) → IsAdvanced image origin view commit next → CanPublishAll image origin next commits)
+
 abbrev pub CanFollow : (ColumnTrees → Option ColumnTrees) → (View → List (List ℕ) → List Commit → TargetError → Type 0) → Origin → View → List Commit → Type 0
 CanFollow image unfit origin view [] = Unit {0}
 CanFollow image unfit origin view (commit ∷ commits) = CanCommit unfit view commit × ((next : View) → IsAdvanced image origin view commit next → CanFollow image unfit origin next commits)

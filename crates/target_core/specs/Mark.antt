@@ -1,5 +1,5 @@
 -- The mark that a target's commit carries, as JSON (RFC 8259): which commit it stands in, and up to which commit of which source the target then stands.
-use Rattle.std.specs.Prelude.{◌≡◌, ◌⊎◌, ℕ, List, [], ◌∷◌, Option, Some, None, codes, option_and_then}
+use Rattle.std.specs.Prelude.{◌≡◌, ◌⊎◌, ℕ, List, Option, Some, None, codes, option_and_then}
 use Rattle.serde_json.specs.Data.{Data, number, unsigned, string, object, member, no_members}
 use Rattle.serde_json.specs.Read.{read}
 use Rattle.json_reading.specs.Json.{text_member, text_or_null_data}

@@ -1,5 +1,5 @@
 -- What publishing a list of commits leaves, from files that stand for a view and are settled.
-use Rattle.std.specs.Prelude.{◌≡◌, ℕ, Bool, true, List, length}
+use Rattle.std.specs.Prelude.{◌≡◌, Bool, true, List, length}
 use Rattle.lake_store.specs.Disk.{Files}
 use Rattle.lake_store.specs.Runs.{IsEachMoment, LeavesAlone}
 use Rattle.lake_store.specs.declared.store.Store.{Ghosts}

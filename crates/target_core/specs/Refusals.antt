@@ -1,5 +1,5 @@
 -- Why a target refuses. Want of memory, a fault of the store and a contest have no cause in the files.
-use Rattle.std.specs.Prelude.{ℕ, List}
+use Rattle.std.specs.Prelude.{ℕ}
 use Rattle.table_history.specs.declared.limit.LimitKind.{LimitKind}
 use Rattle.target_core.specs.declared.target.TargetError.{TargetError}
 use Rattle.target_core.specs.declared.target.TargetError.TheVariants.{Memory, StoreFault, Contested, Limit, Unsupported}

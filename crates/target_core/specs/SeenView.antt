@@ -1,6 +1,5 @@
 -- What inspecting a target tells.
 use Rattle.std.specs.Prelude.{ℕ, List, []}
-use Rattle.lake_store.specs.Disk.{Files}
 use Rattle.table_history.specs.declared.kind.Kind.{Kind}
 use Rattle.target_core.specs.Conditions.{IsPublishable}
 use Rattle.target_core.specs.Views.{IsOfSource, View, absent}

@@ -68,7 +68,7 @@ pub record IsAdvanced (image : ColumnTrees → Option ColumnTrees) (origin : Ori
   pub partition : next.table.partition ≡ view.table.partition
   pub schema : IsSchemaAfter image commit.change.schema view.table.schema next.table.schema
 
--- `last` is these commits more, the first of them first
+-- `last` is these commits more, the first of them first, up to the order of rows
 abbrev pub IsAdvancedAll : (ColumnTrees → Option ColumnTrees) → Origin → View → List Commit → View → Type 0
-IsAdvancedAll image origin view [] last = view ≡ last
+IsAdvancedAll image origin view [] last = SameView view last
 IsAdvancedAll image origin view (commit ∷ commits) last = (next : View) × IsAdvanced image origin view commit next × IsAdvancedAll image origin next commits last

@@ -1,4 +1,4 @@
-use Rattle.std.proofs.Common.{◌≡◌, ◌<◌, ℕ, ◌+◌, true, false, Option, Some, Err, Result, List, [], ◌∷◌, ◌++◌, append-nil, length, take, drop, refl, sym, ◌∙◌, ap, subst, arith}
+use Rattle.std.proofs.Common.{◌≡◌, ℕ, ◌+◌, true, false, Some, Result, List, [], ◌∷◌, append-nil, length, take, refl, sym, ◌∙◌, ap, subst, arith}
 use Rattle.std.proofs.lemmas.Option.{slice_get-get_or}
 use Rattle.std.proofs.lemmas.Result.{err_from_is_err_and}
 use Rattle.std.specs.Prelude.{IfErr, is_ok, slice_get}
@@ -15,6 +15,7 @@ use Rattle.target_core.specs.TargetMeanings.{meaning}
 use Rattle.target_core.specs.Views.{Origin}
 use Rattle.target_core.specs.declared.target.TargetError.{TargetError}
 use Rattle.target_core.proofs.Along.{can_here, fails_further, more_before, refused_in, uncontested_further}
+use Rattle.target_core.proofs.Same.{same_refl}
 use Rattle.target_core.proofs.Steps.{advanced_take, all_on, before_on, refused_on, under_way_more, under_way_none}
 use Rattle.target_core.proofs.in_order.follow.Goals as goal
 
@@ -32,7 +33,7 @@ loop-commit-init g c =
     record {
       alone = λ told. alone_by_reading store (IsOutside (folder_of (target.kind t))) s s (reading told);
       none = λ told none. reading told;
-      view = refl;
+      view = same_refl start;
       can = c.requires.can;
       counted = c.requires.counted;
       stands = λ told was settled. was;
