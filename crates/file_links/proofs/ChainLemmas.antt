@@ -2,17 +2,14 @@
 use Rattle.std.proofs.Common.{◌≡◌, ◌≢◌, ◌⊎◌, ◌+◌, ◌-◌, ◌<◌, ◌≤◌, ℕ, List, [], ◌∷◌, ◌++◌, length, cond, nat_eq, refl, sym, ◌∙◌, ap, subst, inl, inr, arith, get_or, set, sum, slice_index, slice_set, slice_get, None, Some}
 use Rattle.std.proofs.lemmas.Bool.{eq-eqb, ne_eqb, cases_eq, cases_lt}
 use Rattle.std.proofs.lemmas.List.{get_or-set_same, get_or-set_other, length-append, get_or_append_left, get_or-append-add}
-use Rattle.std.proofs.lemmas.List.Sums.{sum_by-set, get_or-le-sum_by, sum_by-append}
+use Rattle.std.proofs.lemmas.List.Sums.{sum_by-set, sum_by-append}
 use Rattle.file_links.specs.declared.chains.Chains.{Chains}
 use Rattle.file_links.specs.Linked.{Has, without, after, Linked, walk, follow, END}
-use Rattle.file_links.specs.Chains.{chain_count, slot_count, chain_of, next_in, previous_in, slots_in, AreLinked, AreSound, AreSoundBut, KeepsSize, Detaches, Appends, Moves, IsSame, AddsChain, AddsSlot, Extends}
+use Rattle.file_links.specs.Chains.{chain_count, slot_count, chain_of, next_in, previous_in, slots_in, AreLinked, AreSound, AreSoundBut, KeepsSize, Detaches, Appends, Moves, AddsChain, AddsSlot, Extends}
 use Rattle.file_links.proofs.LinkedLemmas.{walk-linked, length-walk, there_and_back, linked-frame, linked-without, linked-append, round_the_end, last_in, previous_in_chain, next_in_chain, length-without, has-without, without-has, first-linked, after-linked, has-append, has-left, has-last, without-absent}
 
 pub sum-set : (xs : List ℕ) (i y : ℕ) → i < length xs → sum (set xs i y) + get_or xs i 0 ≡ sum xs + y
 sum-set xs i y h = sum_by-set (λ x. x) xs i y 0 h
-
-pub part-of-sum : (xs : List ℕ) (i : ℕ) → i < length xs → get_or xs i 0 ≤ sum xs
-part-of-sum xs i h = get_or-le-sum_by (λ x. x) xs i 0 h
 
 -- a slot's link
 pub slot_link : (ends links : List ℕ) (c s : ℕ) → s ≢ END → follow ends links c s ≡ slice_index links s
@@ -433,17 +430,6 @@ sum-push xs y = sum_by-append (λ x. x) xs (y ∷ []) ∙ (let P : ℕ → Type 
     sum_one : sum (y ∷ []) ≡ y
     sum_one = omega arith
 
-pub copied_extends : (w w' : Chains) → w'.first.items ≡ w.first.items → w'.last.items ≡ w.last.items → w'.count.items ≡ w.count.items
-    → w'.next.items ≡ w.next.items → w'.previous.items ≡ w.previous.items → w'.chain.items ≡ w.chain.items → Extends w w'
-copied_extends w w' f l k n p m = record {
-  first = λ c h. ap (λ xs. slice_index xs c) f;
-  last = λ c h. ap (λ xs. slice_index xs c) l;
-  count = λ c h. ap (λ xs. slice_index xs c) k;
-  next = λ s h. ap (λ xs. slice_index xs s) n;
-  previous = λ s h. ap (λ xs. slice_index xs s) p;
-  marks = λ s h. ap (λ xs. slice_index xs s) m;
-}
-
 pub chain_added_extends : (w w' : Chains) → AreLinked w → w'.first.items ≡ w.first.items ++ END ∷ [] → w'.last.items ≡ w.last.items ++ END ∷ [] → w'.count.items ≡ w.count.items ++ 0 ∷ []
     → w'.next.items ≡ w.next.items → w'.previous.items ≡ w.previous.items → w'.chain.items ≡ w.chain.items → Extends w w'
 chain_added_extends w w' links f l k n p m = record {
@@ -483,19 +469,6 @@ grown_sound w w' sound x more same l1 l2 l3 l4 fresh total = record {
   where
     known : (s : ℕ) → s < slot_count w' → s < slot_count w
     known s h = omega arith
-
-pub copied_sound : (w w' : Chains) → AreSound w → w'.first.items ≡ w.first.items → w'.last.items ≡ w.last.items → w'.count.items ≡ w.count.items
-    → w'.next.items ≡ w.next.items → w'.previous.items ≡ w.previous.items → w'.chain.items ≡ w.chain.items → AreSound w' × IsSame w w'
-copied_sound w w' sound f l k n p m = (
-  grown_sound w w' sound x (let a = ap length f in omega arith) (ap length n)
-      (ap length l ∙ sound.links.last_length ∙ sym (ap length f)) (ap length k ∙ sound.links.count_length ∙ sym (ap length f))
-      (ap length p ∙ sound.links.previous_length ∙ sym (ap length n)) (ap length m ∙ sound.links.chain_length ∙ sym (ap length n))
-      (λ c a b. absurd (let e = ap length f in omega arith)) (ap sum k),
-  record { chains = ap length f; slots = ap length n; lists = λ c h. (kept_chain w w' sound.links x c h).1; marks = m },
-)
-  where
-    x : Extends w w'
-    x = copied_extends w w' f l k n p m
 
 pub chain_added : (w w' : Chains) → AreSound w → w'.first.items ≡ w.first.items ++ END ∷ [] → w'.last.items ≡ w.last.items ++ END ∷ [] → w'.count.items ≡ w.count.items ++ 0 ∷ []
     → w'.next.items ≡ w.next.items → w'.previous.items ≡ w.previous.items → w'.chain.items ≡ w.chain.items → AreSound w' × AddsChain w w'

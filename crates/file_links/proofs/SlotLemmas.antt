@@ -228,10 +228,6 @@ mark_here w w' s ch sound h m = ap (λ l. slice_index l s) m.marks ∙ get_or-se
 pub mark_away : (w w' : Chains) (s ch : ℕ) → Moves w w' s ch → (y : ℕ) → y ≢ s → chain_of w' y ≡ chain_of w y
 mark_away w w' s ch m y n = ap (λ l. slice_index l y) m.marks ∙ get_or-set_other w.chain.items s y ch 0 n
 
--- a slot is in no other chain than its own
-pub elsewhere : (w : Chains) → AreSound w → (c s : ℕ) → c < chain_count w → chain_of w s ≢ c → Has (slots_in w c) s → ⊥
-elsewhere w sound c s h n m = n (sound.links.marked c s h m)
-
 pub option_map_rows : (a : Inside) → AreLinks a → (f : List Entry → List Entry) (o : ℕ) → chain_of a.owners o ≡ 1
     → option_map f (rows_of (view_of a) o) ≡ Some (f (entries a.held.items (slots_in a.rows (o + 1))))
 option_map_rows a links f o u = ap (option_map f) (rows_at a links o ∙ rows_in_use a o u)

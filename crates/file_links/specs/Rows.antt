@@ -45,6 +45,32 @@ slot_at rows place = option_map (λ e. e.slot) (slice_get rows place)
 abbrev pub without_slot : ℕ → List Entry → List Entry
 without_slot slot rows = filter (λ e. not (nat_eq e.slot slot)) rows
 
+-- the slot holds this row, and no other
+pub record HoldsJust (v : OwnedRows) (slot : ℕ) (held : Held) : Type 0 where
+  pub row : Holds v slot held
+  pub only : (other : Held) → Holds v slot other → other ≡ held
+
+-- the owner has the slot's row, and no other owner has it
+abbrev pub IsOwnerOf : OwnedRows → ℕ → ℕ → Type 0
+IsOwnerOf v slot owner = (o : ℕ) (held : Held) → Owns v o (record { slot = slot; held = held }) → owner ≡ o
+
+-- what a search for a path finds: the slot of a row that has it, or none where no row has it
+abbrev pub Finds : OwnedRows → List ℕ → Option ℕ → Type 0
+Finds v path None = ¬ HoldsPath v path
+Finds v path (Some slot) = (held : Held) × Holds v slot held × (held.row.path ≡ path)
+
+-- whichever slot holds a row of the path, it is the one that is found
+abbrev pub FindsEach : OwnedRows → List ℕ → Option ℕ → Type 0
+FindsEach v path found = (slot : ℕ) (held : Held) → Holds v slot held → held.row.path ≡ path → found ≡ Some slot
+
+-- the slot of the first of an owner's rows, if it has any
+abbrev pub IsFirstOf : OwnedRows → ℕ → Option ℕ → Type 0
+IsFirstOf v owner first = (rows : List Entry) → rows_of v owner ≡ Some rows → first ≡ slot_at rows 0
+
+-- the slot of the row at the next place behind that of a slot, if there is one
+abbrev pub IsBehind : OwnedRows → ℕ → Option ℕ → Type 0
+IsBehind v slot next = (owner place : ℕ) (rows : List Entry) → rows_of v owner ≡ Some rows → slot_at rows place ≡ Some slot → next ≡ slot_at rows (place + 1)
+
 -- at least so much room, and just as much as before where that was enough; all rows are as they were
 pub record Reserves (v v' : OwnedRows) (owners rows : ℕ) : Type 0 where
   pub same : (o : ℕ) → rows_of v' o ≡ rows_of v o

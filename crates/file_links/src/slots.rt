@@ -2,7 +2,9 @@
 ghost use Rattle.std.specs.Prelude.{◌≡◌, ◌≢◌, ◌+◌, ◌-◌, ◌*◌, ◌%◌, ◌^◌, ◌<◌, ◌≤◌, ◌++◌, ℕ, List, [], Option, None, Some, length, fold, bit_xor, slice_get, slice_set, option_map, IfOk, OnOk, OnErr, MatchOption, IsSome, IsTrue, replicate};
 ghost use Rattle.std.specs.Option.{option_copied};
 ghost use Rattle.file_links.specs.declared.slots.Held.{Held};
-ghost use Rattle.file_links.specs.Rows.{Entry, rows_of, Owns, Holds, IsHeld, HoldsPath, slot_at, AddsOwner, Inserts, Unlinks, DropsOwner, Reserves};
+ghost use Rattle.file_links.specs.Rows.{rows_of, IsHeld, HoldsPath, HoldsJust, IsOwnerOf};
+ghost use Rattle.file_links.specs.Rows.{Finds, FindsEach, IsFirstOf, IsBehind};
+ghost use Rattle.file_links.specs.Rows.{Reserves, AddsOwner, Inserts, Unlinks, DropsOwner};
 ghost use Rattle.file_links.specs.Chains.{chain_count, slot_count, chain_of, slots_in, AreSound, Grows};
 ghost use Rattle.file_links.specs.Buckets.{AreBuckets};
 ghost use Rattle.std.specs.Vec.{vec_len, vec_capacity};
@@ -270,8 +272,7 @@ impl Links {
     /// Gives a slot's row up. The slot is free then.
     pub fn unlink(&mut self, slot: u32) -> Held
         requires { IsHeld self.old slot }
-        ensures row { Holds self.old slot result }
-        ensures only { (held : Held) → Holds self.old slot held → held ≡ result }
+        ensures row { HoldsJust self.old slot result }
         ensures rest { Unlinks self.old self.new slot }
     {
         self.rows.move_to(slot, FREE);
@@ -292,8 +293,8 @@ impl Links {
 
     /// The slot of the row of a path.
     pub fn find(&self, path: &[u8]) -> Option<u32>
-        ensures found { MatchOption result (¬ HoldsPath self.now path.now) (λ s. (held : Held) × Holds self.now s held × (held.row.path ≡ path.now)) }
-        ensures only { (slot : ℕ) (held : Held) → Holds self.now slot held → held.row.path ≡ path.now → result ≡ Some slot }
+        ensures found { Finds self.now path.now result }
+        ensures each { FindsEach self.now path.now result }
     {
         if self.held.is_empty() {
             return None;
@@ -315,7 +316,7 @@ impl Links {
     /// The slot of the first of an owner's rows.
     pub fn first(&self, owner: u32) -> Option<u32>
         requires { IsSome (rows_of self.now owner) }
-        ensures { (rows : List Entry) → rows_of self.now owner ≡ Some rows → result ≡ slot_at rows 0 }
+        ensures { IsFirstOf self.now owner result }
     {
         self.rows.first(owner + 1)
     }
@@ -323,7 +324,7 @@ impl Links {
     /// The slot of the row behind that of a slot, of the same owner.
     pub fn next(&self, slot: u32) -> Option<u32>
         requires { IsHeld self.now slot }
-        ensures { (owner place : ℕ) (rows : List Entry) → rows_of self.now owner ≡ Some rows → slot_at rows place ≡ Some slot → result ≡ slot_at rows (place + 1) }
+        ensures { IsBehind self.now slot result }
     {
         self.rows.next(slot)
     }
@@ -331,7 +332,7 @@ impl Links {
     /// The owner of a slot's row.
     pub fn owner_of(&self, slot: u32) -> u32
         requires { IsHeld self.now slot }
-        ensures { (owner : ℕ) (held : Held) → Owns self.now owner (record { slot = slot; held = held }) → result ≡ owner }
+        ensures { IsOwnerOf self.now slot result }
     {
         self.rows.chain(slot) - 1
     }
@@ -339,8 +340,7 @@ impl Links {
     /// A slot's row.
     pub fn get(&self, slot: u32) -> &Held
         requires { IsHeld self.now slot }
-        ensures row { Holds self.now slot result.now }
-        ensures only { (held : Held) → Holds self.now slot held → held ≡ result.now }
+        ensures { HoldsJust self.now slot result.now }
     {
         row_at(&self.held, slot).unwrap()
     }

@@ -48,16 +48,16 @@ returns-clause-found c =
     (let e = c.count-step-end.ensures in let t = c.loop-step-test.false in omega (arith, e, t))
     c.loop-step.invariant.1
 
-pub returns-then-is_empty-clause-only : goal.returns-then-is_empty-clause-only
-returns-then-is_empty-clause-only c slot held w same = absurd (returns-then-is_empty-clause-found c (slot, held, w, same))
+pub returns-then-is_empty-clause-each : goal.returns-then-is_empty-clause-each
+returns-then-is_empty-clause-each c slot held w same = absurd (returns-then-is_empty-clause-found c (slot, held, w, same))
 
-pub returns-in_default-clause-only : goal.returns-in_default-clause-only
-returns-in_default-clause-only c slot held w same = absurd (returns-in_default-clause-found c (slot, held, w, same))
+pub returns-in_default-clause-each : goal.returns-in_default-clause-each
+returns-in_default-clause-each c slot held w same = absurd (returns-in_default-clause-found c (slot, held, w, same))
 
-pub returns-then-has_path-clause-only : goal.returns-then-has_path-clause-only
-returns-then-has_path-clause-only c slot held w same =
+pub returns-then-has_path-clause-each : goal.returns-then-has_path-clause-each
+returns-then-has_path-clause-each c slot held w same =
     let f = returns-then-has_path-clause-found c in
     ap Some (one_path c.self.inside c.args.self.now c.self.view_is c.self.invariant c.in-Some.slot slot f.0 held f.1 w (f.2 ∙ sym same))
 
-pub returns-clause-only : goal.returns-clause-only
-returns-clause-only c slot held w same = absurd (returns-clause-found c (slot, held, w, same))
+pub returns-clause-each : goal.returns-clause-each
+returns-clause-each c slot held w same = absurd (returns-clause-found c (slot, held, w, same))

@@ -1,4 +1,4 @@
-use Rattle.std.proofs.Common.{arith, sym, subst, refl, Some}
+use Rattle.std.proofs.Common.{arith, sym, subst, refl, ◌≡◌, Some, slice_get}
 use Rattle.std.proofs.lemmas.Option.{slice_get_within}
 use Rattle.file_links.specs.Rows.{OwnedRows, IsHeld, Unlinks}
 use Rattle.file_links.specs.Slots.{view_of}
@@ -48,13 +48,11 @@ pub returns-clause-row : goal.returns-clause-row
 returns-clause-row c =
     let r = known_held c.self.inside c.args.self.now c.self.view_is c.self.invariant c.args.slot c.requires in
     let e = r.1 in
-    known_holds c.self.inside c.args.self.now c.self.view_is c.self.invariant c.args.slot c.unwrap.result (grind (arith, e))
-
-pub returns-clause-only : goal.returns-clause-only
-returns-clause-only c held w =
-    let r = known_held c.self.inside c.args.self.now c.self.view_is c.self.invariant c.args.slot c.requires in
-    let e = r.1 in
-    one_row c.self.inside c.args.self.now c.self.view_is c.self.invariant c.args.slot held c.unwrap.result w (grind (arith, e))
+    let f : slice_get c.self.inside.held.items c.args.slot ≡ Some (Some c.unwrap.result) = grind (arith, e) in
+    record {
+      row = known_holds c.self.inside c.args.self.now c.self.view_is c.self.invariant c.args.slot c.unwrap.result f;
+      only = λ held w. one_row c.self.inside c.args.self.now c.self.view_is c.self.invariant c.args.slot held c.unwrap.result w f;
+    }
 
 pub returns-clause-rest : goal.returns-clause-rest
 returns-clause-rest c =
