@@ -2,6 +2,7 @@ pub mod Marks
 pub mod Underway
 pub mod Same
 pub mod Steps
+pub mod OneStep
 pub mod Along
 pub mod SameStart
 pub mod Fitting

@@ -11,4 +11,5 @@ pub mod Meaning
 pub mod TargetMeanings
 pub mod Gained
 pub mod Publishing
+pub mod Step
 pub mod Progress
