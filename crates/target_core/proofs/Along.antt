@@ -9,7 +9,7 @@ use Rattle.table_history.specs.declared.limit.LimitKind.{LimitKind}
 use Rattle.table_history.specs.declared.table.Commit.{Commit}
 use Rattle.target_core.specs.declared.target.TargetError.{TargetError}
 use Rattle.target_core.specs.declared.target.TargetError.TheVariants.{Memory, StoreFault, Contested, Limit, Unsupported}
-use Rattle.target_core.specs.Conditions.{CanFollow}
+use Rattle.target_core.specs.Conditions.{CanPublishAll, Fits}
 use Rattle.target_core.specs.Refusals.{IsCommitRefusal}
 use Rattle.target_core.specs.Views.{Origin, View}
 
@@ -20,9 +20,11 @@ left_here commits i commit at =
     let next : drop (suc i) commits ≡ drop (i + 1) commits = ap (λ (n : ℕ). drop n commits) (sym (add-one i)) in
     drop-cons commits i commit within ∙ ap (λ (cs : List Commit). get_or commits i commit ∷ cs) next ∙ ap (λ (x : Commit). x ∷ drop (i + 1) commits) (get_or_from_slice_get commits i commit commit at)
 
-pub can_here : (image : ColumnTrees → Option ColumnTrees) (unfit : View → List (List ℕ) → List Commit → TargetError → Type 0) (origin : Origin) (view : View) (commits : List Commit) (i : ℕ) (commit : Commit) → slice_get commits i ≡ Some commit
-    → CanFollow image unfit origin view (drop i commits) → CanFollow image unfit origin view (commit ∷ drop (i + 1) commits)
-can_here image unfit origin view commits i commit at can = subst (CanFollow image unfit origin view) (left_here commits i commit at) can
+pub can_here : (image : ColumnTrees → Option ColumnTrees) (origin : Origin) (view : View) (commits : List Commit) (i : ℕ) (commit : Commit) → slice_get commits i ≡ Some commit → CanPublishAll image origin view (drop i commits) → CanPublishAll image origin view (commit ∷ drop (i + 1) commits)
+can_here image origin view commits i commit at can = subst (CanPublishAll image origin view) (left_here commits i commit at) can
+
+pub fits_here : (unfit : List (List ℕ) → List Commit → TargetError → Type 0) (partition : List (List ℕ)) (commits : List Commit) (i : ℕ) (commit : Commit) → slice_get commits i ≡ Some commit → Fits unfit partition (drop i commits) → Fits unfit partition (commit ∷ drop (i + 1) commits)
+fits_here unfit partition commits i commit at fits = subst (Fits unfit partition) (left_here commits i commit at) fits
 
 pub more_before : (commits : List Commit) (i : ℕ) (commit : Commit) → slice_get commits i ≡ Some commit → (rest : List Commit) → take i commits ++ commit ∷ rest ≡ take (i + 1) commits ++ rest
 more_before commits i commit at rest =

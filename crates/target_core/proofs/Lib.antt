@@ -5,4 +5,3 @@ pub mod Steps
 pub mod OneStep
 pub mod Along
 pub mod SameStart
-pub mod Fitting

@@ -12,8 +12,8 @@ IsSeen reads is_foreign view stands_for source Absent = reads (absent [])
 IsSeen reads is_foreign view stands_for source (Ours kept) = stands_for kept × IsOfSource source (view kept)
 IsSeen reads is_foreign view stands_for source (Foreign path) = is_foreign path
 
--- the table of ours may be published, also where the store tells nothing
-abbrev pub IsSeenSound : {K : Type 0} → (K → View) → Seen K → Type 0
-IsSeenSound view Absent = Unit {0}
-IsSeenSound view (Ours kept) = IsPublishable (view kept).table
-IsSeenSound view (Foreign path) = Unit {0}
+-- the table of ours may be published, and its mark names this source, also where the store tells nothing
+abbrev pub IsSeenSound : {K : Type 0} → (K → View) → Kind → Seen K → Type 0
+IsSeenSound view source Absent = Unit {0}
+IsSeenSound view source (Ours kept) = IsPublishable (view kept).table × IsOfSource source (view kept)
+IsSeenSound view source (Foreign path) = Unit {0}

@@ -12,12 +12,12 @@ use Rattle.target_core.specs.declared.target.TargetError.{TargetError}
 abbrev pub meaning : {T K : Type 0} → Ghosts T K → T → Meaning
 meaning target t = meaning_of (target.kind t) (target.image t) (target.reads t) (target.carries t) (target.reached t) (target.settled t)
 
-pub record TargetMeaning : Type 1 where
+pub record TargetMeaning (K : Type 0) : Type 1 where
   pub files : Meaning
   pub is_foreign : Kind → Files → List ℕ → Type 0
-  pub is_crowded : Files → LimitKind → ℕ → Type 0
-  pub unfit : View → List (List ℕ) → List Commit → TargetError → Type 0
-  pub passes : View → Files → Origin → ℕ → List Commit → LimitKind → ℕ → Type 0
+  pub is_crowded : Kind → Files → LimitKind → ℕ → Type 0
+  pub unfit : K → List (List ℕ) → List Commit → TargetError → Type 0
+  pub passes : K → Files → Origin → ℕ → List Commit → LimitKind → ℕ → Type 0
 
-abbrev pub target_meaning : {T K : Type 0} → Ghosts T K → T → TargetMeaning
+abbrev pub target_meaning : {T K : Type 0} → Ghosts T K → T → TargetMeaning K
 target_meaning target t = record { files = meaning target t; is_foreign = target.is_foreign t; is_crowded = target.is_crowded t; unfit = target.unfit t; passes = target.passes t }

@@ -4,7 +4,7 @@ ghost use Rattle.std.specs.Prelude.{◌≡◌, ◌<◌, ◌^◌, ℕ, List, [], 
 ghost use Rattle.std.specs.Option.{option_copied};
 ghost use Rattle.lake_store.specs.Disk.{Files};
 ghost use Rattle.lake_store.specs.Runs.{ChangesOnlyIn, FailsBy, IsContestedBy, OnlyReads};
-ghost use Rattle.target_core.specs.Conditions.{CanFollow};
+ghost use Rattle.target_core.specs.Conditions.{CanPublishAll, Fits, GoesOn};
 ghost use Rattle.target_core.specs.Folders.{folder_of};
 ghost use Rattle.target_core.specs.Outcome.{Uncontested};
 ghost use Rattle.target_core.specs.Progress.{IsRefusedAt};
@@ -35,9 +35,12 @@ pub fn follow<T: Target, S: Store>(
 ) -> Result<u64, TargetError>
     requires now { now_ms < 2 ^ 63 }
     requires counted { S.tells → T.counted target.now kept.old (S.disk store.old).files }
-    requires can { CanFollow (T.image target.now) (T.unfit target.now)
+    requires source { GoesOn source (T.view target.now kept.old) }
+    requires can { CanPublishAll (T.image target.now)
         (record { source = source; table = option_copied table }) (T.view target.now kept.old)
         commits.now }
+    requires fits { Fits (T.unfit target.now kept.old)
+        (T.view target.now kept.old).table.partition commits.now }
 
     // It touches the target's folder alone, at each moment and whatever it answers.
     ensures alone { S.tells
@@ -68,7 +71,7 @@ pub fn follow<T: Target, S: Store>(
 
     // It is refused at one of them, behind those before it.
     ensures refusal { S.tells → IfErr result (IsRefusedAt (meaning ⟦<T as Target>⟧ target.now)
-        (T.passes target.now (T.view target.now kept.old) (S.disk store.old).files
+        (T.passes target.now kept.old (S.disk store.old).files
         (record { source = source; table = option_copied table.entry }) now_ms)
         (T.stands_for target.now kept.old (S.disk store.old).files
         × T.settled target.now (S.disk store.old))

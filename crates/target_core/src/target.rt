@@ -12,7 +12,7 @@ ghost use Rattle.table_history.specs.declared.limit.LimitKind.{LimitKind};
 ghost use Rattle.table_history.specs.declared.table.Change.{Change};
 ghost use Rattle.table_history.specs.declared.table.Commit.{Commit};
 ghost use Rattle.table_history.specs.declared.table.Table.{Table};
-ghost use Rattle.target_core.specs.Conditions.{CanCommit, Fits, IsPublishable};
+ghost use Rattle.target_core.specs.Conditions.{CanPublish, Fits, GoesOn, IsPublishable};
 ghost use Rattle.target_core.specs.Changes.{SameRowChange};
 ghost use Rattle.target_core.specs.Folders.{MayLeaveIn, SameIn, after_crash, folder_of};
 ghost use Rattle.target_core.specs.Meaning.{meaning_of};
@@ -125,16 +125,18 @@ pub trait Target {
     /// the first path at fault.
     ghost is_foreign: { Self → Kind → Files → List ℕ → Type 0 };
 
-    /// What inspecting lists or reads passes this number.
-    ghost is_crowded: { Self → Files → LimitKind → ℕ → Type 0 };
+    /// What inspecting for a source of this format lists or reads passes this number, before the
+    /// first path at fault.
+    ghost is_crowded: { Self → Kind → Files → LimitKind → ℕ → Type 0 };
 
-    /// These commits of a source with these partition columns don't fit a target at this view, for
-    /// this cause.
-    ghost unfit: { Self → View → List (List ℕ) → List Commit → TargetError → Type 0 };
+    /// These commits of a source with these partition columns don't fit what is kept, for this
+    /// cause.
+    ghost unfit: { Self → Self.Kept → List (List ℕ) → List Commit → TargetError → Type 0 };
 
-    /// From this view, over these files and at this time, publishing these commits one behind the
-    /// other passes this number at the last of them.
-    ghost passes: { Self → View → Files → Origin → ℕ → List Commit → LimitKind → ℕ → Type 0 };
+    /// From what is kept, over these files and at this time, publishing these commits one behind
+    /// the other passes this number at the last of them.
+    ghost passes: { Self → Self.Kept → Files → Origin → ℕ → List Commit → LimitKind → ℕ
+        → Type 0 };
 
     /// The published commit of this number, counted from 1, carries this change of the rows and
     /// this mark, and nothing more.
@@ -182,9 +184,9 @@ pub trait Target {
         ensures seen { S.tells → IfOk result (IsSeen (reads self.now (S.disk store.old).files)
             (is_foreign self.now source (S.disk store.old).files) (view self.now)
             (λ kept. stands_for self.now kept (S.disk store.old).files) source) }
-        ensures sound { IfOk result (IsSeenSound (view self.now)) }
+        ensures sound { IfOk result (IsSeenSound (view self.now) source) }
         ensures refusal { S.tells → IfErr result
-            (IsInspectRefusal (is_crowded self.now (S.disk store.old).files)) }
+            (IsInspectRefusal (is_crowded self.now source (S.disk store.old).files)) }
         ensures few { IfErr result IsOfInspect }
         ensures only_reads { S.tells → OnlyReads ⟦<S as Store>⟧ store.old store.new }
         ensures cause { FailsBy ⟦<S as Store>⟧ store.old store.new
@@ -209,9 +211,9 @@ pub trait Target {
         commits: &[Commit],
     ) -> Result<(), TargetError>
         ensures fits { OnOk result
-            (Fits (unfit self.now) (view self.now kept.now) partition.now commits.now) }
+            (Fits (unfit self.now kept.now) partition.now commits.now) }
         ensures refusal { IfErr result
-            (IsFitsRefusal (unfit self.now (view self.now kept.now) partition.now commits.now)) };
+            (IsFitsRefusal (unfit self.now kept.now partition.now commits.now)) };
 
     /// Publishes one commit, which carries the change and a mark of its position in the source of
     /// this format and table id. `now_ms` is the time in milliseconds since 1970-01-01. After a
@@ -228,7 +230,10 @@ pub trait Target {
     ) -> Result<(), TargetError>
         requires now { now_ms < 2 ^ 63 }
         requires counted { S.tells → counted self.now kept.old (S.disk store.old).files }
-        requires can { CanCommit (unfit self.now) (view self.now kept.old) commit.now }
+        requires source { GoesOn source (view self.now kept.old) }
+        requires can { CanPublish (view self.now kept.old) commit.now }
+        requires fits { Fits (unfit self.now kept.old) (view self.now kept.old).table.partition
+            (commit.now ∷ []) }
 
         // It touches its own folder alone, at each moment and whatever it answers.
         ensures alone { S.tells
@@ -240,6 +245,12 @@ pub trait Target {
             (view self.now kept.old) commit.now (view self.now kept.new)) }
         ensures counted { S.tells → OnOk result
             (counted self.now kept.new (S.disk store.new).files) }
+
+        // Of a list that fitted, the rest fits what is kept now.
+        ensures fits { OnOk result ((commits : List Commit)
+            → Fits (unfit self.now kept.old) (view self.now kept.old).table.partition
+            (commit.now ∷ commits)
+            → Fits (unfit self.now kept.new) (view self.now kept.new).table.partition commits) }
 
         // Where it stood for the files and these were settled, so do the files.
         ensures stands { S.tells → stands_for self.now kept.old (S.disk store.old).files
@@ -256,16 +267,16 @@ pub trait Target {
 
         // A number is passed at this commit, and what is passed later was passed from here on.
         ensures refusal { S.tells → IfErr result (IsCommitRefusal
-            (passes self.now (view self.now kept.old) (S.disk store.old).files
+            (passes self.now kept.old (S.disk store.old).files
             (record { source = source; table = option_copied table.entry }) now_ms
             (commit.now ∷ []))) }
         ensures few { IfErr result IsOfCommit }
         ensures ahead { S.tells → OnOk result
             ((commits : List Commit) (which : LimitKind) (number : ℕ)
-            → passes self.now (view self.now kept.new) (S.disk store.new).files
+            → passes self.now kept.new (S.disk store.new).files
             (record { source = source; table = option_copied table.entry }) now_ms
             commits which number
-            → passes self.now (view self.now kept.old) (S.disk store.old).files
+            → passes self.now kept.old (S.disk store.old).files
             (record { source = source; table = option_copied table.entry }) now_ms
             (commit.now ∷ commits) which number) }
         ensures cause { FailsBy ⟦<S as Store>⟧ store.old store.new
@@ -298,24 +309,37 @@ pub trait Target {
     ghost one_path: { (t : Self) (source : Kind) (files : Files) (p q : List ℕ)
         → is_foreign t source files p → is_foreign t source files q → p ≡ q };
 
-    /// Of a list that fits, the first commit fits, and the others over what it leaves.
-    ghost fits_first: { (t : Self) (v : View) (partition : List (List ℕ)) (commit : Commit)
-        (commits : List Commit) → Fits (unfit t) v partition (commit ∷ commits)
-        → Fits (unfit t) v partition (commit ∷ []) };
-
-    ghost fits_rest: { (t : Self) (origin : Origin) (v next : View) (partition : List (List ℕ))
-        (commit : Commit) (commits : List Commit) → v.table.partition ≡ partition
-        → Fits (unfit t) v partition (commit ∷ commits) → IsAdvanced (image t) origin v commit next
-        → Fits (unfit t) next partition commits };
+    /// Of a list that fits, the first commit fits.
+    ghost fits_first: { (t : Self) (kept : Self.Kept) (partition : List (List ℕ))
+        (commit : Commit) (commits : List Commit)
+        → Fits (unfit t kept) partition (commit ∷ commits)
+        → Fits (unfit t kept) partition (commit ∷ []) };
 
     /// What fits a target that has a commit is of the same partition columns.
-    ghost fits_partition: { (t : Self) (v : View) (partition : List (List ℕ))
-        (commits : List Commit) → Fits (unfit t) v partition commits → 0 < v.commits
-        → v.table.partition ≡ partition };
+    ghost fits_partition: { (t : Self) (kept : Self.Kept) (partition : List (List ℕ))
+        (commits : List Commit) → (commits ≡ [] → ⊥) → Fits (unfit t kept) partition commits
+        → 0 < (view t kept).commits → (view t kept).table.partition ≡ partition };
+
+    /// What stands for the same files, with the same partition columns, refuses alike.
+    ghost unfit_alike: { (t : Self) (kept other : Self.Kept) (files : Files)
+        (partition : List (List ℕ)) (commits : List Commit) (e : TargetError)
+        → stands_for t kept files → stands_for t other files
+        → (view t kept).table.partition ≡ (view t other).table.partition
+        → unfit t kept partition commits e → unfit t other partition commits e };
+
+    ghost passes_alike: { (t : Self) (kept other : Self.Kept) (files : Files) (origin : Origin)
+        (now : ℕ) (commits : List Commit) (which : LimitKind) (number : ℕ)
+        → stands_for t kept files → stands_for t other files
+        → (view t kept).table.partition ≡ (view t other).table.partition
+        → passes t kept files origin now commits which number
+        → passes t other files origin now commits which number };
 
     /// A commit carries one change of the rows and one mark, and the newest one's is the view's.
     ghost one_change: { (t : Self) (files : Files) (c : ℕ) (a b : Change) (m n : Standing)
         → carries t files c a m → carries t files c b n → SameRowChange a b × (m ≡ n) };
+
+    ghost carries_within: { (t : Self) (files : Files) (v : View) (c : ℕ) (change : Change)
+        (m : Standing) → reads t files v → carries t files c change m → c ≤ v.commits };
 
     ghost newest: { (t : Self) (files : Files) (v : View) (change : Change) (m : Standing)
         → reads t files v → carries t files v.commits change m → v.mark ≡ Some m };
@@ -348,13 +372,17 @@ pub trait Target {
         → SameIn (folder_of (kind t)) a b → is_foreign t source a path
         → is_foreign t source b path };
 
+    ghost crowded_own: { (t : Self) (source : Kind) (a b : Files) (which : LimitKind) (number : ℕ)
+        → SameIn (folder_of (kind t)) a b → is_crowded t source a which number
+        → is_crowded t source b which number };
+
     ghost carries_own: { (t : Self) (a b : Files) (c : ℕ) (change : Change) (m : Standing)
         → SameIn (folder_of (kind t)) a b → carries t a c change m → carries t b c change m };
 
-    ghost passes_own: { (t : Self) (v : View) (a b : Files) (origin : Origin) (now : ℕ)
+    ghost passes_own: { (t : Self) (kept : Self.Kept) (a b : Files) (origin : Origin) (now : ℕ)
         (commits : List Commit) (which : LimitKind) (number : ℕ) → SameIn (folder_of (kind t)) a b
-        → passes t v a origin now commits which number
-        → passes t v b origin now commits which number };
+        → passes t kept a origin now commits which number
+        → passes t kept b origin now commits which number };
 
     ghost kept_own: { (t : Self) (kept : Self.Kept) (a b : Files) → SameIn (folder_of (kind t)) a b
         → stands_for t kept a → stands_for t kept b };
@@ -362,7 +390,21 @@ pub trait Target {
     ghost counted_own: { (t : Self) (kept : Self.Kept) (a b : Files)
         → SameIn (folder_of (kind t)) a b → counted t kept a → counted t kept b };
 
-    /// So does whether it is settled, and fewer dirty paths leave it so.
+    /// What it reads as, and what its commits carry, depends on the files that they reach alone.
+    ghost reached_alone: { (t : Self) (a b : Files) (v : View)
+        → ((path : List ℕ) → reached t a path → map.get b path ≡ map.get a path)
+        → ((path : List ℕ) → IsIn (folder_of (kind t)) path → (reached t a path → ⊥)
+        → map.get b path ≡ None)
+        → reads t a v → reads t b v
+        × ((c : ℕ) (change : Change) (m : Standing) → c ≤ v.commits → carries t a c change m
+        → carries t b c change m) };
+
+    /// Without a commit and without dirty paths a target is settled.
+    ghost settled_absent: { (t : Self) (disk : Disk) → reads t disk.files (absent [])
+        → ((path : List ℕ) → IsIn (folder_of (kind t)) path → IsClean disk path)
+        → settled t disk };
+
+    /// Whether it is settled depends on its folder too, and fewer dirty paths leave it so.
     ghost settled_own: { (t : Self) (a b : Disk) → SameIn (folder_of (kind t)) a.files b.files
         → ((path : List ℕ) → IsIn (folder_of (kind t)) path → IsClean a path → IsClean b path)
         → settled t a → settled t b };

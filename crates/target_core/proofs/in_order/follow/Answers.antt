@@ -1,4 +1,4 @@
-use Rattle.std.proofs.Common.{◌≡◌, ℕ, ◌+◌, true, false, Some, Result, List, [], ◌∷◌, append-nil, length, take, refl, sym, ◌∙◌, ap, subst, arith}
+use Rattle.std.proofs.Common.{◌≡◌, ℕ, ◌+◌, true, false, Some, Result, List, [], ◌∷◌, append-nil, length, take, drop, inr, refl, sym, ◌∙◌, ap, subst, arith}
 use Rattle.std.proofs.lemmas.Option.{slice_get-get_or}
 use Rattle.std.proofs.lemmas.Result.{err_from_is_err_and}
 use Rattle.std.specs.Prelude.{IfErr, is_ok, slice_get}
@@ -12,9 +12,9 @@ use Rattle.target_core.specs.Progress.{IsRefusedAt}
 use Rattle.target_core.specs.Publishing.{Publishes}
 use Rattle.target_core.specs.Refusals.{IsCommitRefusal}
 use Rattle.target_core.specs.TargetMeanings.{meaning}
-use Rattle.target_core.specs.Views.{Origin}
+use Rattle.target_core.specs.Views.{Origin, standing_at}
 use Rattle.target_core.specs.declared.target.TargetError.{TargetError}
-use Rattle.target_core.proofs.Along.{can_here, fails_further, more_before, refused_in, uncontested_further}
+use Rattle.target_core.proofs.Along.{can_here, fits_here, fails_further, more_before, refused_in, uncontested_further}
 use Rattle.target_core.proofs.Same.{same_refl}
 use Rattle.target_core.proofs.Steps.{advanced_take, all_on, before_on, refused_on, under_way_more, under_way_none}
 use Rattle.target_core.proofs.in_order.follow.Goals as goal
@@ -34,7 +34,9 @@ loop-commit-init g c =
       alone = λ told. alone_by_reading store (IsOutside (folder_of (target.kind t))) s s (reading told);
       none = λ told none. reading told;
       view = same_refl start;
+      source = c.requires.source;
       can = c.requires.can;
+      fits = c.requires.fits;
       counted = c.requires.counted;
       stands = λ told was settled. was;
       under_way = λ told was settled. under_way_none store (meaning target t) origin start c.args.commits.now g.met.S.Store.only_now s told settled
@@ -57,7 +59,18 @@ commit-requires-clause-can g c =
     let commit : Commit = c.commit-item.result in
     let origin : Origin = record { source = c.args.source; table = option_copied c.args.table } in
     let at : slice_get c.args.commits.now i ≡ Some commit = slice_get-get_or c.args.commits.now i commit c.loop-commit-test.true ∙ ap (λ (x : Commit). Some x) (sym c.commit-item.is) in
-    (can_here (target.image t) (target.unfit t) origin (target.view t c.loop-commit.kept) c.args.commits.now i commit at c.loop-commit.invariant.can).0
+    (can_here (target.image t) origin (target.view t c.loop-commit.kept) c.args.commits.now i commit at c.loop-commit.invariant.can).0
+
+pub commit-requires-clause-fits : goal.commit-requires-clause-fits
+commit-requires-clause-fits g c =
+    let target = g.T.Target in
+    let t = c.args.target.now in
+    let i = c.loop-commit.commit-index in
+    let commit : Commit = c.commit-item.result in
+    let partition = (target.view t c.loop-commit.kept).table.partition in
+    let at : slice_get c.args.commits.now i ≡ Some commit = slice_get-get_or c.args.commits.now i commit c.loop-commit-test.true ∙ ap (λ (x : Commit). Some x) (sym c.commit-item.is) in
+    g.met.T.Target.fits_first t c.loop-commit.kept partition commit (drop (i + 1) c.args.commits.now)
+    (fits_here (target.unfit t c.loop-commit.kept) partition c.args.commits.now i commit at c.loop-commit.invariant.fits)
 
 pub loop-commit-preserved : goal.loop-commit-preserved
 loop-commit-preserved g c =
@@ -81,7 +94,9 @@ loop-commit-preserved g c =
       alone = alone_further store (IsOutside (folder_of (target.kind t))) s mid c.commit.new.store so_far.alone step.alone;
       none = λ told none. absurd (omega (arith, none));
       view = advanced_take (target.image t) origin start commits i here commit next at so_far.view step.view;
-      can = (can_here (target.image t) (target.unfit t) origin here commits i commit at so_far.can).1 next step.view;
+      can = (can_here (target.image t) origin here commits i commit at so_far.can).1 next step.view;
+      source = inr (standing_at origin commit.position, step.view.mark, refl);
+      fits = step.fits (drop (i + 1) commits) (fits_here (target.unfit t c.loop-commit.kept) here.table.partition commits i commit at so_far.fits);
       counted = step.counted;
       stands = λ told was settled. step.stands told (so_far.stands told was settled) (so_far.under_way told was settled).settled;
       under_way = λ told was settled.
@@ -89,7 +104,7 @@ loop-commit-preserved g c =
           under_way_more store (meaning target t) origin start commits i here s mid c.commit.new.store way commit at (Unit {0}) true
           (step.publishes told (so_far.stands told was settled) way.settled) told (law.reached_stays t) tt refl next step.view;
       ahead = λ told cs which number was.
-          subst (λ (xs : List Commit). target.passes t start (store.disk s).files origin c.args.now_ms xs which number) (more_before commits i commit at cs)
+          subst (λ (xs : List Commit). target.passes t c.args.kept.now (store.disk s).files origin c.args.now_ms xs which number) (more_before commits i commit at cs)
           (so_far.ahead told (commit ∷ cs) which number (step.ahead told cs which number was));
       cause = fails_further store.faults store.may_fail s mid c.commit.new.store _ so_far.cause step.cause;
       contest = uncontested_further store.contests store.may_contest s mid c.commit.new.store _ so_far.contest step.contest (λ contested. cc);
@@ -136,14 +151,14 @@ returns-in_err-commit-clause-refusal g c told =
     let exit = err_from_is_err_and c.from_residual.result c.from_residual.ensures.1 in
     let files = (store.disk s).files in
     let Settled : Type 0 = target.stands_for t c.args.kept.now files × target.settled t (store.disk s) in
-    let Refused : TargetError → Type 0 = IsRefusedAt (meaning target t) (target.passes t start files origin c.args.now_ms) Settled origin start commits (store.disk c.commit.new.store).files in
+    let Refused : TargetError → Type 0 = IsRefusedAt (meaning target t) (target.passes t c.args.kept.now files origin c.args.now_ms) Settled origin start commits (store.disk c.commit.new.store).files in
     subst (λ (r : Result ℕ TargetError). IfErr r Refused) (sym exit.1)
     (record {
       place = i;
       within = c.loop-commit-test.true;
-      cause = subst (λ (e : TargetError). IsCommitRefusal (target.passes t start files origin c.args.now_ms (take (i + 1) commits)) e) (sym exit.2)
-          (refused_in (target.passes t here (store.disk c.loop-commit.store).files origin c.args.now_ms (commit ∷ [])) (target.passes t start files origin c.args.now_ms (take (i + 1) commits)) _
-          (λ which number passed. subst (λ (cs : List Commit). target.passes t start files origin c.args.now_ms cs which number) (more_before commits i commit at [] ∙ append-nil (take (i + 1) commits))
+      cause = subst (λ (e : TargetError). IsCommitRefusal (target.passes t c.args.kept.now files origin c.args.now_ms (take (i + 1) commits)) e) (sym exit.2)
+          (refused_in (target.passes t c.loop-commit.kept (store.disk c.loop-commit.store).files origin c.args.now_ms (commit ∷ [])) (target.passes t c.args.kept.now files origin c.args.now_ms (take (i + 1) commits)) _
+          (λ which number passed. subst (λ (cs : List Commit). target.passes t c.args.kept.now files origin c.args.now_ms cs which number) (more_before commits i commit at [] ∙ append-nil (take (i + 1) commits))
           (so_far.ahead told (commit ∷ []) which number passed))
           (c.in_err-commit.ensures.refusal told));
       before = λ was.

@@ -3,7 +3,7 @@ use Rattle.std.specs.Option.{option_copied}
 use Rattle.lake_store.specs.Runs.{ChangesOnlyIn, FailsBy, IsUncontestedBy, OnlyReads}
 use Rattle.table_history.specs.declared.limit.LimitKind.{LimitKind}
 use Rattle.table_history.specs.declared.table.Commit.{Commit}
-use Rattle.target_core.specs.Conditions.{CanFollow}
+use Rattle.target_core.specs.Conditions.{CanPublishAll, Fits, GoesOn}
 use Rattle.target_core.specs.Folders.{folder_of}
 use Rattle.target_core.specs.TargetMeanings.{meaning}
 use Rattle.target_core.specs.Views.{IsAdvancedAll, Origin}
@@ -22,13 +22,15 @@ invariant-loop-commit g l =
       alone : store.tells → ChangesOnlyIn store (folder_of (target.kind t)) l.fn.store l.store;
       none : store.tells → i ≡ 0 → OnlyReads store l.fn.store l.store;
       view : IsAdvancedAll (target.image t) origin start (take i l.commits) (target.view t l.kept);
-      can : CanFollow (target.image t) (target.unfit t) origin (target.view t l.kept) (drop i l.commits);
+      source : GoesOn l.source (target.view t l.kept);
+      can : CanPublishAll (target.image t) origin (target.view t l.kept) (drop i l.commits);
+      fits : Fits (target.unfit t l.kept) (target.view t l.kept).table.partition (drop i l.commits);
       counted : store.tells → target.counted t l.kept (store.disk l.store).files;
       stands : store.tells → target.stands_for t l.fn.kept (store.disk l.fn.store).files → target.settled t (store.disk l.fn.store) → target.stands_for t l.kept (store.disk l.store).files;
       under_way : store.tells → target.stands_for t l.fn.kept (store.disk l.fn.store).files → target.settled t (store.disk l.fn.store)
           → IsUnderWay store (meaning target t) origin start l.commits i (target.view t l.kept) l.fn.store l.store;
-      ahead : store.tells → (commits : List Commit) (which : LimitKind) (number : ℕ) → target.passes t (target.view t l.kept) (store.disk l.store).files origin l.now_ms commits which number
-          → target.passes t start (store.disk l.fn.store).files origin l.now_ms (take i l.commits ++ commits) which number;
+      ahead : store.tells → (commits : List Commit) (which : LimitKind) (number : ℕ) → target.passes t l.kept (store.disk l.store).files origin l.now_ms commits which number
+          → target.passes t l.fn.kept (store.disk l.fn.store).files origin l.now_ms (take i l.commits ++ commits) which number;
       cause : FailsBy store l.fn.store l.store ⊥;
       contest : IsUncontestedBy store l.fn.store l.store ⊥;
     }
