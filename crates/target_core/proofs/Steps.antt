@@ -163,6 +163,28 @@ module _ {S : Type 0} (store : Ghosts S) (target : Meaning) (origin : Origin) (s
     pub before_on : Carries target origin start.commits commits i (store.disk new).files
     before_on = each_still target origin start (store.disk old).files commits i here (store.disk mid).files so_far.leads so_far.within so_far.each so_far.earlier commit at (store.disk new).files step.earlier
 
+    -- so many are published, unless another writer was in the way
+    pub gained_on : U → (n : ℕ) × (i ≤ n) × (n ≤ i + 1) × Gained target origin start (store.disk old).files commits n (store.disk new).files
+    gained_on u =
+        let some = step.at_return u in
+        let few : some.count ≤ 1 = some.gained.within in (
+          i + some.count,
+          omega arith,
+          omega (arith, few),
+          gained_more target origin start (store.disk old).files commits i here (store.disk mid).files so_far.leads so_far.within so_far.each so_far.earlier commit at some.count (store.disk new).files some.gained,
+        )
+
+    -- and these alone, where it reads as before
+    pub stopped_on : target.reads (store.disk new).files here → Gained target origin start (store.disk old).files commits i (store.disk new).files
+    stopped_on reads = record {
+      within = so_far.within;
+      view = here;
+      leads = so_far.leads;
+      stands = reads;
+      each = before_on;
+      earlier = earlier_still target origin start (store.disk old).files commits i here (store.disk mid).files so_far.leads so_far.within so_far.each so_far.earlier commit at (store.disk new).files step.earlier;
+    }
+
   -- all of them
   pub all_on : (n : ℕ) (here : View) (old new : S) → n ≡ length commits → IsUnderWay store target origin start commits n here old new → target.reads (store.disk new).files here → (V : Type 0) → Publishes store target origin start commits V true old new
   all_on n here old new is so_far stands V =

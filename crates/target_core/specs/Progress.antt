@@ -1,17 +1,21 @@
 -- At which commit of a list publishing was refused.
-use Rattle.std.specs.Prelude.{ℕ, ◌+◌, ◌<◌, List, length, take}
+use Rattle.std.specs.Prelude.{◌≡◌, ◌≤◌, ℕ, ◌+◌, ◌<◌, List, length, take}
 use Rattle.lake_store.specs.Disk.{Files}
 use Rattle.table_history.specs.declared.limit.LimitKind.{LimitKind}
 use Rattle.table_history.specs.declared.table.Commit.{Commit}
-use Rattle.target_core.specs.Gained.{Carries}
+use Rattle.target_core.specs.Gained.{Carries, Gained}
 use Rattle.target_core.specs.Meaning.{Meaning}
 use Rattle.target_core.specs.Refusals.{IsCommitRefusal}
 use Rattle.target_core.specs.Views.{Origin, View}
 use Rattle.target_core.specs.declared.target.TargetError.{TargetError}
+use Rattle.target_core.specs.declared.target.TargetError.TheVariants.{Contested, Limit}
 
--- A commit is refused with a cause of its own, behind those before it. Where the target was settled, all of these are published.
-pub record IsRefusedAt (target : Meaning) (passes : List Commit → LimitKind → ℕ → Type 0) (Settled : Type 0) (origin : Origin) (start : View) (commits : List Commit) (files : Files) (e : TargetError) : Type 0 where
+-- A commit is refused with a cause of its own, behind those before it. Where the target was settled, all of these are published, and it perhaps,
+-- but not where a number is passed.
+pub record IsRefusedAt (target : Meaning) (passes : List Commit → LimitKind → ℕ → Type 0) (Settled : Type 0) (origin : Origin) (start : View) (old : Files) (commits : List Commit) (files : Files) (e : TargetError) : Type 0 where
   pub place : ℕ
   pub within : place < length commits
   pub cause : IsCommitRefusal (passes (take (place + 1) commits)) e
   pub before : Settled → Carries target origin start.commits commits place files
+  pub gained : Settled → (e ≡ Contested → ⊥) → (n : ℕ) × (place ≤ n) × (n ≤ place + 1) × Gained target origin start old commits n files
+  pub limited : Settled → (which : LimitKind) (number : ℕ) → e ≡ Limit which number → Gained target origin start old commits place files

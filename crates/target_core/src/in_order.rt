@@ -76,7 +76,8 @@ pub fn follow<T: Target, S: Store>(
         (T.stands_for target.now kept.old (S.disk store.old).files
         × T.settled target.now (S.disk store.old))
         (record { source = source; table = option_copied table.entry })
-        (T.view target.now kept.old) commits.now (S.disk store.new).files) }
+        (T.view target.now kept.old) (S.disk store.old).files commits.now
+        (S.disk store.new).files) }
     ensures few { IfErr result IsOfCommit }
     ensures cause { FailsBy ⟦<S as Store>⟧ store.old store.new
         (IsErrOf result TargetError.StoreFault) }

@@ -265,11 +265,16 @@ pub trait Target {
             (view self.now kept.old) (commit.now ∷ [])
             (Uncontested result) (is_ok result) store.old store.new }
 
-        // A number is passed at this commit, and what is passed later was passed from here on.
+        // A number is passed at this commit, before it publishes anything, and what is passed later
+        // was passed from here on.
         ensures refusal { S.tells → IfErr result (IsCommitRefusal
             (passes self.now kept.old (S.disk store.old).files
             (record { source = source; table = option_copied table.entry }) now_ms
             (commit.now ∷ []))) }
+        ensures limited { S.tells → stands_for self.now kept.old (S.disk store.old).files
+            → settled self.now (S.disk store.old) → (which : LimitKind) (number : ℕ)
+            → IsErrOf result (TargetError.Limit which number)
+            → reads self.now (S.disk store.new).files (view self.now kept.old) }
         ensures few { IfErr result IsOfCommit }
         ensures ahead { S.tells → OnOk result
             ((commits : List Commit) (which : LimitKind) (number : ℕ)
