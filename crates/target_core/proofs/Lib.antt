@@ -1,5 +1,6 @@
 pub mod Marks
 pub mod Underway
+pub mod Apart
 pub mod Same
 pub mod Steps
 pub mod OneStep
