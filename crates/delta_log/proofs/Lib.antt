@@ -1,0 +1,12 @@
+pub mod VersionLemmas
+pub mod NameLemmas
+pub mod LineLemmas
+pub mod SoundLemmas
+pub mod EachLemmas
+pub mod StepLemmas
+pub mod FaultLemmas
+pub mod ReadableLemmas
+pub mod WrittenLemmas
+pub mod ShapeLemmas
+pub mod SortedLemmas
+pub mod AgainLemmas

@@ -1,0 +1,13 @@
+use Rattle.std.proofs.Common.{◌∙◌, ap}
+use Rattle.delta_log.specs.Judging.{commit_of}
+use Rattle.delta_log.specs.Writing.{sorted_commit}
+use Rattle.delta_log.proofs.AgainLemmas.{commit_again, same_again}
+use Rattle.delta_log.proofs.writing.commit_text.Goals as goal
+
+pub returns-clause-reads_back : goal.returns-clause-reads_back
+returns-clause-reads_back c =
+    let commit = c.args.commit.now in (
+      sorted_commit commit,
+      ap commit_of (c.from_vec.ensures ∙ c.in_ok-commit_bytes.ensures.text) ∙ commit_again c.args.now_ms commit c.requires c.in_ok-commit_bytes.ensures.parts,
+      same_again commit c.requires,
+    )

@@ -1,0 +1,8 @@
+pub mod Commit
+pub mod Grammar
+pub mod Sound
+pub mod Judging
+pub mod Readable
+pub mod Writing
+pub mod Again
+pub mod VersionName

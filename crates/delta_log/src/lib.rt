@@ -1,0 +1,20 @@
+//! The commits of a Delta table's log: their names, and their lines read and written.
+#![tactic(auto)]
+
+mod action;
+mod commit;
+mod error;
+mod line;
+mod name;
+mod place;
+mod reading;
+mod writing;
+
+pub use commit::{DeltaCommit, FileAction, MetaData, Protocol};
+pub use error::DeltaError;
+pub use name::{name_of_version, version_of_name};
+pub use reading::read_commit;
+pub use writing::commit_text;
+
+#[cfg(test)]
+mod tests;

@@ -1,0 +1,300 @@
+//! Reading one line of a commit.
+
+ghost use Rattle.std.specs.Prelude.{◌≡◌, codes, true, option_map, IfOk, IfSome, IsSome};
+ghost use Rattle.std.specs.List.{list_all};
+ghost use Rattle.serde_json.specs.Find.{get};
+ghost use Rattle.serde_json.specs.View.{view, members_view};
+ghost use Rattle.lake_basics.specs.Outcome.{Gives, each, required};
+ghost use Rattle.json_reading.specs.Json.{present, text_member, pairs};
+ghost use Rattle.delta_log.specs.declared.error.LineFault.TheVariants.{Malformed};
+ghost use Rattle.delta_log.specs.Grammar.{text_or_null, setting, settings, partition_value, features, lists_features, needed_features, stated_count, record_count, is_space, line_action, object_action};
+ghost use Rattle.delta_log.specs.Grammar as grammar;
+ghost use Rattle.delta_log.specs.Sound.{HaveDistinctNames, IsCount, IsSoundAction};
+
+use crate::action::LineAction;
+use crate::commit::{MetaData, Protocol};
+use crate::error::LineFault;
+use json_reading::{
+    count_of, list_of, object_of, present_of, read_json, read_json_text, text_from, text_of,
+    texts_from, whole_of,
+};
+use lake_basics::{Items, ReadError, Text};
+use serde_json::{Map, Value};
+use std::alloc::Global;
+
+const MALFORMED: ReadError<LineFault> = ReadError::Fault(LineFault::Malformed);
+
+fn required_text(alloc: Global, value: &Value, name: &str) -> Result<Text, ReadError<LineFault>>
+    ensures { Gives (λ t. t) result (required Malformed (text_member name.now (view value.now))) }
+{
+    let text = text_of(value, name).ok_or(MALFORMED)?;
+    Ok(Text::from_str(alloc, text)?)
+}
+
+// ---- pairs
+
+fn text_or_null_in(alloc: Global, value: &Value) -> Result<Option<Text>, ReadError<LineFault>>
+    ensures { Gives (λ t. t) result (text_or_null (view value.now)) }
+{
+    match value {
+        Value::Null => Ok(None),
+        Value::String(text) => Ok(Some(Text::from_str(alloc, text.as_str())?)),
+        _ => Err(MALFORMED),
+    }
+}
+
+fn values_in(
+    alloc: Global,
+    members: &Map<String, Value>,
+) -> Result<Items<(Text, Option<Text>)>, ReadError<LineFault>>
+    ensures { Gives (λ vs. vs) result
+        (each partition_value (pairs (members_view members.now.entries))) }
+{
+    let mut values = Items::new(alloc);
+    for (name, value) in members {
+        let name = Text::from_str(alloc, name.as_str())?;
+        values.push((name, text_or_null_in(alloc, value)?))?;
+    }
+    Ok(values)
+}
+
+fn values_of(
+    alloc: Global,
+    members: &Map<String, Value>,
+) -> Result<Items<(Text, Option<Text>)>, ReadError<LineFault>>
+    ensures read { Gives (λ vs. vs) result
+        (each partition_value (pairs (members_view members.now.entries))) }
+    ensures names { IfOk result (λ vs. HaveDistinctNames vs) }
+{
+    // A map says with its length that its names are in order.
+    let _ = members.len();
+    values_in(alloc, members)
+}
+
+fn settings_in(
+    alloc: Global,
+    members: &Map<String, Value>,
+) -> Result<Items<(Text, Text)>, ReadError<LineFault>>
+    ensures { Gives (λ vs. vs) result
+        (each setting (pairs (members_view members.now.entries))) }
+{
+    let mut values = Items::new(alloc);
+    for (name, value) in members {
+        let name = Text::from_str(alloc, name.as_str())?;
+        values.push((name, text_from(alloc, value, LineFault::Malformed)?))?;
+    }
+    Ok(values)
+}
+
+fn settings_of(
+    alloc: Global,
+    members: &Map<String, Value>,
+) -> Result<Items<(Text, Text)>, ReadError<LineFault>>
+    ensures read { Gives (λ vs. vs) result
+        (each setting (pairs (members_view members.now.entries))) }
+    ensures names { IfOk result (λ vs. HaveDistinctNames vs) }
+{
+    // A map says with its length that its names are in order.
+    let _ = members.len();
+    settings_in(alloc, members)
+}
+
+// ---- the protocol
+
+fn features_of(
+    alloc: Global,
+    value: &Value,
+    name: &str,
+) -> Result<Option<Items<Text>>, ReadError<LineFault>>
+    ensures { Gives (λ f. f) result (features (present name.now (view value.now))) }
+{
+    match present_of(value, name) {
+        None => Ok(None),
+        Some(member) => {
+            let names = member.as_array().ok_or(MALFORMED)?;
+            Ok(Some(texts_from(alloc, names, LineFault::Malformed)?))
+        }
+    }
+}
+
+/// The features that a reader must know. Reader version 3 can't do without their list.
+fn needed_features(
+    version: i64,
+    features: Option<Items<Text>>,
+) -> Result<Option<Items<Text>>, ReadError<LineFault>>
+    ensures read { Gives (λ f. f) result (needed_features version features) }
+    ensures needed { IfOk result (λ f. lists_features version ≡ true → IsSome f) }
+{
+    if version == 3 && features.is_none() {
+        return Err(MALFORMED);
+    }
+    Ok(features)
+}
+
+#[tactic(auto, unfolding(crate::specs::Grammar::protocol))]
+fn protocol_of(alloc: Global, value: &Value) -> Result<LineAction, ReadError<LineFault>>
+    ensures read { Gives (λ a. a) result (grammar.protocol (view value.now)) }
+    ensures sound { IfOk result IsSoundAction }
+{
+    let reader = whole_of(value, "minReaderVersion").ok_or(MALFORMED)?;
+    let writer = whole_of(value, "minWriterVersion").ok_or(MALFORMED)?;
+    let stated = features_of(alloc, value, "readerFeatures")?;
+    let reader_features = needed_features(reader, stated)?;
+    let writer_features = features_of(alloc, value, "writerFeatures")?;
+    Ok(LineAction::Protocol(Protocol {
+        reader,
+        writer,
+        reader_features,
+        writer_features,
+    }))
+}
+
+// ---- the table
+
+fn configuration_of(
+    alloc: Global,
+    value: &Value,
+) -> Result<Items<(Text, Text)>, ReadError<LineFault>>
+    ensures read { Gives (λ s. s) result (settings (get (codes "configuration") (view value.now))) }
+    ensures names { IfOk result (λ vs. HaveDistinctNames vs) }
+{
+    match value.get("configuration") {
+        None => Ok(Items::new(alloc)),
+        Some(member) => settings_of(alloc, member.as_object().ok_or(MALFORMED)?),
+    }
+}
+
+#[tactic(auto, unfolding(crate::specs::Grammar::meta_data))]
+fn meta_data_of(alloc: Global, value: &Value) -> Result<LineAction, ReadError<LineFault>>
+    ensures read { Gives (λ a. a) result (grammar.meta_data (view value.now)) }
+    ensures sound { IfOk result IsSoundAction }
+{
+    let id = required_text(alloc, value, "id")?;
+    let format = value.get("format").ok_or(MALFORMED)?;
+    let provider = text_of(format, "provider").ok_or(MALFORMED)?;
+    let is_parquet = provider == "parquet";
+    let schema = required_text(alloc, value, "schemaString")?;
+    let columns = list_of(value, "partitionColumns").ok_or(MALFORMED)?;
+    let partition = texts_from(alloc, columns, LineFault::Malformed)?;
+    let configuration = configuration_of(alloc, value)?;
+    let meta = MetaData {
+        id,
+        schema,
+        partition,
+        configuration,
+    };
+    Ok(LineAction::MetaData { meta, is_parquet })
+}
+
+// ---- files
+
+/// The record count that the text of an object states, if it states one.
+#[tactic(auto, unfolding(crate::specs::Grammar::stated_count))]
+fn stated_count_of(alloc: Global, stats: &str) -> Result<Option<u64>, ReadError<LineFault>>
+    ensures read { Gives (λ n. n) result (stated_count stats.now) }
+    ensures small { IfOk result (λ n. IfSome n IsCount) }
+{
+    let value = read_json_text(alloc, stats, LineFault::Malformed)?;
+    if !value.is_object() {
+        return Err(MALFORMED);
+    }
+    if value.get("numRecords").is_none() {
+        return Ok(None);
+    }
+    let count = count_of(&value, "numRecords").ok_or(MALFORMED)?;
+    Ok(Some(count))
+}
+
+#[tactic(auto, unfolding(crate::specs::Grammar::record_count))]
+fn record_count_of(alloc: Global, value: &Value) -> Result<Option<u64>, ReadError<LineFault>>
+    ensures read { Gives (λ n. n) result (record_count (view value.now)) }
+    ensures small { IfOk result (λ n. IfSome n IsCount) }
+{
+    match present_of(value, "stats") {
+        None => Ok(None),
+        Some(member) => {
+            let stats = member.as_str().ok_or(MALFORMED)?;
+            if stats.is_empty() {
+                return Ok(None);
+            }
+            stated_count_of(alloc, stats)
+        }
+    }
+}
+
+#[tactic(auto, unfolding(crate::specs::Grammar::add))]
+fn add_of(alloc: Global, value: &Value) -> Result<LineAction, ReadError<LineFault>>
+    ensures read { Gives (λ a. a) result (grammar.add (view value.now)) }
+    ensures sound { IfOk result IsSoundAction }
+{
+    let uri = required_text(alloc, value, "path")?;
+    let members = object_of(value, "partitionValues").ok_or(MALFORMED)?;
+    let values = values_of(alloc, members)?;
+    let size = count_of(value, "size").ok_or(MALFORMED)?;
+    let count = record_count_of(alloc, value)?;
+    let has_deletion_vector = present_of(value, "deletionVector").is_some();
+    Ok(LineAction::Add {
+        uri,
+        values,
+        size,
+        count,
+        has_deletion_vector,
+    })
+}
+
+#[tactic(auto, unfolding(crate::specs::Grammar::remove))]
+fn remove_of(alloc: Global, value: &Value) -> Result<LineAction, ReadError<LineFault>>
+    ensures read { Gives (λ a. a) result (grammar.remove (view value.now)) }
+    ensures sound { IfOk result IsSoundAction }
+{
+    let uri = required_text(alloc, value, "path")?;
+    let has_deletion_vector = present_of(value, "deletionVector").is_some();
+    Ok(LineAction::Remove {
+        uri,
+        has_deletion_vector,
+    })
+}
+
+// ---- lines
+
+#[tactic(auto, unfolding(crate::specs::Grammar::object_action))]
+fn object_action_of(alloc: Global, value: &Value) -> Result<LineAction, ReadError<LineFault>>
+    ensures read { Gives (λ a. a) result (object_action (view value.now)) }
+    ensures sound { IfOk result IsSoundAction }
+{
+    if !value.is_object() {
+        return Err(MALFORMED);
+    }
+    let protocol = present_of(value, "protocol");
+    let meta_data = present_of(value, "metaData");
+    let add = present_of(value, "add");
+    let remove = present_of(value, "remove");
+    match (protocol, meta_data, add, remove) {
+        (None, None, None, None) => Ok(LineAction::NoAction),
+        (Some(action), None, None, None) => protocol_of(alloc, action),
+        (None, Some(action), None, None) => meta_data_of(alloc, action),
+        (None, None, Some(action), None) => add_of(alloc, action),
+        (None, None, None, Some(action)) => remove_of(alloc, action),
+        _ => Err(MALFORMED),
+    }
+}
+
+fn is_blank(line: &[u8]) -> bool
+    ensures { result ≡ list_all is_space line.now }
+{
+    line.iter().all(|b| matches!(b, b' ' | b'\t' | b'\r'))
+}
+
+/// What a line says. It is malformed where it isn't blank and is no JSON object, where it has two
+/// actions, or where its action isn't in the grammar.
+#[tactic(auto, unfolding(crate::specs::Grammar::line_action))]
+pub(crate) fn line_action_of(alloc: Global, line: &[u8]) -> Result<LineAction, ReadError<LineFault>>
+    ensures read { Gives (λ a. a) result (line_action line.now) }
+    ensures sound { IfOk result IsSoundAction }
+{
+    if is_blank(line) {
+        return Ok(LineAction::NoAction);
+    }
+    let value = read_json(alloc, line, LineFault::Malformed)?;
+    object_action_of(alloc, &value)
+}
