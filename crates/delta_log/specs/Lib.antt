@@ -6,3 +6,4 @@ pub mod Readable
 pub mod Writing
 pub mod Again
 pub mod VersionName
+pub mod Live
