@@ -1,13 +1,18 @@
 //! The time of day.
-ghost use Rattle.std.specs.Prelude.{◌≡◌, ◌<◌, ◌^◌};
+ghost use Rattle.std.specs.Prelude.{◌≡◌, ◌<◌, ◌^◌, ℕ};
 
 use std::marker::Model;
 
 /// What tells the time.
 pub trait Clock {
+    /// The times that it may give.
+    ghost gives: { Self → ℕ → Type 0 };
+
     /// Milliseconds since 1970-01-01 in UTC.
     fn now_ms(&mut self) -> u64
-        ensures { result < 2 ^ 63 };
+        ensures small { result < 2 ^ 63 }
+        ensures given { gives self.old result }
+        ensures still { (time : ℕ) → gives self.new time → gives self.old time };
 }
 
 /// A clock that stands still.
@@ -39,8 +44,12 @@ impl FixedClock {
 }
 
 impl Clock for FixedClock {
+    ghost gives = { λ clock time. time ≡ clock };
+
     fn now_ms(&mut self) -> u64
         ensures small { result < 2 ^ 63 }
+        ensures given { result ≡ self.old }
+        ensures still { (time : ℕ) → time ≡ self.new → time ≡ self.old }
         ensures fixed { result ≡ self.old }
         ensures same { self.new ≡ self.old }
     {

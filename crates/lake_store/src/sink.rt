@@ -1,6 +1,6 @@
 //! Where lines of output go.
-ghost use Rattle.std.specs.Prelude.{◌≡◌, ◌≤◌, [], ◌++◌, List, ℕ, take, IsErrOf, OnErr, OnOk};
-ghost use Rattle.lake_store.specs.Cause.{Rose};
+ghost use Rattle.std.specs.Prelude.{◌≡◌, [], ◌++◌, List, ℕ, take, IsErrOf, OnErr, OnOk};
+ghost use Rattle.lake_store.specs.Cause.{HasFault};
 
 use std::alloc::{AllocError, Global};
 
@@ -41,11 +41,8 @@ pub trait Sink {
         ensures ok { tells → OnOk result (output self.new ≡ output self.old ++ bytes.now) }
         ensures err { tells → OnErr result
             ((n : ℕ) × (output self.new ≡ output self.old ++ take n bytes.now)) }
-        ensures later { faults self.old ≤ faults self.new }
-        ensures still { may_fail self.new → may_fail self.old }
-        ensures failed { IsErrOf result SinkError.Failed
-            → Rose (faults self.old) (faults self.new) }
-        ensures named { IsErrOf result SinkError.Failed → may_fail self.old };
+        ensures cause { HasFault faults may_fail self.old self.new
+            (IsErrOf result SinkError.Failed) };
 }
 
 /// A sink in memory, whose puts of some numbers, from 0, fail.
@@ -98,11 +95,8 @@ impl Sink for MemorySink {
         ensures ok { OnOk result (output_of self.new ≡ output_of self.old ++ bytes.now) }
         ensures err { OnErr result
             ((n : ℕ) × (output_of self.new ≡ output_of self.old ++ take n bytes.now)) }
-        ensures later { sink_faults_of self.old ≤ sink_faults_of self.new }
-        ensures still { SinkCanFail self.new → SinkCanFail self.old }
-        ensures failed { IsErrOf result SinkError.Failed
-            → Rose (sink_faults_of self.old) (sink_faults_of self.new) }
-        ensures named { IsErrOf result SinkError.Failed → SinkCanFail self.old }
+        ensures cause { HasFault sink_faults_of SinkCanFail self.old self.new
+            (IsErrOf result SinkError.Failed) }
         ensures exact { PutsByNumber self.old self.new result }
     {
         let put = self.puts;

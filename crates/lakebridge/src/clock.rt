@@ -18,6 +18,8 @@ impl<R: time::Clock> SystemClock<R> {
 }
 
 impl<R: time::Clock> Clock for SystemClock<R> {
+    ghost gives = { λ _ time. time < 2 ^ 63 };
+
     fn now_ms(&mut self) -> u64 {
         match self.rt.since_1970() {
             Ok(time) => in_range(time.as_millis()),
