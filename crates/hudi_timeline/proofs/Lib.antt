@@ -10,3 +10,10 @@ pub mod TimeLemmas
 pub mod WrittenLemmas
 pub mod PathForms
 pub mod ReadLemmas
+pub mod GroupLemmas
+pub mod AnyLemmas
+pub mod GroupSetLemmas
+pub mod ValueLemmas
+pub mod LiveLemmas
+pub mod NewestLemmas
+pub mod GroupChangeLemmas

@@ -1,12 +1,17 @@
 pub mod Errors
 pub mod Escapes
+pub mod Files
 pub mod Group
+pub mod GroupChange
+pub mod GroupSets
 pub mod InstantGrammar
 pub mod InstantText
 pub mod Instants
 pub mod Lines
+pub mod Live
 pub mod Name
 pub mod Pairs
 pub mod TableProperties
 pub mod Time
+pub mod Values
 pub mod Written

@@ -1,7 +1,9 @@
 //! The timeline of a Hudi table: its instants and its properties.
 #![tactic(auto)]
 
+mod change;
 mod error;
+mod form;
 mod group;
 mod instant;
 mod name;
@@ -10,6 +12,7 @@ mod table;
 mod time;
 
 pub use error::HudiError;
+pub use form::Form;
 pub use group::group_of;
 pub use instant::{Instant, Stat, instant_text, read_instant};
 pub use name::{Action, State, instant_of_name};

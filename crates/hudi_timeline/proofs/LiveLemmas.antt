@@ -1,0 +1,184 @@
+-- What one instant writes and replaces, and the live rows behind it.
+use Rattle.std.proofs.Common.{◌≡◌, ◌↔◌, ◌⊎◌, ℕ, Bool, true, false, not, cond, ◌||◌, List, [], ◌∷◌, ◌++◌, filter, reverse, Result, Ok, Err, Option, Some, None, Contains, refl, sym, ap, subst, ◌∙◌, inl, inr, ⊎_elim}
+use Rattle.std.specs.List.{list_any}
+use Rattle.std.specs.List.Sorted.{IsPermutation}
+use Rattle.std.specs.Str.{bytes_eq}
+use Rattle.std.proofs.lemmas.Bool.{cases_Bool, cond-true, cond-false, false≢true}
+use Rattle.std.proofs.lemmas.List.Elements.{Contains-append_left, Contains-append_right, Contains-append_cases, Contains-push_cases}
+use Rattle.std.proofs.lemmas.List.{append_assoc}
+use Rattle.std.proofs.lemmas.List.Sorted.{IsPermutation-reverse, IsPermutation-sym, Contains-permutation}
+use Rattle.std.proofs.lemmas.Slice.Eq.{bytes_eq-Decides}
+use Rattle.lake_basics.specs.Outcome.{◌>>=◌, each}
+use Rattle.table_history.specs.declared.row.FileRow.{FileRow}
+use Rattle.table_history.proofs.RowListLemmas.{Contains-none, Contains-head, Contains-tail, Contains-cases, Contains-filter, filter_contains}
+use Rattle.partition_map.specs.declared.kind.PartKind.{PartKind}
+use Rattle.partition_map.specs.declared.folder.FolderStyle.{FolderStyle}
+use Rattle.hudi_timeline.specs.declared.error.HudiError.{HudiError}
+use Rattle.hudi_timeline.specs.Errors.{malformed}
+use Rattle.hudi_timeline.specs.declared.form.Form.{Form}
+use Rattle.hudi_timeline.specs.declared.instant.Stat.{Stat}
+use Rattle.hudi_timeline.specs.declared.table.HudiTable.{HudiTable}
+use Rattle.hudi_timeline.specs.Group.{joined}
+use Rattle.hudi_timeline.specs.Files.{suffix_of, without_end, group_name, has_sound_path, has_sound_numbers, bare_row}
+use Rattle.hudi_timeline.specs.Values.{style_of, HaveValues}
+use Rattle.hudi_timeline.specs.GroupSets.{is_row_of_group, names_group, newest_rows}
+use Rattle.hudi_timeline.specs.GroupChange.{is_touched, rows_after}
+use Rattle.hudi_timeline.specs.Live.{Completed, Timeline, AreRowsOf, IsNewestOfGroup, IsWrittenBy, Writes, Replaces, Touches, HudiLive, AreLive, IsLiveAfter}
+use Rattle.hudi_timeline.proofs.AnyLemmas.{any_from, any_to, or_true}
+use Rattle.hudi_timeline.proofs.GroupSetLemmas.{row_in_group, group_has_row}
+use Rattle.hudi_timeline.proofs.NewestLemmas.{newest_from, newest_to}
+use Rattle.hudi_timeline.proofs.ValueLemmas.{rows_same}
+
+-- ---- the rows of an instant, against its stats
+each_cons : {A B E : Type 0} (f : A → Result B E) (x : A) (xs : List A) (ys : List B) → each f (x ∷ xs) ≡ Ok ys → (y : B) × (rest : List B) × (f x ≡ Ok y) × (each f xs ≡ Ok rest) × (ys ≡ y ∷ rest)
+each_cons {A} {B} {E} f x xs ys h = by (f x) (each f xs) refl refl h
+  where
+    by : (a : Result B E) (r : Result (List B) E) → f x ≡ a → each f xs ≡ r → (a >>= λ y. r >>= λ rest. Ok (y ∷ rest)) ≡ Ok ys
+        → (y : B) × (rest : List B) × (f x ≡ Ok y) × (each f xs ≡ Ok rest) × (ys ≡ y ∷ rest)
+    by (Ok y) (Ok rest) first others e = (y, rest, first, others, cc)
+    by (Ok y) (Err fault) first others e = absurd cc
+    by (Err fault) r first others e = absurd cc
+
+abbrev bare : List ℕ → Stat → FileRow
+bare suffix s = record { path = without_end suffix s.path; values = []; count = s.writes; size = s.size }
+
+bare_path : (suffix : List ℕ) (s : Stat) (row : FileRow) → bare_row suffix s ≡ Ok row → row.path ≡ without_end suffix s.path
+bare_path suffix s row h = by (has_sound_path suffix s) (has_sound_numbers s) h
+  where
+    by : (a b : Bool) → cond a (cond b (Ok (bare suffix s)) (Err malformed)) (Err malformed) ≡ Ok row → row.path ≡ without_end suffix s.path
+    by true true e = let same : bare suffix s ≡ row = cc in sym (ap (λ (r : FileRow). r.path) same)
+    by true false e = absurd cc
+    by false b e = absurd cc
+
+module _ (form : Form) (style : FolderStyle) (names : List (List ℕ)) (kinds : List PartKind) (q : List ℕ) where
+  writes_to : (stats : List Stat) (files rows : List FileRow) → each (bare_row (suffix_of form)) stats ≡ Ok files → HaveValues style names kinds files rows → list_any (is_row_of_group form q) rows ≡ true
+      → (s : Stat) × Contains stats s × (q ≡ group_name form (without_end (suffix_of form) s.path))
+  writes_to [] files rows h v t =
+      let none : files ≡ [] = cc (h) in
+      let empty : rows ≡ [] = subst (λ l. HaveValues style names kinds l rows) none v in
+      absurd (false≢true (subst (λ l. list_any (is_row_of_group form q) l ≡ true) empty t))
+  writes_to (s ∷ ss) files rows h v t =
+      let first = each_cons (bare_row (suffix_of form)) s ss files h in
+      let vs = subst (λ l. HaveValues style names kinds l rows) first.4 v in
+      let path : vs.0.path ≡ without_end (suffix_of form) s.path = vs.2.path ∙ bare_path (suffix_of form) s first.0 first.2 in
+      let tested = subst (λ l. list_any (is_row_of_group form q) l ≡ true) vs.4 t in
+      ⊎_elim
+      (λ yes. (s, Contains-head s ss, row_in_group form q vs.0 yes ∙ ap (group_name form) path))
+      (λ no.
+      let more = writes_to ss first.1 vs.1 first.3 vs.3 (subst (λ b. (b || list_any (is_row_of_group form q) vs.1) ≡ true) no tested) in
+      (more.0, Contains-tail s ss more.0 more.1, more.2))
+      (cases_Bool (is_row_of_group form q vs.0))
+
+  writes_from : (stats : List Stat) (files rows : List FileRow) → each (bare_row (suffix_of form)) stats ≡ Ok files → HaveValues style names kinds files rows
+      → (s : Stat) → Contains stats s → q ≡ group_name form (without_end (suffix_of form) s.path) → list_any (is_row_of_group form q) rows ≡ true
+  writes_from [] files rows h v s there is = absurd (Contains-none s there)
+  writes_from (t ∷ ts) files rows h v s there is =
+      let first = each_cons (bare_row (suffix_of form)) t ts files h in
+      let vs = subst (λ l. HaveValues style names kinds l rows) first.4 v in
+      let path : vs.0.path ≡ without_end (suffix_of form) t.path = vs.2.path ∙ bare_path (suffix_of form) t first.0 first.2 in
+      subst (λ l. list_any (is_row_of_group form q) l ≡ true) (sym vs.4) (⊎_elim
+      (λ e. any_from (is_row_of_group form q) (vs.0 ∷ vs.1) vs.0 (Contains-head vs.0 vs.1) (group_has_row form q vs.0 (is ∙ ap (λ (w : Stat). group_name form (without_end (suffix_of form) w.path)) (sym e) ∙ ap (group_name form) (sym path))))
+      (λ later. ap (λ b. is_row_of_group form q vs.0 || b) (writes_from ts first.1 vs.1 first.3 vs.3 s later is) ∙ or_true (is_row_of_group form q vs.0))
+      (Contains-cases t ts s there))
+
+-- ---- what one instant makes of rows
+module _ (table : HudiTable) (kinds : List PartKind) (u : Completed) (rows : List FileRow) (are : AreRowsOf table kinds u rows) where
+  pub touched_to : (path : List ℕ) → is_touched u.form u.instant.replaced rows (group_name u.form path) ≡ true → Touches u path
+  touched_to path t =
+      let q = group_name u.form path in
+      ⊎_elim
+      (λ yes. inl (writes_to u.form (style_of table) table.partition kinds q u.instant.stats are.0 rows are.1 are.2 yes))
+      (λ no.
+      let gone = any_to (names_group q) u.instant.replaced (subst (λ b. (b || list_any (names_group q) u.instant.replaced) ≡ true) no t) in
+      inr (gone.0, gone.1, (bytes_eq-Decides q (joined gone.0.0 gone.0.1)).0 gone.2))
+      (cases_Bool (list_any (is_row_of_group u.form q) rows))
+
+  pub touched_from : (path : List ℕ) → Touches u path → is_touched u.form u.instant.replaced rows (group_name u.form path) ≡ true
+  touched_from path h =
+      let q = group_name u.form path in
+      ⊎_elim
+      (λ w. ap (λ b. b || list_any (names_group q) u.instant.replaced) (writes_from u.form (style_of table) table.partition kinds q u.instant.stats are.0 rows are.1 are.2 w.0 w.1 w.2))
+      (λ r. ap (λ b. list_any (is_row_of_group u.form q) rows || b) (any_from (names_group q) u.instant.replaced r.0 r.1 ((bytes_eq-Decides q (joined r.0.0 r.0.1)).1 r.2)) ∙ or_true (list_any (is_row_of_group u.form q) rows))
+      h
+
+  -- the rows after the instant
+  pub live_after : (before : List FileRow) (row : FileRow) → Contains (rows_after u.form u.instant.replaced before rows) row ↔ IsLiveAfter table kinds u before row
+  live_after before row = (
+    λ h.
+        ⊎_elim
+        (λ kept.
+        let both = Contains-filter (λ (r : FileRow). not (is_touched u.form u.instant.replaced rows (group_name u.form r.path))) before row kept in
+        inr (both.0, λ touches. false≢true (sym (ap not (touched_from row.path touches)) ∙ both.1)))
+        (λ new. inl (record {
+          rows = rows;
+          stats = are;
+          newest = newest_from u.form rows row (Contains-permutation _ _ row (IsPermutation-sym _ _ (IsPermutation-reverse (newest_rows u.form rows))) new);
+        }))
+        (Contains-append_cases (filter (λ (r : FileRow). not (is_touched u.form u.instant.replaced rows (group_name u.form r.path))) before) (reverse (newest_rows u.form rows)) row h),
+    λ h.
+        ⊎_elim
+        (λ w.
+        let files : are.0 ≡ w.stats.0 = cc (sym are.1 ∙ w.stats.1) in
+        let same : rows ≡ w.rows = rows_same (style_of table) table.partition kinds w.stats.0 rows w.rows (subst (λ l. HaveValues (style_of table) table.partition kinds l rows) files are.2) w.stats.2 in
+        Contains-append_right (filter (λ (r : FileRow). not (is_touched u.form u.instant.replaced rows (group_name u.form r.path))) before) (reverse (newest_rows u.form rows)) row
+        (Contains-permutation _ _ row (IsPermutation-reverse (newest_rows u.form rows)) (newest_to u.form rows row (subst (λ l. IsNewestOfGroup u.form l row) (sym same) w.newest))))
+        (λ kept. Contains-append_left (filter (λ (r : FileRow). not (is_touched u.form u.instant.replaced rows (group_name u.form r.path))) before) (reverse (newest_rows u.form rows)) row
+        (filter_contains (λ (r : FileRow). not (is_touched u.form u.instant.replaced rows (group_name u.form r.path))) before row kept.0 (⊎_elim
+        (λ yes. absurd (kept.1 (touched_to row.path yes)))
+        (λ no. ap not no)
+        (cases_Bool (is_touched u.form u.instant.replaced rows (group_name u.form row.path))))))
+        h,
+  )
+
+-- ---- a timeline with one more instant
+end_or_before : {X : Type 0} (xs : List X) (u : X) (before : List X) (w : X) (after : List X) → xs ++ u ∷ [] ≡ before ++ w ∷ after
+    → ((w ≡ u) × (after ≡ [])) ⊎ ((rest : List X) × (after ≡ rest ++ u ∷ []) × (xs ≡ before ++ w ∷ rest))
+end_or_before [] u [] w after e = inl (cc, cc)
+end_or_before [] u (b ∷ []) w after e = absurd cc
+end_or_before [] u (b ∷ c ∷ bs) w after e = absurd cc
+end_or_before (x ∷ xs) u [] w after e = inr (xs, cc, cc)
+end_or_before (x ∷ xs) u (b ∷ bs) w after e =
+    let heads : x ≡ b = cc in
+    let tails : xs ++ u ∷ [] ≡ bs ++ w ∷ after = cc in
+    ⊎_elim
+    (λ last. inl last)
+    (λ inner. inr (inner.0, inner.1, (λ i. heads i ∷ inner.2 i)))
+    (end_or_before xs u bs w after tails)
+
+module _ (table : HudiTable) (kinds : List PartKind) (timeline : Timeline) (u : Completed) (before : List FileRow) (live : AreLive table kinds timeline before) where
+  pub timeline_step : (row : FileRow) → IsLiveAfter table kinds u before row ↔ HudiLive table kinds (timeline ++ u ∷ []) row
+  timeline_step row = (
+    λ h.
+        ⊎_elim
+        (λ w. record { before = timeline; by = u; after = []; split = refl; written = w; last = λ later there. absurd (Contains-none later there) })
+        (λ kept.
+        let was = (live row).0 kept.0 in
+        record {
+          before = was.before;
+          by = was.by;
+          after = was.after ++ u ∷ [];
+          split = ap (λ l. l ++ u ∷ []) was.split ∙ append_assoc was.before (was.by ∷ was.after) (u ∷ []);
+          written = was.written;
+          last = λ later there touches.
+              ⊎_elim
+              (λ among. was.last later among touches)
+              (λ e. kept.1 (subst (λ v. Touches v row.path) (sym e) touches))
+              (Contains-push_cases was.after u later there);
+        })
+        h,
+    λ h.
+        ⊎_elim
+        (λ end. inl (subst (λ v. IsWrittenBy table kinds v row) end.0 h.written))
+        (λ inner. inr (
+          (live row).1 (record {
+            before = h.before;
+            by = h.by;
+            after = inner.0;
+            split = inner.2;
+            written = h.written;
+            last = λ later there. h.last later (subst (λ l. Contains l later) (sym inner.1) (Contains-append_left inner.0 (u ∷ []) later there));
+          }),
+          h.last u (subst (λ l. Contains l u) (sym inner.1) (Contains-append_right inner.0 (u ∷ []) u (Contains-head u []))),
+        ))
+        (end_or_before timeline u h.before h.by h.after h.split),
+  )

@@ -1,0 +1,55 @@
+-- The change that the rows of an instant and its replaced file ids make of the rows before.
+use Rattle.std.specs.Prelude.{◌≡◌, ℕ, nat_lt, ◌++◌, ◌||◌, List, length, filter, reverse, not, Bool, Option, Some, None, if◌then◌else◌}
+use Rattle.std.specs.List.{list_any}
+use Rattle.table_history.specs.Row.{Row}
+use Rattle.table_history.specs.Rows.{HasDistinctPaths}
+use Rattle.table_history.specs.Tables.{IsDiff}
+use Rattle.table_history.specs.declared.table.Change.{Change}
+use Rattle.table_history.specs.declared.limit.LimitKind.{LimitKind}
+use Rattle.table_history.specs.declared.limit.LimitKind.TheVariants as limit
+use Rattle.lake_basics.specs.declared.limits.TheConstants.{MAX_PARTITION_COLUMNS, MAX_PATH_BYTES, MAX_LIVE_FILES}
+use Rattle.hudi_timeline.specs.declared.error.HudiError.{HudiError}
+use Rattle.hudi_timeline.specs.declared.error.HudiError.TheVariants.{Memory, Malformed, Unsupported, Limit}
+use Rattle.hudi_timeline.specs.declared.form.Form.{Form}
+use Rattle.hudi_timeline.specs.declared.table.HudiTable.{HudiTable}
+use Rattle.hudi_timeline.specs.Files.{group_name}
+use Rattle.hudi_timeline.specs.GroupSets.{is_row_of_group, names_group, newest_rows}
+
+-- ---- limits
+
+abbrev pub is_long : Row → Bool
+is_long row = nat_lt MAX_PATH_BYTES (length row.path)
+
+-- the first number that is passed, where a path may be too long, of so many live rows
+abbrev pub limit_passed : HudiTable → Bool → ℕ → Option LimitKind
+limit_passed table has_long live =
+    if nat_lt MAX_PARTITION_COLUMNS (length table.partition) then Some limit.PartitionColumns
+    else (if has_long then Some limit.Path
+    else (if nat_lt MAX_LIVE_FILES live then Some limit.LiveFiles else None))
+
+-- ---- the change
+
+-- a group that is written or replaced
+abbrev pub is_touched : Form → List (List ℕ × List ℕ) → List Row → List ℕ → Bool
+is_touched form replaced rows q = list_any (is_row_of_group form q) rows || list_any (names_group q) replaced
+
+-- the rows of other groups, and the newest row of each group that is written
+abbrev pub rows_after : Form → List (List ℕ × List ℕ) → List Row → List Row → List Row
+rows_after form replaced before rows = filter (λ r. not (is_touched form replaced rows (group_name form r.path))) before ++ reverse (newest_rows form rows)
+
+pub record IsGroupChange (form : Form) (table : HudiTable) (replaced : List (List ℕ × List ℕ)) (before rows : List Row) (change : Change) : Type 0 where
+  pub diff : IsDiff before (rows_after form replaced before rows) change.removed change.added
+  pub before_distinct : HasDistinctPaths before
+  pub distinct : HasDistinctPaths (rows_after form replaced before rows)
+  pub few : limit_passed table (list_any is_long rows) (length (rows_after form replaced before rows)) ≡ None
+
+pub record PassesLimit (form : Form) (table : HudiTable) (replaced : List (List ℕ × List ℕ)) (before rows : List Row) (which : LimitKind) : Type 0 where
+  pub distinct : HasDistinctPaths (rows_after form replaced before rows)
+  pub passed : limit_passed table (list_any is_long rows) (length (rows_after form replaced before rows)) ≡ Some which
+
+-- The refusal is for want of memory, or names the first number that is passed.
+abbrev pub PassesLimitAfter : Form → HudiTable → List (List ℕ × List ℕ) → List Row → List Row → HudiError → Type 0
+PassesLimitAfter form table replaced before rows Memory = Unit {0}
+PassesLimitAfter form table replaced before rows (Malformed line) = ⊥
+PassesLimitAfter form table replaced before rows (Unsupported feature) = ⊥
+PassesLimitAfter form table replaced before rows (Limit which) = PassesLimit form table replaced before rows which

@@ -1,0 +1,5 @@
+//! The change that an instant makes of a table.
+
+mod between;
+mod groups;
+mod rows;

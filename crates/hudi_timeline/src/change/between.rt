@@ -1,0 +1,94 @@
+//! The change that the rows of an instant make of the rows before.
+
+ghost use Rattle.std.specs.Prelude.{◌≡◌, IfOk, IfErr, List};
+ghost use Rattle.std.specs.List.{list_any};
+ghost use Rattle.table_history.specs.Rows.{HasDistinctPaths, SameRows};
+ghost use Rattle.table_history.specs.Tables.{IsDiff};
+ghost use Rattle.hudi_timeline.specs.GroupChange.{is_long, limit_passed, IsGroupChange, PassesLimitAfter};
+
+use super::groups::{newest_rows, rows_of_groups, with_replaced};
+use crate::error::HudiError;
+use crate::form::Form;
+use crate::table::HudiTable;
+use lake_basics::limits::{MAX_LIVE_FILES, MAX_PARTITION_COLUMNS, MAX_PATH_BYTES};
+use lake_basics::{Items, Text};
+use std::alloc::{AllocError, Global};
+use table_history::{Change, FileRow, FileRows, LimitKind, Table};
+
+/// The first number that is passed, of so many live rows.
+fn limit_passed(table: &HudiTable, is_any_long: bool, live: u128) -> Option<LimitKind>
+    ensures { result ≡ limit_passed table.now is_any_long live }
+{
+    if table.partition.len() as u64 > MAX_PARTITION_COLUMNS {
+        Some(LimitKind::PartitionColumns)
+    } else if is_any_long {
+        Some(LimitKind::Path)
+    } else if live > u128::from(MAX_LIVE_FILES) {
+        Some(LimitKind::LiveFiles)
+    } else {
+        None
+    }
+}
+
+fn is_any_long(rows: &[FileRow]) -> bool
+    ensures { result ≡ list_any is_long rows.now }
+{
+    rows.iter()
+        .any(|row| row.path.as_bytes().len() as u64 > MAX_PATH_BYTES)
+}
+
+/// The change of the rows of the groups that the instant writes or replaces.
+pub(super) fn group_change(
+    alloc: Global,
+    form: &Form,
+    table: &HudiTable,
+    replaced: &[(Text, Text)],
+    before: &FileRows,
+    rows: Items<FileRow>,
+) -> Result<Change, HudiError>
+    ensures change { IfOk result
+        (IsGroupChange form.now table.now replaced.now before.now rows) }
+    ensures refused { IfErr result
+        (PassesLimitAfter form.now table.now replaced.now before.now rows) }
+{
+    let is_any_long = is_any_long(rows.as_slice());
+    let newest = newest_rows(alloc, form, rows)?;
+    let groups = with_replaced(alloc, newest.groups, replaced)?;
+    let old = rows_of_groups(alloc, form, &groups, before)?;
+    let kept = before.len() - old.len();
+    let live = kept as u128 + newest.rows.len() as u128;
+    if let Some(which) = limit_passed(table, is_any_long, live) {
+        return Err(HudiError::Limit { which });
+    }
+    Ok(change_between(alloc, old, newest.rows)?)
+}
+
+/// The change from rows to others.
+fn change_between(
+    alloc: Global,
+    before: Vec<FileRow>,
+    after: Vec<FileRow>,
+) -> Result<Change, AllocError>
+    requires before { HasDistinctPaths before.items }
+    requires after { HasDistinctPaths after.items }
+    ensures { IfOk result (λ c. IsDiff before.items after.items c.removed c.added) }
+{
+    let before = table_of(alloc, before)?;
+    let after = table_of(alloc, after)?;
+    before.change_to(alloc, &after)
+}
+
+/// A table of these rows.
+fn table_of(alloc: Global, rows: Vec<FileRow>) -> Result<Table, AllocError>
+    requires { HasDistinctPaths rows.items }
+    ensures { IfOk result (λ t. SameRows t.rows rows.items) }
+{
+    let mut table = Table::empty(alloc, &[])?;
+    let change = Change {
+        schema: None,
+        removed: Items::new(alloc),
+        added: Items::from_vec(rows),
+    };
+    table.apply(alloc, &change)?;
+    Ok(table)
+}

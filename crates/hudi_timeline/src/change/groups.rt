@@ -1,0 +1,100 @@
+//! The file groups that an instant writes and replaces.
+
+ghost use Rattle.std.specs.Prelude.{◌≡◌, ◌||◌, ℕ, List, filter, reverse, IfOk, OnOk};
+ghost use Rattle.std.specs.List.{list_any};
+ghost use Rattle.std.specs.Str.{bytes_eq};
+ghost use Rattle.table_history.specs.Rows.{HasDistinctPaths};
+ghost use Rattle.hudi_timeline.specs.Group.{joined};
+ghost use Rattle.hudi_timeline.specs.Files.{group_name};
+ghost use Rattle.hudi_timeline.specs.GroupSets.{has_group, is_row_of_group, names_group, newest_rows};
+
+use crate::form::{Form, group_name};
+use lake_basics::{Items, Text};
+use std::alloc::{AllocError, Global};
+use std::collections::HashSet;
+use table_history::{FileRow, FileRows};
+
+pub(super) type Groups = HashSet<Vec<u8>>;
+
+/// The newest row of each group that an instant writes, and these groups.
+#[derive(Drop)]
+pub(super) struct Newest {
+    pub rows: Vec<FileRow>,
+    pub groups: Groups,
+}
+
+/// The rows of which no later one is of the same group.
+pub(super) fn newest_rows(
+    alloc: Global,
+    form: &Form,
+    rows: Items<FileRow>,
+) -> Result<Newest, AllocError>
+    ensures rows { IfOk result (λ n. n.rows.items ≡ reverse (newest_rows form.now rows)) }
+    ensures groups { IfOk result (λ n. (q : List ℕ)
+        → has_group n.groups q ≡ list_any (is_row_of_group form.now q) rows) }
+{
+    let mut left = rows.into_vec();
+    let mut newest = Vec::new(alloc);
+    let mut groups = HashSet::new(alloc);
+    while let Some(row) = left.pop() {
+        let group = Vec::from_slice(alloc, group_name(form, row.path.as_bytes()))?;
+        if groups.insert(group)? {
+            newest.push(row)?;
+        }
+    }
+    Ok(Newest {
+        rows: newest,
+        groups,
+    })
+}
+
+/// A folder and a name, joined.
+fn joined(alloc: Global, folder: &[u8], name: &[u8]) -> Result<Vec<u8>, AllocError>
+    ensures { IfOk result (λ v. v.items ≡ joined folder.now name.now) }
+{
+    if folder.is_empty() {
+        return Vec::from_slice(alloc, name);
+    }
+    let mut path = Vec::from_slice(alloc, folder)?;
+    path.push(b'/')?;
+    path.extend_from_slice(name)?;
+    Ok(path)
+}
+
+/// The groups, and those of the replaced file ids.
+pub(super) fn with_replaced(
+    alloc: Global,
+    groups: Groups,
+    replaced: &[(Text, Text)],
+) -> Result<Groups, AllocError>
+    ensures { IfOk result (λ all. (q : List ℕ)
+        → has_group all q ≡ (has_group groups q || list_any (names_group q) replaced.now)) }
+{
+    let mut all = groups;
+    for pair in replaced {
+        let group = joined(alloc, pair.0.as_bytes(), pair.1.as_bytes())?;
+        drop(all.insert(group)?);
+    }
+    Ok(all)
+}
+
+/// The rows of these groups.
+pub(super) fn rows_of_groups(
+    alloc: Global,
+    form: &Form,
+    groups: &Groups,
+    rows: &FileRows,
+) -> Result<Vec<FileRow>, AllocError>
+    ensures rows { IfOk result (λ v. v.items
+        ≡ filter (λ r. has_group groups.now (group_name form.now r.path)) rows.now) }
+    ensures distinct { IfOk result (λ _. HasDistinctPaths rows.now) }
+{
+    let mut found = Vec::new(alloc);
+    for place in 0..rows.len() {
+        let row = rows.at(place).unwrap();
+        if groups.contains(group_name(form, row.path.as_bytes())) {
+            found.push(row.copy(alloc)?)?;
+        }
+    }
+    Ok(found)
+}
