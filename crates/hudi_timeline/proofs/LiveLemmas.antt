@@ -1,14 +1,15 @@
 -- What one instant writes and replaces, and the live rows behind it.
-use Rattle.std.proofs.Common.{◌≡◌, ◌↔◌, ◌⊎◌, ℕ, Bool, true, false, not, cond, ◌||◌, List, [], ◌∷◌, ◌++◌, filter, reverse, Result, Ok, Err, Option, Some, None, Contains, refl, sym, ap, subst, ◌∙◌, inl, inr, ⊎_elim}
+use Rattle.std.proofs.Common.{◌≡◌, ◌↔◌, ◌⊎◌, ℕ, Bool, true, false, not, cond, ◌||◌, ◌&&◌, List, [], ◌∷◌, ◌++◌, filter, reverse, Result, Ok, Err, Option, Some, None, Contains, refl, sym, ap, subst, ◌∙◌, inl, inr, ⊎_elim}
 use Rattle.std.specs.List.{list_any}
 use Rattle.std.specs.List.Sorted.{IsPermutation}
 use Rattle.std.specs.Str.{bytes_eq}
-use Rattle.std.proofs.lemmas.Bool.{cases_Bool, cond-true, cond-false, false≢true}
+use Rattle.std.proofs.lemmas.Bool.{cases_Bool, cond-true, cond-false, false≢true, eqb-true}
 use Rattle.std.proofs.lemmas.List.Elements.{Contains-append_left, Contains-append_right, Contains-append_cases, Contains-push_cases}
 use Rattle.std.proofs.lemmas.List.{append_assoc}
 use Rattle.std.proofs.lemmas.List.Sorted.{IsPermutation-reverse, IsPermutation-sym, Contains-permutation}
 use Rattle.std.proofs.lemmas.Slice.Eq.{bytes_eq-Decides}
 use Rattle.lake_basics.specs.Outcome.{◌>>=◌, each}
+use Rattle.table_history.specs.Path.{is_slash}
 use Rattle.table_history.specs.declared.row.FileRow.{FileRow}
 use Rattle.table_history.proofs.RowListLemmas.{Contains-none, Contains-head, Contains-tail, Contains-cases, Contains-filter, filter_contains}
 use Rattle.partition_map.specs.declared.kind.PartKind.{PartKind}
@@ -24,7 +25,7 @@ use Rattle.hudi_timeline.specs.Values.{style_of, HaveValues}
 use Rattle.hudi_timeline.specs.GroupSets.{is_row_of_group, names_group, newest_rows}
 use Rattle.hudi_timeline.specs.GroupChange.{is_touched, rows_after}
 use Rattle.hudi_timeline.specs.Live.{Completed, Timeline, AreRowsOf, IsNewestOfGroup, IsWrittenBy, Writes, Replaces, Touches, HudiLive, AreLive, IsLiveAfter}
-use Rattle.hudi_timeline.proofs.AnyLemmas.{any_from, any_to, or_true}
+use Rattle.hudi_timeline.proofs.AnyLemmas.{any_from, any_to, any_none, or_true}
 use Rattle.hudi_timeline.proofs.GroupSetLemmas.{row_in_group, group_has_row}
 use Rattle.hudi_timeline.proofs.NewestLemmas.{newest_from, newest_to}
 use Rattle.hudi_timeline.proofs.ValueLemmas.{rows_same}
@@ -82,6 +83,13 @@ module _ (form : Form) (style : FolderStyle) (names : List (List ℕ)) (kinds : 
       (Contains-cases t ts s there))
 
 -- ---- what one instant makes of rows
+both_parts : (a b : Bool) → (not a && b) ≡ true → (a ≡ false) × (b ≡ true)
+both_parts true b h = absurd (false≢true h)
+both_parts false b h = (refl, h)
+
+both_from : (a b : Bool) → a ≡ false → b ≡ true → (not a && b) ≡ true
+both_from a b plain same = (λ i. not (plain i) && same i)
+
 module _ (table : HudiTable) (kinds : List PartKind) (u : Completed) (rows : List FileRow) (are : AreRowsOf table kinds u rows) where
   pub touched_to : (path : List ℕ) → is_touched u.form u.instant.replaced rows (group_name u.form path) ≡ true → Touches u path
   touched_to path t =
@@ -90,7 +98,8 @@ module _ (table : HudiTable) (kinds : List PartKind) (u : Completed) (rows : Lis
       (λ yes. inl (writes_to u.form (style_of table) table.partition kinds q u.instant.stats are.0 rows are.1 are.2 yes))
       (λ no.
       let gone = any_to (names_group q) u.instant.replaced (subst (λ b. (b || list_any (names_group q) u.instant.replaced) ≡ true) no t) in
-      inr (gone.0, gone.1, (bytes_eq-Decides q (joined gone.0.0 gone.0.1)).0 gone.2))
+      let says = both_parts (list_any is_slash gone.0.1) (bytes_eq q (joined gone.0.0 gone.0.1)) gone.2 in
+      inr (gone.0, gone.1, (λ slash. false≢true (sym says.0 ∙ any_from is_slash gone.0.1 47 slash refl)), (bytes_eq-Decides q (joined gone.0.0 gone.0.1)).0 says.1))
       (cases_Bool (list_any (is_row_of_group u.form q) rows))
 
   pub touched_from : (path : List ℕ) → Touches u path → is_touched u.form u.instant.replaced rows (group_name u.form path) ≡ true
@@ -98,7 +107,7 @@ module _ (table : HudiTable) (kinds : List PartKind) (u : Completed) (rows : Lis
       let q = group_name u.form path in
       ⊎_elim
       (λ w. ap (λ b. b || list_any (names_group q) u.instant.replaced) (writes_from u.form (style_of table) table.partition kinds q u.instant.stats are.0 rows are.1 are.2 w.0 w.1 w.2))
-      (λ r. ap (λ b. list_any (is_row_of_group u.form q) rows || b) (any_from (names_group q) u.instant.replaced r.0 r.1 ((bytes_eq-Decides q (joined r.0.0 r.0.1)).1 r.2)) ∙ or_true (list_any (is_row_of_group u.form q) rows))
+      (λ r. ap (λ b. list_any (is_row_of_group u.form q) rows || b) (any_from (names_group q) u.instant.replaced r.0 r.1 (both_from (list_any is_slash r.0.1) (bytes_eq q (joined r.0.0 r.0.1)) (any_none is_slash r.0.1 (λ x there t. r.2 (subst (Contains r.0.1) (eqb-true x 47 t) there))) ((bytes_eq-Decides q (joined r.0.0 r.0.1)).1 r.3))) ∙ or_true (list_any (is_row_of_group u.form q) rows))
       h
 
   -- the rows after the instant

@@ -1,11 +1,12 @@
 -- The file groups of rows and of replaced file ids.
-use Rattle.std.specs.Prelude.{◌≡◌, ℕ, Bool, List, [], ◌∷◌, if◌then◌else◌, Vec}
+use Rattle.std.specs.Prelude.{ℕ, Bool, ◌&&◌, not, List, [], ◌∷◌, if◌then◌else◌, Vec}
 use Rattle.std.specs.List.{list_any}
 use Rattle.std.specs.Str.{bytes_eq}
 use Rattle.std.specs.HashSet.{HashSet}
 use Rattle.std.specs.declared.alloc.Global.{Global}
 use Rattle.std.specs.declared.hash.FoldHasher.{FoldHasher}
 use Rattle.std.specs.declared.hash.BuildHasherDefault.{BuildHasherDefault}
+use Rattle.table_history.specs.Path.{is_slash}
 use Rattle.table_history.specs.Row.{Row}
 use Rattle.hudi_timeline.specs.declared.form.Form.{Form}
 use Rattle.hudi_timeline.specs.Group.{joined}
@@ -21,9 +22,9 @@ has_group groups q = list_any (λ k. bytes_eq q k.items) groups.keys
 abbrev pub is_row_of_group : Form → List ℕ → Row → Bool
 is_row_of_group form q row = bytes_eq q (group_name form row.path)
 
--- the partition and file id name this group
+-- The partition and file id name this group. No file id has a `/` in it, so that a text with one names none.
 abbrev pub names_group : List ℕ → List ℕ × List ℕ → Bool
-names_group q p = bytes_eq q (joined p.0 p.1)
+names_group q p = not (list_any is_slash p.1) && bytes_eq q (joined p.0 p.1)
 
 -- the rows of which no later one is of the same group
 abbrev pub newest_rows : Form → List Row → List Row

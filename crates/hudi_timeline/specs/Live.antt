@@ -43,9 +43,9 @@ pub record IsWrittenBy (table : HudiTable) (kinds : List PartKind) (u : Complete
 abbrev pub Writes : Completed → List ℕ → Type 0
 Writes u group = (s : Stat) × Contains u.instant.stats s × (group ≡ group_name u.form (without_end (suffix_of u.form) s.path))
 
--- a replaced file id of this group
+-- A replaced file id of this group. No file id has a `/` in it, so that a text with one names no group.
 abbrev pub Replaces : Completed → List ℕ → Type 0
-Replaces u group = (p : List ℕ × List ℕ) × Contains u.instant.replaced p × (group ≡ joined p.0 p.1)
+Replaces u group = (p : List ℕ × List ℕ) × Contains u.instant.replaced p × (¬ Contains p.1 47) × (group ≡ joined p.0 p.1)
 
 -- The instant writes or replaces the group of the file at this path.
 abbrev pub Touches : Completed → List ℕ → Type 0

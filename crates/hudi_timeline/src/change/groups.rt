@@ -3,6 +3,7 @@
 ghost use Rattle.std.specs.Prelude.{◌≡◌, ◌||◌, ℕ, List, filter, reverse, IfOk, OnOk};
 ghost use Rattle.std.specs.List.{list_any};
 ghost use Rattle.std.specs.Str.{bytes_eq};
+ghost use Rattle.table_history.specs.Path.{is_slash};
 ghost use Rattle.table_history.specs.Rows.{HasDistinctPaths};
 ghost use Rattle.hudi_timeline.specs.Group.{joined};
 ghost use Rattle.hudi_timeline.specs.Files.{group_name};
@@ -61,6 +62,26 @@ fn joined(alloc: Global, folder: &[u8], name: &[u8]) -> Result<Vec<u8>, AllocErr
     Ok(path)
 }
 
+/// The groups, and that of a replaced file id. A text with a `/` is no file id.
+fn with_group(alloc: Global, groups: Groups, pair: &(Text, Text)) -> Result<Groups, AllocError>
+    ensures { IfOk result (λ all. (q : List ℕ)
+        → has_group all q ≡ (names_group q pair.now || has_group groups q)) }
+{
+    if has_slash(pair.1.as_bytes()) {
+        return Ok(groups);
+    }
+    let mut all = groups;
+    let group = joined(alloc, pair.0.as_bytes(), pair.1.as_bytes())?;
+    drop(all.insert(group)?);
+    Ok(all)
+}
+
+fn has_slash(bytes: &[u8]) -> bool
+    ensures { result ≡ list_any is_slash bytes.now }
+{
+    bytes.iter().any(|b| *b == b'/')
+}
+
 /// The groups, and those of the replaced file ids.
 pub(super) fn with_replaced(
     alloc: Global,
@@ -72,8 +93,7 @@ pub(super) fn with_replaced(
 {
     let mut all = groups;
     for pair in replaced {
-        let group = joined(alloc, pair.0.as_bytes(), pair.1.as_bytes())?;
-        drop(all.insert(group)?);
+        all = with_group(alloc, all, pair)?;
     }
     Ok(all)
 }
