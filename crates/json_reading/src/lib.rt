@@ -10,8 +10,10 @@ pub use member::{
     bool_of, count_in, count_of, int_in, int_of, list_of, object_of, present_of, text_of, whole_in,
     whole_of,
 };
-pub use reading::{read_json, read_json_text, text_from, texts_from};
-pub use writing::{json_text, nullable_texts_object, text_value, texts_array, texts_object};
+pub use reading::{read_json, read_json_text, text_from, text_member, texts_from};
+pub use writing::{
+    json_text, nullable_texts_object, text_or_null, text_value, texts_array, texts_object,
+};
 
 #[cfg(test)]
 mod tests;

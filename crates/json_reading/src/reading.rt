@@ -1,14 +1,15 @@
 //! JSON from bytes and texts, and texts in JSON.
 
-ghost use Rattle.std.specs.Prelude.{◌≡◌};
+ghost use Rattle.std.specs.Prelude.{◌≡◌, IfOk};
 ghost use Rattle.serde_json.specs.Read.{read};
 ghost use Rattle.serde_json.specs.View.{view, items_view};
 ghost use Rattle.lake_basics.specs.Outcome.{Gives, required, each};
-ghost use Rattle.json_reading.specs.Json.{json, items, text};
+ghost use Rattle.json_reading.specs.Json.{json, items, text, text_member};
 
+use crate::member::text_of;
 use lake_basics::{Items, ReadError, Text};
 use serde_json::Value;
-use std::alloc::Global;
+use std::alloc::{AllocError, Global};
 
 /// The value that the bytes are, or this fault where they aren't UTF-8 or no JSON text.
 pub fn read_json<F: Drop>(alloc: Global, bytes: &[u8], fault: F) -> Result<Value, ReadError<F>>
@@ -55,4 +56,15 @@ pub fn texts_from<F: Copy + Drop>(
         texts.push(text_from(alloc, value, fault)?)?;
     }
     Ok(texts)
+}
+
+/// The member as a text of its own, or `None` where there is no such member or it is no text, as
+/// null is.
+pub fn text_member(alloc: Global, value: &Value, name: &str) -> Result<Option<Text>, AllocError>
+    ensures { IfOk result (λ t. t ≡ text_member name.now (view value.now)) }
+{
+    match text_of(value, name) {
+        None => Ok(None),
+        Some(text) => Ok(Some(Text::from_str(alloc, text)?)),
+    }
 }

@@ -18,7 +18,8 @@ pub fn text_value(alloc: Global, text: &str) -> Result<Value, AllocError>
     Ok(Value::String(String::from_str(alloc, text)?))
 }
 
-fn text_or_null(alloc: Global, text: &Option<Text>) -> Result<Value, AllocError>
+/// The text as a value, or null.
+pub fn text_or_null(alloc: Global, text: &Option<Text>) -> Result<Value, AllocError>
     ensures { IfOk result (λ v. view v ≡ text_or_null_data text.now) }
 {
     match text {

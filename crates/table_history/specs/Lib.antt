@@ -10,3 +10,6 @@ pub mod RowMap
 pub mod Tables
 pub mod Path
 pub mod History
+pub mod Sound
+pub mod SchemaSize
+pub mod First
