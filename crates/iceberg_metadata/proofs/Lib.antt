@@ -1,0 +1,2 @@
+pub mod AncestryLemmas
+pub mod NameLemmas
