@@ -1,4 +1,4 @@
-//! Members by kind, whole numbers, and text that reads back.
+//! Members by kind, whole numbers, texts, and text that reads back.
 use super::*;
 use lake_basics::{ReadError, Text};
 use std::test::Fail;
@@ -38,8 +38,48 @@ fn members_are_found_by_their_kind(rt: HostRuntime) -> Result<(), Fail> {
         return Err(Fail::from("no texts"));
     };
     assert_eq!(rt; texts.len(), 2);
+    assert_eq!(rt; texts.as_slice()[0].as_str(), "a");
+    assert_eq!(rt; texts.as_slice()[1].as_str(), "b");
     let array = texts_array(alloc, texts.as_slice())?;
     assert_eq!(rt; json_text(alloc, &array)?.as_str(), "[\"a\",\"b\"]");
+    Ok(())
+}
+
+#[test]
+fn texts_may_be_missing(rt: HostRuntime) -> Result<(), Fail> {
+    let alloc = rt.alloc();
+    let Ok(value) = read_json_text(alloc, "{\"t\":\"x\",\"z\":null,\"l\":[\"a\",1]}", 5u8) else {
+        return Err(Fail::from("no JSON"));
+    };
+    let text = text_member(alloc, &value, "t")?;
+    assert_eq!(rt;
+        json_text(alloc, &text_or_null(alloc, &text)?)?.as_str(),
+        "\"x\""
+    );
+    for name in ["z", "l", "a"] {
+        let text = text_member(alloc, &value, name)?;
+        assert_eq!(rt;
+            json_text(alloc, &text_or_null(alloc, &text)?)?.as_str(),
+            "null"
+        );
+    }
+    let Some(list) = list_of(&value, "l") else {
+        return Err(Fail::from("no list"));
+    };
+    assert_eq!(rt;
+        matches!(texts_from(alloc, list, 5u8), Err(ReadError::Fault(5))),
+        true
+    );
+    Ok(())
+}
+
+#[test]
+fn an_empty_object_is_read(rt: HostRuntime) -> Result<(), Fail> {
+    let alloc = rt.alloc();
+    let Ok(value) = read_json_text(alloc, "{}", 5u8) else {
+        return Err(Fail::from("no JSON"));
+    };
+    assert_eq!(rt; json_text(alloc, &value)?.as_str(), "{}");
     Ok(())
 }
 

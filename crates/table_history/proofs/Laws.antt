@@ -1,16 +1,39 @@
--- Laws of changes that every layer above needs.
-use Rattle.std.proofs.Common.{◌≡◌, ℕ, List, [], Contains, refl, sym, subst, inl, inr, ⊎_elim, ◌∷◌, arith}
+-- Laws of rows, changes and schemas that every layer above needs.
+use Rattle.std.proofs.Common.{◌≡◌, ℕ, List, [], Contains, length, true, ◌↔◌, map, refl, sym, subst, inl, inr, ⊎_elim, ◌∷◌, arith}
 use Rattle.std.specs.List.{IsDistinct}
+use Rattle.std.specs.List.Sorted.{IsPermutation}
 use Rattle.std.specs.Str.{bytes_eq}
+use Rattle.std.proofs.lemmas.List.Sorted.{length_permutation}
 use Rattle.std.proofs.lemmas.Map.Keys.{IsDistinct-from_apart, IsDistinct-cons}
 use Rattle.table_history.specs.Row.{Row}
-use Rattle.table_history.specs.Rows.{HasDistinctPaths, HasPath, SameRows}
+use Rattle.table_history.specs.Rows.{HasDistinctPaths, HasPath, IsInByteOrder, SameRows}
+use Rattle.table_history.specs.Sound.{have_own_names, names_of}
 use Rattle.table_history.specs.Tables.{CanApply, IsAfter, IsDiff, LeadsTo}
+use Rattle.table_history.specs.TypeTree.{ColumnTrees}
 use Rattle.table_history.specs.declared.table.Table.{Table}
 use Rattle.table_history.specs.declared.table.Change.{Change}
+use Rattle.table_history.proofs.NameLemmas.{own_or_distinct}
+use Rattle.table_history.proofs.OrderLemmas as order
 use Rattle.table_history.proofs.OrderLemmas.{diff_added_same, diff_removed_same}
+use Rattle.table_history.proofs.SameRowLemmas.{permuted}
 use Rattle.table_history.proofs.RowListLemmas.{Contains-none, Contains-head, Contains-one}
 use Rattle.table_history.proofs.TableLemmas.{diff_leads, diff_removed_distinct, diff_removed_there, diff_added_distinct, diff_added_new, there_or_not}
+
+-- two tables of the same rows have them in another order at most
+pub same_rows_permute : (xs ys : List Row) → HasDistinctPaths xs → HasDistinctPaths ys → SameRows xs ys → IsPermutation xs ys
+same_rows_permute xs ys distinct distinct' same = permuted xs ys distinct distinct' same
+
+-- so they have as many
+pub same_rows_length : (xs ys : List Row) → HasDistinctPaths xs → HasDistinctPaths ys → SameRows xs ys → length xs ≡ length ys
+same_rows_length xs ys distinct distinct' same = sym (length_permutation xs ys (permuted xs ys distinct distinct' same))
+
+-- two lists of the same items, each in byte order of their keys, are one
+pub in_order_same : {X : Type 0} (key : X → List ℕ) (xs ys : List X) → IsInByteOrder (map key xs) → IsInByteOrder (map key ys) → ((x : X) → Contains xs x ↔ Contains ys x) → xs ≡ ys
+in_order_same key xs ys up up' same = order.in_order_same key xs ys up up' same
+
+-- the columns have names of their own exactly where their names are distinct
+pub own_names_distinct : (cs : ColumnTrees) → (have_own_names cs ≡ true) ↔ IsDistinct bytes_eq (names_of cs)
+own_names_distinct cs = own_or_distinct cs
 
 -- the tables before and after determine the removed paths and the added rows
 pub change_determined : (before after : List Row) (removed removed' : List (List ℕ)) (added added' : List Row)

@@ -70,7 +70,7 @@ row_at-none (r ∷ rows) path h there =
     (Contains-cases r rows there.0 there.1))
     (cases_Bool (bytes_eq path r.path))
 
-all_at : {X : Type 0} (P : X → Type 0) (xs : List X) (x : X) → AllByRecursion P xs → Contains xs x → P x
+pub all_at : {X : Type 0} (P : X → Type 0) (xs : List X) (x : X) → AllByRecursion P xs → Contains xs x → P x
 all_at P [] x all h = absurd (Contains-none x h)
 all_at P (y ∷ ys) x all h = ⊎_elim (λ e. subst P e all.0) (λ later. all_at P ys x all.1 later) (Contains-cases y ys x h)
 

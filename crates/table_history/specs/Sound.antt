@@ -1,7 +1,11 @@
 -- Schemas that a table may have.
-use Rattle.std.specs.Prelude.{◌≡◌, ◌<◌, ◌≤◌, ℕ, List, Bool, true, false, not, ◌&&◌, ◌||◌}
+use Rattle.std.specs.Prelude.{◌≡◌, ◌<◌, ◌≤◌, ℕ, List, [], ◌∷◌, Bool, true, false, not, ◌&&◌, ◌||◌}
 use Rattle.std.specs.Str.{bytes_eq}
 use Rattle.table_history.specs.TypeTree.{TypeTree, decimal, struct_of, list_of, map_of, ColumnTrees, no_columns, column}
+
+abbrev pub names_of : ColumnTrees → List (List ℕ)
+names_of no_columns = []
+names_of (column n t b cs) = n ∷ names_of cs
 
 -- whether one of the columns has the name
 abbrev pub is_named : List ℕ → ColumnTrees → Bool

@@ -6,9 +6,9 @@ ghost use Rattle.table_history.specs.Words.{feature_word};
 /// A feature of a table that isn't supported.
 #[derive(Clone, Copy, Debug, PartialEq, Eq)]
 pub enum Feature {
-    /// A Delta log whose first kept commits are missing.
+    /// A Delta log without each version from 0 to its newest, where it has to be read from scratch.
     NeedsCheckpoint,
-    /// A Hudi timeline with archived instants.
+    /// A Hudi timeline with archived instants, where it has to be read from scratch.
     NeedsArchive,
     /// A Delta reader version other than 1, 2 and 3.
     ReaderVersion,
@@ -24,7 +24,7 @@ pub enum Feature {
     NoRecordCount,
     /// Data files that aren't Parquet.
     FileFormat,
-    /// A type that the other side's schemas can't spell.
+    /// A type that a source has and tables here haven't, or that the target's schemas can't spell.
     SchemaType,
     /// A column name that isn't an Avro name.
     AvroName,

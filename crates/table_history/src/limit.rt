@@ -23,7 +23,8 @@ pub enum LimitKind {
     Commits,
     /// Commits to be published to one target.
     Publish,
-    /// File actions, write stats, replaced ids or manifest entries of one reading.
+    /// Adds, removes, write stats and replaced ids, or entries of manifests, each manifest once: of
+    /// all commits after a position together, and in any other reading of one commit or snapshot.
     Actions,
     /// Avro values of one manifest or manifest list.
     Values,
@@ -31,9 +32,9 @@ pub enum LimitKind {
     Path,
     /// Partition columns.
     PartitionColumns,
-    /// Columns of a schema at all levels.
+    /// Columns of a schema at all levels: the top-level ones and the fields of structs.
     Columns,
-    /// Levels of a schema.
+    /// Levels of a schema, which is itself the first, above those of its columns' types.
     Depth,
     /// A Delta version, an Iceberg metadata version or field id, or the year of a Hudi instant.
     Versions,

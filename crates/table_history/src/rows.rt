@@ -54,6 +54,7 @@ impl FileRows {
         self.map.len()
     }
 
+    /// Whether there is no row.
     pub fn is_empty(&self) -> bool
         ensures { IsTrue result ↔ (length self.now ≡ 0) }
     {
@@ -185,6 +186,7 @@ fn arrivals_of(rows: &[FileRow], alloc: Global) -> Result<Vec<Arrival>, AllocErr
 }
 
 fn remove_paths(rows: &mut RowMap, paths: &[Text])
+    requires { IsDistinct key_eq (map (λ e. e.0) rows.old.entries) }
     ensures lookups { (p : List ℕ) → row_of rows.new.entries p
         ≡ (if list_any (bytes_eq p) paths.now then None else row_of rows.old.entries p) }
     ensures room { spare rows.old ≤ spare rows.new }
@@ -193,11 +195,11 @@ fn remove_paths(rows: &mut RowMap, paths: &[Text])
     for path in paths {
         drop(rows.swap_remove(path.as_bytes()));
     }
-    let _ = rows.len();
 }
 
 fn insert_arrivals(rows: &mut RowMap, mut arrivals: Vec<Arrival>)
-    requires { vec_len arrivals ≤ spare rows.old }
+    requires room { vec_len arrivals ≤ spare rows.old }
+    requires unique { IsDistinct key_eq (map (λ e. e.0) rows.old.entries) }
     ensures lookups { (p : List ℕ) → row_of rows.new.entries p
         ≡ option_or (row_at (map (λ a. a.row) arrivals.items) p) (row_of rows.old.entries p) }
     ensures unique { IsDistinct key_eq (map (λ e. e.0) rows.new.entries) }
@@ -206,5 +208,4 @@ fn insert_arrivals(rows: &mut RowMap, mut arrivals: Vec<Arrival>)
         let Arrival { key, row } = arrival;
         drop(rows.insert(key, row).unwrap());
     }
-    let _ = rows.len();
 }

@@ -25,4 +25,5 @@ loop-arrival-preserved c = record {
       ∙ ap (λ w. option_or w old) (sym (row_at-append (map (λ w. w.row) left) (a.row ∷ []) p) ∙ ap (λ rows. row_at rows p) (sym (ap (map (λ w. w.row)) c.in-Some.ensures.items ∙ map-append (λ w. w.row) left (a ∷ []))))
       ∙ c.loop-arrival.invariant.lookups p;
   room = omega (arith, c.in-Some.ensures.cases, c.insert.ensures.spare, c.loop-arrival.invariant.room);
+  unique = c.insert.ensures.unique;
 }

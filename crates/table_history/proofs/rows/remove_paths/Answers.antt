@@ -23,4 +23,5 @@ loop-path-preserved c = record {
       ∙ ap (λ b. cond (gone || b) None first) (ap (bytes_eq p) c.path-item.is)
       ∙ ap (λ b. cond b None first) (sym (list_any_more (bytes_eq p) c.args.paths.now c.loop-path.path-index path (omega arith)));
   room = omega arith;
+  unique = c.swap_remove.ensures.unique;
 }
