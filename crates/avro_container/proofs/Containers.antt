@@ -9,6 +9,7 @@ use Rattle.avro_value.specs.Layout.{Layout, layout_of}
 use Rattle.avro_value.specs.ValueTree.{ValueTree, value_tree, value_count, total}
 use Rattle.lake_basics.specs.Outcome.{◌>>=◌}
 use Rattle.avro_schema.specs.Reading.{schema_of}
+use Rattle.avro_schema.proofs.Texts.{text_found, text_read}
 use Rattle.avro_value.proofs.NumberLaws.{bind_ok, ok_is}
 use Rattle.avro_value.proofs.FaultLaws.{bind_err, err_is}
 use Rattle.avro_container.specs.declared.container.Container.{Container}
@@ -52,15 +53,15 @@ schema_ok : (meta : Pairs) (t : SchemaTree) → schema_in meta ≡ Ok t → HasS
 schema_ok meta t e = go (first_named schema_name meta) refl (sym (schema_is meta) ∙ e)
   where
     on : (text : List ℕ) → first_named schema_name meta ≡ Some text → (r : Result SchemaTree SchemaError) → schema_of text ≡ r → schema_by r ≡ Ok t → HasSchema meta t
-    on text is (Ok u) same q = (text, is, same ∙ ap Ok (ok_is u t q))
+    on text is (Ok u) same q = (text, is, text_found text t (same ∙ ap Ok (ok_is u t q)))
     on text is (Err d) same q = absurd cc
 
     go : (o : Option (List ℕ)) → first_named schema_name meta ≡ o → schema_from o ≡ Ok t → HasSchema meta t
     go None is q = absurd cc
     go (Some text) is q = on text is (schema_of text) refl q
 
-schema_again : (meta : Pairs) (t : SchemaTree) → HasSchema meta t → schema_in meta ≡ Ok t
-schema_again meta t h = schema_is meta ∙ ap schema_from h.1 ∙ ap schema_by h.2
+pub schema_again : (meta : Pairs) (t : SchemaTree) → HasSchema meta t → schema_in meta ≡ Ok t
+schema_again meta t h = schema_is meta ∙ ap schema_from h.1 ∙ ap schema_by (text_read h.0 t h.2)
 
 schema_flaw : (meta : Pairs) (w : Flaw) → schema_in meta ≡ Err w → w ≡ flaw.BadSchema
 schema_flaw meta w e = go (first_named schema_name meta) (sym (schema_is meta) ∙ e)

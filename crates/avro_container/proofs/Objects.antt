@@ -1,11 +1,11 @@
 -- What a block's objects take, and where they are at fault.
-use Rattle.std.proofs.Common.{◌≡◌, ℕ, zero, suc, ◌+◌, ◌-◌, ◌<◌, ◌≤◌, ◌⊎◌, pos, List, [], ◌∷◌, ◌++◌, length, Result, Ok, Err, refl, sym, ap, subst, ◌∙◌, append_assoc, arith, inl, inr}
+use Rattle.std.proofs.Common.{◌≡◌, ℕ, zero, suc, ◌+◌, ◌-◌, ◌<◌, ◌≤◌, ◌⊎◌, pos, true, List, [], ◌∷◌, ◌++◌, length, Result, Ok, Err, refl, sym, ap, subst, ◌∙◌, append_assoc, arith, inl, inr}
 use Rattle.std.proofs.lemmas.List.{length-append, append-nil}
 use Rattle.avro_value.specs.declared.fault.Fault.{Fault}
 use Rattle.avro_value.specs.declared.fault.Fault.TheVariants.{Short, BadLong, BadLength, BadIndex, BadText, BadBool, Limit}
 use Rattle.avro_value.specs.declared.fault.FaultAt.{FaultAt}
 use Rattle.avro_value.specs.Varint.{Long}
-use Rattle.avro_value.specs.Layout.{Layout}
+use Rattle.avro_value.specs.Layout.{Layout, is_bare}
 use Rattle.avro_value.specs.ValueTree.{ValueTree, value_count, total}
 use Rattle.avro_value.specs.Spelling.{Concatenated, Spells}
 use Rattle.avro_value.specs.Faults.{FaultsInMany, FaultsInValue, LacksNatural}
@@ -17,14 +17,15 @@ use Rattle.avro_value.proofs.ValueLaws.{value_takes, value_again}
 use Rattle.avro_value.proofs.FaultLaws.{err_is, natural_refuses, run_refuses}
 use Rattle.avro_value.proofs.FaultAgain.{natural_refused, run_refused}
 use Rattle.avro_value.proofs.ReaderFaults.{FaultBy, FaultsBy, many_faults, mapped_err}
-use Rattle.avro_value.proofs.ReaderFaultAgain.{FaultAgainBy, many_refused}
+use Rattle.avro_value.proofs.ReaderFaultAgain.{FaultAgainBy, same_fault, many_refused}
 use Rattle.avro_value.proofs.ValueFaults.{value_faults}
+use Rattle.avro_value.proofs.BareValues.{IdleBy, idle_value}
 use Rattle.avro_value.proofs.ValueFaultAgain.{value_refused}
 use Rattle.avro_container.specs.declared.fault.Flaw.{Flaw}
 use Rattle.avro_container.specs.declared.fault.Flaw.TheVariants as flaw
 use Rattle.avro_container.specs.declared.fault.ContainerFault.{ContainerFault}
 use Rattle.avro_container.specs.Reading.{Step, flaw_at, number_fault, natural_in, run_in, object_fault_by, object_fault, relimited, object_at, objects_in, objects_behind}
-use Rattle.avro_container.specs.Faults.{IsFlawAt, FaultsInNumber, FaultsInObject, FaultsInObjects}
+use Rattle.avro_container.specs.Faults.{IsFlawAt, FaultsInNumber, IsObjectFault, FaultsInObject, FaultsInObjects}
 
 -- ---- an object
 
@@ -53,6 +54,31 @@ object_within BadIndex bytes f h = h
 object_within BadText bytes f h = h
 object_within BadBool bytes f h = h
 
+object_in : (r : Fault) (bytes : List ℕ) (g f : FaultAt) → g.fault ≡ r → f ≡ object_fault_by r bytes g → IsObjectFault bytes g f
+object_in Limit bytes g f q e = inl (q, ap (λ (k : FaultAt). k.fault) e, ap (λ (k : FaultAt). k.left) e)
+object_in Short bytes g f q e = inr ((λ p. let both = sym q ∙ p in absurd cc), e)
+object_in BadLong bytes g f q e = inr ((λ p. let both = sym q ∙ p in absurd cc), e)
+object_in BadLength bytes g f q e = inr ((λ p. let both = sym q ∙ p in absurd cc), e)
+object_in BadIndex bytes g f q e = inr ((λ p. let both = sym q ∙ p in absurd cc), e)
+object_in BadText bytes g f q e = inr ((λ p. let both = sym q ∙ p in absurd cc), e)
+object_in BadBool bytes g f q e = inr ((λ p. let both = sym q ∙ p in absurd cc), e)
+
+object_out : (r : Fault) (bytes : List ℕ) (g f : FaultAt) → g.fault ≡ r → IsObjectFault bytes g f → object_fault_by r bytes g ≡ f
+object_out Limit bytes g f q (inl h) = same_fault bytes Limit f h.1 h.2
+object_out Limit bytes g f q (inr h) = absurd (h.0 q)
+object_out Short bytes g f q (inl h) = let both = sym q ∙ h.0 in absurd cc
+object_out Short bytes g f q (inr h) = sym h.1
+object_out BadLong bytes g f q (inl h) = let both = sym q ∙ h.0 in absurd cc
+object_out BadLong bytes g f q (inr h) = sym h.1
+object_out BadLength bytes g f q (inl h) = let both = sym q ∙ h.0 in absurd cc
+object_out BadLength bytes g f q (inr h) = sym h.1
+object_out BadIndex bytes g f q (inl h) = let both = sym q ∙ h.0 in absurd cc
+object_out BadIndex bytes g f q (inr h) = sym h.1
+object_out BadText bytes g f q (inl h) = let both = sym q ∙ h.0 in absurd cc
+object_out BadText bytes g f q (inr h) = sym h.1
+object_out BadBool bytes g f q (inl h) = let both = sym q ∙ h.0 in absurd cc
+object_out BadBool bytes g f q (inr h) = sym h.1
+
 pub object_faults : (l : Layout) → FaultsBy (object_at l) (FaultsInObject l)
 unfolding object_at
 object_faults l bytes budget f e =
@@ -60,12 +86,20 @@ object_faults l bytes budget f e =
     let h = value_faults l bytes budget g.0 g.1 in
     record {
       within = subst (λ (k : FaultAt). k.left ≤ length bytes) (sym g.2) (object_within g.0.fault bytes g.0 h.within);
-      fault = (g.0, h.fault, g.2);
+      fault = (g.0, h.fault, object_in g.0.fault bytes g.0 f refl g.2);
     }
 
 pub object_refused : (l : Layout) → FaultAgainBy (object_at l) (FaultsInObject l)
 unfolding object_at
-object_refused l bytes budget f h = ap (relimited bytes) (value_refused l bytes budget h.0 h.1) ∙ ap Err (sym h.2)
+object_refused l bytes budget f h = ap (relimited bytes) (value_refused l bytes budget h.0 h.1) ∙ ap Err (object_out h.0.fault bytes h.0 f refl h.2)
+
+-- Objects that take no bytes pass the limit where they begin.
+pub idle_object : (l : Layout) → is_bare l ≡ true → IdleBy 1 (object_at l)
+unfolding object_at
+idle_object l e bytes budget = elim (idle_value l e bytes budget) [
+  | inl (v, left, is, few) ↦ inl (v, left, ap (relimited bytes) is, few)
+  | inr past ↦ inr (ap (relimited bytes) past)
+]
 
 -- ---- a block's objects
 

@@ -17,6 +17,7 @@ use Rattle.avro_schema.specs.Writing.{json_of}
 use Rattle.serde_json.specs.Written.{compact_text}
 use Rattle.avro_value.specs.Writing.{varint_of, length_prefixed, block_encoding, values_encoding}
 use Rattle.avro_value.specs.Fitting.{IsText, AreSound, Fits}
+use Rattle.avro_schema.proofs.Texts.{text_found}
 use Rattle.avro_value.proofs.WriteLaws.{natural_written, bytes_written, text_written, blocks_written, joined, written}
 use Rattle.avro_container.specs.Format.{Pairs, magic, Meta, meta_size, first_named, schema_name, codec_name, null_codec, HasSchema, IsPlain, Header, Block, Blocks, IsContainer}
 use Rattle.avro_container.specs.Writing.{pairs_text, meta_text, block_text, container_text, ArePairs, is_named, IsFree, AreWritten, IsWritten}
@@ -103,7 +104,7 @@ container_written limit meta text pairs t marker vs low w free reads are fit sou
       blocks = block_text (length vs) (values_encoding (values_of vs)) marker;
       parts = simp append_assoc;
       is_header = record { map = meta_text pairs; parts = refl; is_map = meta_written pairs are (omega (arith, size, few, low)); few = omega (arith, size, few, ones pairs); sixteen = len };
-      schema = (text, has_schema meta text pairs w free.no_schema, reads);
+      schema = (text, has_schema meta text pairs w free.no_schema, text_found text t reads);
       plain = inr (has_codec meta text pairs w free.no_codec);
       number = written_blocks.0;
       are_blocks = written_blocks.1;

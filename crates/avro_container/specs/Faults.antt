@@ -1,7 +1,7 @@
 -- What is wrong with bytes that are no container: the first flaw from the left.
 use Rattle.std.specs.Prelude.{◌≡◌, ℕ, zero, suc, ◌+◌, ◌<◌, ◌≤◌, ◌⊎◌, pos, List, [], ◌∷◌, ◌++◌, length, Some, None, Err}
 use Rattle.avro_value.specs.declared.fault.Fault.{Fault}
-use Rattle.avro_value.specs.declared.fault.Fault.TheVariants.{Short, BadLength}
+use Rattle.avro_value.specs.declared.fault.Fault.TheVariants.{Short, BadLength, Limit}
 use Rattle.avro_value.specs.declared.fault.FaultAt.{FaultAt}
 use Rattle.avro_value.specs.Varint.{Long}
 use Rattle.avro_schema.specs.Tree.{SchemaTree}
@@ -13,7 +13,6 @@ use Rattle.avro_container.specs.declared.fault.Flaw.{Flaw}
 use Rattle.avro_container.specs.declared.fault.Flaw.TheVariants as flaw
 use Rattle.avro_container.specs.declared.fault.ContainerFault.{ContainerFault}
 use Rattle.avro_container.specs.Format.{Pairs, magic, Meta, meta_size, Header, HasSchema, IsPlain, Block, Blocks}
-use Rattle.avro_container.specs.Reading.{object_fault}
 
 -- The fault is this flaw, at the first of these bytes.
 abbrev pub IsFlawAt : Flaw → List ℕ → ContainerFault → Type 0
@@ -25,9 +24,12 @@ IsFlawAt what bytes f = (f.flaw ≡ what) × (f.left ≡ length bytes)
 abbrev pub FaultsInNumber : List ℕ → List ℕ → ContainerFault → Type 0
 FaultsInNumber block bytes f = (r : Fault) × LacksNatural BadLength r bytes × (((r ≡ Short) × IsFlawAt flaw.Short block f) ⊎ ((r ≡ Short → ⊥) × IsFlawAt flaw.BadBlock bytes f))
 
--- an object's first item at fault, or its first byte where it passes the limit
+-- An object's fault is that of its first item at fault, but the limit is passed at its first byte.
+abbrev pub IsObjectFault : List ℕ → FaultAt → FaultAt → Type 0
+IsObjectFault bytes g f = ((g.fault ≡ Limit) × (f.fault ≡ Limit) × (f.left ≡ length bytes)) ⊎ ((g.fault ≡ Limit → ⊥) × (f ≡ g))
+
 abbrev pub FaultsInObject : Layout → FaultRelation
-FaultsInObject l bytes budget f = (g : FaultAt) × FaultsInValue l bytes budget g × (f ≡ object_fault bytes g)
+FaultsInObject l bytes budget f = (g : FaultAt) × FaultsInValue l bytes budget g × IsObjectFault bytes g f
 
 -- The objects of a block, of which there are to be n, are at fault before these bytes.
 abbrev pub FaultsInObjects : Layout → ℕ → List ℕ → List ℕ → ℕ → ContainerFault → Type 0

@@ -1,12 +1,12 @@
 -- What a container file is.
-use Rattle.std.specs.Prelude.{◌≡◌, ℕ, zero, suc, ◌+◌, ◌≤◌, ◌⊎◌, pos, List, [], ◌∷◌, ◌++◌, length, Option, Some, None, Ok, codes, if◌then◌else◌}
+use Rattle.std.specs.Prelude.{◌≡◌, ℕ, zero, suc, ◌+◌, ◌≤◌, ◌⊎◌, pos, List, [], ◌∷◌, ◌++◌, length, Option, Some, None, codes, if◌then◌else◌}
 use Rattle.std.specs.Str.{bytes_eq}
 use Rattle.avro_value.specs.Varint.{Long}
 use Rattle.avro_schema.specs.Tree.{SchemaTree}
 use Rattle.avro_value.specs.Layout.{Layout, layout_of}
 use Rattle.avro_value.specs.ValueTree.{ValueTree, value_count, total}
 use Rattle.avro_value.specs.Spelling.{Spelling, Followed, Concatenated, LengthPrefixed, KeyAndValue, SomeBlocks, Spells}
-use Rattle.avro_schema.specs.Reading.{schema_of}
+use Rattle.avro_schema.specs.Grammar.{IsSchemaText}
 
 -- names with their bytes, in the order of the file
 abbrev pub Pairs : Type 0
@@ -39,9 +39,9 @@ codec_name = codes "avro.codec"
 abbrev pub null_codec : List ℕ
 null_codec = codes "null"
 
--- The metadata names that schema.
+-- The metadata has a text of that schema.
 abbrev pub HasSchema : Pairs → SchemaTree → Type 0
-HasSchema meta t = (text : List ℕ) × (first_named schema_name meta ≡ Some text) × (schema_of text ≡ Ok t)
+HasSchema meta t = (text : List ℕ) × (first_named schema_name meta ≡ Some text) × IsSchemaText text t
 
 -- The blocks aren't compressed.
 abbrev pub IsPlain : Pairs → Type 0

@@ -11,7 +11,7 @@ use crate::fault::{ContainerFault, Flaw};
 use crate::header::run;
 use avro_value::fault::{Fault, FaultAt};
 use avro_value::input::Input;
-use avro_value::{MAX_VALUES, Schema, Value, item, read_value};
+use avro_value::{MAX_VALUES, Schema, Value, is_bare, item, read_value};
 use lake_basics::ReadError;
 use std::alloc::Global;
 
@@ -54,7 +54,7 @@ fn object(
     }
 }
 
-/// Adds so many objects.
+/// Adds so many objects. Where they take no bytes and pass the limit, none of them is made.
 fn many(
     alloc: Global,
     schema: &Schema,
@@ -67,6 +67,9 @@ fn many(
         (read_behind (map value_tree found.old.items)
         (many_at (object_at (layout schema.now)) count input.old.rest.now input.old.budget)) }
 {
+    if count > input.budget as u64 && is_bare(schema) {
+        return Err(ReadError::Fault(input.fault(Fault::Limit)));
+    }
     for _ in 0..count {
         found.push(object(alloc, schema, input)?)?;
     }

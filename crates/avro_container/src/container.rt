@@ -3,9 +3,12 @@
 ghost use Rattle.std.specs.Prelude.{◌≡◌, ℕ, List, ◌⊎◌, ◌-◌, Err, IfOk, IfErr, MatchResult, length, map};
 ghost use Rattle.lake_basics.specs.Outcome.{Gives};
 ghost use Rattle.avro_schema.specs.Tree.{SchemaTree, tree_of};
+ghost use Rattle.std.specs.List.{AllByRecursion};
+ghost use Rattle.avro_value.specs.Layout.{layout_of};
+ghost use Rattle.avro_value.specs.Fitting.{Fits};
 ghost use Rattle.avro_value.specs.ValueTree.{ValueTree, value_tree};
 ghost use Rattle.avro_container.specs.Reading.{container_at};
-ghost use Rattle.avro_container.specs.Laws.{error_of, Answers, IsThat, IsRefused};
+ghost use Rattle.avro_container.specs.Laws.{error_of, Answers, IsThat, IsRefused, IsLimit, IsNoContainer, HasOtherCodec};
 ghost use Rattle.avro_container.specs.Format.{Pairs, IsWithin};
 
 use crate::blocks::blocks;
@@ -87,6 +90,8 @@ pub fn read_container(alloc: Global, bytes: &[u8]) -> Result<Container, Containe
     // What is read is a container.
     ensures found { IfOk result (λ c.
         IsWithin MAX_VALUES bytes.now c.meta (tree_of c.schema) (map value_tree c.values)) }
+    ensures fits { IfOk result (λ c.
+        AllByRecursion (Fits (layout_of (tree_of c.schema))) (map value_tree c.values)) }
     // A container is read, unless memory runs out.
     ensures only { (meta : Pairs) (t : SchemaTree) (vs : List ValueTree)
         → IsWithin MAX_VALUES bytes.now meta t vs
@@ -94,9 +99,19 @@ pub fn read_container(alloc: Global, bytes: &[u8]) -> Result<Container, Containe
     // What is refused is the first fault of the input.
     ensures refused { IfErr
         result (λ e. (e ≡ ContainerError.Memory) ⊎ IsRefused MAX_VALUES bytes.now e) }
+    // Each refusal but that of too many values says that the input is no container, however many
+    // values its objects have.
+    ensures none { IfErr result (λ e. (e ≡ ContainerError.Memory) ⊎ IsLimit e
+        ⊎ IsNoContainer MAX_VALUES bytes.now) }
     // The first fault of the input is refused, unless memory runs out.
     ensures first { (e : ContainerError) → IsRefused MAX_VALUES bytes.now e
         → (result ≡ Err e) ⊎ (result ≡ Err ContainerError.Memory) }
+    // Codec is answered where the header and its schema are read and the codec is another one, and
+    // only there.
+    ensures codec { IfErr
+        result (λ e. e ≡ ContainerError.Codec → HasOtherCodec MAX_VALUES bytes.now) }
+    ensures other_codec { HasOtherCodec MAX_VALUES bytes.now
+        → (result ≡ Err ContainerError.Codec) ⊎ (result ≡ Err ContainerError.Memory) }
 {
     answer(alloc, bytes)
 }

@@ -101,7 +101,7 @@ fn faults_of_a_second_block(rt: HostRuntime) -> Result<(), Fail> {
 
 #[test]
 fn faults_of_the_header(rt: HostRuntime) -> Result<(), Fail> {
-    let rows: [(&[u8], &[u8], ContainerError); 5] = [
+    let rows: [(&[u8], &[u8], ContainerError); 7] = [
         (b"Ob", b"j", ContainerError::Short { at: 0 }),
         (b"Obj", b"\x02", ContainerError::BadMagic),
         (
@@ -112,8 +112,18 @@ fn faults_of_the_header(rt: HostRuntime) -> Result<(), Fail> {
         (b"Obj\x01", b"\x02\x01", ContainerError::BadMeta { at: 5 }),
         (
             b"Obj\x01\x02\x16avro.schema\x0c\"long\"",
-            b"\x02\x14avro.codec\x0esnappy\x00\x00lakebridge-sync!",
+            b"\x02\x14avro.codec\x0csnappy\x00lakebridge-sync!",
             ContainerError::Codec,
+        ),
+        (
+            b"Obj\x01\x02\x16avro.schema\x0c\"long\"",
+            b"\x02\x14avro.codec\x0csnappy\x00",
+            ContainerError::Short { at: 0 },
+        ),
+        (
+            b"Obj\x01\x02\x16avro.schema\x08long",
+            b"\x02\x14avro.codec\x0csnappy\x00lakebridge-sync!",
+            ContainerError::BadSchema,
         ),
     ];
     for (front, behind, expected) in rows {

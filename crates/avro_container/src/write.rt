@@ -6,6 +6,7 @@ ghost use Rattle.serde_json.specs.Written.{compact_text};
 ghost use Rattle.avro_schema.specs.Tree.{tree_of};
 ghost use Rattle.avro_schema.specs.Writing.{json_of};
 ghost use Rattle.avro_schema.specs.Spelled.{IsSpelled};
+ghost use Rattle.avro_schema.specs.Plain.{IsPlain};
 ghost use Rattle.avro_schema.specs.Reading.{schema_of};
 ghost use Rattle.avro_value.specs.Layout.{layout_of};
 ghost use Rattle.avro_value.specs.ValueTree.{value_tree, values_of};
@@ -171,6 +172,8 @@ pub fn write_container(
     requires free { IsFree MAX_VALUES meta.now }
     ensures written { IfOk result (λ b.
         IsWritten MAX_VALUES b meta.now (tree_of schema.now) marker (map value_tree values.now)) }
+    // A text can spell each schema that gives no name twice and keeps to the grammar.
+    ensures plain { IsPlain (tree_of schema.now) → IsSpelled (tree_of schema.now) }
     ensures err { IfErr result (λ e. e ≡ ContainerError.Memory) }
 {
     match written(alloc, meta, schema, values, marker) {

@@ -6,17 +6,23 @@ use Rattle.avro_value.specs.declared.value.Value.{Value}
 use Rattle.avro_value.specs.declared.error.AvroError.{AvroError}
 use Rattle.avro_value.specs.declared.error.AvroError.TheVariants as error
 use Rattle.avro_value.specs.declared.fault.FaultAt.{FaultAt}
+use Rattle.avro_value.specs.declared.fault.Fault.{Fault}
+use Rattle.avro_value.specs.declared.fault.Fault.TheVariants.{Short, BadLong, BadLength, BadIndex, BadText, BadBool, Limit}
 use Rattle.avro_value.specs.Layout.{Layout}
 use Rattle.avro_value.specs.ValueTree.{ValueTree, value_tree, value_count}
 use Rattle.avro_value.specs.Spelling.{Spells}
 use Rattle.avro_value.specs.Reading.{Read, value_at}
 use Rattle.avro_value.specs.Answers.{Answers, error_of}
-use Rattle.avro_value.specs.Laws.{IsSpelled, IsRefused}
+use Rattle.avro_value.specs.Faults.{FaultsInValue}
+use Rattle.avro_value.specs.Laws.{IsSpelled, IsRefused, IsLimit, IsUnspelled}
+use Rattle.avro_value.specs.Fitting.{Fits}
 use Rattle.avro_value.proofs.NumberLaws.{ok_is}
 use Rattle.avro_value.proofs.ReaderLaws.{TakenBy}
 use Rattle.avro_value.proofs.ValueLaws.{value_takes, value_again}
 use Rattle.avro_value.proofs.ValueFaults.{value_faults}
 use Rattle.avro_value.proofs.ValueFaultAgain.{value_refused}
+use Rattle.avro_value.proofs.MoreValues.{none_spelled}
+use Rattle.avro_value.proofs.FittedValues.{spelled_fits}
 
 spelled_of : (limit : ℕ) (l : Layout) (bytes : List ℕ) (at : ℕ) (v : ValueTree) (rest : List ℕ) (budget end : ℕ) → at ≤ length bytes → value_at l (drop at bytes) limit ≡ Ok (v, rest, budget) → end ≡ length bytes - length rest → IsSpelled limit l bytes at v end
 spelled_of limit l bytes at v rest budget end inside e is =
@@ -71,6 +77,35 @@ is_refused limit l bytes at (Err e) inside a = elim a [
       let w = h.within in
       inr (record { fault = given.0; first = h.fault; within = omega (arith, w, length-drop at bytes); is = given.2 }))
 ]
+
+-- A refusal other than the limit is no value's.
+unspelled : (limit : ℕ) (l : Layout) (bytes : List ℕ) (at : ℕ) (e : AvroError) (f : FaultAt) → FaultsInValue l (drop at bytes) limit f → e ≡ error_of f.fault (length bytes - f.left) → IsLimit e ⊎ IsUnspelled l bytes at
+unspelled limit l bytes at e f h is = go f.fault refl
+  where
+    none : (f.fault ≡ Limit → ⊥) → IsUnspelled l bytes at
+    none other room v end s = none_spelled l (drop at bytes) limit f other h v (slice_range bytes at end) (drop end bytes) (drop_split bytes at end s.after) s.spelled
+
+    go : (r : Fault) → f.fault ≡ r → IsLimit e ⊎ IsUnspelled l bytes at
+    go Limit q = inl (length bytes - f.left, is ∙ ap (λ (r : Fault). error_of r (length bytes - f.left)) q)
+    go Short q = inr (none (λ p. let both = sym q ∙ p in absurd cc))
+    go BadLong q = inr (none (λ p. let both = sym q ∙ p in absurd cc))
+    go BadLength q = inr (none (λ p. let both = sym q ∙ p in absurd cc))
+    go BadIndex q = inr (none (λ p. let both = sym q ∙ p in absurd cc))
+    go BadText q = inr (none (λ p. let both = sym q ∙ p in absurd cc))
+    go BadBool q = inr (none (λ p. let both = sym q ∙ p in absurd cc))
+
+pub is_none : (limit : ℕ) (l : Layout) (bytes : List ℕ) (at : ℕ) (r : Result (Value × ℕ × ℕ) AvroError) → Answers (length bytes) r (value_at l (drop at bytes) limit)
+    → IfErr r (λ e. (e ≡ error.Memory) ⊎ IsLimit e ⊎ IsUnspelled l bytes at)
+is_none limit l bytes at (Ok x) a = tt
+is_none limit l bytes at (Err e) a = elim a [
+  | inl memory ↦ inl memory
+  | inr given ↦ inr (unspelled limit l bytes at e given.0 (value_faults l (drop at bytes) limit given.0 given.1).fault given.2)
+]
+
+pub is_fitting : (limit : ℕ) (l : Layout) (bytes : List ℕ) (at : ℕ) (r : Result (Value × ℕ × ℕ) AvroError) → Answers (length bytes) r (value_at l (drop at bytes) limit)
+    → IfOk r (λ x. Fits l (value_tree x.0))
+is_fitting limit l bytes at (Ok x) a = let t = value_takes l (drop at bytes) limit (value_tree x.0, a.0, x.2) a.1 in spelled_fits l (value_tree x.0) t.front t.spelled
+is_fitting limit l bytes at (Err e) a = tt
 
 pub is_first : (limit : ℕ) (l : Layout) (bytes : List ℕ) (at : ℕ) (r : Result (Value × ℕ × ℕ) AvroError) → Answers (length bytes) r (value_at l (drop at bytes) limit)
     → (e : AvroError) → IsRefused limit l bytes at e → (r ≡ Err e) ⊎ (r ≡ Err error.Memory)

@@ -20,3 +20,6 @@ pub mod FaultAgain
 pub mod ReaderFaultAgain
 pub mod ValueFaultAgain
 pub mod LongLaws
+pub mod MoreValues
+pub mod FittedValues
+pub mod BareValues

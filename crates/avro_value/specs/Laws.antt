@@ -1,6 +1,7 @@
 -- What decoding promises, in the words of the spellings.
 use Rattle.std.specs.Prelude.{◌≡◌, ℕ, ℤ, ◌+◌, ◌-◌, ◌≤◌, List, ◌++◌, length, drop, slice_range}
 use Rattle.avro_value.specs.declared.error.AvroError.{AvroError}
+use Rattle.avro_value.specs.declared.error.AvroError.TheVariants as error
 use Rattle.avro_value.specs.declared.fault.Fault.{Fault}
 use Rattle.avro_value.specs.declared.fault.FaultAt.{FaultAt}
 use Rattle.avro_value.specs.Answers.{error_of}
@@ -27,6 +28,14 @@ pub record IsRefused (limit : ℕ) (l : Layout) (bytes : List ℕ) (at : ℕ) (e
   pub first : FaultsInValue l (drop at bytes) limit fault
   pub within : fault.left + at ≤ length bytes
   pub is : e ≡ error_of fault.fault (length bytes - fault.left)
+
+-- The refusal is that of too many values.
+abbrev pub IsLimit : AvroError → Type 0
+IsLimit e = (at : ℕ) × (e ≡ error.Limit at)
+
+-- No value is spelled from at on, however many values may be made.
+abbrev pub IsUnspelled : Layout → List ℕ → ℕ → Type 0
+IsUnspelled l bytes at = (limit : ℕ) (v : ValueTree) (end : ℕ) → IsSpelled limit l bytes at v end → ⊥
 
 -- The bytes from at to end spell the number.
 pub record IsLongAt (bytes : List ℕ) (at : ℕ) (n : ℤ) (end : ℕ) : Type 0 where

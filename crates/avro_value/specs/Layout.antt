@@ -1,5 +1,5 @@
 -- What of a schema decides how its values are spelled: the types without names, ids and annotations.
-use Rattle.std.specs.Prelude.{ℕ, ◌+◌, ◌^◌, min, List, [], ◌∷◌, length}
+use Rattle.std.specs.Prelude.{ℕ, ◌+◌, ◌^◌, ◌==◌, ◌&&◌, min, Bool, false, true, List, [], ◌∷◌, length}
 use Rattle.avro_schema.specs.declared.schema.Schema.{Schema}
 use Rattle.avro_schema.specs.declared.schema.Field.{Field}
 use Rattle.avro_schema.specs.declared.schema.Shape.{Shape}
@@ -34,6 +34,18 @@ layouts_of (l ∷ ls) = layouts l (layouts_of ls)
 abbrev pub count_of : Layouts → ℕ
 count_of no_layouts = 0
 count_of (layouts l ls) = count_of ls + 1
+
+-- A value of the layout takes no bytes.
+abbrev mutual
+  pub is_bare : Layout → Bool
+  is_bare null = true
+  is_bare (fixed_of n) = n == 0
+  is_bare (record_of ls) = are_bare ls
+  is_bare _ = false
+
+  pub are_bare : Layouts → Bool
+  are_bare no_layouts = true
+  are_bare (layouts l ls) = is_bare l && are_bare ls
 
 -- How many of so many symbols or branches an index can name: a value holds an index of 32 bits.
 abbrev pub indices : ℕ → ℕ

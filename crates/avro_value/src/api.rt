@@ -6,7 +6,7 @@ ghost use Rattle.avro_value.specs.Layout.{layout, layout_of};
 ghost use Rattle.avro_value.specs.ValueTree.{value_tree, ValueTree, value_count};
 ghost use Rattle.avro_value.specs.Reading.{value_at, long_at};
 ghost use Rattle.avro_value.specs.Answers.{Answers, LongAnswers, Encodes, error_of};
-ghost use Rattle.avro_value.specs.Laws.{IsSpelled, IsPrefixFree, IsRefused, IsLongAt, IsNoLongAt};
+ghost use Rattle.avro_value.specs.Laws.{IsSpelled, IsPrefixFree, IsRefused, IsLimit, IsUnspelled, IsLongAt, IsNoLongAt};
 ghost use Rattle.avro_value.specs.Spelling.{Spells};
 ghost use Rattle.avro_value.specs.Writing.{encoding};
 ghost use Rattle.avro_value.specs.Fitting.{Fits};
@@ -86,6 +86,7 @@ pub fn decode_within(
     // What is read is spelled there.
     ensures found { IfOk result (λ x.
         IsSpelled budget (layout_of (tree_of schema.now)) bytes.now at (value_tree x.0) x.1) }
+    ensures fits { IfOk result (λ x. Fits (layout_of (tree_of schema.now)) (value_tree x.0)) }
     ensures counted { IfOk result (λ x. x.2 + value_count (value_tree x.0) ≡ budget) }
     // What is spelled there is read, unless memory runs out.
     ensures only { (v : ValueTree) (end : ℕ)
@@ -94,6 +95,9 @@ pub fn decode_within(
     // What is refused is the first fault there, and all before it is spelled.
     ensures refused { IfErr result (λ e. (e ≡ AvroError.Memory)
         ⊎ IsRefused budget (layout_of (tree_of schema.now)) bytes.now at e) }
+    // Each refusal but Limit says that no value is spelled there, however many values it has.
+    ensures none { IfErr result (λ e. (e ≡ AvroError.Memory) ⊎ IsLimit e
+        ⊎ IsUnspelled (layout_of (tree_of schema.now)) bytes.now at) }
     // The first fault there is refused, unless memory runs out.
     ensures first { (e : AvroError)
         → IsRefused budget (layout_of (tree_of schema.now)) bytes.now at e
@@ -114,6 +118,7 @@ pub fn decode(
     // What is read is spelled there.
     ensures found { IfOk result (λ x.
         IsSpelled MAX_VALUES (layout_of (tree_of schema.now)) bytes.now at (value_tree x.0) x.1) }
+    ensures fits { IfOk result (λ x. Fits (layout_of (tree_of schema.now)) (value_tree x.0)) }
     // What is spelled there is read, unless memory runs out.
     ensures only { (v : ValueTree) (end : ℕ)
         → IsSpelled MAX_VALUES (layout_of (tree_of schema.now)) bytes.now at v end
@@ -123,6 +128,9 @@ pub fn decode(
     // What is refused is the first fault there, and all before it is spelled.
     ensures refused { IfErr result (λ e. (e ≡ AvroError.Memory)
         ⊎ IsRefused MAX_VALUES (layout_of (tree_of schema.now)) bytes.now at e) }
+    // Each refusal but Limit says that no value is spelled there, however many values it has.
+    ensures none { IfErr result (λ e. (e ≡ AvroError.Memory) ⊎ IsLimit e
+        ⊎ IsUnspelled (layout_of (tree_of schema.now)) bytes.now at) }
     // The first fault there is refused, unless memory runs out.
     ensures first { (e : AvroError)
         → IsRefused MAX_VALUES (layout_of (tree_of schema.now)) bytes.now at e

@@ -17,7 +17,7 @@ fn next_byte(bytes: &[u8]) -> Option<(u8, &[u8])>
     }
 }
 
-/// The number in varint_value of seven bits.
+/// The number in groups of seven bits.
 pub fn number(bytes: &[u8]) -> Result<(u64, &[u8]), Fault>
     ensures { GivesAlways (λ x. (x.0, x.1.now)) result (varint_at bytes.now) }
 {

@@ -2,6 +2,7 @@
 #![tactic(auto)]
 
 mod api;
+mod bare;
 mod error;
 pub mod fault;
 pub mod input;
@@ -15,6 +16,7 @@ mod writer;
 
 pub use api::{MAX_VALUES, decode, decode_within, encode, fault_error, read_long};
 pub use avro_schema::{Field, Schema, Shape};
+pub use bare::is_bare;
 pub use error::AvroError;
 pub use reader::value as read_value;
 pub use value::Value;

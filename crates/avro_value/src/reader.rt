@@ -6,6 +6,7 @@ ghost use Rattle.avro_value.specs.ValueTree.{value_tree, entry_tree, ValueTree, 
 ghost use Rattle.lake_basics.specs.Outcome.{Gives};
 ghost use Rattle.avro_value.specs.Reading.{map_reading, value_at, content_at, all_blocks_at, one_block_at, with_block, many_at, entry_at, parts_at, union_at, read_behind};
 
+use crate::bare::is_bare;
 use crate::fault::{Fault, FaultAt};
 use crate::input::Input;
 use crate::leaf;
@@ -98,7 +99,7 @@ fn block(
     Ok(true)
 }
 
-/// Adds so many values.
+/// Adds so many values. Where they take no bytes and pass the limit, none of them is made.
 #[cycle(decode)]
 fn many(
     alloc: Global,
@@ -112,6 +113,9 @@ fn many(
         (read_behind (map value_tree values.old.items)
         (many_at (value_at (layout schema.now)) count input.old.rest.now input.old.budget)) }
 {
+    if count > input.budget as u64 && is_bare(schema) {
+        return Err(ReadError::Fault(input.fault(Fault::Limit)));
+    }
     for _ in 0..count {
         values.push(value(alloc, schema, input)?)?;
     }
@@ -227,7 +231,7 @@ fn record(
         (parts_at (layouts_of (map field_layout fields.now.items))
         input.old.rest.now input.old.budget)) }
 {
-    let mut values = Vec::new(alloc);
+    let mut values = Vec::with_capacity(alloc, fields.len())?;
     for field in fields {
         values.push(value(alloc, &field.schema, input)?)?;
     }

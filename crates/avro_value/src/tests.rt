@@ -23,6 +23,12 @@ fn list_of(alloc: Global, shape: Shape) -> Result<Schema, AllocError> {
     }))
 }
 
+const FOO: &str = r#"{"type":"enum","name":"Foo","symbols":["A","B","C","D"]}"#;
+
+const MD5: &str = r#"{"type":"fixed","name":"md5","size":16}"#;
+
+const MAP: &str = r#"{"type":"map","values":"long"}"#;
+
 const LOWEST: [u8; 10] = [0xff, 0xff, 0xff, 0xff, 0xff, 0xff, 0xff, 0xff, 0xff, 0x01];
 
 const HIGHEST: [u8; 10] = [0xfe, 0xff, 0xff, 0xff, 0xff, 0xff, 0xff, 0xff, 0xff, 0x01];
@@ -133,6 +139,70 @@ fn both_kinds_of_blocks_hold_the_items(rt: HostRuntime) -> Result<(), Fail> {
         assert!(rt; is_one_two(&value));
         assert_eq!(rt; end, bytes.len());
         assert_eq!(rt; remaining, 0);
+    }
+    Ok(())
+}
+
+const TEST: &str =
+    r#"{"type":"record","name":"test","fields":[{"name":"a","type":"long"},{"name":"b","type":"string"}]}"#;
+
+fn is_test(value: &Value) -> bool {
+    match value {
+        Value::Fields(values) => match values.as_slice() {
+            [Value::Long(27), Value::Text(text)] => text.as_str() == "foo",
+            _ => false,
+        },
+        _ => false,
+    }
+}
+
+/// The example of the specification's "Records".
+#[test]
+fn a_record_is_decoded(rt: HostRuntime) -> Result<(), Fail> {
+    let schema = Schema::from_json(rt.alloc(), TEST.as_bytes())?;
+    let (value, end) = decode(rt.alloc(), &schema, b"\x36\x06foo", 0)?;
+    assert!(rt; is_test(&value));
+    assert_eq!(rt; end, 5);
+    Ok(())
+}
+
+#[test]
+fn each_kind_of_parts_is_decoded(rt: HostRuntime) -> Result<(), Fail> {
+    let alloc = rt.alloc();
+    let rows: [(&str, &[u8], Result<usize, AvroError>); 13] = [
+        (r#"["null","string"]"#, b"\x00", Ok(1)),
+        (r#"["null","string"]"#, b"\x02\x02a", Ok(3)),
+        (
+            r#"["null","string"]"#,
+            b"\x04",
+            Err(AvroError::BadIndex { at: 0 }),
+        ),
+        (
+            r#"["null","string"]"#,
+            b"\x01",
+            Err(AvroError::BadIndex { at: 0 }),
+        ),
+        (FOO, b"\x06", Ok(1)),
+        (FOO, b"\x08", Err(AvroError::BadIndex { at: 0 })),
+        (MD5, b"0123456789abcdef", Ok(16)),
+        (MD5, b"0123456789abcde", Err(AvroError::Short { at: 0 })),
+        (MAP, b"\x02\x02a\x02\x00", Ok(5)),
+        (
+            MAP,
+            b"\x02\x02\xff\x02\x00",
+            Err(AvroError::BadText { at: 1 }),
+        ),
+        (
+            MAP,
+            b"\x02\x01a\x02\x00",
+            Err(AvroError::BadLength { at: 1 }),
+        ),
+        (TEST, b"\x36\x06foo", Ok(5)),
+        (TEST, b"\x36\x06fo", Err(AvroError::Short { at: 1 })),
+    ];
+    for (text, bytes, expected) in rows {
+        let schema = Schema::from_json(alloc, text.as_bytes())?;
+        assert_eq!(rt; end_of(alloc, &schema, bytes), expected);
     }
     Ok(())
 }

@@ -1,9 +1,14 @@
-use Rattle.std.proofs.Common.{◌≡◌, ◌++◌, ◌∷◌, [], map}
+use Rattle.std.proofs.Common.{◌≡◌, ◌++◌, ◌∷◌, [], map, sym, ◌∙◌}
 use Rattle.std.proofs.lemmas.Result.{err_from_is_err_and}
 use Rattle.std.proofs.lemmas.List.{map_push}
 use Rattle.avro_value.specs.ValueTree.{value_tree}
 use Rattle.avro_value.proofs.Loops.{many_goes, many_fails, many_done}
+use Rattle.avro_value.proofs.BareValues.{idle_behind}
+use Rattle.avro_container.proofs.Objects.{idle_object}
 use Rattle.avro_container.proofs.blocks.many.Goals as goal
+
+pub returns-then-is_bare : goal.returns-then-is_bare
+returns-then-is_bare c = rw c.fault.ensures (idle_behind _ _ _ _ _ (idle_object _ (sym c.is_bare.ensures ∙ c.if-is_bare.true)) c.if-count-input.true)
 
 pub returns-in_err-object : goal.returns-in_err-object
 returns-in_err-object c =

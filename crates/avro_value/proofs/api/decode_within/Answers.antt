@@ -1,4 +1,4 @@
-use Rattle.avro_value.proofs.DecodeLaws.{is_found, is_counted, is_only, is_refused, is_first}
+use Rattle.avro_value.proofs.DecodeLaws.{is_found, is_counted, is_only, is_refused, is_none, is_fitting, is_first}
 use Rattle.avro_value.proofs.api.decode_within.Goals as goal
 
 pub returns-clause-found : goal.returns-clause-found
@@ -15,3 +15,9 @@ returns-clause-refused c = is_refused _ _ _ _ _ c.requires c.decoded.ensures
 
 pub returns-clause-first : goal.returns-clause-first
 returns-clause-first c = is_first _ _ _ _ _ c.decoded.ensures
+
+pub returns-clause-none : goal.returns-clause-none
+returns-clause-none c = is_none _ _ _ _ _ c.decoded.ensures
+
+pub returns-clause-fits : goal.returns-clause-fits
+returns-clause-fits c = is_fitting _ _ _ _ _ c.decoded.ensures

@@ -8,6 +8,7 @@ use Rattle.avro_value.proofs.Layouts.{lay, field_layout_is, shape-Null, shape-Bo
 use Rattle.avro_schema.specs.declared.schema.Schema.{Schema}
 use Rattle.avro_value.proofs.Loops.{read_behind-nil, fails_mapped, fails_bind, many_goes, many_fails, many_done, blocks_begin, blocks_goes, blocks_done, blocks_fails, blocks_past, parts_goes, parts_fails, parts_done}
 use Rattle.avro_value.proofs.Values.{value_tree-Null, value_tree-Array, value_tree-Map, value_tree-Union, value_tree-Fields}
+use Rattle.avro_value.proofs.BareValues.{idle_value, idle_behind}
 use Rattle.avro_value.proofs.reader.+decode.Goals as goal
 
 pub content-returns-in-Boolean : goal.content-returns-in-Boolean
@@ -110,6 +111,9 @@ entries-returns t c =
     let h = blocks_past _ _ _ _ _ _ _ c.loop-test.false c.loop.invariant in
     rw (h, c.fault.ensures) refl
 
+pub many-returns-then-is_bare : goal.many-returns-then-is_bare
+many-returns-then-is_bare t c = rw c.fault.ensures (idle_behind _ _ _ _ _ (idle_value _ (sym c.is_bare.ensures ∙ c.if-is_bare.true)) c.if-count-input.true)
+
 pub many-returns-in_err-value : goal.many-returns-in_err-value
 many-returns-in_err-value t c =
     let p = err_from_is_err_and c.from_residual.result c.from_residual.ensures.1 in
@@ -140,7 +144,7 @@ many_entries-returns t c = many_done _ _ _ _ _ _ _ c.loop-test.false c.loop.inva
 
 pub record-returns-in_err-value : goal.record-returns-in_err-value
 record-returns-in_err-value t c =
-    let p = err_from_is_err_and c.from_residual.result c.from_residual.ensures.1 in
+    let p = err_from_is_err_and c.from_residual-in_err-value.result c.from_residual-in_err-value.ensures.1 in
     let e = fields_from c.args.fields.now.items _ c.loop-field.field-index c.field-item.result c.deref-field-items.ensures.value c.loop-field-test.true c.field-item.is in
     rw (p.1, p.2) (fails_mapped _ _ _ (parts_fails _ _ _ _ _ _ _ c.in_err-value.ensures (rw e at c.loop-field.invariant)))
 
