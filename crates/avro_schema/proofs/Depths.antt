@@ -23,17 +23,17 @@ deep_by Greater a b c n e f g = g
 both : (a b n : ℕ) → a ≤ n → b ≤ n → max a b ≤ n
 both a b n e f = omega (arith, e, f)
 
-deep_put : (k : List ℕ) (d : Data) (ms : Members) (n : ℕ) → depth d ≤ n → members_depth ms ≤ n → members_depth (put k d ms) ≤ n
+pub deep_put : (k : List ℕ) (d : Data) (ms : Members) (n : ℕ) → depth d ≤ n → members_depth ms ≤ n → members_depth (put k d ms) ≤ n
 deep_put k d no_members n hd hms = both (depth d) 0 n hd hms
 deep_put k d (member l e ms) n hd hms =
     let first : depth e ≤ n = omega (arith, hms) in
     let others : members_depth ms ≤ n = omega (arith, hms) in
     deep_by (slice_cmp nat_cmp k l) (member k d (member l e ms)) (member l d ms) (member l e (put k d ms)) n (both (depth d) (members_depth (member l e ms)) n hd hms) (both (depth d) (members_depth ms) n hd others) (both (depth e) (members_depth (put k d ms)) n first (deep_put k d ms n hd others))
 
-none : (n : ℕ) → 0 ≤ n
+pub none : (n : ℕ) → 0 ≤ n
 none n = omega arith
 
-deep_put_id : (k : List ℕ) (o : Option ℤ) (ms : Members) (n : ℕ) → members_depth ms ≤ n → members_depth (put_some k (option_map id_json o) ms) ≤ n
+pub deep_put_id : (k : List ℕ) (o : Option ℤ) (ms : Members) (n : ℕ) → members_depth ms ≤ n → members_depth (put_some k (option_map id_json o) ms) ≤ n
 deep_put_id k None ms n h = h
 deep_put_id k (Some z) ms n h = deep_put k (id_json z) ms n (none n) h
 
@@ -48,24 +48,24 @@ deep_put_text k (Some t) ms n h = deep_put k (string t) ms n (none n) h
 deep_notes : (l : Option (List ℕ)) (p s : Option ℕ) (ms : Members) (n : ℕ) → members_depth ms ≤ n → members_depth (with_annotations l p s ms) ≤ n
 deep_notes l p s ms n h = deep_put_size (codes "scale") s (put_some (codes "precision") (option_map size_json p) (put_some (codes "logicalType") (option_map string l) ms)) n (deep_put_size (codes "precision") p (put_some (codes "logicalType") (option_map string l) ms) n (deep_put_text (codes "logicalType") l ms n h))
 
-deep_type : (word : List ℕ) (n : ℕ) → members_depth (type_members word) ≤ n
+pub deep_type : (word : List ℕ) (n : ℕ) → members_depth (type_members word) ≤ n
 deep_type word n = none n
 
 deep_space : (b : Bool) (ms : Members) (n : ℕ) → members_depth ms ≤ n → members_depth (put_some (codes "namespace") (cond b None (Some (string []))) ms) ≤ n
 deep_space true ms n h = h
 deep_space false ms n h = deep_put (codes "namespace") (string []) ms n (none n) h
 
-deep_named : (word space name : List ℕ) (n : ℕ) → members_depth (named_members word space name) ≤ n
+pub deep_named : (word space name : List ℕ) (n : ℕ) → members_depth (named_members word space name) ≤ n
 deep_named word space name n = deep_put (codes "name") (string name) (put_some (codes "namespace") (no_namespace space name) (type_members word)) n (none n) (deep_space (has_dot name || (length space == 0)) (type_members word) n (deep_type word n))
 
-deep_texts : (ts : List (List ℕ)) → items_depth (items_of (map string ts)) ≡ 0
+pub deep_texts : (ts : List (List ℕ)) → items_depth (items_of (map string ts)) ≡ 0
 deep_texts [] = refl
 deep_texts (t ∷ ts) = let rest = deep_texts ts in omega (arith, rest)
 
-deep_object : (l : Option (List ℕ)) (p s : Option ℕ) (ms : Members) (n : ℕ) → members_depth ms ≤ n → depth (object (with_annotations l p s ms)) ≤ n + 1
+pub deep_object : (l : Option (List ℕ)) (p s : Option ℕ) (ms : Members) (n : ℕ) → members_depth ms ≤ n → depth (object (with_annotations l p s ms)) ≤ n + 1
 deep_object l p s ms n h = let inside : members_depth (with_annotations l p s ms) ≤ n = deep_notes l p s ms n h in omega (arith, inside)
 
-deep_primitive : (word : List ℕ) (l : Option (List ℕ)) (p s : Option ℕ) → depth (primitive_json word l p s) ≤ 1
+pub deep_primitive : (word : List ℕ) (l : Option (List ℕ)) (p s : Option ℕ) → depth (primitive_json word l p s) ≤ 1
 deep_primitive word None None None = none 1
 deep_primitive word None None (Some s) = deep_object None None (Some s) (type_members word) 0 (deep_type word 0)
 deep_primitive word None (Some p) None = deep_object None (Some p) None (type_members word) 0 (deep_type word 0)
@@ -79,16 +79,16 @@ definition_by : (name : List ℕ) (names behind : List (List ℕ)) (d : Data) (b
 definition_by name names behind d true n h = none n
 definition_by name names behind d false n h = h
 
-deep_definition : (name : List ℕ) (names : List (List ℕ)) (w : Written Data) (n : ℕ) → depth w.0 ≤ n → depth (definition_json name names w).0 ≤ n
+pub deep_definition : (name : List ℕ) (names : List (List ℕ)) (w : Written Data) (n : ℕ) → depth w.0 ≤ n → depth (definition_json name names w).0 ≤ n
 deep_definition name names w n h = definition_by name names _ w.0 (is_written name names) n h
 
-itself : (n : ℕ) → n ≤ n
+pub itself : (n : ℕ) → n ≤ n
 itself n = omega arith
 
-flat_list : (n : ℕ) → n ≡ 0 → suc n ≤ 1
+pub flat_list : (n : ℕ) → n ≡ 0 → suc n ≤ 1
 flat_list n e = omega (arith, e)
 
-array_deep : (n : ℕ) → suc n ≤ n + 1
+pub array_deep : (n : ℕ) → suc n ≤ n + 1
 array_deep n = omega arith
 
 enum_deep : (d : ℕ) → d ≤ 2 → d + 2 ≤ 4 * 1

@@ -13,3 +13,4 @@ pub mod Plain
 pub mod Texts
 pub mod Dots
 pub mod Repeats
+pub mod ReadAgain

@@ -59,7 +59,7 @@ ok_is x y e = cc
 
 -- ---- primitive types
 
-pick : (P : ShapeTree → Type 0) (b : Bool) (x shape : ShapeTree) (o : Option ShapeTree) → P x → (o ≡ Some shape → P shape) → cond b (Some x) o ≡ Some shape → P shape
+pub pick : (P : ShapeTree → Type 0) (b : Bool) (x shape : ShapeTree) (o : Option ShapeTree) → P x → (o ≡ Some shape → P shape) → cond b (Some x) o ≡ Some shape → P shape
 pick P true x shape o here later e = let same : x ≡ shape = cc in subst P same here
 pick P false x shape o here later e = later e
 

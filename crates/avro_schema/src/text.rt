@@ -33,6 +33,8 @@ impl Schema {
         // What is read is a schema of the text, and a text of a schema is read as it.
         ensures found { IfOk result (λ s. IsSchemaText bytes.now (tree_of s)) }
         ensures reads { (t : SchemaTree) → IsSchemaText bytes.now t → schema_of bytes.now ≡ Ok t }
+        // A text can spell what was read again.
+        ensures spelled { IfOk result (λ s. IsSpelled (tree_of s)) }
         // A refusal names a fault that the text has.
         ensures refused { IfErr result (λ e. IsRefused bytes.now e) }
     {

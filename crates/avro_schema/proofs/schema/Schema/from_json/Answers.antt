@@ -2,6 +2,7 @@ use Rattle.std.proofs.Common.{ap}
 use Rattle.lake_basics.specs.Outcome.{with_fault}
 use Rattle.avro_schema.specs.Reading.{error_of}
 use Rattle.avro_schema.proofs.Texts.{text_found, text_read, bad_text, recursive_text, fails}
+use Rattle.avro_schema.proofs.ReadAgain.{text_again}
 use Rattle.avro_schema.proofs.schema.Schema.from_json.Goals as goal
 
 pub returns-in-Ok-clause-found : goal.returns-in-Ok-clause-found
@@ -24,3 +25,6 @@ returns-in-Err-Fault-Recursive-clause-reads c = text_read c.args.bytes.now
 
 pub returns-in-Err-Fault-Recursive-clause-refused : goal.returns-in-Err-Fault-Recursive-clause-refused
 returns-in-Err-Fault-Recursive-clause-refused c = let e = c.in-Err-Fault-Recursive in recursive_text c.args.bytes.now (fails e.field-0 e.field-0-0 _ _ e.field-0-is e.field-0-0-is e.ensures)
+
+pub returns-in-Ok-clause-spelled : goal.returns-in-Ok-clause-spelled
+returns-in-Ok-clause-spelled c = text_again _ _ (text_found _ _ (ap (with_fault error_of) c.in-Ok.ensures))
