@@ -6,3 +6,4 @@ pub mod UriLemmas
 pub mod StandsLemmas
 pub mod FolderLemmas
 pub mod AvroLemmas
+pub mod Laws

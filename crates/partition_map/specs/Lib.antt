@@ -6,3 +6,4 @@ pub mod DeltaText
 pub mod Folder
 pub mod Uri
 pub mod UriPath
+pub mod Columns

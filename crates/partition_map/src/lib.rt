@@ -1,4 +1,5 @@
-//! and relative URIs.
+//! Partition values as Delta commits, hive folders and Avro spell them, and paths of files as parts of
+//! folders and relative URIs.
 #![tactic(auto)]
 
 mod avro;
