@@ -24,6 +24,9 @@ module _ (image : ColumnTrees → Option ColumnTrees) (origin : Origin) where
   commits_after start [] last is = omega (arith, is.commits)
   commits_after start (commit ∷ commits) last is = commits_after is.0 commits last is.2 ∙ omega (arith, is.1.commits)
 
+  pub count_taken : (start : View) (commits : List Commit) (i : ℕ) (here : View) → IsAdvancedAll image origin start (take i commits) here → i ≤ length commits → here.commits ≡ start.commits + i
+  count_taken start commits i here leads within = commits_after start (take i commits) here leads ∙ ap (λ (n : ℕ). start.commits + n) (length-take-le i commits within)
+
   advanced_more : (start : View) (commits : List Commit) (here : View) (commit : Commit) (next : View) → IsAdvancedAll image origin start commits here → IsAdvanced image origin here commit next → IsAdvancedAll image origin start (commits ++ commit ∷ []) next
   advanced_more start [] here commit next is step = (next, advanced_same image origin here start commit next (same_sym start here is) step, same_refl next)
   advanced_more start (first ∷ commits) here commit next is step = (is.0, is.1, advanced_more is.0 commits here commit next is.2 step)
@@ -47,7 +50,7 @@ module _ (target : Meaning) (origin : Origin) where
       (within : i ≤ length commits) (each : Carries target origin start.commits commits i mid) (earlier : StillCarries target start.commits before mid)
       (commit : Commit) (at : slice_get commits i ≡ Some commit) where
     count_here : here.commits ≡ start.commits + i
-    count_here = commits_after target.image origin start (take i commits) here leads ∙ ap (λ (n : ℕ). start.commits + n) (length-take-le i commits within)
+    count_here = count_taken target.image origin start commits i here leads within
 
     within_here : i < length commits
     within_here = slice_get_within commits i commit at

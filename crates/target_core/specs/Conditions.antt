@@ -2,18 +2,19 @@
 use Rattle.std.specs.Prelude.{◌≡◌, ◌⊎◌, ◌≢◌, ◌≤◌, ◌+◌, ℕ, List, [], ◌∷◌, length, Contains, Option, Some}
 use Rattle.std.specs.List.{IsDistinct}
 use Rattle.std.specs.Str.{bytes_eq}
-use Rattle.lake_basics.specs.declared.limits.TheConstants.{MAX_COLUMNS, MAX_LIVE_FILES, MAX_PARTITION_COLUMNS, MAX_SCHEMA_LEVELS}
+use Rattle.lake_basics.specs.declared.limits.TheConstants.{MAX_LIVE_FILES, MAX_PARTITION_COLUMNS}
 use Rattle.table_history.specs.History.{IsOfType, IsSoundTable, column_type}
 use Rattle.table_history.specs.Path.{IsPath}
 use Rattle.table_history.specs.Row.{Row}
-use Rattle.table_history.specs.TypeTree.{ColumnTrees, TypeTree, struct_of}
+use Rattle.table_history.specs.SchemaSize.{IsWithinLimits}
+use Rattle.table_history.specs.Sound.{IsSound}
+use Rattle.table_history.specs.TypeTree.{ColumnTrees, TypeTree}
 use Rattle.table_history.specs.declared.kind.Kind.{Kind}
 use Rattle.table_history.specs.declared.row.PartValue.{PartValue}
 use Rattle.table_history.specs.declared.row.PartValue.TheVariants as value
 use Rattle.table_history.specs.Tables.{CanApply, IsAfter}
 use Rattle.table_history.specs.declared.table.Table.{Table}
 use Rattle.table_history.specs.declared.table.Commit.{Commit}
-use Rattle.target_core.specs.Schemas.{IsSoundType, column_count, column_levels}
 use Rattle.target_core.specs.Views.{IsAdvanced, IsOfSource, IsUnpublished, Origin, View}
 use Rattle.target_core.specs.declared.target.TargetError.{TargetError}
 
@@ -30,9 +31,8 @@ pub record IsPublishable (table : Table) : Type 0 where
   pub partition_columns : length table.partition ≤ MAX_PARTITION_COLUMNS
   pub partition_distinct : IsDistinct bytes_eq table.partition
   pub partition_kinds : (name : List ℕ) → Contains table.partition name → HasKind table.schema name
-  pub schema : IsSoundType (struct_of table.schema)
-  pub columns : column_count table.schema ≤ MAX_COLUMNS
-  pub levels : column_levels table.schema + 1 ≤ MAX_SCHEMA_LEVELS
+  pub schema : IsSound table.schema
+  pub size : IsWithinLimits table.schema
 
 -- The commits of a source with these partition columns fit the target: no cause of a refusal holds of them.
 pub record Fits (unfit : List (List ℕ) → List Commit → TargetError → Type 0) (partition : List (List ℕ)) (commits : List Commit) : Type 0 where

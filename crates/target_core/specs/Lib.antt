@@ -3,7 +3,6 @@ pub mod Folders
 pub mod Views
 pub mod Changes
 pub mod Outcome
-pub mod Schemas
 pub mod Conditions
 pub mod Refusals
 pub mod SeenView

@@ -12,6 +12,8 @@ pub record Meaning : Type 1 where
   pub image : ColumnTrees → Option ColumnTrees
   -- the files stand for the view
   pub reads : Files → View → Type 0
+  -- how many commits the files hold, whoever published them
+  pub commits_in : Files → ℕ
   -- the published commit of this number carries this change and this mark
   pub carries : Files → ℕ → Change → Standing → Type 0
   -- a published commit reaches the path
@@ -19,5 +21,5 @@ pub record Meaning : Type 1 where
   -- a crash can't change what the files stand for
   pub settled : Disk → Type 0
 
-abbrev pub meaning_of : Kind → (ColumnTrees → Option ColumnTrees) → (Files → View → Type 0) → (Files → ℕ → Change → Standing → Type 0) → (Files → List ℕ → Type 0) → (Disk → Type 0) → Meaning
-meaning_of kind image reads carries reached settled = record { kind = kind; image = image; reads = reads; carries = carries; reached = reached; settled = settled }
+abbrev pub meaning_of : Kind → (ColumnTrees → Option ColumnTrees) → (Files → View → Type 0) → (Files → ℕ) → (Files → ℕ → Change → Standing → Type 0) → (Files → List ℕ → Type 0) → (Disk → Type 0) → Meaning
+meaning_of kind image reads commits_in carries reached settled = record { kind = kind; image = image; reads = reads; commits_in = commits_in; carries = carries; reached = reached; settled = settled }

@@ -11,11 +11,12 @@ use Rattle.target_core.specs.declared.target.TargetError.{TargetError}
 use Rattle.target_core.specs.declared.target.TargetError.TheVariants.{Contested, Limit}
 
 -- A commit is refused with a cause of its own, behind those before it. Where the target was settled, all of these are published, and it perhaps,
--- but not where a number is passed.
+-- but not where a number is passed. Where another writer was in the way, nothing is published behind that writer's commit.
 pub record IsRefusedAt (target : Meaning) (passes : List Commit → LimitKind → ℕ → Type 0) (Settled : Type 0) (origin : Origin) (start : View) (old : Files) (commits : List Commit) (files : Files) (e : TargetError) : Type 0 where
   pub place : ℕ
   pub within : place < length commits
   pub cause : IsCommitRefusal (passes (take (place + 1) commits)) e
   pub before : Settled → Carries target origin start.commits commits place files
   pub gained : Settled → (e ≡ Contested → ⊥) → (n : ℕ) × (place ≤ n) × (n ≤ place + 1) × Gained target origin start old commits n files
+  pub contested : Settled → e ≡ Contested → target.commits_in files ≤ start.commits + place + 1
   pub limited : Settled → (which : LimitKind) (number : ℕ) → e ≡ Limit which number → Gained target origin start old commits place files

@@ -10,7 +10,7 @@ use Rattle.target_core.specs.declared.target.Target.{Ghosts}
 use Rattle.target_core.specs.declared.target.TargetError.{TargetError}
 
 abbrev pub meaning : {T K : Type 0} → Ghosts T K → T → Meaning
-meaning target t = meaning_of (target.kind t) (target.image t) (target.reads t) (target.carries t) (target.reached t) (target.settled t)
+meaning target t = meaning_of (target.kind t) (target.image t) (target.reads t) (target.commits_in t) (target.carries t) (target.reached t) (target.settled t)
 
 pub record TargetMeaning (K : Type 0) : Type 1 where
   pub files : Meaning

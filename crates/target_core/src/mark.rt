@@ -5,10 +5,9 @@ ghost use Rattle.serde_json.specs.Data.{depth};
 ghost use Rattle.serde_json.specs.Read.{max_depth};
 ghost use Rattle.serde_json.specs.View.{view};
 ghost use Rattle.serde_json.specs.Written.{compact_text, has_float};
-ghost use Rattle.json_reading.specs.Json.{text_member, text_or_null_data};
 ghost use Rattle.target_core.specs.Mark.{IsMark, IsMarkData, IsMarkText, candidate, earlier_mark_data, mark_data};
 
-use json_reading::{json_text, text_of, text_value};
+use json_reading::{json_text, text_member, text_of, text_or_null};
 use lake_basics::Text;
 use serde_json::{Value, json};
 use std::alloc::{AllocError, Global};
@@ -86,15 +85,6 @@ fn candidate(alloc: Global, value: &Value) -> Result<Option<Mark>, AllocError>
     }))
 }
 
-fn text_member(alloc: Global, value: &Value, name: &str) -> Result<Option<Text>, AllocError>
-    ensures { IfOk result (λ o. o ≡ text_member name.now (view value.now)) }
-{
-    match text_of(value, name) {
-        None => Ok(None),
-        Some(text) => Ok(Some(Text::from_str(alloc, text)?)),
-    }
-}
-
 // Whether the value is this mark in one of its two versions.
 #[tactic(auto, using(crate::proofs::Marks::mark_shallow, crate::proofs::Marks::mark_no_float, crate::proofs::Marks::earlier_shallow, crate::proofs::Marks::earlier_no_float))]
 fn spells(alloc: Global, value: &Value, mark: &Mark) -> Result<bool, AllocError>
@@ -150,13 +140,4 @@ fn earlier_mark_value(alloc: Global, mark: &Mark) -> Result<Value, AllocError>
         "to": mark.to.as_str(),
         "version": 1u64,
     })
-}
-
-fn text_or_null(alloc: Global, text: &Option<Text>) -> Result<Value, AllocError>
-    ensures { IfOk result (λ v. view v ≡ text_or_null_data text.now) }
-{
-    match text {
-        None => Ok(Value::Null),
-        Some(text) => text_value(alloc, text.as_str()),
-    }
 }

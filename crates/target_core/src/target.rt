@@ -1,6 +1,6 @@
 //! A target, by what its files stand for and what a commit makes of them.
 
-ghost use Rattle.std.specs.Prelude.{◌≡◌, ◌<◌, ◌≤◌, ◌^◌, ◌⊎◌, ℕ, List, [], ◌∷◌, None, Option, Some, IfErr, IfOk, IsErrOf, OnOk, is_ok, option_map};
+ghost use Rattle.std.specs.Prelude.{◌≡◌, ◌+◌, ◌<◌, ◌≤◌, ◌^◌, ◌⊎◌, ℕ, List, [], ◌∷◌, None, Option, Some, IfErr, IfOk, IsErrOf, OnOk, is_ok, option_map};
 ghost use Rattle.std.specs.Option.{option_copied};
 ghost use Rattle.std.specs.FinMap as map;
 ghost use Rattle.lake_store.specs.Disk.{Disk, Files, IsClean};
@@ -120,6 +120,9 @@ pub trait Target {
 
     /// By the format's own rules the files stand for this view.
     ghost reads: { Self → Files → View → Type 0 };
+
+    /// How many commits the files hold, by the format's own names and whoever published them.
+    ghost commits_in: { Self → Files → ℕ };
 
     /// For a source of this format the files are neither without a commit nor all ours, and this is
     /// the first path at fault.
@@ -259,11 +262,17 @@ pub trait Target {
         ensures publishes { S.tells → stands_for self.now kept.old (S.disk store.old).files
             → settled self.now (S.disk store.old)
             → Publishes ⟦<S as Store>⟧
-            (meaning_of (kind self.now) (image self.now) (reads self.now) (carries self.now)
-            (reached self.now) (settled self.now))
+            (meaning_of (kind self.now) (image self.now) (reads self.now)
+            (commits_in self.now) (carries self.now) (reached self.now) (settled self.now))
             (record { source = source; table = option_copied table.entry })
             (view self.now kept.old) (commit.now ∷ [])
             (Uncontested result) (is_ok result) store.old store.new }
+
+        // Behind another writer's commit nothing is published.
+        ensures contested { S.tells → stands_for self.now kept.old (S.disk store.old).files
+            → settled self.now (S.disk store.old) → IsErrOf result TargetError.Contested
+            → commits_in self.now (S.disk store.new).files
+            ≤ (view self.now kept.old).commits + 1 }
 
         // A number is passed at this commit, before it publishes anything, and what is passed later
         // was passed from here on.
@@ -292,6 +301,10 @@ pub trait Target {
     /// Files stand for one view at most, and for absent with any partition columns or with none.
     ghost one_view: { (t : Self) (files : Files) (v w : View) → reads t files v → reads t files w
         → SameView v w ⊎ (IsUnpublished v × IsUnpublished w) };
+
+    /// Files that stand for a view hold its number of commits.
+    ghost commits_read: { (t : Self) (files : Files) (v : View) → reads t files v
+        → commits_in t files ≡ v.commits };
 
     ghost absent_any: { (t : Self) (files : Files) (p q : List (List ℕ))
         → reads t files (absent p) → reads t files (absent q) };
@@ -372,6 +385,9 @@ pub trait Target {
     /// alone.
     ghost reads_own: { (t : Self) (a b : Files) (v : View) → SameIn (folder_of (kind t)) a b
         → reads t a v → reads t b v };
+
+    ghost commits_own: { (t : Self) (a b : Files) → SameIn (folder_of (kind t)) a b
+        → commits_in t b ≡ commits_in t a };
 
     ghost foreign_own: { (t : Self) (source : Kind) (a b : Files) (path : List ℕ)
         → SameIn (folder_of (kind t)) a b → is_foreign t source a path

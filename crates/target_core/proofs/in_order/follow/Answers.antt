@@ -1,4 +1,4 @@
-use Rattle.std.proofs.Common.{◌≡◌, ℕ, ◌+◌, true, false, Some, Err, Result, List, [], ◌∷◌, append-nil, length, take, drop, inr, refl, sym, ◌∙◌, ap, subst, arith}
+use Rattle.std.proofs.Common.{◌≡◌, ◌≤◌, ℕ, ◌+◌, true, false, Some, Err, Result, List, [], ◌∷◌, append-nil, length, take, drop, inr, refl, sym, ◌∙◌, ap, subst, arith}
 use Rattle.std.proofs.lemmas.Option.{slice_get-get_or}
 use Rattle.std.proofs.lemmas.Result.{err_from_is_err_and}
 use Rattle.std.specs.Prelude.{IfErr, is_ok, slice_get}
@@ -16,7 +16,7 @@ use Rattle.target_core.specs.Views.{Origin, standing_at}
 use Rattle.target_core.specs.declared.target.TargetError.{TargetError}
 use Rattle.target_core.proofs.Along.{can_here, fits_here, fails_further, more_before, refused_in, uncontested_further}
 use Rattle.target_core.proofs.Same.{same_refl}
-use Rattle.target_core.proofs.Steps.{gained_on, stopped_on, advanced_take, all_on, before_on, refused_on, under_way_more, under_way_none}
+use Rattle.target_core.proofs.Steps.{gained_on, stopped_on, advanced_take, all_on, before_on, count_taken, refused_on, under_way_more, under_way_none}
 use Rattle.target_core.proofs.in_order.follow.Goals as goal
 
 -- nothing is published yet, and a crash leaves a settled target as it reads
@@ -169,6 +169,11 @@ returns-in_err-commit-clause-refusal g c told =
           let way = so_far.under_way told was.0 was.1 in
           gained_on store (meaning target t) origin start commits i here s c.loop-commit.store c.commit.new.store way commit at _ false
           (c.in_err-commit.ensures.publishes told (so_far.stands told was.0 was.1) way.settled) told (g.met.T.Target.reached_stays t) (λ e. uncontested (exit.2 ∙ e));
+      contested = λ was is.
+          let way = so_far.under_way told was.0 was.1 in
+          let few : target.commits_in t (store.disk c.commit.new.store).files ≤ here.commits + 1 = c.in_err-commit.ensures.contested told (so_far.stands told was.0 was.1) way.settled (ap (λ (e : TargetError). Err e) (sym exit.2 ∙ is)) in
+          let here_is : here.commits ≡ start.commits + i = count_taken (target.image t) origin start commits i here so_far.view way.within in
+          omega (arith, few, here_is);
       limited = λ was which number is.
           let way = so_far.under_way told was.0 was.1 in
           stopped_on store (meaning target t) origin start commits i here s c.loop-commit.store c.commit.new.store way commit at _ false
