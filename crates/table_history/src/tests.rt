@@ -1,4 +1,5 @@
-//! Paths by their form, words, schemas that differ in one part, and the change of two tables.
+//! Paths by their form, words and numbers that are printed, schemas that differ in one part, copies,
+//! and the change of two tables.
 use super::*;
 use lake_basics::{Items, Text};
 use std::alloc::{AllocError, Global};
@@ -40,12 +41,82 @@ fn names_are_printed(rt: HostRuntime) {
     for kind in [Kind::Delta, Kind::Iceberg, Kind::Hudi] {
         assert_eq!(rt; Kind::from_word(kind.word()), Some(kind));
     }
+    assert_eq!(rt; Kind::Delta.word(), "delta");
+    assert_eq!(rt; Kind::Iceberg.word(), "iceberg");
     assert_eq!(rt; Kind::Hudi.word(), "hudi");
     assert_eq!(rt; Kind::from_word("Delta"), None);
-    assert_eq!(rt; Feature::NoRecordCount.word(), "NoRecordCount");
-    assert_eq!(rt; LimitKind::PartitionColumns.word(), "PartitionColumns");
-    assert_eq!(rt; LimitKind::Values.number(Kind::Iceberg), 16_777_216);
-    assert_eq!(rt; LimitKind::Versions.number(Kind::Hudi), 9999);
+}
+
+#[test]
+fn features_have_words(rt: HostRuntime) {
+    for (feature, word) in [
+        (Feature::NeedsCheckpoint, "NeedsCheckpoint"),
+        (Feature::NeedsArchive, "NeedsArchive"),
+        (Feature::ReaderVersion, "ReaderVersion"),
+        (Feature::ReaderFeature, "ReaderFeature"),
+        (Feature::ColumnMapping, "ColumnMapping"),
+        (Feature::DeletionVector, "DeletionVector"),
+        (Feature::OutsideTable, "OutsideTable"),
+        (Feature::NoRecordCount, "NoRecordCount"),
+        (Feature::FileFormat, "FileFormat"),
+        (Feature::SchemaType, "SchemaType"),
+        (Feature::AvroName, "AvroName"),
+        (Feature::PartitionType, "PartitionType"),
+        (Feature::PartitionChange, "PartitionChange"),
+        (Feature::PartitionValue, "PartitionValue"),
+        (Feature::PartitionPath, "PartitionPath"),
+        (Feature::ValueForm, "ValueForm"),
+        (Feature::AvroCodec, "AvroCodec"),
+        (Feature::CompressedMetadata, "CompressedMetadata"),
+        (Feature::CatalogNames, "CatalogNames"),
+        (Feature::FormatVersion, "FormatVersion"),
+        (Feature::Transform, "Transform"),
+        (Feature::PartitionSpecs, "PartitionSpecs"),
+        (Feature::Renamed, "Renamed"),
+        (Feature::NoSchemaId, "NoSchemaId"),
+        (Feature::RowDeletes, "RowDeletes"),
+        (Feature::SharedFile, "SharedFile"),
+        (Feature::TypeChange, "TypeChange"),
+        (Feature::HudiType, "HudiType"),
+        (Feature::HudiVersion, "HudiVersion"),
+        (Feature::KeyGenerator, "KeyGenerator"),
+        (Feature::MergeOnRead, "MergeOnRead"),
+        (Feature::Restore, "Restore"),
+        (Feature::UnknownAction, "UnknownAction"),
+        (Feature::FileId, "FileId"),
+        (Feature::ExternalFile, "ExternalFile"),
+        (Feature::NoSchema, "NoSchema"),
+        (Feature::CompactAction, "CompactAction"),
+    ] {
+        assert_eq!(rt; feature.word(), word);
+    }
+}
+
+#[test]
+fn limits_have_words_and_numbers(rt: HostRuntime) {
+    for (limit, word, number) in [
+        (LimitKind::File, "File", 268_435_456),
+        (LimitKind::Names, "Names", 2_000_000),
+        (LimitKind::LiveFiles, "LiveFiles", 200_000),
+        (LimitKind::Commits, "Commits", 100_000),
+        (LimitKind::Publish, "Publish", 2_000),
+        (LimitKind::Actions, "Actions", 1_000_000),
+        (LimitKind::Values, "Values", 16_777_216),
+        (LimitKind::Path, "Path", 512),
+        (LimitKind::PartitionColumns, "PartitionColumns", 16),
+        (LimitKind::Columns, "Columns", 2_000),
+        (LimitKind::Depth, "Depth", 32),
+    ] {
+        assert_eq!(rt; limit.word(), word);
+        for format in [Kind::Delta, Kind::Iceberg, Kind::Hudi] {
+            assert_eq!(rt; limit.number(format), number, "{word}");
+        }
+    }
+    let versions = LimitKind::Versions;
+    assert_eq!(rt; versions.word(), "Versions");
+    assert_eq!(rt; versions.number(Kind::Delta), 9_223_372_036_854_775_807);
+    assert_eq!(rt; versions.number(Kind::Iceberg), 2_147_483_647);
+    assert_eq!(rt; versions.number(Kind::Hudi), 9999);
 }
 
 fn list_schema(alloc: Global, nullable: bool) -> Result<Schema, AllocError> {
@@ -84,6 +155,40 @@ fn schemas_differ_by_any_part(rt: HostRuntime) -> Result<(), Fail> {
     assert_eq!(rt; schema.columns().len(), 1);
     assert_eq!(rt; ColumnType::Int.is_same(&ColumnType::Int), true);
     assert_eq!(rt; ColumnType::Int.is_same(&ColumnType::Long), false);
+    Ok(())
+}
+
+fn map_type(alloc: Global, nullable: bool) -> Result<ColumnType, AllocError> {
+    Ok(ColumnType::Map {
+        key: Box::new(alloc, ColumnType::Text)?,
+        value: Box::new(alloc, ColumnType::TimestampNtz)?,
+        nullable,
+    })
+}
+
+#[test]
+fn a_copied_type_is_the_same(rt: HostRuntime) -> Result<(), Fail> {
+    let alloc = rt.alloc();
+    let copy = map_type(alloc, true)?.copy(alloc)?;
+    assert_eq!(rt; copy.is_same(&map_type(alloc, true)?), true);
+    assert_eq!(rt; copy.is_same(&map_type(alloc, false)?), false);
+    Ok(())
+}
+
+#[test]
+fn a_copied_value_is_the_same(rt: HostRuntime) -> Result<(), Fail> {
+    let alloc = rt.alloc();
+    let text = PartValue::Text(Text::from_str(alloc, "DE")?);
+    for value in [
+        &PartValue::Null,
+        &PartValue::Boolean(true),
+        &PartValue::Int(-1),
+        &PartValue::Long(9_000_000_000),
+        &text,
+        &PartValue::Date(19_727),
+    ] {
+        assert_eq!(rt; value.copy(alloc)? == *value, true);
+    }
     Ok(())
 }
 
@@ -161,5 +266,37 @@ fn a_change_leads_from_one_table_to_another(rt: HostRuntime) -> Result<(), Fail>
     assert_eq!(rt; size_of(&table, "grows"), Some(5));
     let again = lead(alloc, &mut table, &after)?;
     assert_eq!(rt; again.as_str(), "");
+    Ok(())
+}
+
+#[test]
+fn a_copied_table_is_the_same(rt: HostRuntime) -> Result<(), Fail> {
+    let alloc = rt.alloc();
+    let table = table_of(alloc, &[("a", 1), ("b", 2)])?;
+    let copy = table.copy(alloc)?;
+    let rows = copy.rows.copy(alloc)?;
+    assert_eq!(rt; copy.partition.len(), 0);
+    assert_eq!(rt; copy.schema == table.schema, true);
+    assert_eq!(rt; size_of(&copy, "a"), Some(1));
+    assert_eq!(rt; size_of(&copy, "b"), Some(2));
+    assert_eq!(rt; rows.len(), 2);
+    assert_eq!(rt; rows.is_empty(), false);
+    assert_eq!(rt; rows.at(0) == table.rows.at(0), true);
+    assert_eq!(rt; rows.at(1) == table.rows.at(1), true);
+    assert_eq!(rt; rows.at(1).is_some(), true);
+    assert_eq!(rt; rows.at(2).is_some(), false);
+    assert_eq!(rt; FileRows::new(alloc).is_empty(), true);
+    Ok(())
+}
+
+#[test]
+fn a_change_states_a_schema(rt: HostRuntime) -> Result<(), Fail> {
+    let alloc = rt.alloc();
+    let mut table = table_of(alloc, &[("a", 1)])?;
+    let mut after = Table::empty(alloc, &[])?;
+    after.schema = list_schema(alloc, true)?;
+    let change = lead(alloc, &mut table, &after)?;
+    assert_eq!(rt; change.as_str(), "a-");
+    assert_eq!(rt; table.schema == list_schema(alloc, true)?, true);
     Ok(())
 }
