@@ -10,12 +10,13 @@ use Rattle.table_history.specs.TypeTree.{TypeTree, ColumnTree, ColumnTrees, no_c
 use Rattle.schema_map.specs.declared.fault.Fault.TheVariants.{BadSchema}
 use Rattle.lake_basics.specs.Outcome.{required, each}
 use Rattle.json_reading.specs.Json.{text_member, bool_member, list_member, items}
-use Rattle.schema_map.specs.Limits.{levels, column_levels}
+use Rattle.table_history.specs.SchemaSize.{levels, column_levels}
 use Rattle.schema_map.specs.Delta.{delta_type, delta_shape, delta_nested, delta_struct, delta_list, delta_map, delta_columns, delta_column, delta_word}
 use Rattle.schema_map.specs.Shared.{decimal_or}
 use Rattle.schema_map.specs.DeltaSpelling.{IsDeltaType, AreDeltaColumns}
 use Rattle.schema_map.specs.Decimal.{decimal_of}
-use Rattle.schema_map.specs.Names.{have_own_names, columns_with_own_names}
+use Rattle.table_history.specs.Sound.{have_own_names}
+use Rattle.schema_map.specs.Names.{columns_with_own_names}
 use Rattle.schema_map.proofs.Bound.{bound, was_there, was_text, was_bool, was_array, chosen, good}
 
 pub record Found (n : ℕ) (t : TypeTree) (d : Data) : Type 0 where

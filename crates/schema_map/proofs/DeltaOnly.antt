@@ -8,7 +8,7 @@ use Rattle.table_history.specs.TypeTree.{TypeTree, ColumnTree, ColumnTrees, no_c
 use Rattle.schema_map.specs.declared.fault.Fault.{Fault}
 use Rattle.lake_basics.specs.Outcome.{each}
 use Rattle.json_reading.specs.Json.{items}
-use Rattle.schema_map.specs.Limits.{levels, column_levels}
+use Rattle.table_history.specs.SchemaSize.{levels, column_levels}
 use Rattle.schema_map.specs.Delta.{delta_type, delta_shape, delta_nested, delta_struct, delta_list, delta_map, delta_columns, delta_column, delta_word}
 use Rattle.schema_map.specs.DeltaSpelling.{IsDeltaType, AreDeltaColumns}
 use Rattle.schema_map.specs.Decimal.{decimal_of, number_at}

@@ -15,12 +15,13 @@ use Rattle.schema_map.specs.declared.fault.MapError.TheVariants.{Limit}
 use Rattle.lake_basics.specs.Outcome.{required, each, GivesUnlessMemory}
 use Rattle.schema_map.specs.Errors.{in_column, is_memory}
 use Rattle.json_reading.specs.Json.{text_member, list_member, items, json}
-use Rattle.schema_map.specs.Limits.{column_count, max_type_levels, IsWithinLimits}
+use Rattle.table_history.specs.SchemaSize.{column_count, max_type_levels, IsWithinLimits}
 use Rattle.lake_basics.specs.declared.limits.TheConstants.{MAX_COLUMNS}
 use Rattle.schema_map.specs.Delta.{delta_type, delta_column, delta_top_column, delta_schema, delta_schema_of}
 use Rattle.schema_map.specs.Shared.{column_name, schema_fields, schema_of}
 use Rattle.schema_map.specs.DeltaSpelling.{IsDeltaType, IsDeltaText}
-use Rattle.schema_map.specs.Names.{have_own_names, columns_with_own_names}
+use Rattle.table_history.specs.Sound.{have_own_names}
+use Rattle.schema_map.specs.Names.{columns_with_own_names}
 use Rattle.schema_map.proofs.Bound.{bound, was_there, was_text, was_array, chosen, good}
 use Rattle.schema_map.proofs.DeltaFound.{columns_found, ColumnsFound, own_found, delta_found}
 use Rattle.schema_map.proofs.DeltaOnly.{column_list, columns_of-column_list, delta_only_columns}

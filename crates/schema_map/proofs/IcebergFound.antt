@@ -10,12 +10,13 @@ use Rattle.table_history.specs.TypeTree.{TypeTree, ColumnTree, ColumnTrees, no_c
 use Rattle.schema_map.specs.declared.fault.Fault.TheVariants.{BadSchema}
 use Rattle.lake_basics.specs.Outcome.{required}
 use Rattle.json_reading.specs.Json.{text_member, bool_member, int_member, list_member, items}
-use Rattle.schema_map.specs.Limits.{levels, column_levels}
+use Rattle.table_history.specs.SchemaSize.{levels, column_levels}
 use Rattle.schema_map.specs.Iceberg.{iceberg_type, iceberg_shape, iceberg_nested, iceberg_struct, iceberg_list, iceberg_map, iceberg_columns, iceberg_column, iceberg_simple, iceberg_word, each_with_ids}
 use Rattle.schema_map.specs.Shared.{decimal_or}
 use Rattle.schema_map.specs.IcebergSpelling.{IsIcebergType, AreIcebergColumns}
 use Rattle.schema_map.specs.Decimal.{decimal_of}
-use Rattle.schema_map.specs.Names.{have_own_names, columns_with_own_names}
+use Rattle.table_history.specs.Sound.{have_own_names}
+use Rattle.schema_map.specs.Names.{columns_with_own_names}
 use Rattle.schema_map.proofs.Bound.{bound, was_there, was_text, was_bool, was_array, chosen, good}
 use Rattle.schema_map.proofs.DeltaFound.{own_found, named}
 use Rattle.schema_map.proofs.IcebergOnly.{not_not}

@@ -7,7 +7,7 @@ use Rattle.table_history.specs.TypeTree as tree
 use Rattle.table_history.specs.TypeTree.{TypeTree, ColumnTree, ColumnTrees, no_columns, column, columns_of}
 use Rattle.schema_map.specs.declared.fault.Fault.{Fault}
 use Rattle.json_reading.specs.Json.{items, int_member}
-use Rattle.schema_map.specs.Limits.{levels, column_levels}
+use Rattle.table_history.specs.SchemaSize.{levels, column_levels}
 use Rattle.schema_map.specs.Iceberg.{iceberg_type, iceberg_shape, iceberg_nested, iceberg_struct, iceberg_list, iceberg_map, iceberg_columns, iceberg_column, iceberg_word, each_with_ids}
 use Rattle.schema_map.specs.IcebergSpelling.{IsIcebergType, AreIcebergColumns}
 use Rattle.schema_map.specs.Decimal.{decimal_of, number_at}

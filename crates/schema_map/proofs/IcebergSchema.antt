@@ -10,10 +10,11 @@ use Rattle.json_reading.specs.Json.{items}
 use Rattle.schema_map.specs.declared.fault.Fault.{Fault}
 use Rattle.schema_map.specs.declared.fault.MapError.{MapError}
 use Rattle.schema_map.specs.Errors.{is_memory, in_column}
-use Rattle.schema_map.specs.Limits.{column_count, max_type_levels, IsWithinLimits}
+use Rattle.table_history.specs.SchemaSize.{column_count, max_type_levels, IsWithinLimits}
 use Rattle.schema_map.specs.Iceberg.{iceberg_type, iceberg_column, iceberg_top_column, each_with_ids, iceberg_schema}
 use Rattle.schema_map.specs.IcebergSpelling.{IsIcebergSchema}
-use Rattle.schema_map.specs.Names.{have_own_names, columns_with_own_names}
+use Rattle.table_history.specs.Sound.{have_own_names}
+use Rattle.schema_map.specs.Names.{columns_with_own_names}
 use Rattle.schema_map.specs.Shared.{column_name, schema_fields, schema_of}
 use Rattle.schema_map.proofs.Bound.{bound, good}
 use Rattle.schema_map.proofs.DeltaFound.{own_found}

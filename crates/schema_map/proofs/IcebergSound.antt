@@ -10,7 +10,7 @@ use Rattle.table_history.specs.TypeTree.{TypeTree, ColumnTrees, no_columns, colu
 use Rattle.schema_map.specs.IcebergSpelling.{IsIcebergType, AreIcebergColumns, IsIcebergSchema}
 use Rattle.schema_map.specs.Image.{wide_type, wide_columns}
 use Rattle.schema_map.specs.OwnIds.{AreIds}
-use Rattle.schema_map.specs.Sound.{IsSoundType, AreSound, IsSound}
+use Rattle.table_history.specs.Sound.{IsSoundType, AreSound, IsSound}
 use Rattle.std.specs.Prelude.{Err, IfOk}
 use Rattle.serde_json.specs.View.{view}
 use Rattle.serde_json.specs.declared.value.Value.{Value}

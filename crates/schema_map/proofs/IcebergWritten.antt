@@ -14,9 +14,8 @@ use Rattle.schema_map.specs.IcebergSpelling.{IsIcebergType, AreIcebergColumns, I
 use Rattle.schema_map.specs.IcebergWriting.{id_data, first_id, ids_behind, iceberg_decimal_text, iceberg_data, iceberg_fields, iceberg_value}
 use Rattle.schema_map.specs.Ids.{Path, below, inner_paths, column_paths}
 use Rattle.schema_map.specs.Image.{wide_type, wide_columns}
-use Rattle.schema_map.specs.Limits.{levels, column_levels, inner_count, column_count, IsWithinLimits}
-use Rattle.schema_map.specs.Names.{is_named, have_own_names}
-use Rattle.schema_map.specs.Sound.{IsSoundType, AreSound, IsSound}
+use Rattle.table_history.specs.SchemaSize.{levels, column_levels, inner_count, column_count, IsWithinLimits}
+use Rattle.table_history.specs.Sound.{is_named, have_own_names, IsSoundType, AreSound, IsSound}
 use Rattle.schema_map.specs.OwnIds.{AreIds}
 use Rattle.schema_map.proofs.IcebergSchema.{schema_only}
 use Rattle.schema_map.proofs.Spelled.{number_by}

@@ -21,3 +21,7 @@ pub mod Entries
 pub mod Flat
 pub mod AvroRefused
 pub mod AvroFields
+pub mod AvroFound
+pub mod AvroOnly
+pub mod AvroOwn
+pub mod AvroRead

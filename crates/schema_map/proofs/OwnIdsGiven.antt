@@ -11,11 +11,10 @@ use Rattle.table_history.specs.TypeTree as tree
 use Rattle.table_history.specs.TypeTree.{TypeTree, ColumnTrees, no_columns, column}
 use Rattle.schema_map.specs.declared.fault.MapError.TheVariants.{Limit}
 use Rattle.table_history.specs.declared.limit.LimitKind.TheVariants.{Versions}
-use Rattle.schema_map.specs.Names.{is_named, have_own_names}
+use Rattle.table_history.specs.Sound.{is_named, have_own_names, IsSoundType, AreSound, IsSound}
 use Rattle.schema_map.specs.Ids.{Path, below, inner_paths, column_paths, known_id, next_id, id_step, ids_for}
 use Rattle.lake_basics.specs.Outcome.{◌>>=◌}
 use Rattle.schema_map.specs.OwnIds.{IsAmong, AreDistinct, AreKnown, KeepsKnown}
-use Rattle.schema_map.specs.Sound.{IsSoundType, AreSound, IsSound}
 use Rattle.schema_map.proofs.Bound.{bound}
 use mathlib.Core.Logic.{inl, inr}
 

@@ -9,7 +9,7 @@ use Rattle.std.proofs.lemmas.Map.Text.{is_eq-slice_cmp}
 use Rattle.table_history.specs.TypeTree.{TypeTree, ColumnTrees, column}
 use Rattle.table_history.specs.declared.schema.Column.{Column, the_lemmas}
 use Rattle.table_history.specs.SchemaView.{column_view, columns_view}
-use Rattle.schema_map.specs.Names.{is_named, have_own_names}
+use Rattle.table_history.specs.Sound.{is_named, have_own_names}
 
 -- whether the set has the name
 abbrev pub holds_name : BTreeSet (Bor (List ℕ)) → List ℕ → Bool

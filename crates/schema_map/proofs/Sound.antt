@@ -8,7 +8,7 @@ use Rattle.table_history.specs.TypeTree as tree
 use Rattle.table_history.specs.TypeTree.{TypeTree, ColumnTrees, no_columns, column}
 use Rattle.schema_map.specs.Decimal.{decimal_in_range, decimal_at_end, number_at, after_byte, after_word, decimal_of}
 use Rattle.schema_map.specs.DeltaSpelling.{IsDeltaType, AreDeltaColumns}
-use Rattle.schema_map.specs.Sound.{IsSoundType, AreSound}
+use Rattle.table_history.specs.Sound.{IsSoundType, AreSound}
 
 record Behind {A B : Type 0} (f : A → Option B) (o : Option A) (y : B) : Type 0 where
   value : A

@@ -11,8 +11,8 @@ use Rattle.table_history.specs.TypeTree.{TypeTree, ColumnTrees, no_columns, colu
 use Rattle.schema_map.specs.Decimal.{is_digit, number_at, decimal_of, delta_decimal_text}
 use Rattle.schema_map.specs.DeltaSpelling.{IsDeltaType, AreDeltaColumns}
 use Rattle.schema_map.specs.DeltaWriting.{delta_data, delta_fields}
-use Rattle.schema_map.specs.Limits.{levels, column_levels, max_type_levels}
-use Rattle.schema_map.specs.Sound.{IsSoundType, AreSound}
+use Rattle.table_history.specs.SchemaSize.{levels, column_levels, max_type_levels}
+use Rattle.table_history.specs.Sound.{IsSoundType, AreSound}
 use Rattle.schema_map.proofs.DeltaOnly.{one_level}
 
 -- ---- no float, and not too deep

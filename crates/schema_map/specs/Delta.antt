@@ -13,7 +13,7 @@ use Rattle.json_reading.specs.Json.{text_member, bool_member, list_member, items
 use Rattle.schema_map.specs.Names.{columns_with_own_names}
 use Rattle.schema_map.specs.Shared.{decimal_or, column_name, schema_fields, schema_of}
 use Rattle.schema_map.specs.Decimal.{decimal_of}
-use Rattle.schema_map.specs.Limits.{max_type_levels}
+use Rattle.table_history.specs.SchemaSize.{max_type_levels}
 use Rattle.schema_map.specs.declared.fault.MapError.{MapError}
 
 unfoldable pub delta_word : List ℕ → Result TypeTree Fault

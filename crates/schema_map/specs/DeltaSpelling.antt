@@ -5,7 +5,7 @@ use Rattle.serde_json.specs.Find.{get_member}
 use Rattle.table_history.specs.TypeTree as tree
 use Rattle.table_history.specs.TypeTree.{TypeTree, ColumnTrees, no_columns, column}
 use Rattle.json_reading.specs.Json.{json}
-use Rattle.schema_map.specs.Names.{have_own_names}
+use Rattle.table_history.specs.Sound.{have_own_names}
 use Rattle.schema_map.specs.Decimal.{decimal_of}
 
 abbrev mutual

@@ -14,7 +14,7 @@ use Rattle.schema_map.specs.Errors.{in_column}
 use Rattle.json_reading.specs.Json.{text_member, bool_member, int_member, list_member, items}
 use Rattle.schema_map.specs.Decimal.{decimal_of}
 use Rattle.schema_map.specs.Names.{columns_with_own_names}
-use Rattle.schema_map.specs.Limits.{max_type_levels}
+use Rattle.table_history.specs.SchemaSize.{max_type_levels}
 use Rattle.schema_map.specs.Shared.{decimal_or, schema_fields, column_name, schema_of}
 
 unfoldable pub iceberg_word : List ℕ → Result TypeTree Fault

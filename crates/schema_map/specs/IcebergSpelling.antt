@@ -6,7 +6,7 @@ use Rattle.serde_json.specs.Find.{get_member}
 use Rattle.json_reading.specs.Json.{int_member}
 use Rattle.table_history.specs.TypeTree as tree
 use Rattle.table_history.specs.TypeTree.{TypeTree, ColumnTrees, no_columns, column}
-use Rattle.schema_map.specs.Names.{have_own_names}
+use Rattle.table_history.specs.Sound.{have_own_names}
 use Rattle.schema_map.specs.Decimal.{decimal_of}
 
 -- Iceberg has no type of fewer than 32 bits. Required is the opposite of nullable.

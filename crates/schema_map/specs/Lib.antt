@@ -6,7 +6,6 @@ pub mod Shared
 pub mod Delta
 pub mod DeltaSpelling
 pub mod DeltaWriting
-pub mod Sound
 pub mod Image
 pub mod Iceberg
 pub mod IcebergSpelling
@@ -15,4 +14,5 @@ pub mod OwnIds
 pub mod IcebergWriting
 pub mod NameMapping
 pub mod Avro
+pub mod AvroSpelling
 pub mod AvroWriting

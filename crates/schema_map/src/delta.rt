@@ -11,7 +11,7 @@ ghost use Rattle.schema_map.specs.Delta.{delta_type, delta_shape, delta_nested, 
 ghost use Rattle.schema_map.specs.Delta.{delta_list, delta_map, delta_columns, delta_column};
 ghost use Rattle.schema_map.specs.Delta.{delta_top_column, delta_schema, delta_schema_of};
 ghost use Rattle.schema_map.specs.DeltaSpelling.{IsDeltaText};
-ghost use Rattle.schema_map.specs.Limits.{IsWithinLimits};
+ghost use Rattle.table_history.specs.SchemaSize.{IsWithinLimits};
 
 use crate::fault::{BAD_SCHEMA, DEPTH, Fault, MapError, SCHEMA_TYPE};
 use crate::limits::MAX_TYPE_LEVELS;

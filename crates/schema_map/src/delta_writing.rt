@@ -9,8 +9,8 @@ ghost use Rattle.schema_map.specs.Decimal.{delta_decimal_text};
 ghost use Rattle.schema_map.specs.DeltaSpelling.{IsDeltaText};
 ghost use Rattle.schema_map.specs.Delta.{delta_schema_of};
 ghost use Rattle.schema_map.specs.DeltaWriting.{struct_data, list_data, map_data, column_data, delta_data, delta_fields, delta_text};
-ghost use Rattle.schema_map.specs.Limits.{column_levels, max_type_levels, IsWithinLimits};
-ghost use Rattle.schema_map.specs.Sound.{IsSound};
+ghost use Rattle.table_history.specs.SchemaSize.{column_levels, max_type_levels, IsWithinLimits};
+ghost use Rattle.table_history.specs.Sound.{IsSound};
 ghost use Rattle.schema_map.specs.Errors.{is_memory};
 ghost use Rattle.lake_basics.specs.Outcome.{GivesUnlessMemory};
 

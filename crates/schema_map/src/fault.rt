@@ -15,6 +15,14 @@ pub(crate) enum Fault {
     Depth,
 }
 
+/// What is wrong with an Avro type: it is none of a column.
+#[derive(Clone, Copy, Debug, PartialEq, Eq)]
+pub(crate) enum TypeFault {
+    NoRow,
+}
+
+pub(crate) const NO_ROW: ReadError<TypeFault> = ReadError::Fault(TypeFault::NoRow);
+
 pub(crate) const BAD_SCHEMA: ReadError<Fault> = ReadError::Fault(Fault::BadSchema);
 
 pub(crate) const SCHEMA_TYPE: ReadError<Fault> = ReadError::Fault(Fault::SchemaType);

@@ -14,7 +14,7 @@ ghost use Rattle.schema_map.specs.Iceberg.{iceberg_list, iceberg_map, iceberg_co
 ghost use Rattle.schema_map.specs.Iceberg.{iceberg_column, iceberg_top_column, iceberg_schema};
 ghost use Rattle.schema_map.specs.Iceberg.{each_with_ids};
 ghost use Rattle.schema_map.specs.IcebergSpelling.{IsIcebergSchema};
-ghost use Rattle.schema_map.specs.Limits.{IsWithinLimits};
+ghost use Rattle.table_history.specs.SchemaSize.{IsWithinLimits};
 
 use crate::decimal::decimal_of;
 use crate::fault::{BAD_SCHEMA, DEPTH, Fault, MapError, SCHEMA_TYPE};

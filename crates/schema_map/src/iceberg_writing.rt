@@ -11,7 +11,7 @@ ghost use Rattle.schema_map.specs.IcebergSpelling.{IsIcebergSchema};
 ghost use Rattle.schema_map.specs.Ids.{column_paths};
 ghost use Rattle.schema_map.specs.Image.{wide_columns};
 ghost use Rattle.schema_map.specs.OwnIds.{AreIds};
-ghost use Rattle.schema_map.specs.Sound.{IsSound};
+ghost use Rattle.table_history.specs.Sound.{IsSound};
 ghost use Rattle.schema_map.specs.IcebergWriting.{first_id, ids_behind, iceberg_decimal_text};
 ghost use Rattle.schema_map.specs.IcebergWriting.{iceberg_list_data, iceberg_map_data};
 ghost use Rattle.schema_map.specs.IcebergWriting.{iceberg_field_data, iceberg_schema_data};

@@ -7,7 +7,7 @@ ghost use Rattle.lake_basics.specs.Outcome.{GivesUnlessMemory};
 ghost use Rattle.schema_map.specs.Errors.{is_memory};
 ghost use Rattle.schema_map.specs.Image.{wide_type, wide_columns, image};
 ghost use Rattle.schema_map.specs.OwnIds.{AreKnown, AreDistinct, KeepsKnown};
-ghost use Rattle.schema_map.specs.Sound.{IsSound};
+ghost use Rattle.table_history.specs.Sound.{IsSound};
 ghost use Rattle.schema_map.specs.Ids.{below, inner_paths, column_paths, known_id, next_id, ids_for};
 
 use crate::fault::MapError;

@@ -19,7 +19,7 @@ mod names;
 mod shared;
 mod word;
 
-pub use avro::from_avro;
+pub use avro::{from_avro, read_avro};
 pub use avro_writing::to_avro;
 pub use delta::from_delta;
 pub use delta_writing::to_delta;
@@ -27,6 +27,7 @@ pub use fault::MapError;
 pub use iceberg::{Ids, from_iceberg};
 pub use iceberg_writing::iceberg_json;
 pub use ids::{ColumnPath, KnownIds, column_paths, to_iceberg};
+pub use limits::schema_limit;
 pub use mapping::name_mapping;
 
 #[cfg(test)]

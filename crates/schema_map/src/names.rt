@@ -2,7 +2,7 @@
 
 ghost use Rattle.std.specs.Prelude.{◌≡◌, IfOk};
 ghost use Rattle.table_history.specs.SchemaView.{columns_view};
-ghost use Rattle.schema_map.specs.Names.{have_own_names};
+ghost use Rattle.table_history.specs.Sound.{have_own_names};
 
 use std::alloc::{AllocError, Global};
 use std::collections::BTreeSet;

@@ -76,7 +76,7 @@ pub(crate) fn schema_of(alloc: Global, columns: Vec<Column>) -> Result<Schema, M
     if !have_own_names(alloc, columns.as_slice())? {
         return Err(MapError::BadSchema);
     }
-    if !has_few_columns(&columns) {
+    if !has_few_columns(columns.as_slice()) {
         return Err(MapError::Limit {
             which: LimitKind::Columns,
         });

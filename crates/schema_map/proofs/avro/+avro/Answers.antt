@@ -1,9 +1,15 @@
-use Rattle.schema_map.specs.Avro.{avro_type, avro_nullable, avro_field}
-use Rattle.schema_map.proofs.AvroFields.{field_pushed}
+use Rattle.std.proofs.Common.{◌≡◌, Some, None, map, rules, ap, ◌∙◌}
+use Rattle.avro_schema.specs.declared.schema.Schema.{the_lemmas}
+use Rattle.avro_schema.specs.Tree.{tree_of, branches_of}
+use Rattle.schema_map.proofs.AvroFields.{union_in, union_read, plain_read}
 use Rattle.schema_map.proofs.avro.+avro.Goals as goal
 
-pub record_columns-loop-field-preserved : goal.record_columns-loop-field-preserved
-record_columns-loop-field-preserved t c =
-    field_pushed (avro_field (avro_nullable (avro_type c.args.below))) c.args.fields.now.items c.deref-field-items.result.now c.loop-field.field-index c.field-item.result
-    c.loop-field.columns.items c.push.new.self.items c.in_ok-column_of.field-0 _ c.deref-field-items.ensures.value c.loop-field-test.true c.field-item.is
-    c.in_ok-column_of.ensures c.in_ok-push.ensures.items c.loop-field.invariant
+pub part_of-returns-in-Union : goal.part_of-returns-in-Union
+part_of-returns-in-Union t c =
+    let some : union_in (tree_of c.args.schema.now) ≡ Some (branches_of (map tree_of c.in-Union.branches.items)) = search (rules, the_lemmas, c.in-Union.is) in
+    rw (union_read (tree_of c.args.schema.now) _ some, ← c.as_slice.ensures.value) c.union_of.ensures
+
+pub part_of-returns-in_default : goal.part_of-returns-in_default
+part_of-returns-in_default t c =
+    let none : union_in (tree_of c.args.schema.now) ≡ None = search (rules, the_lemmas, c.in_default.not-Union) in
+    rw (plain_read (tree_of c.args.schema.now) none) c.branch_of.ensures

@@ -1,6 +1,6 @@
 use Rattle.std.proofs.Common.{◌≡◌, ◌≤◌, length, true, drop}
 use Rattle.table_history.specs.SchemaView.{columns_view}
-use Rattle.schema_map.specs.Names.{have_own_names}
+use Rattle.table_history.specs.Sound.{have_own_names}
 use Rattle.schema_map.proofs.OwnNames.{HoldsNames}
 use Rattle.schema_map.proofs.names.have_own_names.Given as goal
 
