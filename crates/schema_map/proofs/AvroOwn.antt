@@ -131,7 +131,7 @@ text_own text t is = (declared_own t (top is_a_fault) [] is.value is.behind refl
 
 -- ---- columns
 
-turned : (a b : List ℕ) → bytes_eq a b ≡ bytes_eq b a
+pub turned : (a b : List ℕ) → bytes_eq a b ≡ bytes_eq b a
 turned a b = by _ _ refl refl
   where
     by : (x y : Bool) → bytes_eq a b ≡ x → bytes_eq b a ≡ y → bytes_eq a b ≡ bytes_eq b a

@@ -1,9 +1,11 @@
 -- Where Avro can spell a schema, and that what is written has no float.
-use Rattle.std.proofs.Common.{◌≡◌, ℕ, ◌+◌, List, Bool, true, false, ◌&&◌, Result, Ok, Err, refl, ap, subst, ◌∙◌, cond}
-use Rattle.std.specs.Prelude.{Option, Some, None, IfOk, IfErr}
+use Rattle.std.proofs.Common.{◌≡◌, ℕ, ◌+◌, List, Bool, true, false, ◌&&◌, Result, Ok, Err, refl, sym, ap, subst, ◌∙◌, cond}
+use Rattle.std.specs.Prelude.{◌≤◌, Option, Some, None, IfOk, IfErr, OnOk}
 use Rattle.serde_json.specs.View.{items_of}
 use Rattle.serde_json.specs.Written.{has_float, items_have_float, compact_text}
-use Rattle.serde_json.specs.Data.{Data}
+use Rattle.serde_json.specs.Data.{Data, depth}
+use Rattle.serde_json.specs.Read.{max_depth}
+use Rattle.json_reading.specs.Json.{IsReadAgain}
 use Rattle.std.specs.declared.alloc.AllocError.{AllocError}
 use Rattle.lake_basics.specs.Outcome.{GivesUnlessMemory, FailsUnlessMemory}
 use Rattle.table_history.specs.TypeTree as tree
@@ -12,7 +14,7 @@ use Rattle.table_history.specs.declared.kind.Kind.TheVariants.{Hudi}
 use Rattle.schema_map.specs.declared.fault.MapError.{MapError}
 use Rattle.schema_map.specs.Errors.{is_memory}
 use Rattle.schema_map.specs.Image.{image, wide_columns, is_avro_name, has_text_keys, have_text_keys, has_avro_names, have_avro_names}
-use Rattle.schema_map.specs.AvroWriting.{key_fault, name_fault, avro_schema_text, avro_data, avro_fields, nullable_data, avro_field_data}
+use Rattle.schema_map.specs.AvroWriting.{key_fault, name_fault, avro_schema_text, avro_data, avro_fields, avro_text, nullable_data, avro_field_data}
 use Rattle.schema_map.proofs.Flat.{both_flat}
 use Rattle.schema_map.proofs.ImageTwice.{image_twice}
 
@@ -75,8 +77,12 @@ names_judged (column n t b cs) =
     subst P (and_assoc (is_avro_name n) (has_avro_names t) (have_avro_names cs)) (judged_more (is_avro_name n && has_avro_names t) (name_fault cs) (have_avro_names cs) n (names_judged cs))
 
 record Spelled (cs : ColumnTrees) (r : Result (List ℕ) MapError) : Type 0 where
+  said : (text : List ℕ) → r ≡ Ok text → text ≡ avro_text cs
   ok : (text : List ℕ) → r ≡ Ok text → image Hudi cs ≡ Some (wide_columns cs)
   err : (e : MapError) → r ≡ Err e → image Hudi cs ≡ None
+
+said_text : (cs : ColumnTrees) (text : List ℕ) → ◌≡◌ {A = Result (List ℕ) MapError} (Ok (avro_text cs)) (Ok text) → text ≡ avro_text cs
+said_text cs text e = let same : avro_text cs ≡ text = cc in sym same
 
 and_false : (a b : Bool) → b ≡ false → (a && b) ≡ false
 and_false true b e = e
@@ -85,13 +91,16 @@ and_false false b e = refl
 spelled_by : (cs : ColumnTrees) (k n : Option (List ℕ)) → key_fault cs ≡ k → name_fault cs ≡ n → Spelled cs (avro_schema_text cs)
 spelled_by cs (Some name) n k_is n_is =
     let undefined : image Hudi cs ≡ None = rw ((keys_judged cs).some name k_is) in
-    rw k_is (record { ok = λ text e. absurd (cc); err = λ e same. undefined })
+    rw k_is (record { said = λ text e. absurd (cc); ok = λ text e. absurd (cc); err = λ e same. undefined })
 spelled_by cs None (Some name) k_is n_is =
     let undefined : image Hudi cs ≡ None = rw (and_false (have_text_keys cs) (have_avro_names cs) ((names_judged cs).some name n_is)) in
-    rw (k_is, n_is) (record { ok = λ text e. absurd (cc); err = λ e same. undefined })
+    rw (k_is, n_is) (record { said = λ text e. absurd (cc); ok = λ text e. absurd (cc); err = λ e same. undefined })
 spelled_by cs None None k_is n_is =
     let defined : image Hudi cs ≡ Some (wide_columns cs) = rw ((keys_judged cs).none k_is, (names_judged cs).none n_is) in
-    rw (k_is, n_is) (record { ok = λ text e. defined; err = λ e same. absurd (cc) })
+    rw (k_is, n_is) (record { said = λ text e. said_text cs text e; ok = λ text e. defined; err = λ e same. absurd (cc) })
+
+pub avro_said : (cs : ColumnTrees) (text : List ℕ) → avro_schema_text cs ≡ Ok text → text ≡ avro_text cs
+avro_said cs text is = (spelled_by cs _ _ refl refl).said text is
 
 pub avro_defined : (cs : ColumnTrees) (r : Result (List ℕ) MapError) → GivesUnlessMemory is_memory (λ t. t) r (avro_schema_text cs) → IfOk r (λ _. image Hudi cs ≡ Some (wide_columns cs))
 avro_defined cs (Ok text) given = (spelled_by cs _ _ refl refl).ok text given
@@ -113,3 +122,8 @@ avro_settled cs (Err e) given = tt
 pub text_said : (r : Result (List ℕ) AllocError) (d e : Data) → d ≡ e → has_float e ≡ false → IfOk r (λ t. has_float d ≡ false → t ≡ compact_text d) → IfOk r (λ t. t ≡ compact_text e)
 text_said (Ok t) d e is flat said = said (ap has_float is ∙ flat) ∙ ap compact_text is
 text_said (Err x) d e is flat said = tt
+
+-- That value is read again.
+pub again_said : (r : Result (List ℕ) AllocError) (d e : Data) → d ≡ e → has_float e ≡ false → IfOk r (λ t. has_float d ≡ false → depth d ≤ max_depth → IsReadAgain d) → OnOk r (depth e ≤ max_depth → IsReadAgain e)
+again_said (Ok t) d e is flat said = λ shallow. subst (λ (x : Data). IsReadAgain x) is (said (ap has_float is ∙ flat) (subst (λ (x : Data). depth x ≤ max_depth) (sym is) shallow))
+again_said (Err x) d e is flat said = tt

@@ -20,7 +20,8 @@ use Rattle.lake_basics.specs.declared.limits.TheConstants.{MAX_COLUMNS}
 use Rattle.schema_map.specs.Delta.{delta_type, delta_column, delta_top_column, delta_schema, delta_schema_of}
 use Rattle.schema_map.specs.Shared.{column_name, schema_fields, schema_of}
 use Rattle.schema_map.specs.DeltaSpelling.{IsDeltaType, IsDeltaText}
-use Rattle.table_history.specs.Sound.{have_own_names}
+use Rattle.table_history.specs.Sound.{have_own_names, IsSound}
+use Rattle.schema_map.proofs.Sound.{delta_sound}
 use Rattle.schema_map.specs.Names.{columns_with_own_names}
 use Rattle.schema_map.proofs.Bound.{bound, was_there, was_text, was_array, chosen, good}
 use Rattle.schema_map.proofs.DeltaFound.{columns_found, ColumnsFound, own_found, delta_found}
@@ -122,8 +123,8 @@ text_only text cs is limits = rw (is.1) (schema_only is.0 cs is.2 limits)
 pub gives_same : {A B : Type 0} (view : A → B) (r : Result A MapError) (reading other : Result B MapError) → GivesUnlessMemory is_memory view r reading → reading ≡ other → GivesUnlessMemory is_memory view r other
 gives_same view r reading other given same = subst (λ x. GivesUnlessMemory is_memory view r x) same given
 
-pub given_found : (text : List ℕ) (r : Result ColumnTrees MapError) → GivesUnlessMemory is_memory (λ s. s) r (delta_schema_of text) → IfOk r (λ s. IsDeltaText s text × IsWithinLimits s)
-given_found text (Ok s) given = text_found text s given
+pub given_found : (text : List ℕ) (r : Result ColumnTrees MapError) → GivesUnlessMemory is_memory (λ s. s) r (delta_schema_of text) → IfOk r (λ s. IsDeltaText s text × IsSound s × IsWithinLimits s)
+given_found text (Ok s) given = let found = text_found text s given in (found.0, delta_sound (struct_of s) found.0.0 found.0.2, found.1)
 given_found text (Err e) given = tt
 
 pub given_only : (text : List ℕ) (r : Result ColumnTrees MapError) → GivesUnlessMemory is_memory (λ s. s) r (delta_schema_of text) → (cs : ColumnTrees) → IsDeltaText cs text → IsWithinLimits cs → GivesUnlessMemory is_memory (λ s. s) r (Ok cs)

@@ -23,6 +23,9 @@ use Rattle.schema_map.specs.IcebergWriting.{iceberg_value}
 use Rattle.schema_map.proofs.IcebergSchema.{SchemaFound, schema_found}
 use Rattle.schema_map.proofs.IcebergWritten.{id_count, column_id_count, column_ids_counted, iceberg_spelled, iceberg_reads_back}
 use Rattle.schema_map.proofs.Sound.{decimal_is}
+use Rattle.schema_map.specs.IcebergFits.{FitsIceberg}
+use Rattle.schema_map.specs.Image.{image}
+use Rattle.table_history.specs.declared.kind.Kind.TheVariants.{Iceberg}
 
 -- ---- ids
 
@@ -165,3 +168,33 @@ given_back cs ids schema_id (Ok v) given =
     let is : iceberg_value cs ids schema_id ≡ view v = cc in
     ap iceberg_schema (sym is) ∙ read_again cs ids schema_id d read
 given_back cs ids schema_id (Err e) given = tt
+
+fits_found : (d : Data) (p : ColumnTrees × List ℤ) → iceberg_schema d ≡ Ok p → FitsIceberg p.0 p.1
+unfolding SchemaFound
+fits_found d p is =
+    let found = schema_found d p is in
+    record {
+      sound = iceberg_sound p.0 p.1 d found.0;
+      within = found.1;
+      are = iceberg_ids p.0 p.1 d found.0;
+      size = iceberg_counted p.0 p.1 d found.0 ∙ sym (column_ids_counted p.0);
+    }
+
+settled_found : (d : Data) (p : ColumnTrees × List ℤ) → iceberg_schema d ≡ Ok p → image Iceberg p.0 ≡ Some p.0
+unfolding SchemaFound
+settled_found d p is = let found = schema_found d p is in ap Some (iceberg_wide p.0 p.1 d found.0)
+
+pub given_fits : (d : Data) (r : Result (ColumnTrees × List ℤ) MapError) → GivesUnlessMemory is_memory (λ p. p) r (iceberg_schema d) → IfOk r (λ p. FitsIceberg p.0 p.1)
+given_fits d (Ok p) given = fits_found d p given
+given_fits d (Err e) given = tt
+
+pub given_settled : (d : Data) (r : Result (ColumnTrees × List ℤ) MapError) → GivesUnlessMemory is_memory (λ p. p) r (iceberg_schema d) → IfOk r (λ p. image Iceberg p.0 ≡ Some p.0)
+given_settled d (Ok p) given = settled_found d p given
+given_settled d (Err e) given = tt
+
+pub given_read_back : (cs : ColumnTrees) (ids : List ℤ) (schema_id : ℤ) (r : Result Value MapError) → GivesUnlessMemory is_memory view r (Ok (iceberg_value cs ids schema_id)) → IfOk r (λ v. FitsIceberg cs ids → iceberg_schema (view v) ≡ Ok (wide_columns cs, ids))
+given_read_back cs ids schema_id (Ok v) given =
+    λ fit.
+    let is : iceberg_value cs ids schema_id ≡ view v = cc in
+    ap iceberg_schema (sym is) ∙ iceberg_reads_back cs ids schema_id fit.sound fit.within fit.are fit.size
+given_read_back cs ids schema_id (Err e) given = tt

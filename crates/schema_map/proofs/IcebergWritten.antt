@@ -130,7 +130,7 @@ mutual
   levels_wide (tree.list_of t b) = ap (λ n. 1 + n) (levels_wide t)
   levels_wide (tree.map_of k v b) = ap (λ n. 1 + max n (levels (wide_type v))) (levels_wide k) ∙ ap (λ n. 1 + max (levels k) n) (levels_wide v)
 
-  column_levels_wide : (cs : ColumnTrees) → column_levels (wide_columns cs) ≡ column_levels cs
+  pub column_levels_wide : (cs : ColumnTrees) → column_levels (wide_columns cs) ≡ column_levels cs
   column_levels_wide no_columns = refl
   column_levels_wide (column n t b cs) = ap (λ m. max m (column_levels (wide_columns cs))) (levels_wide t) ∙ ap (λ m. max (levels t) m) (column_levels_wide cs)
 
@@ -153,7 +153,7 @@ mutual
   count_wide (tree.list_of t b) = count_wide t
   count_wide (tree.map_of k v b) = ap (λ n. n + inner_count (wide_type v)) (count_wide k) ∙ ap (λ n. inner_count k + n) (count_wide v)
 
-  column_count_wide : (cs : ColumnTrees) → column_count (wide_columns cs) ≡ column_count cs
+  pub column_count_wide : (cs : ColumnTrees) → column_count (wide_columns cs) ≡ column_count cs
   column_count_wide no_columns = refl
   column_count_wide (column n t b cs) = ap (λ m. 1 + m + column_count (wide_columns cs)) (count_wide t) ∙ ap (λ m. 1 + inner_count t + m) (column_count_wide cs)
 
@@ -161,7 +161,7 @@ named_wide : (name : List ℕ) (cs : ColumnTrees) → is_named name (wide_column
 named_wide name no_columns = refl
 named_wide name (column n t b cs) = ap (λ c. bytes_eq n name || c) (named_wide name cs)
 
-own_wide : (cs : ColumnTrees) → have_own_names (wide_columns cs) ≡ have_own_names cs
+pub own_wide : (cs : ColumnTrees) → have_own_names (wide_columns cs) ≡ have_own_names cs
 own_wide no_columns = refl
 own_wide (column n t b cs) = ap (λ c. not c && have_own_names (wide_columns cs)) (named_wide n cs) ∙ ap (λ c. not (is_named n cs) && c) (own_wide cs)
 
@@ -275,3 +275,7 @@ pub iceberg_reads_back : (cs : ColumnTrees) (ids : List ℤ) (schema_id : ℤ) �
 iceberg_reads_back cs ids schema_id sound limits are same =
     schema_only (iceberg_value cs ids schema_id) (wide_columns cs) ids (iceberg_spelled cs ids schema_id sound are same)
     (record { levels = rw (column_levels_wide cs) limits.levels; columns = rw (column_count_wide cs) limits.columns })
+
+-- The Image is within the limits where the schema is.
+pub wide_limits : (cs : ColumnTrees) → IsWithinLimits cs → IsWithinLimits (wide_columns cs)
+wide_limits cs limits = record { levels = rw (column_levels_wide cs) limits.levels; columns = rw (column_count_wide cs) limits.columns }

@@ -25,3 +25,5 @@ pub mod AvroFound
 pub mod AvroOnly
 pub mod AvroOwn
 pub mod AvroRead
+pub mod AvroWritten
+pub mod AvroSpelled

@@ -11,6 +11,7 @@ pub mod Iceberg
 pub mod IcebergSpelling
 pub mod Ids
 pub mod OwnIds
+pub mod IcebergFits
 pub mod IcebergWriting
 pub mod NameMapping
 pub mod Avro

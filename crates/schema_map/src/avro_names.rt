@@ -1,7 +1,7 @@
 //! What Avro can't spell: maps whose keys aren't texts, and names that aren't Avro names (Apache Avro
 //! specification, "Maps" and "Names").
 
-ghost use Rattle.std.specs.Prelude.{◌≡◌, option_map};
+ghost use Rattle.std.specs.Prelude.{◌≡◌, IfOk, option_map};
 ghost use Rattle.std.specs.List.{list_all};
 ghost use Rattle.lake_basics.specs.Outcome.{GivesUnlessMemory};
 ghost use Rattle.table_history.specs.SchemaView.{type_view, columns_view};
@@ -131,8 +131,9 @@ fn name_fault(columns: &[Column]) -> Option<&str>
 
 /// The columns, where Avro can spell them.
 pub(crate) fn avro_columns(alloc: Global, columns: &[Column]) -> Result<&[Column], MapError>
-    ensures { GivesUnlessMemory is_memory (λ cs. columns_view cs.now) result
+    ensures given { GivesUnlessMemory is_memory (λ cs. columns_view cs.now) result
         (avro_columns (columns_view columns.now)) }
+    ensures same { IfOk result (λ cs. cs.now ≡ columns.now) }
 {
     if let Some(name) = key_fault(columns) {
         let column = Text::from_str(alloc, name)?;

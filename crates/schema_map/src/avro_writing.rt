@@ -1,18 +1,24 @@
 //! Writing the Avro schema of a schema (Apache Avro specification, "Schema Declaration").
 
-ghost use Rattle.std.specs.Prelude.{◌≡◌, IfOk, IfErr, Some, None, map, true, false, string_bytes, ◌+◌};
-ghost use Rattle.serde_json.specs.Data.{string};
+ghost use Rattle.std.specs.Prelude.{◌≡◌, ◌≤◌, IfOk, IfErr, OnOk, Ok, Some, None, map, true, false, string_bytes, ◌+◌};
+ghost use Rattle.serde_json.specs.Data.{string, depth};
+ghost use Rattle.serde_json.specs.Read.{max_depth};
+ghost use Rattle.json_reading.specs.Json.{IsReadAgain};
 ghost use Rattle.serde_json.specs.View.{view};
 ghost use Rattle.lake_basics.specs.Outcome.{GivesUnlessMemory};
 ghost use Rattle.table_history.specs.SchemaView.{type_view, columns_view};
 ghost use Rattle.table_history.specs.TypeTree.{struct_of};
 ghost use Rattle.table_history.specs.declared.kind.Kind.TheVariants.{Hudi};
+ghost use Rattle.table_history.specs.Sound.{IsSound};
+ghost use Rattle.table_history.specs.SchemaSize.{IsWithinLimits};
 ghost use Rattle.schema_map.specs.Errors.{is_memory};
+ghost use Rattle.schema_map.specs.Avro.{limited_avro_schema_of};
+ghost use Rattle.schema_map.specs.AvroSpelling.{IsAvroText};
 ghost use Rattle.schema_map.specs.Image.{image, wide_columns};
 ghost use Rattle.schema_map.specs.AvroWriting.{logical_data, decimal_data, items_data};
 ghost use Rattle.schema_map.specs.AvroWriting.{values_data, record_name, record_data};
 ghost use Rattle.schema_map.specs.AvroWriting.{optional_data, nullable_data, avro_field_data};
-ghost use Rattle.schema_map.specs.AvroWriting.{avro_data, avro_fields, avro_columns};
+ghost use Rattle.schema_map.specs.AvroWriting.{avro_data, avro_fields};
 ghost use Rattle.schema_map.specs.AvroWriting.{avro_text, avro_schema_text, named_record_data};
 
 use crate::avro_names::avro_columns;
@@ -207,14 +213,18 @@ fn schema_json(alloc: Global, columns: &[Column]) -> Result<Value, AllocError>
 }
 
 fn text_of(alloc: Global, columns: &[Column]) -> Result<Text, AllocError>
-    ensures { IfOk result (λ t. t ≡ avro_text (columns_view columns.now)) }
+    ensures text { IfOk result (λ t. t ≡ avro_text (columns_view columns.now)) }
+    ensures again { OnOk result (depth (avro_data (struct_of (columns_view columns.now)) 0).0
+        ≤ max_depth → IsReadAgain (avro_data (struct_of (columns_view columns.now)) 0).0) }
 {
     let value = schema_json(alloc, columns)?;
     json_text(alloc, &value)
 }
 
 fn schema_text(alloc: Global, schema: &Schema) -> Result<Text, MapError>
-    ensures { GivesUnlessMemory is_memory (λ t. t) result (avro_schema_text schema.now) }
+    ensures text { GivesUnlessMemory is_memory (λ t. t) result (avro_schema_text schema.now) }
+    ensures again { OnOk result (depth (avro_data (struct_of schema.now) 0).0 ≤ max_depth
+        → IsReadAgain (avro_data (struct_of schema.now) 0).0) }
 {
     let columns = avro_columns(alloc, schema.columns())?;
     Ok(text_of(alloc, columns)?)
@@ -229,6 +239,10 @@ pub fn to_avro(alloc: Global, schema: &Schema) -> Result<Text, MapError>
     // It refuses where the Image isn't defined, and nowhere else.
     ensures defined { IfOk result (λ _. image Hudi schema.now ≡ Some (wide_columns schema.now)) }
     ensures undefined { IfErr result (λ e. is_memory e ≡ false → image Hudi schema.now ≡ None) }
+    // Within the limits the text spells the Image, and `from_avro` gives this back.
+    ensures reads_back { IfOk result (λ t. IsSound schema.now → IsWithinLimits schema.now
+        → IsAvroText (wide_columns schema.now) t
+        × (limited_avro_schema_of t ≡ Ok (wide_columns schema.now))) }
     // What the Image reads back as has that Image too.
     ensures settled { IfOk result (λ _. image Hudi (wide_columns schema.now)
         ≡ Some (wide_columns schema.now)) }

@@ -12,6 +12,7 @@ ghost use Rattle.schema_map.specs.Delta.{delta_list, delta_map, delta_columns, d
 ghost use Rattle.schema_map.specs.Delta.{delta_top_column, delta_schema, delta_schema_of};
 ghost use Rattle.schema_map.specs.DeltaSpelling.{IsDeltaText};
 ghost use Rattle.table_history.specs.SchemaSize.{IsWithinLimits};
+ghost use Rattle.table_history.specs.Sound.{IsSound};
 
 use crate::fault::{BAD_SCHEMA, DEPTH, Fault, MapError, SCHEMA_TYPE};
 use crate::limits::MAX_TYPE_LEVELS;
@@ -188,8 +189,8 @@ fn schema_from(alloc: Global, text: &[u8]) -> Result<Schema, MapError>
 
 /// The schema that a Delta schema text spells.
 pub fn from_delta(alloc: Global, text: &[u8]) -> Result<Schema, MapError>
-    // What is read is spelled by the text, and is within the limits.
-    ensures found { IfOk result (λ s. IsDeltaText s text.now × IsWithinLimits s) }
+    // What is read is spelled by the text, is sound, and is within the limits.
+    ensures found { IfOk result (λ s. IsDeltaText s text.now × IsSound s × IsWithinLimits s) }
     // What a text spells within the limits is read, unless memory runs out.
     ensures only { (s : ColumnTrees) → IsDeltaText s text.now → IsWithinLimits s
         → GivesUnlessMemory is_memory (λ t. t) result (Ok s) }

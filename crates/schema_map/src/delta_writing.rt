@@ -1,6 +1,6 @@
 //! Writing schemas in Delta's spelling (Delta Lake protocol, "Schema Serialization Format").
 
-ghost use Rattle.std.specs.Prelude.{◌≡◌, ◌≤◌, IfOk, Ok, string_bytes};
+ghost use Rattle.std.specs.Prelude.{◌≡◌, ◌≤◌, IfOk, Ok, Some, string_bytes};
 ghost use Rattle.serde_json.specs.Data.{string, boolean};
 ghost use Rattle.serde_json.specs.View.{view, items_view};
 ghost use Rattle.table_history.specs.SchemaView.{type_view, columns_view};
@@ -11,6 +11,8 @@ ghost use Rattle.schema_map.specs.Delta.{delta_schema_of};
 ghost use Rattle.schema_map.specs.DeltaWriting.{struct_data, list_data, map_data, column_data, delta_data, delta_fields, delta_text};
 ghost use Rattle.table_history.specs.SchemaSize.{column_levels, max_type_levels, IsWithinLimits};
 ghost use Rattle.table_history.specs.Sound.{IsSound};
+ghost use Rattle.table_history.specs.declared.kind.Kind.TheVariants.{Delta};
+ghost use Rattle.schema_map.specs.Image.{image};
 ghost use Rattle.schema_map.specs.Errors.{is_memory};
 ghost use Rattle.lake_basics.specs.Outcome.{GivesUnlessMemory};
 
@@ -124,6 +126,8 @@ fn schema_json(alloc: Global, schema: &Schema) -> Result<Value, AllocError>
 #[tactic(auto, using(crate::proofs::Spelled::schema_flat))]
 pub fn to_delta(alloc: Global, schema: &Schema) -> Result<Text, MapError>
     ensures text { GivesUnlessMemory is_memory (λ t. t) result (Ok (delta_text schema.now)) }
+    // The Image in Delta is the schema itself.
+    ensures image { image Delta schema.now ≡ Some schema.now }
     // The text spells the schema, whatever its number of columns.
     ensures spells { IfOk result (λ t. IsSound schema.now
         → column_levels schema.now ≤ max_type_levels → IsDeltaText schema.now t) }

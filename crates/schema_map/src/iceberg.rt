@@ -1,12 +1,15 @@
 //! Reading Iceberg's spelling of schemas (Apache Iceberg specification, "JSON serialization", Schemas)
 //! with its field ids.
 
-ghost use Rattle.std.specs.Prelude.{◌≡◌, ◌∷◌, ◌++◌, map, IfOk, Ok, List, ℤ};
+ghost use Rattle.std.specs.Prelude.{◌≡◌, ◌∷◌, ◌++◌, map, IfOk, Ok, Some, List, ℤ};
 ghost use Rattle.serde_json.specs.View.{view, items_view};
 ghost use Rattle.table_history.specs.SchemaView.{type_view, column_view, columns_view};
 ghost use Rattle.table_history.specs.TypeTree.{ColumnTrees};
 ghost use Rattle.lake_basics.specs.Outcome.{Gives, GivesUnlessMemory};
 ghost use Rattle.json_reading.specs.Json.{items};
+ghost use Rattle.table_history.specs.declared.kind.Kind.TheVariants.{Iceberg};
+ghost use Rattle.schema_map.specs.Image.{image};
+ghost use Rattle.schema_map.specs.IcebergFits.{FitsIceberg};
 ghost use Rattle.schema_map.specs.Errors.{is_memory};
 ghost use Rattle.schema_map.specs.Iceberg.{iceberg_word, iceberg_simple, iceberg_type};
 ghost use Rattle.schema_map.specs.Iceberg.{iceberg_shape, iceberg_nested, iceberg_struct};
@@ -280,6 +283,9 @@ pub fn from_iceberg(alloc: Global, value: &Value) -> Result<(Schema, Ids), MapEr
     // What is read is spelled by the value with these ids, and is within the limits.
     ensures found { IfOk result
         (λ p. IsIcebergSchema p.0 p.1 (view value.now) × IsWithinLimits p.0) }
+    // It can be spelled with these ids again, and is its own Image.
+    ensures fits { IfOk result (λ p. FitsIceberg p.0 p.1) }
+    ensures settled { IfOk result (λ p. image Iceberg p.0 ≡ Some p.0) }
     // What a value spells within the limits is read, unless memory runs out.
     ensures only { (s : ColumnTrees) (ids : List ℤ) → IsIcebergSchema s ids (view value.now)
         → IsWithinLimits s → GivesUnlessMemory is_memory (λ p. p) result (Ok (s, ids)) }

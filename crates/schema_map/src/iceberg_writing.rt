@@ -11,6 +11,7 @@ ghost use Rattle.schema_map.specs.IcebergSpelling.{IsIcebergSchema};
 ghost use Rattle.schema_map.specs.Ids.{column_paths};
 ghost use Rattle.schema_map.specs.Image.{wide_columns};
 ghost use Rattle.schema_map.specs.OwnIds.{AreIds};
+ghost use Rattle.schema_map.specs.IcebergFits.{FitsIceberg};
 ghost use Rattle.table_history.specs.Sound.{IsSound};
 ghost use Rattle.schema_map.specs.IcebergWriting.{first_id, ids_behind, iceberg_decimal_text};
 ghost use Rattle.schema_map.specs.IcebergWriting.{iceberg_list_data, iceberg_map_data};
@@ -201,8 +202,11 @@ pub fn iceberg_json(
     ensures spells { IfOk result (λ v. IsSound schema.now → AreIds ids.now
         → length ids.now ≡ length (column_paths schema.now)
         → IsIcebergSchema (wide_columns schema.now) ids.now (view v)) }
+    // `from_iceberg` gives back the Image and the ids.
+    ensures reads_back { IfOk result (λ v. FitsIceberg schema.now ids.now
+        → iceberg_schema (view v) ≡ Ok (wide_columns schema.now, ids.now)) }
     // `from_iceberg` gives back what it once gave.
-    ensures reads_back { IfOk result (λ v. (d : Data) → iceberg_schema d ≡ Ok (schema.now, ids.now)
+    ensures again { IfOk result (λ v. (d : Data) → iceberg_schema d ≡ Ok (schema.now, ids.now)
         → iceberg_schema (view v) ≡ Ok (schema.now, ids.now)) }
 {
     whole_json(alloc, schema, ids, schema_id)
