@@ -1,5 +1,5 @@
 -- Snapshots by their ids, and the way from one to its parents.
-use Rattle.std.proofs.Common.{◌≡◌, ◌≢◌, ℕ, suc, ◌+◌, ◌<◌, ◌≤◌, ℤ, List, [], ◌∷◌, ◌++◌, length, Bool, true, false, cond, ◌||◌, Option, Some, None, option_map, refl, sym, ap, subst, ◌∙◌, Bor, arith, length-append}
+use Rattle.std.proofs.Common.{◌≡◌, ◌≢◌, suc, ◌+◌, ℤ, List, [], ◌∷◌, ◌++◌, length, Bool, true, false, cond, ◌||◌, Option, Some, None, option_map, refl, sym, ap, subst, ◌∙◌, Bor, arith, length-append}
 use Rattle.std.specs.Prelude.{option_and_then, is_some, unwrap_or}
 use Rattle.std.specs.BTreeMap as tree
 use Rattle.std.specs.BTreeMap.{BTreeMap}
@@ -12,8 +12,8 @@ use Rattle.std.proofs.lemmas.List.Folds.{list_any-append}
 use Rattle.std.proofs.lemmas.Option.{none-some}
 use Rattle.iceberg_metadata.specs.declared.metadata.Metadata.{Metadata}
 use Rattle.iceberg_metadata.specs.declared.metadata.Snapshot.{Snapshot}
-use Rattle.iceberg_metadata.specs.Ancestry.{held, held_at, LeadsTo, IsAncestry, FormsCycle}
-use Rattle.iceberg_metadata.specs.ById.{is_at, has_id, value_at, HoldsAll, held_beside, taken_of}
+use Rattle.iceberg_metadata.specs.Ancestry.{held, held_at, LeadsTo, FormsCycle}
+use Rattle.iceberg_metadata.specs.ById.{is_at, has_id, value_at, held_beside, taken_of}
 
 -- ---- what is held
 

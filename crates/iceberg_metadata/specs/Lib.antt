@@ -1,3 +1,5 @@
 pub mod Ancestry
 pub mod ById
+pub mod Errors
+pub mod Members
 pub mod VersionName

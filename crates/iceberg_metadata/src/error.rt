@@ -50,3 +50,5 @@ impl<T: Drop> From<AllocFailed<T>> for MetadataError {
         MetadataError::Memory
     }
 }
+
+pub(crate) const MALFORMED: MetadataError = MetadataError::Malformed;

@@ -4,6 +4,7 @@
 
 mod ancestors;
 mod error;
+mod members;
 mod metadata;
 mod name;
 

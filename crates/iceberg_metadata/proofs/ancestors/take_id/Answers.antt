@@ -1,4 +1,4 @@
-use Rattle.std.proofs.Common.{◌≡◌, ap, ◌∙◌, option_map, Bor, ℤ, w64}
+use Rattle.std.proofs.Common.{ap, ◌∙◌, option_map, Bor, w64}
 use Rattle.std.proofs.lemmas.Int.{to_z-of_z}
 use Rattle.iceberg_metadata.specs.declared.metadata.Snapshot.{Snapshot}
 use Rattle.iceberg_metadata.specs.ById.{value_at}

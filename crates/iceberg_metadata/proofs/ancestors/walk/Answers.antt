@@ -1,7 +1,5 @@
-use Rattle.std.proofs.Common.{◌≡◌, ◌∙◌, sym, ap, Some, subst, List, ◌∷◌, [], ◌++◌}
+use Rattle.std.proofs.Common.{◌≡◌, ◌∙◌, sym, ap, Some, subst, ◌∷◌, [], ◌++◌}
 use Rattle.iceberg_metadata.specs.Ancestry.{held_at, LeadsTo}
-use Rattle.iceberg_metadata.specs.ById.{taken_of}
-use Rattle.iceberg_metadata.specs.declared.metadata.Snapshot.{Snapshot}
 use Rattle.iceberg_metadata.proofs.AncestryLemmas.{HoldsOthers, taken_held, leads_on, holds_others}
 use Rattle.iceberg_metadata.proofs.ancestors.walk.Goals as goal
 

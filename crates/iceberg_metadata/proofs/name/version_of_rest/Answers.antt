@@ -1,4 +1,4 @@
-use Rattle.std.proofs.Common.{ℕ, List, Some, ◌≡◌, ◌++◌, ◌≤◌, ◌<◌, ◌^◌, codes, ap, ◌∙◌, arith}
+use Rattle.std.proofs.Common.{Some, ◌≡◌, ◌++◌, ◌<◌, ◌^◌, codes, ap, ◌∙◌, arith}
 use Rattle.std.proofs.lemmas.Bool.Decides.{Decides-eqb}
 use Rattle.std.proofs.lemmas.Slice.Eq.{strip_suffix_is}
 use Rattle.iceberg_metadata.proofs.NameLemmas.{split_decimal}
