@@ -1,12 +1,12 @@
 //! Every type in the three spellings, and every refusal.
 use crate::{
     KnownIds, MapError, column_paths, from_avro, from_delta, from_iceberg, iceberg_json,
-    name_mapping, to_avro, to_delta, to_iceberg,
+    name_mapping, read_avro, schema_limit, to_avro, to_delta, to_iceberg,
 };
 use json_reading::json_text;
 use lake_basics::{Items, Text};
 use serde_json::Value;
-use std::alloc::Global;
+use std::alloc::{AllocError, Global};
 use std::test::Fail;
 use table_history::{LimitKind, Schema};
 
@@ -164,6 +164,37 @@ fn avro_types_are_read(rt: HostRuntime) -> Result<(), Fail> {
     let recursive = r#"{"type":"record","name":"r","fields":[{"name":"v","type":"r"}]}"#;
     let read = from_avro(rt.alloc(), recursive.as_bytes());
     assert!(rt; matches!(read, Err(MapError::BadSchema)));
+    Ok(())
+}
+
+/// An Avro record whose one field is a list of lists, of so many levels in all, the record among them.
+fn nested_lists(alloc: Global, levels: u32) -> Result<String, AllocError> {
+    let mut text = String::new(alloc);
+    text.push_str(r#"{"type":"record","name":"r","fields":[{"name":"v","type":"#)?;
+    for _ in 2..levels {
+        text.push_str(r#"{"type":"array","items":"#)?;
+    }
+    text.push_str(r#""int""#)?;
+    for _ in 2..levels {
+        text.push_str("}")?;
+    }
+    text.push_str("}]}")?;
+    Ok(text)
+}
+
+#[test]
+fn avro_schemas_of_any_size_are_read(rt: HostRuntime) -> Result<(), Fail> {
+    let alloc = rt.alloc();
+    let widest = nested_lists(alloc, 32)?;
+    let schema = read_avro(alloc, widest.as_bytes())?;
+    assert!(rt; schema_limit(&schema).is_none());
+    let deeper = nested_lists(alloc, 33)?;
+    let schema = read_avro(alloc, deeper.as_bytes())?;
+    assert!(rt; schema_limit(&schema) == Some(LimitKind::Depth));
+    match from_avro(alloc, deeper.as_bytes()) {
+        Err(MapError::Limit { which }) => assert!(rt; which == LimitKind::Depth),
+        _ => assert!(rt; false),
+    }
     Ok(())
 }
 
