@@ -5,14 +5,15 @@ use Rattle.std.specs.FinMap as map
 use Rattle.std.specs.FinSet as set
 use Rattle.lake_store.specs.Disk.{Disk, Files, IsClean, IsPartlySynced, MayLeave, Moves, SameElsewhere, moved, stored, synced, written}
 use Rattle.lake_store.specs.Moments.{Elapses}
-use Rattle.lake_store.specs.Publication.{IsAbsentOrWhole, IsPublished, IsStaged, IsStagedImage}
-use Rattle.lake_store.specs.Runs.{IsEachMoment}
+use Rattle.lake_store.specs.Publication.{IsAbsentOrWhole, IsPublished, IsStaged, IsStagedImage, IsTaken}
+use Rattle.lake_store.specs.Runs.{IsEachMoment, Keeps, KeepsImage}
 use Rattle.lake_store.specs.declared.store.Store.{Ghosts}
 use Rattle.lake_store.specs.declared.store.StoreError.{StoreError}
 use Rattle.lake_store.specs.declared.store.StoreError.TheVariants.{Taken}
 use Rattle.std.proofs.lemmas.Result.{on_ok_weaker}
 use Rattle.lake_store.proofs.DiskLaws.{get-insert_here, get-insert_other, get-remove_here, get-remove_other, contains-remove_here, contains-remove_other, clean-synced, path_cases}
-use Rattle.lake_store.proofs.RunLaws.{IsRun, NowOnly, begins, publishes, syncs, writes}
+use Rattle.lake_store.proofs.RunLaws.{IsRun, NowOnly, begins, keeps_crash, keeps_elsewhere, keeps_first, keeps_sync, publishes, syncs, writes}
+use Rattle.lake_store.proofs.MomentLaws.{goes_on, weaker}
 
 module _ (staged name bytes : List ℕ) (Contest : Type 0) (first : Disk) (apart : staged ≢ name) where
   abbrev I : Disk → Type 0
@@ -148,3 +149,42 @@ module _ {S : Type 0} (store : Ghosts S) (only_now : NowOnly store) (s₀ s₁ :
             (published staged name bytes (IsErrOf publish Taken) (store.disk s₀) apart (store.disk s₂) (run₂ (IsErrOf publish Taken) told).disk (whole told)
             (all_clean (store.disk s₀) (store.disk s₁) (store.disk s₂) staged bytes (is_written told) (is_synced told)) (store.disk s₃))
             (publish_ok told)
+
+        -- Up to the third call the name stays as it was.
+        abbrev Named : List ℕ → Type 0
+        Named q = q ≡ name
+
+        abbrev IsFree : Files → Type 0
+        IsFree = KeepsImage Named (store.disk s₀)
+
+        name_alone : store.tells → IsRun store (Keeps Named (store.disk s₀)) IsFree s₀ s₂
+        name_alone = syncs store only_now (Keeps Named (store.disk s₀)) IsFree (keeps_crash Named (store.disk s₀)) s₀ s₁ s₂
+            (writes store only_now (Keeps Named (store.disk s₀)) IsFree (keeps_crash Named (store.disk s₀)) s₀ s₀ s₁
+            (begins store only_now (Keeps Named (store.disk s₀)) IsFree (keeps_crash Named (store.disk s₀)) s₀ (λ told. keeps_first Named (store.disk s₀))) write_elapses
+            write staged bytes write_ok write_err (keeps_elsewhere Named (store.disk s₀) staged apart)) sync_elapses
+            sync sync_ok sync_err (keeps_sync Named (store.disk s₀))
+
+        abbrev IsFreeOr : List ℕ → Files → Type 0
+        IsFreeOr theirs image = IsClean (store.disk s₀) name → (map.get image name ≡ None) ⊎ (map.get image name ≡ Some theirs)
+
+        contest_moments : (theirs : List ℕ) → (store.tells → store.disk s₃ ≡ stored (store.disk s₂) name theirs) → store.tells → IsEachMoment store s₀ s₃ (IsFreeOr theirs)
+        contest_moments theirs is = goes_on store s₀ s₂ s₃ (IsFreeOr theirs)
+            (λ told. weaker store s₀ s₂ IsFree (IsFreeOr theirs) (λ image kept clean. inl (kept name refl clean ∙ free told)) (λ t. (name_alone t).moments) told)
+            publish_elapses
+            (λ told image may clean. inr (subst (λ d. MayLeave d image) (is told) may name (contains-remove_here (store.disk s₂).dirty name) ∙ get-insert_here (store.disk s₂).files name theirs))
+
+        pub is_taken : store.tells → IsErrOf publish Taken → IsTaken store staged name bytes s₀ s₃
+        is_taken told contest =
+            let theirs = (publish_taken told contest).0 in
+            let is : store.disk s₃ ≡ stored (store.disk s₂) name theirs = (publish_taken told contest).1 in
+            let clean : (q : List ℕ) → IsClean (store.disk s₂) q = all_clean (store.disk s₀) (store.disk s₁) (store.disk s₂) staged bytes (is_written told) (is_synced told) in
+            record {
+              theirs = theirs;
+              file = ap (λ (d : Disk). map.get d.files name) is ∙ get-insert_here (store.disk s₂).files name theirs;
+              staged_file = ap (λ (d : Disk). map.get d.files staged) is ∙ get-insert_other (store.disk s₂).files name theirs staged apart ∙ whole told;
+              others = (run₃ told).disk.others;
+              clean = λ q. subst (λ d. IsClean d q) (sym is) (⊎_elim
+                  (λ here. subst (λ p. set.contains (set.remove (store.disk s₂).dirty name) p ≡ false) (sym here) (contains-remove_here (store.disk s₂).dirty name))
+                  (λ nn. contains-remove_other (store.disk s₂).dirty name q nn ∙ clean q) (path_cases q name));
+              moments = contest_moments theirs (λ t. is) told;
+            }

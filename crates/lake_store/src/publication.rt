@@ -2,7 +2,7 @@
 ghost use Rattle.std.specs.Prelude.{◌≡◌, ◌≢◌, IsErrOf, None, OnOk};
 ghost use Rattle.std.specs.FinMap as map;
 ghost use Rattle.lake_store.specs.Cause.{IsNotTooLong};
-ghost use Rattle.lake_store.specs.Publication.{IsPublished, IsStaged, IsStagedImage};
+ghost use Rattle.lake_store.specs.Publication.{IsPublished, IsStaged, IsStagedImage, IsTaken};
 ghost use Rattle.lake_store.specs.Runs.{FailsBy, IsContestedBy, LeavesOnly};
 
 use crate::store::{Store, StoreError};
@@ -19,6 +19,8 @@ pub fn stage_and_publish<S: Store>(
     requires free { S.tells → map.get (S.disk store.old).files name.now ≡ None }
     ensures published { S.tells → OnOk result
         (IsPublished staged.now name.now bytes.now (S.disk store.old) (S.disk store.new)) }
+    ensures taken { S.tells → IsErrOf result StoreError.Taken
+        → IsTaken ⟦<S as Store>⟧ staged.now name.now bytes.now store.old store.new }
     ensures left { S.tells → IsStaged staged.now name.now bytes.now
         (IsErrOf result StoreError.Taken) (S.disk store.old) (S.disk store.new) }
     ensures any_moment { LeavesOnly ⟦<S as Store>⟧ store.old store.new

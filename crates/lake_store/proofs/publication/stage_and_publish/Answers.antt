@@ -1,6 +1,6 @@
 use Rattle.std.specs.Prelude.{IsErrOf}
 use Rattle.lake_store.specs.declared.store.StoreError.TheVariants.{Taken}
-use Rattle.lake_store.proofs.StageLaws.{durable, is_published, run₁, run₂, run₃, still_free, there}
+use Rattle.lake_store.proofs.StageLaws.{durable, is_published, is_taken, run₁, run₂, run₃, still_free, there}
 use Rattle.lake_store.proofs.publication.stage_and_publish.Goals as goal
 
 pub returns-in_err-write-clause-left : goal.returns-in_err-write-clause-left
@@ -66,3 +66,10 @@ returns-clause-any_moment g c = λ told.
     c.write.result c.write.ensures.ok c.write.ensures.err c.write.ensures.elapses
     c.sync.new.self c.sync.result c.sync.ensures.ok c.sync.ensures.err c.sync.ensures.elapses
     (λ told. c.in_ok-write.ensures.ok told) (λ told. c.in_ok-sync.ensures.ok told) c.publish.new.self c.publish.result c.publish.ensures.ok c.publish.ensures.taken c.publish.ensures.err c.publish.ensures.elapses told).moments
+
+pub returns-clause-taken : goal.returns-clause-taken
+returns-clause-taken g c =
+    is_taken g.S.Store g.met.S.Store.only_now c.args.store.now c.write.new.self c.args.staged.now c.args.name.now c.args.bytes.now c.requires.apart c.requires.free
+    c.write.result c.write.ensures.ok c.write.ensures.err c.write.ensures.elapses
+    c.sync.new.self c.sync.result c.sync.ensures.ok c.sync.ensures.err c.sync.ensures.elapses
+    (λ told. c.in_ok-write.ensures.ok told) (λ told. c.in_ok-sync.ensures.ok told) c.publish.new.self c.publish.result c.publish.ensures.ok c.publish.ensures.taken c.publish.ensures.err c.publish.ensures.elapses
