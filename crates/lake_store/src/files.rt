@@ -7,7 +7,7 @@ ghost use Rattle.std.specs.Cmp.Lexicographic.{slice_cmp};
 ghost use Rattle.std.specs.List.Sorted.{IsStrictlySortedBy};
 ghost use Rattle.std.specs.FinSet as set;
 ghost use Rattle.lake_store.specs.Crash;
-ghost use Rattle.lake_store.specs.Crash.{IsListing, IsNextChoice, all_torn, torn};
+ghost use Rattle.lake_store.specs.Crash.{IsListing, IsNextChoice, all_torn, among, torn};
 ghost use Rattle.lake_store.specs.Disk;
 ghost use Rattle.lake_store.specs.Disk.{ListsFolder, names_in};
 
@@ -82,6 +82,13 @@ impl FileMap {
         Ok(FileMap {
             files: self.files.clone()?,
         })
+    }
+
+    /// Removes all files but those at the paths.
+    pub fn keep(&mut self, paths: &PathSet)
+        ensures { self.new ≡ among self.old paths.now }
+    {
+        self.files.retain(|path, _| paths.contains(path.as_str()));
     }
 
     /// Leaves of a file what a choice says.

@@ -36,7 +36,7 @@ pub enum Change {
     Synced {
         dirty: PathSet,
     },
-    /// What was there before a crash.
+    /// The paths that were dirty before a crash, and the files there.
     Crashed {
         files: FileMap,
         dirty: PathSet,
@@ -107,8 +107,9 @@ impl MemoryStore {
         self.past.reserve(1)?;
         let mut image = self.files.copy()?;
         self.dirty.tear_all(alloc, &mut image, choices)?;
-        let files = mem::replace(&mut self.files, image);
+        let mut files = mem::replace(&mut self.files, image);
         let dirty = mem::replace(&mut self.dirty, PathSet::new(self.alloc));
+        files.keep(&dirty);
         self.past
             .push_front_reserved(Change::Crashed { files, dirty });
         Ok(())
