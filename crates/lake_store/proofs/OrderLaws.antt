@@ -60,7 +60,7 @@ keys_sorted [] h = tt
 keys_sorted (e ∷ es) h = (below e.0 es (T_first (below_all cmp e.0 es) (is_sorted cmp es) h), keys_sorted es (T_second (below_all cmp e.0 es) (is_sorted cmp es) h))
 
 -- behind a common front the order is the same
-same_front : (front a b : List ℕ) → cmp (front ++ a) (front ++ b) ≡ cmp a b
+pub same_front : (front a b : List ℕ) → cmp (front ++ a) (front ++ b) ≡ cmp a b
 same_front [] a b = refl
 same_front (c ∷ front) a b = ap (λ o. ordering_then o (cmp (front ++ a) (front ++ b))) (nat_same c) ∙ same_front front a b
 

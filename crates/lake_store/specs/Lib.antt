@@ -2,6 +2,7 @@ pub use Rattle.lake_basics.specs.Outcome
 pub mod Cause
 pub mod Crash
 pub mod Disk
+pub mod Folder
 pub mod Fuse
 pub mod FuseLoan
 pub mod Memory

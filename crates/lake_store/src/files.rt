@@ -1,5 +1,5 @@
 //! Files and paths in memory, which contracts see as a finite map and a finite set.
-ghost use Rattle.std.specs.Prelude.{◌≡◌, ◌<◌, ◌≤◌, List, ℕ, length, IfOk, IsErrOf, IsSome, None, OnErr, OnOk, Some, not, string_bytes, take};
+ghost use Rattle.std.specs.Prelude.{◌≡◌, ◌<◌, ◌≤◌, ◌++◌, List, ℕ, length, IfOk, IsErrOf, IsSome, None, OnErr, OnOk, Some, not, string_bytes, take};
 ghost use Rattle.std.specs.Option.{option_copied};
 ghost use Rattle.std.specs.FinMap as map;
 ghost use Rattle.std.specs.Ordering.{nat_cmp};
@@ -10,6 +10,7 @@ ghost use Rattle.lake_store.specs.Crash;
 ghost use Rattle.lake_store.specs.Crash.{IsListing, IsNextChoice, all_torn, among, torn};
 ghost use Rattle.lake_store.specs.Disk;
 ghost use Rattle.lake_store.specs.Disk.{ListsFolder, names_in};
+ghost use Rattle.lake_store.specs.Folder.{IsRangeOf};
 
 use crate::names::Names;
 use crate::store::StoreError;
@@ -18,6 +19,7 @@ use lake_basics::{Blob, Text};
 use std::alloc::{AllocError, Global};
 use std::collections::{BTreeMap, BTreeSet};
 use std::marker::Model;
+use std::ops::Bound;
 
 /// The bytes of files, by their paths.
 #[derive(Debug, Drop)]
@@ -160,7 +162,7 @@ impl FileMap {
     {
         let front = front_of(alloc, folder)?;
         let mut names = Vec::new(alloc);
-        for (path, _) in self.files.iter() {
+        for (path, _) in self.files.range(range_of(alloc, folder)?) {
             if let Some(name) = name_behind(front.as_str(), path.as_str()) {
                 names.push(Text::from_str(alloc, name)?)?;
             }
@@ -202,6 +204,27 @@ fn front_of(alloc: Global, folder: &str) -> Result<String, AllocError>
         front.push_str("/")?;
     }
     Ok(front)
+}
+
+// Between which paths those in a folder lie.
+fn range_of(alloc: Global, folder: &str) -> Result<(Bound<String>, Bound<String>), AllocError>
+    ensures { IfOk result (IsRangeOf folder.now) }
+{
+    if folder.is_empty() {
+        return Ok((Bound::Unbounded, Bound::Unbounded));
+    }
+    let from = joined(alloc, folder, "/")?;
+    // The byte behind the slash.
+    let end = joined(alloc, folder, "0")?;
+    Ok((Bound::Included(from), Bound::Excluded(end)))
+}
+
+fn joined(alloc: Global, front: &str, rest: &str) -> Result<String, AllocError>
+    ensures { IfOk result (λ text. string_bytes text ≡ front.now ++ rest.now) }
+{
+    let mut text = String::from_str(alloc, front)?;
+    text.push_str(rest)?;
+    Ok(text)
 }
 
 // The name of a path that lies directly behind a front.
