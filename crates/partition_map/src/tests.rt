@@ -106,6 +106,71 @@ fn null_and_the_empty_text_differ_by_format(rt: HostRuntime) -> Result<(), Fail>
 }
 
 #[test]
+fn words_and_texts_are_read(rt: HostRuntime) -> Result<(), Fail> {
+    let alloc = rt.alloc();
+    let spelled = [
+        (PartKind::Boolean, "true", PartValue::Boolean(true)),
+        (PartKind::Boolean, "false", PartValue::Boolean(false)),
+        (
+            PartKind::Text,
+            "a b",
+            PartValue::Text(Text::from_str(alloc, "a b")?),
+        ),
+        (
+            PartKind::Text,
+            "true",
+            PartValue::Text(Text::from_str(alloc, "true")?),
+        ),
+    ];
+    for (kind, text, value) in spelled {
+        assert!(rt;
+            from_delta_text(alloc, kind, Some(text))? == value,
+            "{text}"
+        );
+        assert!(rt; from_hive(alloc, kind, text)? == value, "{text}");
+    }
+    Ok(())
+}
+
+#[test]
+fn avro_fields_are_unions_of_null(rt: HostRuntime) -> Result<(), Fail> {
+    let alloc = rt.alloc();
+    let null = Value::Union(0, Box::new(alloc, Value::Null)?);
+    for kind in [PartKind::Boolean, PartKind::Long, PartKind::Date] {
+        assert!(rt; from_avro_value(alloc, kind, &null)? == PartValue::Null);
+    }
+    let Value::Union(0, branch) = to_avro_value(alloc, &PartValue::Null)? else {
+        return Err(Fail::from("no first branch"));
+    };
+    assert!(rt; matches!(*branch, Value::Null));
+    let Value::Union(1, branch) = to_avro_value(alloc, &PartValue::Boolean(true))? else {
+        return Err(Fail::from("no second branch"));
+    };
+    assert!(rt; matches!(*branch, Value::Boolean(true)));
+    let Value::Union(1, branch) = to_avro_value(alloc, &PartValue::Int(-7))? else {
+        return Err(Fail::from("no second branch"));
+    };
+    assert!(rt; matches!(*branch, Value::Int(-7)));
+    let Value::Union(1, branch) = to_avro_value(alloc, &PartValue::Long(7))? else {
+        return Err(Fail::from("no second branch"));
+    };
+    assert!(rt; matches!(*branch, Value::Long(7)));
+    let Value::Union(1, branch) = to_avro_value(alloc, &PartValue::Date(19_782))? else {
+        return Err(Fail::from("no second branch"));
+    };
+    assert!(rt; matches!(*branch, Value::Int(19_782)));
+    let text = PartValue::Text(Text::from_str(alloc, "DE")?);
+    let Value::Union(1, branch) = to_avro_value(alloc, &text)? else {
+        return Err(Fail::from("no second branch"));
+    };
+    let Value::Text(word) = &*branch else {
+        return Err(Fail::from("no text"));
+    };
+    assert_eq!(rt; word.as_str(), "DE");
+    Ok(())
+}
+
+#[test]
 fn values_are_written_in_one_form(rt: HostRuntime) -> Result<(), Fail> {
     let alloc = rt.alloc();
     let written = [
