@@ -26,7 +26,8 @@ use Rattle.delta_log.specs.declared.error.LineFault.TheVariants as line_faults
 use Rattle.delta_log.specs.Commit.{file_path, file_paths}
 use Rattle.delta_log.specs.Grammar.{line_action}
 use Rattle.delta_log.specs.Judging.{acts_on, with_new_file, with_action, with_line, judged, error_at}
-use Rattle.delta_log.specs.Readable.{States, protocol_in, meta_in, uri_in, path_in, file_in, protocols, metas, paths, files, NamesNoPath, Shows, line_features, NoneOf, IsFirst, HasLongPath, Passes, line_limits, IsSecond, IsMisplaced, IsPlaced, ActsAgain, IsAtFault}
+use Rattle.table_history.specs.First.{IsFirst, NoneOf}
+use Rattle.delta_log.specs.Readable.{States, protocol_in, meta_in, uri_in, path_in, file_in, protocols, metas, paths, files, NamesNoPath, ShowsOnLine, line_features, HasLongPath, PassesOnLine, line_limits, IsSecond, IsMisplaced, IsPlaced, ActsAgain, IsAtFault}
 use Rattle.delta_log.proofs.StepLemmas.{names_other, inside_not_none, inside_not_outside, inside_not_long, no_uri, decoded}
 
 -- ---- lists
@@ -65,7 +66,7 @@ FaultIs before line n f = IsAtFault before line n (error_at n f)
 is_malformed : (before : List LineAction) (line : List ℕ) (n : ℕ) (a : LineAction) (f : Fault) → line_action line ≡ Ok a → Malformed ≡ f → IsMisplaced before a → FaultIs before line n f
 is_malformed before line n a f is same misplaced = subst (FaultIs before line n) same (refl, inr (a, is, misplaced))
 
-is_unsupported : (before : List LineAction) (line : List ℕ) (n : ℕ) (a : LineAction) (g : _) (f : Fault) → line_action line ≡ Ok a → Unsupported g ≡ f → (IsMisplaced before a → ⊥) → IsFirst (λ x. Shows x a) line_features g → FaultIs before line n f
+is_unsupported : (before : List LineAction) (line : List ℕ) (n : ℕ) (a : LineAction) (g : _) (f : Fault) → line_action line ≡ Ok a → Unsupported g ≡ f → (IsMisplaced before a → ⊥) → IsFirst (λ x. ShowsOnLine x a) line_features g → FaultIs before line n f
 is_unsupported before line n a g f is same fits first = subst (FaultIs before line n) same (refl, a, (is, fits), first)
 
 some_first : {A : Type 0} (o : Option A) (x : A) (xs : List A) → o ≡ Some x → option_to_list o ≡ xs → 0 < length xs
@@ -90,7 +91,7 @@ module _ (before : List LineAction) (c : DeltaCommit) (line : List ℕ) (n : ℕ
 
   -- an action on a path of the table that shows nothing
   file_fault : (full again : Bool) (path : List ℕ) (g : FileAction) (a : LineAction) (f : Fault) → line_action line ≡ Ok a → nat_le MAX_ACTIONS (length c.files) ≡ full → acts_on path c.files ≡ again
-      → cond full (Err (Limit Actions)) (cond again (Err DoublePath) (Ok (with_new_file c g))) ≡ Err f → (IsMisplaced before a → ⊥) → NoneOf (λ x. Shows x a) line_features → (HasLongPath a → ⊥) → path_in a ≡ Some path → FaultIs before line n f
+      → cond full (Err (Limit Actions)) (cond again (Err DoublePath) (Ok (with_new_file c g))) ≡ Err f → (IsMisplaced before a → ⊥) → NoneOf (λ x. ShowsOnLine x a) line_features → (HasLongPath a → ⊥) → path_in a ≡ Some path → FaultIs before line n f
   file_fault true again path g a f is room new h fits supported short named =
       let many : MAX_ACTIONS ≤ length c.files = grind (arith, common_steps) in
       let over : MAX_ACTIONS < length (files before) + 1 = subst (λ l. MAX_ACTIONS < length l + 1) says.states.files (omega (arith, many)) in

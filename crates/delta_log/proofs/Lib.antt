@@ -11,3 +11,11 @@ pub mod ShapeLemmas
 pub mod SortedLemmas
 pub mod AgainLemmas
 pub mod LiveLemmas
+pub mod BehindLemmas
+pub mod OrderedLemmas
+pub mod AnyLemmas
+pub mod NameSetLemmas
+pub mod ValueLemmas
+pub mod ColumnLemmas
+pub mod ChangeLemmas
+pub mod LawLemmas

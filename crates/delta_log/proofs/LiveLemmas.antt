@@ -3,7 +3,7 @@ use Rattle.std.proofs.Common.{◌≡◌, ◌↔◌, ◌⊎◌, inl, inr, ⊎_eli
 use Rattle.std.proofs.lemmas.List.Elements.{All-nil, All-cons, All-push, All-head, All-tail}
 use Rattle.table_history.specs.Row.{Row}
 use Rattle.delta_log.specs.declared.commit.DeltaCommit.{DeltaCommit}
-use Rattle.delta_log.specs.Live.{PartColumns, AddsRow, ActsOn, IsLive, IsRowBehind}
+use Rattle.delta_log.specs.Live.{PartColumns, AddsRow, ActsOn, IsLive, IsLiveOver, IsRowBehind}
 
 -- A list with one more at its end, cut at an item: the item is that one, or it stands before it.
 CutLast : {X : Type 0} → List X → X → List X → List X → X → Type 0
@@ -63,3 +63,47 @@ row_of columns commits c rows row held live =
 pub live_behind : (columns : PartColumns) (commits : List DeltaCommit) (c : DeltaCommit) (rows : List Row) → ((row : Row) → Contains rows row ↔ IsLive columns commits row)
     → (row : Row) → IsRowBehind columns rows c row ↔ IsLive columns (commits ++ c ∷ []) row
 live_behind columns commits c rows same row = (live_of columns commits c rows row (same row).0, row_of columns commits c rows row (same row).1)
+
+-- The same over a table, of which the rows stay on whose paths no commit acts.
+pub live_over_behind : (columns : PartColumns) (origin rows : List Row) (commits : List DeltaCommit) (c : DeltaCommit) → ((row : Row) → Contains rows row ↔ IsLiveOver columns origin commits row)
+    → (row : Row) → IsRowBehind columns rows c row ↔ IsLiveOver columns origin (commits ++ c ∷ []) row
+unfolding CutLast
+live_over_behind columns origin rows commits c same row = (to, from)
+  where
+    Quiet : DeltaCommit → Type 0
+    Quiet d = ActsOn row.path d → ⊥
+
+    longer : IsLive columns commits row → (ActsOn row.path c → ⊥) → IsLive columns (commits ++ c ∷ []) row
+    longer was quiet = record {
+      front = was.front;
+      commit = was.commit;
+      behind = was.behind ++ c ∷ [];
+      action = was.action;
+      split = ap (λ l. l ++ c ∷ []) was.split ∙ append_assoc was.front (was.commit ∷ was.behind) (c ∷ []);
+      acts = was.acts;
+      adds = was.adds;
+      newest = All-push (λ d. ActsOn row.path d → ⊥) was.behind c was.newest quiet;
+    }
+
+    to : IsRowBehind columns rows c row → IsLiveOver columns origin (commits ++ c ∷ []) row
+    to behind =
+        ⊎_elim
+        (λ h. inl (record { front = commits; commit = c; behind = []; action = h.0; split = refl; acts = h.1; adds = h.2; newest = All-nil (λ d. ActsOn row.path d → ⊥) }))
+        (λ h. ⊎_elim (λ live. inl (longer live h.1)) (λ old. inr (old.0, All-push (λ d. ActsOn row.path d → ⊥) commits c old.1 h.1)) ((same row).0 h.0))
+        behind
+
+    from : IsLiveOver columns origin (commits ++ c ∷ []) row → IsRowBehind columns rows c row
+    from over =
+        ⊎_elim
+        (λ live. row_over live)
+        (λ old. let all = all_last (λ d. ActsOn row.path d → ⊥) commits c old.1 in inr ((same row).1 (inr (old.0, all.0)), all.1))
+        over
+      where
+        row_over : IsLive columns (commits ++ c ∷ []) row → IsRowBehind columns rows c row
+        row_over live =
+            ⊎_elim
+            (λ h. inl (live.action, subst (λ d. Contains d.files live.action) (sym h.2) live.acts, live.adds))
+            (λ h.
+            let newest = all_last (λ d. ActsOn row.path d → ⊥) h.0 c (subst (All (λ d. ActsOn row.path d → ⊥)) h.1 live.newest) in
+            inr ((same row).1 (inl (record { front = live.front; commit = live.commit; behind = h.0; action = live.action; split = h.2; acts = live.acts; adds = live.adds; newest = newest.0 })), newest.1))
+            (cut_last live.front live.commit live.behind commits c live.split)

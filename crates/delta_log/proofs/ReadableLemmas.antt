@@ -24,7 +24,8 @@ use Rattle.delta_log.specs.declared.error.LineFault.TheVariants.{Malformed}
 use Rattle.delta_log.specs.Commit.{file_path, file_paths}
 use Rattle.delta_log.specs.Grammar.{line_action}
 use Rattle.delta_log.specs.Judging.{acts_on, with_action, with_line, with_lines, judged, at_line, error_at, no_lines, lines_of, commit_of, Answers}
-use Rattle.delta_log.specs.Readable.{States, protocol_in, meta_in, path_in, file_in, protocols, metas, paths, files, NamesNoPath, Shows, line_features, NoneOf, IsFirst, HasLongPath, Passes, line_limits, IsInGrammar, AreReadable, IsReadableCommit, IsMisplaced, ActsAgain, IsAtFault, IsFirstFault, IsRefusal, IsGrammarError}
+use Rattle.table_history.specs.First.{IsFirst, NoneOf}
+use Rattle.delta_log.specs.Readable.{States, protocol_in, meta_in, path_in, file_in, protocols, metas, paths, files, NamesNoPath, ShowsOnLine, line_features, HasLongPath, PassesOnLine, line_limits, AreLinesInGrammar, AreReadable, IsReadableCommit, IsMisplaced, ActsAgain, IsAtFault, IsFirstFault, IsRefusal, IsGrammarError}
 use Rattle.delta_log.proofs.EachLemmas.{each_push, cut_each, Cuts}
 use Rattle.delta_log.proofs.StepLemmas.{Step, step_of}
 use Rattle.delta_log.proofs.FaultLemmas.{Says, push_of, line_fault}
@@ -35,7 +36,7 @@ use Rattle.delta_log.proofs.FaultLemmas.{Says, push_of, line_fault}
 pub record Holds (front : List (List ℕ)) (before : List LineAction) (c : DeltaCommit) : Type 0 where
   pub read : each line_action front ≡ Ok before
   pub uris : All (λ a. NamesNoPath a → ⊥) before
-  pub supported : All (λ a. NoneOf (λ f. Shows f a) line_features) before
+  pub supported : All (λ a. NoneOf (λ f. ShowsOnLine f a) line_features) before
   pub short : All (λ a. HasLongPath a → ⊥) before
   pub distinct : IsDistinct bytes_eq (file_paths c.files)
   pub few : length c.files ≤ MAX_ACTIONS
@@ -45,7 +46,7 @@ holds_nothing : Holds [] [] no_lines
 holds_nothing = record {
   read = refl;
   uris = All-nil (λ x. NamesNoPath x → ⊥);
-  supported = All-nil (λ x. NoneOf (λ f. Shows f x) line_features);
+  supported = All-nil (λ x. NoneOf (λ f. ShowsOnLine f x) line_features);
   short = All-nil (λ x. HasLongPath x → ⊥);
   distinct = IsDistinct-from_apart bytes_eq [] (λ i j d _ within. absurd (omega arith));
   few = omega arith;
@@ -79,7 +80,7 @@ hold_more : (front : List (List ℕ)) (before : List LineAction) (c e : DeltaCom
 hold_more front before c e line a h is step = record {
   read = each_push line_action front line before a h.read is;
   uris = All-push (λ x. NamesNoPath x → ⊥) before a h.uris step.fair.uri;
-  supported = All-push (λ x. NoneOf (λ f. Shows f x) line_features) before a h.supported step.fair.supported;
+  supported = All-push (λ x. NoneOf (λ f. ShowsOnLine f x) line_features) before a h.supported step.fair.supported;
   short = All-push (λ x. HasLongPath x → ⊥) before a h.short step.fair.short;
   distinct = subst (λ l. IsDistinct bytes_eq (file_paths l)) (sym step.files) (distinct_more c.files (file_in a) h.distinct step.new);
   few = step.few h.few;
@@ -189,7 +190,7 @@ all_middle : {X : Type 0} (P : X → Type 0) (front : List X) (w : X) (rest : Li
 all_middle P [] w rest all = All-head P w rest all
 all_middle P (x ∷ front) w rest all = all_middle P front w rest (All-tail P x (front ++ w ∷ rest) all)
 
-none_first : {X : Type 0} (P : X → Type 0) (xs : List X) (x : X) → NoneOf P xs → IsFirst P xs x → ⊥
+pub none_first : {X : Type 0} (P : X → Type 0) (xs : List X) (x : X) → NoneOf P xs → IsFirst P xs x → ⊥
 none_first P [] x none first = first
 none_first P (y ∷ ys) x none first = ⊎_elim (λ h. none.0 h.1) (λ h. none_first P ys x none.1 h.1) first
 
@@ -213,12 +214,12 @@ two_many f before a rest few one other =
     let whole : length (flat_map_of f (before ++ a ∷ rest)) ≡ length (flat_map_of f before) + (length (option_to_list (f a)) + length (flat_map_of f rest)) = ap length (cut_of f before a rest) ∙ rw (length-append, length-append) in
     omega (arith, few, one, other, alone, whole)
 
-pub misplaced_excluded : (lines : List (List ℕ)) (before : List LineAction) (a : LineAction) (rest : List LineAction) → IsInGrammar lines (before ++ a ∷ rest) → IsMisplaced before a → ⊥
+pub misplaced_excluded : (lines : List (List ℕ)) (before : List LineAction) (a : LineAction) (rest : List LineAction) → AreLinesInGrammar lines (before ++ a ∷ rest) → IsMisplaced before a → ⊥
 misplaced_excluded lines before a rest grammar =
     ⊎_elim (λ h. all_middle (λ x. NamesNoPath x → ⊥) before a rest grammar.uris h)
     (⊎_elim (λ h. two_many protocol_in before a rest grammar.protocols h.0 h.1) (λ h. two_many meta_in before a rest grammar.metas h.0 h.1))
 
-again_excluded : (lines : List (List ℕ)) (before : List LineAction) (a : LineAction) (rest : List LineAction) → IsInGrammar lines (before ++ a ∷ rest) → ActsAgain before a → ⊥
+again_excluded : (lines : List (List ℕ)) (before : List LineAction) (a : LineAction) (rest : List LineAction) → AreLinesInGrammar lines (before ++ a ∷ rest) → ActsAgain before a → ⊥
 again_excluded lines before a rest grammar again =
     let whole : paths (before ++ a ∷ rest) ≡ paths (before ++ a ∷ []) ++ paths rest =
     ap paths (sym (append_assoc before (a ∷ []) rest)) ∙ flat_map-append (λ x. option_to_list (path_in x)) (before ++ a ∷ []) rest in
@@ -236,7 +237,7 @@ found_at lines front line behind before actions split read all =
     (cut.1, cut.2, cut.4, cut.5 ∙ ap (λ l. l ++ cut.1 ∷ cut.2) same)
 
 -- a file action that shows no feature is counted
-counted : (a : LineAction) (path : List ℕ) → path_in a ≡ Some path → NoneOf (λ f. Shows f a) line_features → length (option_to_list (file_in a)) ≡ 1
+counted : (a : LineAction) (path : List ℕ) → path_in a ≡ Some path → NoneOf (λ f. ShowsOnLine f a) line_features → length (option_to_list (file_in a)) ≡ 1
 counted action.NoAction path is none = absurd (cc)
 counted (action.Protocol p) path is none = absurd (cc)
 counted (action.MetaData m b) path is none = absurd (cc)
@@ -244,7 +245,7 @@ counted (action.Add uri values size None v) path is none = absurd (none.1.1.0 re
 counted (action.Add uri values size (Some n) v) path is none = refl
 counted (action.Remove uri v) path is none = refl
 
-limit_excluded : (lines : List (List ℕ)) (before : List LineAction) (a : LineAction) (rest : List LineAction) (w : LimitKind) → AreReadable lines (before ++ a ∷ rest) → NoneOf (λ f. Shows f a) line_features → Passes before a w → ⊥
+limit_excluded : (lines : List (List ℕ)) (before : List LineAction) (a : LineAction) (rest : List LineAction) (w : LimitKind) → AreReadable lines (before ++ a ∷ rest) → NoneOf (λ f. ShowsOnLine f a) line_features → PassesOnLine before a w → ⊥
 limit_excluded lines before a rest limits.Path readable none passes = all_middle (λ x. HasLongPath x → ⊥) before a rest readable.short passes
 limit_excluded lines before a rest limits.Actions readable none passes =
     let one = counted a passes.0 passes.1 none in let over = passes.2 in let few = readable.few in
@@ -256,7 +257,7 @@ first_in : {X : Type 0} (P : X → Type 0) (xs : List X) (x : X) → IsFirst P x
 first_in P [] x first = absurd first
 first_in P (y ∷ ys) x first = ⊎_elim (λ h. subst P (sym h.0) h.1) (λ h. first_in P ys x h.1) first
 
-grammar_fault : (lines : List (List ℕ)) (line : List ℕ) (before : List LineAction) (a : LineAction) (rest : List LineAction) (n : ℕ) (e : DeltaError) → line_action line ≡ Ok a → IsInGrammar lines (before ++ a ∷ rest) → IsGrammarError e → IsAtFault before line n e → ⊥
+grammar_fault : (lines : List (List ℕ)) (line : List ℕ) (before : List LineAction) (a : LineAction) (rest : List LineAction) (n : ℕ) (e : DeltaError) → line_action line ≡ Ok a → AreLinesInGrammar lines (before ++ a ∷ rest) → IsGrammarError e → IsAtFault before line n e → ⊥
 grammar_fault lines line before a rest n errors.Memory is grammar kind fault = fault
 grammar_fault lines line before a rest n (errors.Malformed m) is grammar kind fault =
     ⊎_elim (λ h. cc) (λ h. let one = h.1 in let same : h.0 ≡ a = cc in misplaced_excluded lines before a rest grammar (subst (IsMisplaced before) same h.2)) fault.1
@@ -271,11 +272,11 @@ any_fault lines line before a rest n (errors.Malformed m) is readable fault = gr
 any_fault lines line before a rest n (errors.DoublePath m) is readable fault = grammar_fault lines line before a rest n (errors.DoublePath m) is readable.grammar tt fault
 any_fault lines line before a rest n (errors.Unsupported f m) is readable fault =
     let one = fault.2.0 in let same : fault.1 ≡ a = cc in
-    none_first (λ g. Shows g a) line_features f (all_middle (λ x. NoneOf (λ g. Shows g x) line_features) before a rest readable.supported) (subst (λ x. IsFirst (λ g. Shows g x) line_features f) same fault.3)
+    none_first (λ g. ShowsOnLine g a) line_features f (all_middle (λ x. NoneOf (λ g. ShowsOnLine g x) line_features) before a rest readable.supported) (subst (λ x. IsFirst (λ g. ShowsOnLine g x) line_features f) same fault.3)
 any_fault lines line before a rest n (errors.Limit w) is readable fault =
     let one = fault.1.0 in let same : fault.0 ≡ a = cc in
-    let supported = all_middle (λ x. NoneOf (λ g. Shows g x) line_features) before a rest readable.supported in
-    limit_excluded lines before a rest w readable supported (subst (λ x. Passes before x w) same (first_in (Passes before fault.0) line_limits w fault.3))
+    let supported = all_middle (λ x. NoneOf (λ g. ShowsOnLine g x) line_features) before a rest readable.supported in
+    limit_excluded lines before a rest w readable supported (subst (λ x. PassesOnLine before x w) same (first_in (PassesOnLine before fault.0) line_limits w fault.3))
 
 -- ---- answers
 
@@ -336,13 +337,13 @@ fault_by bytes (Err (errors.DoublePath n)) gives = reads_whole bytes (Err (error
 fault_by bytes (Err (errors.Unsupported f n)) gives = reads_whole bytes (Err (errors.Unsupported f n)) gives
 fault_by bytes (Err (errors.Limit w)) gives = reads_whole bytes (Err (errors.Limit w)) gives
 
-grammar_fails : (bytes : List ℕ) (e : DeltaError) → IsFirstFault bytes e → IsGrammarError e → (actions : List LineAction) → IsInGrammar (lines_of bytes) actions → ⊥
+grammar_fails : (bytes : List ℕ) (e : DeltaError) → IsFirstFault bytes e → IsGrammarError e → (actions : List LineAction) → AreLinesInGrammar (lines_of bytes) actions → ⊥
 unfolding Found
 grammar_fails bytes e first kind actions grammar =
     let found = found_at (lines_of bytes) first.front first.line first.behind first.before actions first.split first.readable.grammar.read grammar.read in
-    grammar_fault (lines_of bytes) first.line first.before found.0 found.1 (1 + length first.front) e found.2 (subst (IsInGrammar (lines_of bytes)) found.3 grammar) kind first.fault
+    grammar_fault (lines_of bytes) first.line first.before found.0 found.1 (1 + length first.front) e found.2 (subst (AreLinesInGrammar (lines_of bytes)) found.3 grammar) kind first.fault
 
-pub grammar_by : (bytes : List ℕ) (r : Result DeltaCommit DeltaError) → Answers r (commit_of bytes) → IfErr r (λ e. IsGrammarError e → (actions : List LineAction) → IsInGrammar (lines_of bytes) actions → ⊥)
+pub grammar_by : (bytes : List ℕ) (r : Result DeltaCommit DeltaError) → Answers r (commit_of bytes) → IfErr r (λ e. IsGrammarError e → (actions : List LineAction) → AreLinesInGrammar (lines_of bytes) actions → ⊥)
 unfolding Reads
 grammar_by bytes (Ok c) gives = tt
 grammar_by bytes (Err errors.Memory) gives = λ kind. absurd kind

@@ -21,7 +21,8 @@ use Rattle.delta_log.specs.declared.error.Fault.{Fault}
 use Rattle.delta_log.specs.declared.error.Fault.TheVariants.{Malformed, Unsupported, Limit, DoublePath}
 use Rattle.delta_log.specs.Commit.{file_path, file_paths}
 use Rattle.delta_log.specs.Judging.{place, acts_on, with_new_file, with_action}
-use Rattle.delta_log.specs.Readable.{protocol_in, meta_in, uri_in, path_in, file_in, NamesNoPath, HasDeletionVector, LacksCount, IsNotParquet, LiesOutside, HasLongPath, Shows, line_features, NoneOf}
+use Rattle.table_history.specs.First.{NoneOf}
+use Rattle.delta_log.specs.Readable.{protocol_in, meta_in, uri_in, path_in, file_in, NamesNoPath, HasDeletionVector, LacksCount, IsNotParquet, LiesOutside, HasLongPath, ShowsOnLine, line_features}
 
 -- ---- places
 
@@ -44,7 +45,7 @@ no_uri a x none some = cc
 -- An action that shows nothing: its URI names a path of the table, if it has one, and no feature is shown.
 pub record IsFair (a : LineAction) : Type 0 where
   pub uri : NamesNoPath a → ⊥
-  pub supported : NoneOf (λ f. Shows f a) line_features
+  pub supported : NoneOf (λ f. ShowsOnLine f a) line_features
   pub short : HasLongPath a → ⊥
 
 fair_without_uri : (a : LineAction) → uri_in a ≡ None → (HasDeletionVector a → ⊥) → (LacksCount a → ⊥) → (IsNotParquet a → ⊥) → IsFair a

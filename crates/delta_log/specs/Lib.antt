@@ -7,3 +7,6 @@ pub mod Writing
 pub mod Again
 pub mod VersionName
 pub mod Live
+pub mod TableBehind
+pub mod Change
+pub mod ChangeSteps

@@ -48,3 +48,7 @@ pub record IsLive (columns : PartColumns) (commits : List DeltaCommit) (row : Ro
 -- The commit adds this row, or it is one of these and the commit has no file action on its path.
 abbrev pub IsRowBehind : PartColumns → List Row → DeltaCommit → Row → Type 0
 IsRowBehind columns rows c row = ((f : FileAction) × Contains c.files f × AddsRow columns f row) ⊎ (Contains rows row × ¬ ActsOn row.path c)
+
+-- The rows behind commits over a table: those that are live by the commits, and those of the table on whose paths none of them has a file action.
+abbrev pub IsLiveOver : PartColumns → List Row → List DeltaCommit → Row → Type 0
+IsLiveOver columns origin commits row = IsLive columns commits row ⊎ (Contains origin row × All (λ c. ¬ ActsOn row.path c) commits)

@@ -5,6 +5,7 @@ use Rattle.std.specs.Str.{bytes_eq}
 use Rattle.percent_encoding.specs.Percent.{percent_decode}
 use Rattle.lake_basics.specs.declared.limits.TheConstants.{MAX_ACTIONS}
 use Rattle.lake_basics.specs.Outcome.{each}
+use Rattle.table_history.specs.First.{IsFirst, NoneOf}
 use Rattle.table_history.specs.declared.feature.Feature.{Feature}
 use Rattle.table_history.specs.declared.feature.Feature.TheVariants.{DeletionVector, OutsideTable, NoRecordCount, FileFormat}
 use Rattle.table_history.specs.declared.limit.LimitKind.{LimitKind}
@@ -79,8 +80,8 @@ pub record States (actions : List LineAction) (c : DeltaCommit) : Type 0 where
 abbrev pub NamesNoPath : LineAction → Type 0
 NamesNoPath a = (uri : List ℕ) × (uri_in a ≡ Some uri) × (uri_path uri ≡ no_path)
 
--- The lines are in the grammar of commits, with these actions: at most one of them is a protocol and one the table's metadata, each URI names something, and no two are on one path without escapes.
-pub record IsInGrammar (lines : List (List ℕ)) (actions : List LineAction) : Type 0 where
+-- The lines are in the grammar of lines, with these actions: at most one of them is a protocol and one the table's metadata, each URI names something, and no two are on one path without escapes.
+pub record AreLinesInGrammar (lines : List (List ℕ)) (actions : List LineAction) : Type 0 where
   pub read : each line_action lines ≡ Ok actions
   pub protocols : length (protocols actions) ≤ 1
   pub metas : length (metas actions) ≤ 1
@@ -105,38 +106,28 @@ abbrev pub IsNotParquet : LineAction → Type 0
 IsNotParquet (action.MetaData m is_parquet) = is_parquet ≡ false
 IsNotParquet _ = ⊥
 
--- The action shows this feature.
-abbrev pub Shows : Feature → LineAction → Type 0
-Shows DeletionVector a = HasDeletionVector a
-Shows OutsideTable a = LiesOutside a
-Shows NoRecordCount a = LacksCount a
-Shows FileFormat a = IsNotParquet a
-Shows _ a = ⊥
+-- The action shows this feature by itself. What a commit shows as a whole is judged over a table.
+abbrev pub ShowsOnLine : Feature → LineAction → Type 0
+ShowsOnLine DeletionVector a = HasDeletionVector a
+ShowsOnLine OutsideTable a = LiesOutside a
+ShowsOnLine NoRecordCount a = LacksCount a
+ShowsOnLine FileFormat a = IsNotParquet a
+ShowsOnLine _ a = ⊥
 
 -- the features that a line may show, in the order in which they are told
 abbrev pub line_features : List Feature
 line_features = DeletionVector ∷ OutsideTable ∷ NoRecordCount ∷ FileFormat ∷ []
-
--- The first of these that the fact is true of is this one.
-abbrev pub IsFirst : {A : Type 0} → (A → Type 0) → List A → A → Type 0
-IsFirst P [] x = ⊥
-IsFirst P (y ∷ ys) x = ((x ≡ y) × P y) ⊎ ((P y → ⊥) × IsFirst P ys x)
-
--- The fact is true of none of these.
-abbrev pub NoneOf : {A : Type 0} → (A → Type 0) → List A → Type 0
-NoneOf P [] = Unit {0}
-NoneOf P (y ∷ ys) = (P y → ⊥) × NoneOf P ys
 
 -- ---- limits
 
 abbrev pub HasLongPath : LineAction → Type 0
 HasLongPath a = (uri : List ℕ) × (path : List ℕ) × (uri_in a ≡ Some uri) × (uri_path uri ≡ too_long path)
 
--- Behind these actions, the action passes this number.
-abbrev pub Passes : List LineAction → LineAction → LimitKind → Type 0
-Passes before a Path = HasLongPath a
-Passes before a Actions = (path : List ℕ) × (path_in a ≡ Some path) × (MAX_ACTIONS < length (files before) + 1)
-Passes before a _ = ⊥
+-- Behind these actions, the action passes this number by itself.
+abbrev pub PassesOnLine : List LineAction → LineAction → LimitKind → Type 0
+PassesOnLine before a Path = HasLongPath a
+PassesOnLine before a Actions = (path : List ℕ) × (path_in a ≡ Some path) × (MAX_ACTIONS < length (files before) + 1)
+PassesOnLine before a _ = ⊥
 
 abbrev pub line_limits : List LimitKind
 line_limits = Path ∷ Actions ∷ []
@@ -145,8 +136,8 @@ line_limits = Path ∷ Actions ∷ []
 
 -- The lines are in the grammar with these actions, show no feature that isn't supported, and pass no limit.
 pub record AreReadable (lines : List (List ℕ)) (actions : List LineAction) : Type 0 where
-  pub grammar : IsInGrammar lines actions
-  pub supported : All (λ a. NoneOf (λ f. Shows f a) line_features) actions
+  pub grammar : AreLinesInGrammar lines actions
+  pub supported : All (λ a. NoneOf (λ f. ShowsOnLine f a) line_features) actions
   pub short : All (λ a. ¬ HasLongPath a) actions
   pub few : length (files actions) ≤ MAX_ACTIONS
 
@@ -177,10 +168,10 @@ ActsAgain before a = ¬ IsDistinct bytes_eq (paths (before ++ a ∷ []))
 abbrev pub IsAtFault : List LineAction → List ℕ → ℕ → DeltaError → Type 0
 IsAtFault before line n errors.Memory = ⊥
 IsAtFault before line n (errors.Malformed m) = (m ≡ n) × ((line_action line ≡ Err Malformed) ⊎ ((a : LineAction) × (line_action line ≡ Ok a) × IsMisplaced before a))
-IsAtFault before line n (errors.Unsupported f m) = (m ≡ n) × (a : LineAction) × IsPlaced before line a × IsFirst (λ g. Shows g a) line_features f
-IsAtFault before line n (errors.Limit w) = (a : LineAction) × IsPlaced before line a × NoneOf (λ g. Shows g a) line_features × IsFirst (Passes before a) line_limits w
+IsAtFault before line n (errors.Unsupported f m) = (m ≡ n) × (a : LineAction) × IsPlaced before line a × IsFirst (λ g. ShowsOnLine g a) line_features f
+IsAtFault before line n (errors.Limit w) = (a : LineAction) × IsPlaced before line a × NoneOf (λ g. ShowsOnLine g a) line_features × IsFirst (PassesOnLine before a) line_limits w
 IsAtFault before line n (errors.DoublePath m) =
-    (m ≡ n) × (a : LineAction) × IsPlaced before line a × NoneOf (λ g. Shows g a) line_features × NoneOf (Passes before a) line_limits × ActsAgain before a
+    (m ≡ n) × (a : LineAction) × IsPlaced before line a × NoneOf (λ g. ShowsOnLine g a) line_features × NoneOf (PassesOnLine before a) line_limits × ActsAgain before a
 
 -- The lines before one can be read, and that line has the fault.
 pub record IsFirstFault (bytes : List ℕ) (e : DeltaError) : Type 0 where

@@ -9,7 +9,7 @@ ghost use Rattle.delta_log.specs.Commit.{file_path};
 ghost use Rattle.delta_log.specs.Judging.{acts_on, no_lines, path_within, with_new_file, with_file, with_add, with_remove, with_action, judged, with_line, is_newline, lines_of, lines_in, commit_of, IsSoundPlace, IsErrorAt, Answers};
 ghost use Rattle.delta_log.specs.Sound.{HaveDistinctNames, HasNeededFeatures, IsCount, IsSoundFile, IsSoundAction, IsWritable};
 ghost use Rattle.table_history.specs.Path.{IsPath};
-ghost use Rattle.delta_log.specs.Readable.{IsInGrammar, IsReadableCommit, IsRefusal, IsGrammarError};
+ghost use Rattle.delta_log.specs.Readable.{AreLinesInGrammar, IsReadableCommit, IsRefusal, IsGrammarError};
 ghost use Rattle.delta_log.specs.declared.action.LineAction.{LineAction};
 ghost use Rattle.delta_log.specs.declared.commit.DeltaCommit.{DeltaCommit};
 
@@ -333,8 +333,8 @@ pub fn read_commit(alloc: Global, bytes: &[u8]) -> Result<DeltaCommit, DeltaErro
     ensures fault { IfErr result (λ e. IsRefusal bytes.now e) }
     // Malformed and DoublePath come only where the bytes are outside the grammar.
     ensures grammar { IfErr result (λ e. IsGrammarError e
-        → (actions : List LineAction) → ¬ IsInGrammar (lines_of bytes.now) actions) }
-    // What is read may be given to `change_of` and to `commit_text`.
+        → (actions : List LineAction) → ¬ AreLinesInGrammar (lines_of bytes.now) actions) }
+    // No names stand twice, and no paths: what is read may be written again, and make a change.
     ensures sound { IfOk result IsWritable }
     // The same as a function of the bytes.
     ensures exact { Answers result (commit_of bytes.now) }

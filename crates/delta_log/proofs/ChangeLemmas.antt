@@ -1,0 +1,274 @@
+-- The change of a commit, put together from that of its columns and that of its rows.
+use Rattle.std.proofs.Common.{◌≡◌, ◌⊎◌, ℕ, ◌<◌, ◌≤◌, nat_lt, Bool, true, false, not, cond, List, [], ◌∷◌, ◌++◌, length, filter, Option, Some, None, Result, Ok, Err, All, Contains, unwrap_or, IfOk, IfErr, OnOk, refl, sym, ap, subst, ◌∙◌, inl, inr, ⊎_elim, arith}
+use Rattle.std.specs.List.{IsDistinct}
+use Rattle.std.specs.Str.{bytes_eq}
+use Rattle.std.proofs.lemmas.Bool.{cases_Bool, false≢true}
+use Rattle.std.proofs.lemmas.Grind.{common_steps}
+use Rattle.std.proofs.lemmas.List.Elements.{Contains-append_left, Contains-append_right, Contains-append_cases, All-contains}
+use Rattle.lake_basics.specs.declared.limits.TheConstants.{MAX_LIVE_FILES, MAX_PARTITION_COLUMNS}
+use Rattle.table_history.specs.First.{IsFirst, NoneOf}
+use Rattle.table_history.specs.Rows.{HasDistinctPaths}
+use Rattle.table_history.specs.Tables.{CanApply, IsDiff}
+use Rattle.table_history.specs.TypeTree.{ColumnTrees}
+use Rattle.table_history.specs.declared.feature.Feature.{Feature}
+use Rattle.table_history.specs.declared.feature.Feature.TheVariants.{PartitionValue}
+use Rattle.table_history.specs.declared.limit.LimitKind.{LimitKind}
+use Rattle.table_history.specs.declared.limit.LimitKind.TheVariants as limit
+use Rattle.table_history.specs.declared.row.FileRow.{FileRow}
+use Rattle.table_history.specs.declared.table.Change.{Change}
+use Rattle.table_history.specs.declared.table.Table.{Table}
+use Rattle.table_history.proofs.Laws.{change_fits, change_leads}
+use Rattle.table_history.proofs.RowListLemmas.{Contains-filter, filter_contains}
+use Rattle.partition_map.specs.declared.kind.PartKind.{PartKind}
+use Rattle.schema_map.specs.Delta.{delta_schema_of}
+use Rattle.schema_map.specs.declared.fault.MapError.TheVariants as map_errors
+use Rattle.delta_log.specs.declared.commit.DeltaCommit.{DeltaCommit}
+use Rattle.delta_log.specs.declared.commit.FileAction.{FileAction}
+use Rattle.delta_log.specs.declared.commit.MetaData.{MetaData}
+use Rattle.delta_log.specs.declared.error.DeltaError.{DeltaError}
+use Rattle.delta_log.specs.declared.error.DeltaError.TheVariants as errors
+use Rattle.delta_log.specs.Change.{IsOutsideGrammar, HasOtherValue, HasLargeSchema, HasManyFiles, SpellsNoValue, Shows, Passes, commit_features, commit_limits, AreRowsBehind, CanFollow, IsChangeOf, IsSoundRow, IsChangeRefusal}
+use Rattle.delta_log.specs.ChangeSteps.{column_features, Tells, is_kept, rows_behind, limit_passed, AreColumnsBehind, AreRowsOf, IsChangeOver, IsRefusalOver}
+use Rattle.delta_log.specs.Commit.{file_paths}
+use Rattle.delta_log.specs.Judging.{acts_on}
+use Rattle.delta_log.specs.Live.{PartColumns, AddsRow, ActsOn, IsRowBehind}
+use Rattle.delta_log.specs.Sound.{IsSound, IsSoundFile}
+use Rattle.delta_log.specs.TableBehind.{rows_before, schema_before, partition_behind, table_before, Spells, StatesSchema, IsSchemaBehind, ArePartColumns}
+use Rattle.delta_log.proofs.BehindLemmas.{on_path, path_on, behind_distinct}
+use Rattle.delta_log.proofs.ReadableLemmas.{none_first}
+use Rattle.delta_log.proofs.ValueLemmas.{row_from, row_to, rows_paths, has_values, sound_row, columns_length}
+
+-- ---- the numbers
+
+within_limits : (columns live : ℕ) → limit_passed columns live ≡ None → (columns ≤ MAX_PARTITION_COLUMNS) × (live ≤ MAX_LIVE_FILES)
+within_limits columns live h = by (nat_lt MAX_PARTITION_COLUMNS columns) (nat_lt MAX_LIVE_FILES live) refl refl h
+  where
+    by : (a b : Bool) → nat_lt MAX_PARTITION_COLUMNS columns ≡ a → nat_lt MAX_LIVE_FILES live ≡ b → cond a (Some limit.PartitionColumns) (cond b (Some limit.LiveFiles) None) ≡ None → (columns ≤ MAX_PARTITION_COLUMNS) × (live ≤ MAX_LIVE_FILES)
+    by true b ea eb e = absurd cc
+    by false true ea eb e = absurd cc
+    by false false ea eb e = (grind (arith, common_steps), grind (arith, common_steps))
+
+-- which number is passed, and that none before it is
+Passed : ℕ → ℕ → LimitKind → Type 0
+Passed columns live which = ((which ≡ limit.PartitionColumns) × (MAX_PARTITION_COLUMNS < columns)) ⊎ ((which ≡ limit.LiveFiles) × (columns ≤ MAX_PARTITION_COLUMNS) × (MAX_LIVE_FILES < live))
+
+passed_limit : (columns live : ℕ) (which : LimitKind) → limit_passed columns live ≡ Some which → Passed columns live which
+unfolding Passed
+passed_limit columns live which h = by (nat_lt MAX_PARTITION_COLUMNS columns) (nat_lt MAX_LIVE_FILES live) refl refl h
+  where
+    by : (a b : Bool) → nat_lt MAX_PARTITION_COLUMNS columns ≡ a → nat_lt MAX_LIVE_FILES live ≡ b → cond a (Some limit.PartitionColumns) (cond b (Some limit.LiveFiles) None) ≡ Some which
+        → ((which ≡ limit.PartitionColumns) × (MAX_PARTITION_COLUMNS < columns)) ⊎ ((which ≡ limit.LiveFiles) × (columns ≤ MAX_PARTITION_COLUMNS) × (MAX_LIVE_FILES < live))
+    by true b ea eb e = inl (cc, grind (arith, common_steps))
+    by false true ea eb e = inr (cc, grind (arith, common_steps), grind (arith, common_steps))
+    by false false ea eb e = absurd cc
+
+-- ---- the rows behind
+
+module _ (columns : PartColumns) (before : List FileRow) (c : DeltaCommit) (rows : List FileRow) (distinct : HasDistinctPaths before) (sound : IsSound c) (added : AreRowsOf columns c.files rows) where
+  behind_to : (row : FileRow) → Contains (rows_behind before c.files rows) row → IsRowBehind columns before c row
+  behind_to row there =
+      ⊎_elim
+      (λ kept. let both = Contains-filter (is_kept c.files) before row kept in inr (both.0, λ acts. false≢true (sym (ap not (path_on row.path c.files acts)) ∙ both.1)))
+      (λ new. inl (row_from columns c.files rows row added new))
+      (Contains-append_cases (filter (is_kept c.files) before) rows row there)
+
+  behind_from : (row : FileRow) → IsRowBehind columns before c row → Contains (rows_behind before c.files rows) row
+  behind_from row h =
+      let kept = filter (is_kept c.files) before in
+      ⊎_elim
+      (λ new. Contains-append_right kept rows row (row_to columns c.files rows row new.0 added new.1 new.2))
+      (λ stays.
+      let quiet : is_kept c.files row ≡ true = ⊎_elim (λ t. absurd (stays.1 (on_path row.path c.files t))) (λ n. ap not n) (cases_Bool (acts_on row.path c.files)) in
+      Contains-append_left kept rows row (filter_contains (is_kept c.files) before row stays.0 quiet))
+      h
+
+  are_behind : AreRowsBehind columns before c (rows_behind before c.files rows)
+  are_behind = record { distinct = behind_distinct before rows c.files distinct sound.distinct (rows_paths columns c.files rows added); rows = λ row. (behind_to row, behind_from row) }
+
+-- ---- the change
+
+module _ (c : DeltaCommit) (base : Option Table) (stated : Option ColumnTrees) (columns : PartColumns) (sound : IsSound c) (cols : AreColumnsBehind c base stated columns) where
+  no_value : (rows : List FileRow) → AreRowsOf columns c.files rows → HasOtherValue c base → ⊥
+  no_value rows added h =
+      let schema = unwrap_or stated (schema_before base) in
+      let one_schema : h.0 ≡ schema = one_behind c.meta h.0 schema h.2 cols.behind in
+      let one_columns : h.1 ≡ columns = same_columns schema (partition_behind c.meta base) h.1 columns (subst (λ s. ArePartColumns s (partition_behind c.meta base) h.1) one_schema h.3) cols.kinds in
+      has_values columns c.files rows h.4 h.5 added h.6 (subst (λ cs. Contains cs h.5) one_columns h.7) h.8
+    where
+      one_behind : (m : Option MetaData) (s t : ColumnTrees) → IsSchemaBehind m base s → IsSchemaBehind m base t → s ≡ t
+      one_behind None s t a b = a ∙ sym b
+      one_behind (Some m) s t a b = cc (sym a ∙ b)
+
+      same_columns : (schema : ColumnTrees) (names : List (List ℕ)) (xs ys : PartColumns) → ArePartColumns schema names xs → ArePartColumns schema names ys → xs ≡ ys
+      same_columns schema [] [] [] a b = refl
+      same_columns schema [] [] (y ∷ ys) a b = absurd b
+      same_columns schema [] (x ∷ xs) ys a b = absurd a
+      same_columns schema (n ∷ ns) [] ys a b = absurd a
+      same_columns schema (n ∷ ns) (x ∷ xs) [] a b = absurd b
+      same_columns schema (n ∷ ns) (x ∷ xs) (y ∷ ys) a b =
+          let kind : x.1 ≡ y.1 = cc (sym a.1 ∙ b.1) in
+          λ i. ((a.0 ∙ sym b.0) i, kind i) ∷ same_columns schema ns xs ys a.2 b.2 i
+
+  shows_none : (rows : List FileRow) → AreRowsOf columns c.files rows → NoneOf (Shows c base) commit_features
+  shows_none rows added =
+      let s = cols.supported in
+      (s.0, (s.1.0, (s.1.1.0, (s.1.1.1.0, (s.1.1.1.1.0, (s.1.1.1.1.1.0, (no_value rows added, tt)))))))
+
+  names_few : (n : ℕ) → length columns ≤ n → length (partition_behind c.meta base) ≤ n
+  names_few n h = subst (λ k. k ≤ n) (columns_length _ (partition_behind c.meta base) columns cols.kinds) h
+
+  no_large_schema : (which : LimitKind) → HasLargeSchema c which → ⊥
+  no_large_schema which h = by c.meta stated cols.stated h.1
+    where
+      by : (m : Option MetaData) (s : Option ColumnTrees) → StatesSchema m s → m ≡ Some h.0 → ⊥
+      by None s states e = absurd cc
+      by (Some m) None states e = states
+      by (Some m) (Some s) states e = let same : m ≡ h.0 = cc in let wrong : Ok s ≡ Err (map_errors.Limit which) = sym (subst (λ n. Spells n s) same states) ∙ h.2 in absurd cc
+
+  abbrev behind_of : List FileRow → List FileRow
+  behind_of rows = rows_behind (rows_before base) c.files rows
+
+  module _ (change : Change) (over : IsChangeOver columns (rows_before base) c.files stated change) where
+    the_rows : AreRowsBehind columns (rows_before base) c (behind_of over.rows)
+    the_rows = are_behind columns (rows_before base) c over.rows over.distinct sound over.added
+
+    pub change_is : IsChangeOf c base change
+    change_is = record {
+      stated = subst (StatesSchema c.meta) (sym over.stated) cols.stated;
+      columns = columns;
+      kinds = subst (λ o. ArePartColumns (unwrap_or o (schema_before base)) (partition_behind c.meta base) columns) (sym over.stated) cols.kinds;
+      behind = behind_of over.rows;
+      rows = the_rows;
+      diff = over.diff;
+      leads = change_leads (rows_before base) (behind_of over.rows) change.removed change.added over.diff over.distinct the_rows.distinct;
+      few = (within_limits (length columns) (length (behind_of over.rows)) over.within).1;
+      few_columns = names_few MAX_PARTITION_COLUMNS (within_limits (length columns) (length (behind_of over.rows)) over.within).0;
+    }
+
+    pub change_supported : NoneOf (Shows c base) commit_features
+    change_supported = shows_none over.rows over.added
+
+    pub change_applies : CanApply (table_before c base) change
+    change_applies = change_fits (table_before c base) (behind_of over.rows) change (subst (λ l. IsDiff l (behind_of over.rows) change.removed change.added) (sym (same_before c base)) over.diff)
+        (subst HasDistinctPaths (sym (same_before c base)) over.distinct) the_rows.distinct
+      where
+        same_before : (c : DeltaCommit) (base : Option Table) → (table_before c base).rows ≡ rows_before base
+        same_before c None = refl
+        same_before c (Some t) = refl
+
+    pub change_rows : (row : FileRow) → Contains change.added row → IsSoundRow (unwrap_or change.schema (schema_before base)) (partition_behind c.meta base) row
+    change_rows row there =
+        let fresh = (over.diff.added_rows row).0 there in
+        let new : Contains over.rows row =
+        ⊎_elim
+        (λ kept. absurd (fresh.1 (Contains-filter (is_kept c.files) (rows_before base) row kept).0))
+        (λ new. new)
+        (Contains-append_cases (filter (is_kept c.files) (rows_before base)) over.rows row fresh.0) in
+        let by = row_from columns c.files over.rows row over.added new in
+        subst (λ o. IsSoundRow (unwrap_or o (schema_before base)) (partition_behind c.meta base) row) (sym over.stated)
+        (sound_row (unwrap_or stated (schema_before base)) (partition_behind c.meta base) columns by.0 row cols.kinds (All-contains IsSoundFile c.files by.0 sound.files by.1) by.2)
+
+  -- ---- refusals
+
+  value_refusal : (f : FileAction) (column : List ℕ × PartKind) → Contains c.files f → Contains columns column → SpellsNoValue column f → IsChangeRefusal c base (errors.Unsupported PartitionValue 0)
+  value_refusal f column there named none =
+      let s = cols.supported in
+      let shows : HasOtherValue c base = (unwrap_or stated (schema_before base), columns, cols.behind, cols.kinds, f, column, there, named, none) in
+      (refl, cols.grammar, inr (s.0, inr (s.1.0, inr (s.1.1.0, inr (s.1.1.1.0, inr (s.1.1.1.1.0, inr (s.1.1.1.1.1.0, inl (refl, shows))))))))
+
+  many_columns : MAX_PARTITION_COLUMNS < length columns → MAX_PARTITION_COLUMNS < length (partition_behind c.meta base)
+  many_columns h = subst (λ k. MAX_PARTITION_COLUMNS < k) (columns_length _ (partition_behind c.meta base) columns cols.kinds) h
+
+  first_passed : (rows : List FileRow) (which : LimitKind) → AreRowsOf columns c.files rows → HasDistinctPaths (rows_before base) → Passed (length columns) (length (behind_of rows)) which → IsFirst (Passes c base) commit_limits which
+  unfolding Passed
+  first_passed rows which added distinct h =
+      ⊎_elim
+      (λ names. inl (names.0, many_columns names.1))
+      (λ files.
+      let few = names_few MAX_PARTITION_COLUMNS files.1 in
+      let many : HasManyFiles c base = (unwrap_or stated (schema_before base), columns, behind_of rows, cols.behind, cols.kinds, are_behind columns (rows_before base) c rows distinct sound added, files.2) in
+      inr ((λ over. omega (arith, over, few)), inl (files.0, many)))
+      h
+
+  pub over_refusal : (e : DeltaError) → IsRefusalOver columns (rows_before base) c.files e → IsChangeRefusal c base e
+  over_refusal errors.Memory h = tt
+  over_refusal (errors.Malformed line) h = absurd h
+  over_refusal (errors.DoublePath line) h = absurd h
+  over_refusal (errors.Unsupported feature line) h =
+      subst (λ (p : Feature × ℕ). IsChangeRefusal c base (errors.Unsupported p.0 p.1)) (λ i. (sym h.0 i, sym h.1 i)) (value_refusal h.2 h.3 h.4 h.5 h.6)
+  over_refusal (errors.Limit which) h =
+      (cols.grammar, shows_none h.0 h.1, inr (no_large_schema, first_passed h.0 which h.1 h.2 (passed_limit (length columns) (length (behind_of h.0)) which h.3)))
+
+-- ---- without a cause there is no refusal but for memory
+
+pub no_refusal : (c : DeltaCommit) (base : Option Table) (e : DeltaError) → CanFollow c base → IsChangeRefusal c base e → e ≡ errors.Memory
+no_refusal c base errors.Memory can h = refl
+no_refusal c base (errors.Malformed line) can h = absurd (can.grammar h.1)
+no_refusal c base (errors.DoublePath line) can h = absurd h
+no_refusal c base (errors.Unsupported feature line) can h = absurd (none_first (Shows c base) commit_features feature can.supported h.2)
+no_refusal c base (errors.Limit which) can h = absurd (⊎_elim (λ large. can.schema which large) (λ more. none_first (Passes c base) commit_limits which can.within more.1) h.2)
+
+pub complete_by : (c : DeltaCommit) (base : Option Table) (r : Result Change DeltaError) → IfErr r (IsChangeRefusal c base) → CanFollow c base → IfErr r (λ e. e ≡ errors.Memory)
+complete_by c base (Ok change) refused can = tt
+complete_by c base (Err e) refused can = no_refusal c base e can refused
+
+-- ---- by the answer of the rows' part
+
+pub over_these : (r : Result Change DeltaError) (cs columns : PartColumns) (rows before : List FileRow) (fs files : List FileAction) (stated : Option ColumnTrees) → cs ≡ columns → rows ≡ before → fs ≡ files
+    → IfOk r (IsChangeOver cs rows fs stated) → IfOk r (IsChangeOver columns before files stated)
+over_these r cs columns rows before fs files stated ec er ef h = subst (λ (p : PartColumns × (List FileRow × List FileAction)). IfOk r (IsChangeOver p.0 p.1.0 p.1.1 stated)) (λ i. (ec i, (er i, ef i))) h
+
+pub told_these : (r : Result Change DeltaError) (cs columns : PartColumns) (rows before : List FileRow) (fs files : List FileAction) → cs ≡ columns → rows ≡ before → fs ≡ files
+    → IfErr r (IsRefusalOver cs rows fs) → IfErr r (IsRefusalOver columns before files)
+told_these r cs columns rows before fs files ec er ef h = subst (λ (p : PartColumns × (List FileRow × List FileAction)). IfErr r (IsRefusalOver p.0 p.1.0 p.1.1)) (λ i. (ec i, (er i, ef i))) h
+
+module _ (c : DeltaCommit) (base : Option Table) (stated : Option ColumnTrees) (columns : PartColumns) (sound : IsSound c) (cols : AreColumnsBehind c base stated columns) where
+  pub found_by : (r : Result Change DeltaError) → IfOk r (IsChangeOver columns (rows_before base) c.files stated) → IfOk r (IsChangeOf c base)
+  found_by (Ok change) over = change_is c base stated columns sound cols change over
+  found_by (Err e) over = tt
+
+  pub supported_by : (r : Result Change DeltaError) → IfOk r (IsChangeOver columns (rows_before base) c.files stated) → OnOk r (NoneOf (Shows c base) commit_features)
+  supported_by (Ok change) over = change_supported c base stated columns sound cols change over
+  supported_by (Err e) over = tt
+
+  pub grammar_by : (r : Result Change DeltaError) → OnOk r (IsOutsideGrammar c base → ⊥)
+  grammar_by (Ok change) = cols.grammar
+  grammar_by (Err e) = tt
+
+  pub fits_by : (r : Result Change DeltaError) → IfOk r (IsChangeOver columns (rows_before base) c.files stated) → IfOk r (CanApply (table_before c base))
+  fits_by (Ok change) over = change_applies c base stated columns sound cols change over
+  fits_by (Err e) over = tt
+
+  pub rows_by : (r : Result Change DeltaError) → IfOk r (IsChangeOver columns (rows_before base) c.files stated)
+      → IfOk r (λ change. (row : FileRow) → Contains change.added row → IsSoundRow (unwrap_or change.schema (schema_before base)) (partition_behind c.meta base) row)
+  rows_by (Ok change) over = change_rows c base stated columns sound cols change over
+  rows_by (Err e) over = tt
+
+  pub refused_by : (r : Result Change DeltaError) → IfErr r (IsRefusalOver columns (rows_before base) c.files) → IfErr r (IsChangeRefusal c base)
+  refused_by (Ok change) told = tt
+  refused_by (Err e) told = over_refusal c base stated columns sound cols e told
+
+-- ---- the answer of the rows' part
+
+pub over_value : (columns : PartColumns) (before : List FileRow) (files : List FileAction) (e : DeltaError)
+    → Tells PartitionValue ((f : FileAction) × (column : List ℕ × PartKind) × Contains files f × Contains columns column × SpellsNoValue column f) e → IsRefusalOver columns before files e
+over_value columns before files errors.Memory h = tt
+over_value columns before files (errors.Malformed line) h = absurd h
+over_value columns before files (errors.DoublePath line) h = absurd h
+over_value columns before files (errors.Unsupported feature line) h = (h.0, h.1, h.2.0, h.2.1, h.2.2, h.2.3, h.2.4)
+over_value columns before files (errors.Limit which) h = absurd h
+
+pub over_limit : (columns : PartColumns) (before rows : List FileRow) (files : List FileAction) (count live : ℕ) (which : LimitKind) → AreRowsOf columns files rows → HasDistinctPaths before → count ≡ length columns
+    → live ≡ length (rows_behind before files rows) → limit_passed count live ≡ Some which → IsRefusalOver columns before files (errors.Limit which)
+over_limit columns before rows files count live which added distinct names all passed = (rows, added, distinct, sym (λ i. limit_passed (names i) (all i)) ∙ passed)
+
+pub over_change : (columns : PartColumns) (before rows : List FileRow) (files : List FileAction) (count live : ℕ) (stated : Option ColumnTrees) (change : Change) → AreRowsOf columns files rows → HasDistinctPaths before → count ≡ length columns
+    → live ≡ length (rows_behind before files rows) → limit_passed count live ≡ None → change.schema ≡ stated → IsDiff before (rows_behind before files rows) change.removed change.added → IsChangeOver columns before files stated change
+over_change columns before rows files count live stated change added distinct names all within schema diff = record {
+  stated = schema;
+  rows = rows;
+  added = added;
+  distinct = distinct;
+  diff = diff;
+  within = sym (λ i. limit_passed (names i) (all i)) ∙ within;
+}

@@ -1,0 +1,59 @@
+-- The rows behind commits one after another are the live rows of all.
+use Rattle.std.proofs.Common.{◌≡◌, ◌↔◌, List, [], ◌∷◌, ◌++◌, Option, Some, None, Contains, All, refl, sym, ap, subst, ◌∙◌, inl, inr, ⊎_elim, append_assoc}
+use Rattle.std.proofs.lemmas.List.{append-nil}
+use Rattle.std.proofs.lemmas.List.Elements.{All-nil}
+use Rattle.table_history.specs.Row.{Row}
+use Rattle.table_history.specs.Tables.{IsAfter, LeadsTo}
+use Rattle.table_history.specs.declared.table.Change.{Change}
+use Rattle.table_history.specs.declared.table.Table.{Table}
+use Rattle.table_history.proofs.RowListLemmas.{Contains-none}
+use Rattle.delta_log.specs.declared.commit.DeltaCommit.{DeltaCommit}
+use Rattle.delta_log.specs.Change.{IsChangeOf, LeadTo}
+use Rattle.delta_log.specs.Live.{PartColumns, ActsOn, IsLive, IsLiveOver, IsRowBehind}
+use Rattle.delta_log.specs.TableBehind.{rows_before, table_before}
+use Rattle.delta_log.proofs.LiveLemmas.{live_over_behind}
+
+same_before : (c : DeltaCommit) (base : Option Table) → (table_before c base).rows ≡ rows_before base
+same_before c None = refl
+same_before c (Some t) = refl
+
+-- what the change leaves is what the commit leaves
+one_change : (columns : PartColumns) (c : DeltaCommit) (base : Option Table) (change : Change) (next : Table) (is : IsChangeOf c base change) → is.columns ≡ columns → IsAfter (table_before c base) change next
+    → (row : Row) → Contains next.rows row ↔ IsRowBehind columns (rows_before base) c row
+one_change columns c base change next is same after row =
+    let leads : LeadsTo (table_before c base).rows change.removed change.added is.behind = subst (λ l. LeadsTo l change.removed change.added is.behind) (sym (same_before c base)) is.leads in
+    let is_behind = is.rows.rows row in (
+      λ there. subst (λ cs. IsRowBehind cs (rows_before base) c row) same (is_behind.0 ((leads row).0 ((after.rows row).0 there))),
+      λ behind. (after.rows row).1 ((leads row).1 (is_behind.1 (subst (λ cs. IsRowBehind cs (rows_before base) c row) (sym same) behind))),
+    )
+
+go_on : (columns : PartColumns) (origin : List Row) (before : List DeltaCommit) (base : Option Table) (commits : List DeltaCommit) (last : Option Table)
+    → ((row : Row) → Contains (rows_before base) row ↔ IsLiveOver columns origin before row) → LeadTo columns base commits last → (row : Row) → Contains (rows_before last) row ↔ IsLiveOver columns origin (before ++ commits) row
+go_on columns origin before base [] last so_far leads row =
+    subst (λ l. Contains (rows_before last) row ↔ IsLiveOver columns origin l row) (sym (append-nil before)) (subst (λ b. Contains (rows_before b) row ↔ IsLiveOver columns origin before row) leads (so_far row))
+go_on columns origin before base (c ∷ commits) last so_far leads row =
+    let step = one_change columns c base leads.0 leads.1 leads.2 leads.3 leads.4 in
+    let live = live_over_behind columns origin (rows_before base) before c so_far in
+    subst (λ l. Contains (rows_before last) row ↔ IsLiveOver columns origin l row) (append_assoc before (c ∷ []) commits)
+    (go_on columns origin (before ++ c ∷ []) (Some leads.1) commits last (λ r. (λ h. (live r).0 ((step r).0 h), λ h. (step r).1 ((live r).1 h))) leads.5 row)
+
+none_there : (front : List DeltaCommit) (c : DeltaCommit) (behind : List DeltaCommit) → [] ≡ front ++ c ∷ behind → ⊥
+none_there [] c behind e = absurd cc
+none_there (d ∷ front) c behind e = absurd cc
+
+-- Over a table, the rows behind the commits are the live ones, and the table's own on whose paths none of them acts.
+pub changes_live : (columns : PartColumns) (base : Option Table) (commits : List DeltaCommit) (last : Option Table) → LeadTo columns base commits last
+    → (row : Row) → Contains (rows_before last) row ↔ IsLiveOver columns (rows_before base) commits row
+changes_live columns base commits last leads = go_on columns (rows_before base) [] base commits last start leads
+  where
+    start : (row : Row) → Contains (rows_before base) row ↔ IsLiveOver columns (rows_before base) [] row
+    start row = (
+      λ there. inr (there, All-nil (λ c. ActsOn row.path c → ⊥)),
+      λ over. ⊎_elim (λ live. absurd (none_there live.front live.commit live.behind live.split)) (λ old. old.0) over,
+    )
+
+-- From the first commit on, they are the live ones.
+pub first_changes_live : (columns : PartColumns) (commits : List DeltaCommit) (last : Option Table) → LeadTo columns None commits last → (row : Row) → Contains (rows_before last) row ↔ IsLive columns commits row
+first_changes_live columns commits last leads row =
+    let over = changes_live columns None commits last leads row in
+    (λ there. ⊎_elim (λ live. live) (λ old. absurd (Contains-none row old.0)) (over.0 there), λ live. over.1 (inl live))

@@ -1,0 +1,16 @@
+use Rattle.std.proofs.Common.{◌≡◌, ◌+◌, ◌-◌, length, sym, ap, arith}
+use Rattle.std.specs.List.{count_by}
+use Rattle.delta_log.specs.Commit.{file_path}
+use Rattle.delta_log.specs.ChangeSteps.{has_path, rows_behind}
+use Rattle.delta_log.proofs.BehindLemmas.{behind_count}
+use Rattle.delta_log.proofs.change.live_count.Goals as goal
+
+pub returns-clause-count : goal.returns-clause-count
+returns-clause-count c =
+    let all = behind_count c.args.before.now c.args.rows.now c.args.files.now c.len.ensures.distinct c.requires.distinct in
+    omega (arith, all, c.len.ensures.len, c.held_count.ensures)
+
+pub overflow_sub-result : goal.overflow_sub-result
+overflow_sub-result c =
+    let all = behind_count c.args.before.now c.args.rows.now c.args.files.now c.len.ensures.distinct c.requires.distinct in
+    omega (arith, all, c.len.ensures.len, c.held_count.ensures)

@@ -1,0 +1,185 @@
+-- The change that a commit makes of a table, and why a commit can't be taken over a table.
+use Rattle.std.specs.Prelude.{◌≡◌, ◌≢◌, ◌⊎◌, ℕ, ◌<◌, ◌≤◌, ◌^◌, pos, List, [], ◌∷◌, length, codes, Contains, Option, Some, None, unwrap_or, IfSome, Err}
+use Rattle.lake_basics.specs.declared.limits.TheConstants.{MAX_LIVE_FILES, MAX_PARTITION_COLUMNS}
+use Rattle.table_history.specs.First.{IsFirst, NoneOf}
+use Rattle.table_history.specs.History.{column_type, FitColumns}
+use Rattle.table_history.specs.Path.{IsPath}
+use Rattle.table_history.specs.Row.{Row}
+use Rattle.table_history.specs.Rows.{HasDistinctPaths}
+use Rattle.table_history.specs.Tables.{IsAfter, IsDiff, LeadsTo}
+use Rattle.table_history.specs.TypeTree.{ColumnTrees}
+use Rattle.table_history.specs.declared.feature.Feature.{Feature}
+use Rattle.table_history.specs.declared.feature.Feature.TheVariants.{ReaderVersion, ReaderFeature, ColumnMapping, SchemaType, PartitionType, PartitionChange, PartitionValue}
+use Rattle.table_history.specs.declared.limit.LimitKind.{LimitKind}
+use Rattle.table_history.specs.declared.limit.LimitKind.TheVariants.{LiveFiles, PartitionColumns}
+use Rattle.table_history.specs.declared.table.Change.{Change}
+use Rattle.table_history.specs.declared.table.Table.{Table}
+use Rattle.partition_map.specs.Columns.{LacksKinds, HasOtherKind}
+use Rattle.partition_map.specs.Stands.{DeltaStands}
+use Rattle.partition_map.specs.declared.kind.PartKind.{PartKind}
+use Rattle.table_history.specs.declared.row.PartValue.{PartValue}
+use Rattle.schema_map.specs.Delta.{delta_schema_of}
+use Rattle.schema_map.specs.declared.fault.MapError.{MapError}
+use Rattle.schema_map.specs.declared.fault.MapError.TheVariants as map_errors
+use Rattle.delta_log.specs.declared.commit.DeltaCommit.{DeltaCommit}
+use Rattle.delta_log.specs.declared.commit.FileAction.{FileAction}
+use Rattle.delta_log.specs.declared.commit.FileAction.TheVariants as file
+use Rattle.delta_log.specs.declared.commit.MetaData.{MetaData}
+use Rattle.delta_log.specs.declared.commit.Protocol.{Protocol}
+use Rattle.delta_log.specs.declared.error.DeltaError.{DeltaError}
+use Rattle.delta_log.specs.declared.error.DeltaError.TheVariants as errors
+use Rattle.delta_log.specs.Live.{PartColumns, text_of, IsRowBehind}
+use Rattle.delta_log.specs.TableBehind.{rows_before, schema_before, partition_behind, table_before, Spells, StatesSchema, IsSchemaBehind, ArePartColumns}
+
+-- ---- the grammar of a commit as a whole
+
+-- The first commit lacks the protocol or the metadata.
+abbrev pub LacksFirstActions : DeltaCommit → Option Table → Type 0
+LacksFirstActions c base = (base ≡ None) × ((c.protocol ≡ None) ⊎ (c.meta ≡ None))
+
+-- The text of the schema isn't in the grammar.
+abbrev pub HasBadSchema : DeltaCommit → Type 0
+HasBadSchema c = (m : MetaData) × (c.meta ≡ Some m) × (delta_schema_of m.schema ≡ Err map_errors.BadSchema)
+
+-- A partition column isn't a top-level column of the schema beside it.
+abbrev pub HasStrayColumn : DeltaCommit → Type 0
+HasStrayColumn c = (m : MetaData) × (schema : ColumnTrees) × (name : List ℕ) × (c.meta ≡ Some m) × Spells m schema × Contains m.partition name × (column_type schema name ≡ None)
+
+abbrev pub IsOutsideGrammar : DeltaCommit → Option Table → Type 0
+IsOutsideGrammar c base = LacksFirstActions c base ⊎ (HasBadSchema c ⊎ HasStrayColumn c)
+
+-- ---- features of a commit as a whole
+
+abbrev pub HasOtherReader : DeltaCommit → Type 0
+HasOtherReader c = (p : Protocol) × (c.protocol ≡ Some p) × (p.reader ≢ pos 1) × (p.reader ≢ pos 2) × (p.reader ≢ pos 3)
+
+-- the reader features that this reader knows
+abbrev pub known_features : List (List ℕ)
+known_features = codes "columnMapping" ∷ codes "deletionVectors" ∷ codes "timestampNtz" ∷ codes "v2Checkpoint" ∷ codes "vacuumProtocolCheck" ∷ []
+
+-- Reader version 3 lists a feature that isn't known.
+abbrev pub NeedsOtherFeature : DeltaCommit → Type 0
+NeedsOtherFeature c = (p : Protocol) × (names : List (List ℕ)) × (name : List ℕ) × (c.protocol ≡ Some p) × (p.reader ≡ pos 3) × (p.reader_features ≡ Some names) × Contains names name × ¬ Contains known_features name
+
+-- The columns of the files have other names than those of the table, or ids.
+abbrev pub MapsColumns : DeltaCommit → Type 0
+MapsColumns c = (m : MetaData) × (mode : List ℕ) × (c.meta ≡ Some m) × Contains m.configuration (codes "delta.columnMapping.mode", mode) × (mode ≢ codes "none")
+
+-- The reading of a schema tells of a type, or of a name, that can't be taken over.
+abbrev pub TellsOfType : MapError → Type 0
+TellsOfType (map_errors.SchemaType column) = Unit {0}
+TellsOfType (map_errors.AvroName column) = Unit {0}
+TellsOfType _ = ⊥
+
+-- A column has a type that isn't in the table of types.
+abbrev pub HasOtherType : DeltaCommit → Type 0
+HasOtherType c = (m : MetaData) × (e : MapError) × (c.meta ≡ Some m) × (delta_schema_of m.schema ≡ Err e) × TellsOfType e
+
+-- A partition column is named twice, or has no kind.
+abbrev pub HasOtherPartition : DeltaCommit → Option Table → Type 0
+HasOtherPartition c base = (schema : ColumnTrees) × IsSchemaBehind c.meta base schema × LacksKinds schema (partition_behind c.meta base)
+
+-- The metadata has other partition columns than the table before, or in another order, or it gives one another kind.
+abbrev pub ChangesPartition : DeltaCommit → Option Table → Type 0
+ChangesPartition c base =
+    (t : Table) × (m : MetaData) × (schema : ColumnTrees) × (base ≡ Some t) × (c.meta ≡ Some m) × Spells m schema
+    × ((m.partition ≢ t.partition) ⊎ HasOtherKind t.schema schema m.partition)
+
+-- The action adds a file whose text for the column stands for no value.
+abbrev pub SpellsNoValue : List ℕ × PartKind → FileAction → Type 0
+SpellsNoValue column (file.Add path values size count) = (v : PartValue) → ¬ DeltaStands column.1 (text_of column.0 values) v
+SpellsNoValue column (file.Remove path) = ⊥
+
+abbrev pub HasOtherValue : DeltaCommit → Option Table → Type 0
+HasOtherValue c base =
+    (schema : ColumnTrees) × (columns : PartColumns) × IsSchemaBehind c.meta base schema × ArePartColumns schema (partition_behind c.meta base) columns
+    × (f : FileAction) × (column : List ℕ × PartKind) × Contains c.files f × Contains columns column × SpellsNoValue column f
+
+-- The commit over this table shows the feature.
+abbrev pub Shows : DeltaCommit → Option Table → Feature → Type 0
+Shows c base ReaderVersion = HasOtherReader c
+Shows c base ReaderFeature = NeedsOtherFeature c
+Shows c base ColumnMapping = MapsColumns c
+Shows c base SchemaType = HasOtherType c
+Shows c base PartitionType = HasOtherPartition c base
+Shows c base PartitionChange = ChangesPartition c base
+Shows c base PartitionValue = HasOtherValue c base
+Shows c base _ = ⊥
+
+-- the features that a commit may show as a whole, in the order in which they are told
+abbrev pub commit_features : List Feature
+commit_features = ReaderVersion ∷ ReaderFeature ∷ ColumnMapping ∷ SchemaType ∷ PartitionType ∷ PartitionChange ∷ PartitionValue ∷ []
+
+-- ---- rows
+
+-- the rows behind the commit, each once: those that it adds, and those before on whose paths it has no action
+pub record AreRowsBehind (columns : PartColumns) (before : List Row) (c : DeltaCommit) (behind : List Row) : Type 0 where
+  pub distinct : HasDistinctPaths behind
+  pub rows : (row : Row) → (Contains behind row → IsRowBehind columns before c row) × (IsRowBehind columns before c row → Contains behind row)
+
+-- ---- limits
+
+-- The schema has too many columns or levels, whichever is told while it is read.
+abbrev pub HasLargeSchema : DeltaCommit → LimitKind → Type 0
+HasLargeSchema c which = (m : MetaData) × (c.meta ≡ Some m) × (delta_schema_of m.schema ≡ Err (map_errors.Limit which))
+
+abbrev pub HasManyFiles : DeltaCommit → Option Table → Type 0
+HasManyFiles c base =
+    (schema : ColumnTrees) × (columns : PartColumns) × (behind : List Row)
+    × IsSchemaBehind c.meta base schema × ArePartColumns schema (partition_behind c.meta base) columns
+    × AreRowsBehind columns (rows_before base) c behind × (MAX_LIVE_FILES < length behind)
+
+-- The table behind the commit passes this number.
+abbrev pub Passes : DeltaCommit → Option Table → LimitKind → Type 0
+Passes c base PartitionColumns = MAX_PARTITION_COLUMNS < length (partition_behind c.meta base)
+Passes c base LiveFiles = HasManyFiles c base
+Passes c base _ = ⊥
+
+abbrev pub commit_limits : List LimitKind
+commit_limits = PartitionColumns ∷ LiveFiles ∷ []
+
+-- ---- the change
+
+-- The commit can be taken over the table: it is in the grammar, shows no feature that isn't supported, and passes no number.
+pub record CanFollow (c : DeltaCommit) (base : Option Table) : Type 0 where
+  pub grammar : ¬ IsOutsideGrammar c base
+  pub supported : NoneOf (Shows c base) commit_features
+  pub schema : (which : LimitKind) → ¬ HasLargeSchema c which
+  pub within : NoneOf (Passes c base) commit_limits
+
+-- The change is what differs between the rows before the commit and those behind it, with the schema that the commit states.
+pub record IsChangeOf (c : DeltaCommit) (base : Option Table) (change : Change) : Type 0 where
+  pub stated : StatesSchema c.meta change.schema
+  pub columns : PartColumns
+  pub kinds : ArePartColumns (unwrap_or change.schema (schema_before base)) (partition_behind c.meta base) columns
+  pub behind : List Row
+  pub rows : AreRowsBehind columns (rows_before base) c behind
+  pub diff : IsDiff (rows_before base) behind change.removed change.added
+  pub leads : LeadsTo (rows_before base) change.removed change.added behind
+  pub few : length behind ≤ MAX_LIVE_FILES
+  pub few_columns : length (partition_behind c.meta base) ≤ MAX_PARTITION_COLUMNS
+
+-- a row of a table with this schema and these partition columns
+pub record IsSoundRow (schema : ColumnTrees) (partition : List (List ℕ)) (row : Row) : Type 0 where
+  pub path : IsPath row.path
+  pub values : FitColumns schema partition row.values
+  pub count : row.count < 2 ^ 63
+  pub size : row.size < 2 ^ 63
+
+-- ---- refusals
+
+-- Memory ran out, or the commit as a whole has the fault, and none that is told before it.
+abbrev pub IsChangeRefusal : DeltaCommit → Option Table → DeltaError → Type 0
+IsChangeRefusal c base errors.Memory = Unit {0}
+IsChangeRefusal c base (errors.Malformed line) = (line ≡ 0) × IsOutsideGrammar c base
+IsChangeRefusal c base (errors.DoublePath line) = ⊥
+IsChangeRefusal c base (errors.Unsupported feature line) = (line ≡ 0) × (¬ IsOutsideGrammar c base) × IsFirst (Shows c base) commit_features feature
+IsChangeRefusal c base (errors.Limit which) = (¬ IsOutsideGrammar c base) × NoneOf (Shows c base) commit_features × (HasLargeSchema c which ⊎ (((w : LimitKind) → ¬ HasLargeSchema c w) × IsFirst (Passes c base) commit_limits which))
+
+-- ---- commits one after another
+
+-- Each commit makes a change of the table that the one before it left, with these partition columns.
+abbrev pub LeadTo : PartColumns → Option Table → List DeltaCommit → Option Table → Type 0
+LeadTo columns base [] last = base ≡ last
+LeadTo columns base (c ∷ commits) last =
+    (change : Change) × (next : Table) × (is : IsChangeOf c base change) × (is.columns ≡ columns) × IsAfter (table_before c base) change next × LeadTo columns (Some next) commits last

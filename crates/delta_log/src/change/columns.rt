@@ -1,0 +1,282 @@
+//! The schema and the partition columns behind a commit.
+
+ghost use Rattle.std.specs.Prelude.{◌≡◌, option_map, IfOk};
+ghost use Rattle.std.specs.List.{list_any, list_all};
+ghost use Rattle.std.specs.Option.{option_copied};
+ghost use Rattle.lake_basics.specs.Outcome.{each, GivesUnlessMemory};
+ghost use Rattle.table_history.specs.History.{column_type};
+ghost use Rattle.table_history.specs.SchemaView.{type_view};
+ghost use Rattle.partition_map.specs.Columns.{column_kind};
+ghost use Rattle.delta_log.specs.Judging.{is_memory, Answers};
+ghost use Rattle.delta_log.specs.ChangeSteps.{is_column, are_distinct, part_column, judged_columns, is_same_kind, changes_kind, changes_partition, changes_base, judged_schema, with_columns, lacks_first_actions, unshown, unchanged, columns_view, stated_columns, kept_columns, columns_of};
+
+use super::features::first_feature;
+use crate::commit::{DeltaCommit, MetaData};
+use crate::error::DeltaError;
+use indexmap::IndexSet;
+use lake_basics::{Items, Text};
+use partition_map::{PartKind, part_kind};
+use schema_map::{MapError, from_delta};
+use std::alloc::{AllocError, Global};
+use table_history::{ColumnType, Feature, Schema, Table};
+
+const MALFORMED: DeltaError = DeltaError::Malformed { line: 0 };
+
+const SCHEMA_TYPE: DeltaError = DeltaError::Unsupported {
+    feature: Feature::SchemaType,
+    line: 0,
+};
+
+const PARTITION_CHANGE: DeltaError = DeltaError::Unsupported {
+    feature: Feature::PartitionChange,
+    line: 0,
+};
+
+const PARTITION_TYPE: DeltaError = DeltaError::Unsupported {
+    feature: Feature::PartitionType,
+    line: 0,
+};
+
+/// The schema that a commit states, and the partition columns behind it with their kinds.
+#[derive(Drop)]
+pub(super) struct Columns {
+    pub stated: Option<Schema>,
+    pub columns: Items<(Text, PartKind)>,
+}
+
+// ---- columns of a schema
+
+fn type_of<'a>(schema: &'a Schema, name: &str) -> Option<&'a ColumnType>
+    ensures { option_map (λ t. type_view t.now) result ≡ column_type schema.now name.now }
+{
+    let columns = schema.columns();
+    for column in columns {
+        if column.name.as_str() == name {
+            return Some(&column.kind);
+        }
+    }
+    None
+}
+
+fn is_column(schema: &Schema, name: &str) -> bool
+    ensures { result ≡ is_column schema.now name.now }
+{
+    type_of(schema, name).is_some()
+}
+
+fn kind_of(schema: &Schema, name: &str) -> Option<PartKind>
+    ensures { result ≡ column_kind schema.now name.now }
+{
+    match type_of(schema, name) {
+        None => None,
+        Some(kind) => part_kind(kind),
+    }
+}
+
+/// Whether each name is that of a top-level column.
+fn are_columns(schema: &Schema, names: &[Text]) -> bool
+    ensures { result ≡ list_all (is_column schema.now) names.now }
+{
+    names.iter().all(|name| is_column(schema, name.as_str()))
+}
+
+fn are_distinct(alloc: Global, names: &[Text]) -> Result<bool, AllocError>
+    ensures { IfOk result (λ distinct. distinct ≡ are_distinct names.now) }
+{
+    let mut seen = IndexSet::new(alloc);
+    for name in names {
+        if !seen.insert(name.as_str())? {
+            return Ok(false);
+        }
+    }
+    Ok(true)
+}
+
+// ---- partition columns
+
+fn part_column(alloc: Global, schema: &Schema, name: &Text) -> Result<(Text, PartKind), DeltaError>
+    ensures { Answers result (part_column schema.now name.now) }
+{
+    let kind = kind_of(schema, name.as_str()).ok_or(PARTITION_TYPE)?;
+    Ok((name.copy(alloc)?, kind))
+}
+
+fn part_columns(
+    alloc: Global,
+    schema: &Schema,
+    names: &[Text],
+) -> Result<Items<(Text, PartKind)>, DeltaError>
+    ensures { Answers result (each (part_column schema.now) names.now) }
+{
+    let mut columns = Items::new(alloc);
+    for name in names {
+        columns.push(part_column(alloc, schema, name)?)?;
+    }
+    Ok(columns)
+}
+
+/// The partition columns with their kinds. Each is named once, and has a kind.
+fn judged_columns(
+    alloc: Global,
+    schema: &Schema,
+    names: &[Text],
+) -> Result<Items<(Text, PartKind)>, DeltaError>
+    ensures { Answers result (judged_columns schema.now names.now) }
+{
+    if !are_distinct(alloc, names)? {
+        return Err(PARTITION_TYPE);
+    }
+    part_columns(alloc, schema, names)
+}
+
+fn is_same_kind(kind: PartKind, other: PartKind) -> bool
+    ensures { result ≡ is_same_kind kind other }
+{
+    kind == other
+}
+
+fn changes_kind(before: &Schema, schema: &Schema, name: &str) -> bool
+    ensures { result ≡ changes_kind before.now schema.now name.now }
+{
+    match kind_of(before, name) {
+        None => false,
+        Some(was) => match kind_of(schema, name) {
+            None => false,
+            Some(kind) => !is_same_kind(was, kind),
+        },
+    }
+}
+
+fn has_other_kind(before: &Schema, schema: &Schema, names: &[Text]) -> bool
+    ensures { result ≡ list_any (changes_kind before.now schema.now) names.now }
+{
+    names
+        .iter()
+        .any(|name| changes_kind(before, schema, name.as_str()))
+}
+
+/// Whether the metadata changes the partition columns of the table before.
+fn changes_partition(table: &Table, meta: &MetaData, schema: &Schema) -> bool
+    ensures { result ≡ changes_partition table.now meta.now schema.now }
+{
+    meta.partition != table.partition
+        || has_other_kind(&table.schema, schema, meta.partition.as_slice())
+}
+
+fn changes_base(base: Option<&Table>, meta: &MetaData, schema: &Schema) -> bool
+    ensures { result ≡ changes_base (option_copied base.entry) meta.now schema.now }
+{
+    match base {
+        None => false,
+        Some(table) => changes_partition(table, meta, schema),
+    }
+}
+
+// ---- the schema
+
+/// The schema that the text spells, or what is told of one that can't be read, where that isn't for
+/// its grammar.
+fn judged_schema(alloc: Global, meta: &MetaData) -> Result<Result<Schema, DeltaError>, DeltaError>
+    ensures { Answers result (judged_schema meta.now) }
+{
+    match from_delta(alloc, meta.schema.as_bytes()) {
+        Ok(schema) => Ok(Ok(with_columns(schema, meta)?)),
+        Err(MapError::Memory) => Err(DeltaError::Memory),
+        Err(MapError::BadSchema) => Err(MALFORMED),
+        Err(MapError::SchemaType { .. }) => Ok(Err(SCHEMA_TYPE)),
+        Err(MapError::AvroName { .. }) => Ok(Err(SCHEMA_TYPE)),
+        Err(MapError::Limit { which }) => Ok(Err(DeltaError::Limit { which })),
+    }
+}
+
+fn with_columns(schema: Schema, meta: &MetaData) -> Result<Schema, DeltaError>
+    ensures { Answers result (with_columns meta.now schema) }
+{
+    if are_columns(&schema, meta.partition.as_slice()) {
+        Ok(schema)
+    } else {
+        Err(MALFORMED)
+    }
+}
+
+// ---- a commit
+
+fn lacks_first_actions(commit: &DeltaCommit, base: Option<&Table>) -> bool
+    ensures { result ≡ lacks_first_actions commit.now (option_copied base.entry) }
+{
+    base.is_none() && (commit.protocol.is_none() || commit.meta.is_none())
+}
+
+/// The protocol and the settings show no feature.
+fn unshown(commit: &DeltaCommit) -> Result<(), DeltaError>
+    ensures { Answers result (unshown commit.now) }
+{
+    match first_feature(commit) {
+        None => Ok(()),
+        Some(feature) => Err(DeltaError::Unsupported { feature, line: 0 }),
+    }
+}
+
+fn unchanged(base: Option<&Table>, meta: &MetaData, schema: &Schema) -> Result<(), DeltaError>
+    ensures { Answers result (unchanged (option_copied base.entry) meta.now schema.now) }
+{
+    if changes_base(base, meta, schema) {
+        return Err(PARTITION_CHANGE);
+    }
+    Ok(())
+}
+
+#[tactic(auto, unfolding(crate::specs::ChangeSteps::stated_columns))]
+fn stated_columns(
+    alloc: Global,
+    commit: &DeltaCommit,
+    meta: &MetaData,
+    base: Option<&Table>,
+) -> Result<Columns, DeltaError>
+    ensures { GivesUnlessMemory is_memory columns_view result
+        (stated_columns commit.now meta.now (option_copied base.entry)) }
+{
+    let read = judged_schema(alloc, meta)?;
+    unshown(commit)?;
+    let schema = read?;
+    let columns = judged_columns(alloc, &schema, meta.partition.as_slice())?;
+    unchanged(base, meta, &schema)?;
+    Ok(Columns {
+        stated: Some(schema),
+        columns,
+    })
+}
+
+#[tactic(auto, unfolding(crate::specs::ChangeSteps::kept_columns))]
+fn kept_columns(alloc: Global, commit: &DeltaCommit, table: &Table) -> Result<Columns, DeltaError>
+    ensures { GivesUnlessMemory is_memory columns_view result
+        (kept_columns commit.now table.now) }
+{
+    unshown(commit)?;
+    let columns = judged_columns(alloc, &table.schema, table.partition.as_slice())?;
+    Ok(Columns {
+        stated: None,
+        columns,
+    })
+}
+
+/// The schema that the commit states, and the partition columns behind it.
+pub(super) fn columns_of(
+    alloc: Global,
+    commit: &DeltaCommit,
+    base: Option<&Table>,
+) -> Result<Columns, DeltaError>
+    ensures { GivesUnlessMemory is_memory columns_view result
+        (columns_of commit.now (option_copied base.entry)) }
+{
+    if lacks_first_actions(commit, base) {
+        return Err(MALFORMED);
+    }
+    match &commit.meta {
+        Some(meta) => stated_columns(alloc, commit, meta, base),
+        None => match base {
+            Some(table) => kept_columns(alloc, commit, table),
+            None => Err(MALFORMED),
+        },
+    }
+}
