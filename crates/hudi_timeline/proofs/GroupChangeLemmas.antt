@@ -37,7 +37,7 @@ distinct_none = tt
 distinct_cons : (r : FileRow) (rows : List FileRow) → ((s : FileRow) → Contains rows s → r.path ≡ s.path → ⊥) → HasDistinctPaths rows → HasDistinctPaths (r ∷ rows)
 distinct_cons r rows none d = IsDistinct-cons bytes_eq r.path (paths_of rows) (apart_paths r.path rows none) d
 
-at_path : (P : List ℕ → Type 0) (rows : List FileRow) (s : FileRow) → AllByRecursion P (paths_of rows) → Contains rows s → P s.path
+pub at_path : (P : List ℕ → Type 0) (rows : List FileRow) (s : FileRow) → AllByRecursion P (paths_of rows) → Contains rows s → P s.path
 at_path P [] s all there = absurd (Contains-none s there)
 at_path P (r ∷ rs) s all there = ⊎_elim (λ e. subst (λ (w : FileRow). P w.path) e all.0) (λ later. at_path P rs s all.1 later) (Contains-cases r rs s there)
 
@@ -76,7 +76,7 @@ module _ (form : Form) (replaced : List (List ℕ × List ℕ)) (before rows : L
   written_touched row there path e =
       ap (λ b. b || list_any (names_group (group_name form path)) replaced) (any_from (is_row_of_group form (group_name form path)) rows row there (group_has_row form (group_name form path) row (ap (group_name form) e)))
 
-  new_there : (row : FileRow) → Contains (reverse (newest_rows form rows)) row → Contains rows row
+  pub new_there : (row : FileRow) → Contains (reverse (newest_rows form rows)) row → Contains rows row
   new_there row new = newest_there form rows row (Contains-permutation _ _ row (IsPermutation-sym _ _ (IsPermutation-reverse (newest_rows form rows))) new)
 
   pub rows_after_distinct : HasDistinctPaths before → HasDistinctPaths (rows_after form replaced before rows)

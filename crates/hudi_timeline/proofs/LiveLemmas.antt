@@ -31,7 +31,7 @@ use Rattle.hudi_timeline.proofs.NewestLemmas.{newest_from, newest_to}
 use Rattle.hudi_timeline.proofs.ValueLemmas.{rows_same}
 
 -- ---- the rows of an instant, against its stats
-each_cons : {A B E : Type 0} (f : A → Result B E) (x : A) (xs : List A) (ys : List B) → each f (x ∷ xs) ≡ Ok ys → (y : B) × (rest : List B) × (f x ≡ Ok y) × (each f xs ≡ Ok rest) × (ys ≡ y ∷ rest)
+pub each_cons : {A B E : Type 0} (f : A → Result B E) (x : A) (xs : List A) (ys : List B) → each f (x ∷ xs) ≡ Ok ys → (y : B) × (rest : List B) × (f x ≡ Ok y) × (each f xs ≡ Ok rest) × (ys ≡ y ∷ rest)
 each_cons {A} {B} {E} f x xs ys h = by (f x) (each f xs) refl refl h
   where
     by : (a : Result B E) (r : Result (List B) E) → f x ≡ a → each f xs ≡ r → (a >>= λ y. r >>= λ rest. Ok (y ∷ rest)) ≡ Ok ys
@@ -40,10 +40,10 @@ each_cons {A} {B} {E} f x xs ys h = by (f x) (each f xs) refl refl h
     by (Ok y) (Err fault) first others e = absurd cc
     by (Err fault) r first others e = absurd cc
 
-abbrev bare : List ℕ → Stat → FileRow
+abbrev pub bare : List ℕ → Stat → FileRow
 bare suffix s = record { path = without_end suffix s.path; values = []; count = s.writes; size = s.size }
 
-bare_path : (suffix : List ℕ) (s : Stat) (row : FileRow) → bare_row suffix s ≡ Ok row → row.path ≡ without_end suffix s.path
+pub bare_path : (suffix : List ℕ) (s : Stat) (row : FileRow) → bare_row suffix s ≡ Ok row → row.path ≡ without_end suffix s.path
 bare_path suffix s row h = by (has_sound_path suffix s) (has_sound_numbers s) h
   where
     by : (a b : Bool) → cond a (cond b (Ok (bare suffix s)) (Err malformed)) (Err malformed) ≡ Ok row → row.path ≡ without_end suffix s.path

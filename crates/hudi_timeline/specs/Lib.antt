@@ -1,3 +1,5 @@
+pub mod Causes
+pub mod Change
 pub mod Errors
 pub mod Escapes
 pub mod Files
@@ -11,6 +13,8 @@ pub mod Lines
 pub mod Live
 pub mod Name
 pub mod Pairs
+pub mod Schemas
+pub mod Steps
 pub mod TableProperties
 pub mod Time
 pub mod Values

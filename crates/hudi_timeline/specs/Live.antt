@@ -16,6 +16,9 @@ pub record Completed : Type 0 where
   pub form : Form
   pub instant : Instant
 
+abbrev pub completed : Form → Instant → Completed
+completed form instant = record { form = form; instant = instant }
+
 -- the completed commits and replacecommits of a table, the oldest first
 abbrev pub Timeline : Type 0
 Timeline = List Completed
@@ -69,3 +72,9 @@ AreLive table kinds timeline rows = (row : Row) → Contains rows row ↔ HudiLi
 -- What an instant makes of rows: its replacements first, and then its writes.
 abbrev pub IsLiveAfter : HudiTable → List PartKind → Completed → List Row → Row → Type 0
 IsLiveAfter table kinds u rows row = IsWrittenBy table kinds u row ⊎ (Contains rows row × ¬ Touches u row.path)
+
+-- ---- over an older table
+
+-- The row is live after the timeline over a table of these rows: an instant of the timeline left it live, or it was there, and none has written or replaced its group since.
+abbrev pub IsLiveOver : HudiTable → List PartKind → List Row → Timeline → Row → Type 0
+IsLiveOver table kinds origin timeline row = HudiLive table kinds timeline row ⊎ (Contains origin row × ((u : Completed) → Contains timeline u → ¬ Touches u row.path))

@@ -59,10 +59,10 @@ HaveValues style names kinds [] rows = rows ≡ []
 HaveValues style names kinds (bare ∷ files) rows =
     (row : Row) × (rest : List Row) × HasValues style names kinds bare row × HaveValues style names kinds files rest × (rows ≡ row ∷ rest)
 
--- a file whose folder spells no values of these kinds
-pub record SpellsNoValues (style : FolderStyle) (names : List (List ℕ)) (kinds : List PartKind) (bare : Row) : Type 0 where
+-- a path whose folder spells no values of these kinds
+pub record SpellsNoValues (style : FolderStyle) (names : List (List ℕ)) (kinds : List PartKind) (path : List ℕ) : Type 0 where
   pub parts : List (List ℕ)
-  pub spelled : value_parts style names bare.path ≡ Some parts
+  pub spelled : value_parts style names path ≡ Some parts
   pub none : (vs : List PartValue) → ¬ PartsStand style kinds parts vs
 
 -- The refusal says that there are no such values, unless memory ran out.

@@ -11,6 +11,7 @@ mod properties;
 mod table;
 mod time;
 
+pub use change::change_of;
 pub use error::HudiError;
 pub use form::Form;
 pub use group::group_of;
@@ -20,5 +21,7 @@ pub use properties::{Pairs, properties_text, read_properties};
 pub use table::{HudiTable, check_properties};
 pub use time::{next_instant, read_time};
 
+#[cfg(test)]
+mod change_tests;
 #[cfg(test)]
 mod tests;

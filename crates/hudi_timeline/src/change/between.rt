@@ -4,7 +4,7 @@ ghost use Rattle.std.specs.Prelude.{◌≡◌, IfOk, IfErr, List};
 ghost use Rattle.std.specs.List.{list_any};
 ghost use Rattle.table_history.specs.Rows.{HasDistinctPaths, SameRows};
 ghost use Rattle.table_history.specs.Tables.{IsDiff};
-ghost use Rattle.hudi_timeline.specs.GroupChange.{is_long, limit_passed, IsGroupChange, PassesLimitAfter};
+ghost use Rattle.hudi_timeline.specs.GroupChange.{is_long, limit_passed, row_limit, IsGroupChange, PassesLimitAfter};
 
 use super::groups::{newest_rows, rows_of_groups, with_replaced};
 use crate::error::HudiError;
@@ -12,12 +12,27 @@ use crate::form::Form;
 use crate::table::HudiTable;
 use lake_basics::limits::{MAX_LIVE_FILES, MAX_PARTITION_COLUMNS, MAX_PATH_BYTES};
 use lake_basics::{Items, Text};
+use schema_map::schema_limit;
 use std::alloc::{AllocError, Global};
-use table_history::{Change, FileRow, FileRows, LimitKind, Table};
+use table_history::{Change, FileRow, FileRows, LimitKind, Schema, Table};
 
 /// The first number that is passed, of so many live rows.
-fn limit_passed(table: &HudiTable, is_any_long: bool, live: u128) -> Option<LimitKind>
-    ensures { result ≡ limit_passed table.now is_any_long live }
+fn limit_passed(
+    table: &HudiTable,
+    schema: &Schema,
+    is_any_long: bool,
+    live: u128,
+) -> Option<LimitKind>
+    ensures { result ≡ limit_passed table.now schema.now is_any_long live }
+{
+    match schema_limit(schema) {
+        Some(which) => Some(which),
+        None => row_limit(table, is_any_long, live),
+    }
+}
+
+fn row_limit(table: &HudiTable, is_any_long: bool, live: u128) -> Option<LimitKind>
+    ensures { result ≡ row_limit table.now is_any_long live }
 {
     if table.partition.len() as u64 > MAX_PARTITION_COLUMNS {
         Some(LimitKind::PartitionColumns)
@@ -42,14 +57,15 @@ pub(super) fn group_change(
     alloc: Global,
     form: &Form,
     table: &HudiTable,
+    schema: &Schema,
     replaced: &[(Text, Text)],
     before: &FileRows,
     rows: Items<FileRow>,
 ) -> Result<Change, HudiError>
     ensures change { IfOk result
-        (IsGroupChange form.now table.now replaced.now before.now rows) }
+        (IsGroupChange form.now table.now schema.now replaced.now before.now rows) }
     ensures refused { IfErr result
-        (PassesLimitAfter form.now table.now replaced.now before.now rows) }
+        (PassesLimitAfter form.now table.now schema.now replaced.now before.now rows) }
 {
     let is_any_long = is_any_long(rows.as_slice());
     let newest = newest_rows(alloc, form, rows)?;
@@ -57,7 +73,7 @@ pub(super) fn group_change(
     let old = rows_of_groups(alloc, form, &groups, before)?;
     let kept = before.len() - old.len();
     let live = kept as u128 + newest.rows.len() as u128;
-    if let Some(which) = limit_passed(table, is_any_long, live) {
+    if let Some(which) = limit_passed(table, schema, is_any_long, live) {
         return Err(HudiError::Limit { which });
     }
     Ok(change_between(alloc, old, newest.rows)?)

@@ -9,13 +9,15 @@ ghost use Rattle.partition_map.specs.Folder.{texts_of};
 ghost use Rattle.table_history.specs.declared.row.PartValue.{PartValue};
 ghost use Rattle.table_history.specs.declared.row.FileRow.{FileRow};
 ghost use Rattle.hudi_timeline.specs.Errors.{Gives};
-ghost use Rattle.hudi_timeline.specs.Files.{bare_row, is_external, has_other_id, is_other_file, name_fault};
+ghost use Rattle.hudi_timeline.specs.Files.{suffix_of, bare_row, is_external, has_other_id, is_other_file, name_fault};
+ghost use Rattle.hudi_timeline.specs.Steps.{OnlyFeature, IsFileFault, IsFolderFault};
 ghost use Rattle.hudi_timeline.specs.Values.{style_of, component_parts, value_parts, is_in_folder, are_in_folders, PartStands, PartsStand, HasValues, HaveValues, ShowsNoValue, SpellsNoValues};
 
 use crate::error::HudiError;
-use crate::form::{Form, file_id_in, without_end};
+use crate::form::{Form, file_id_in, suffix_of, without_end};
 use crate::group::folder_of;
 use crate::instant::Stat;
+use crate::table::HudiTable;
 use lake_basics::{Items, Text, TextError};
 use partition_map::{
     FolderStyle, PartError, PartKind, from_hive, last_components, unescape, value_part,
@@ -23,7 +25,11 @@ use partition_map::{
 use std::alloc::{AllocError, Global};
 use table_history::{Feature, FileRow, PartValue, Values, path_form_of_any_length};
 
-const MALFORMED: HudiError = HudiError::Malformed { line: 0 };
+pub(super) const MALFORMED: HudiError = HudiError::Malformed { line: 0 };
+
+const PARTITION_PATH: HudiError = HudiError::Unsupported {
+    feature: Feature::PartitionPath,
+};
 
 const PARTITION_VALUE: HudiError = HudiError::Unsupported {
     feature: Feature::PartitionValue,
@@ -32,11 +38,18 @@ const PARTITION_VALUE: HudiError = HudiError::Unsupported {
 // ---- files
 
 /// The files of the stats, before the partition values in their folders are read.
-pub(super) fn bare_rows(
+pub(super) fn read_files(
     alloc: Global,
-    suffix: &[u8],
+    form: &Form,
     stats: &[Stat],
 ) -> Result<Items<FileRow>, HudiError>
+    ensures { Gives result (each (bare_row (suffix_of form.now)) stats.now) }
+{
+    let suffix = suffix_of(alloc, form)?;
+    bare_rows(alloc, suffix.as_slice(), stats)
+}
+
+fn bare_rows(alloc: Global, suffix: &[u8], stats: &[Stat]) -> Result<Items<FileRow>, HudiError>
     ensures { Gives result (each (bare_row suffix.now) stats.now) }
 {
     let mut rows = Items::new(alloc);
@@ -78,7 +91,7 @@ fn text_of(alloc: Global, path: &[u8]) -> Result<Text, HudiError>
 // ---- what the names of files show
 
 /// The first feature that the names of the files show.
-pub(super) fn name_fault(form: &Form, suffix: &[u8], stats: &[Stat]) -> Option<Feature>
+fn name_fault(form: &Form, suffix: &[u8], stats: &[Stat]) -> Option<Feature>
     ensures { result ≡ name_fault form.now suffix.now stats.now }
 {
     if has_external(form, stats) {
@@ -190,7 +203,7 @@ fn is_in_folder(
 }
 
 /// Whether each file is in a folder of the partition columns.
-pub(super) fn are_in_folders(
+fn are_in_folders(
     alloc: Global,
     style: FolderStyle,
     names: &[Text],
@@ -258,7 +271,7 @@ fn row_with_values(
     requires inside { is_in_folder style names.now file.now ≡ true }
     ensures ok { IfOk result (HasValues style names.now kinds.now file.now) }
     ensures refused { IfErr result
-        (ShowsNoValue (SpellsNoValues style names.now kinds.now file.now)) }
+        (ShowsNoValue (SpellsNoValues style names.now kinds.now file.now.path)) }
 {
     let Some(parts) = value_parts(alloc, style, names, file.path.as_str())? else {
         return Err(MALFORMED);
@@ -273,7 +286,7 @@ fn row_with_values(
 }
 
 /// The rows of the files, each with the values that its folder spells.
-pub(super) fn rows_with_values(
+fn rows_with_values(
     alloc: Global,
     style: FolderStyle,
     names: &[Text],
@@ -284,11 +297,73 @@ pub(super) fn rows_with_values(
     requires inside { are_in_folders style names.now files.now ≡ true }
     ensures ok { IfOk result (HaveValues style names.now kinds.now files.now) }
     ensures refused { IfErr result (ShowsNoValue ((file : FileRow)
-        × Contains files.now file × SpellsNoValues style names.now kinds.now file)) }
+        × Contains files.now file × SpellsNoValues style names.now kinds.now file.path)) }
 {
     let mut rows = Items::new(alloc);
     for file in files {
         rows.push(row_with_values(alloc, style, names, kinds, file)?)?;
     }
     Ok(rows)
+}
+
+// ---- both
+
+fn style_of(table: &HudiTable) -> FolderStyle
+    ensures { result ≡ style_of table.now }
+{
+    FolderStyle {
+        hive_style: table.hive_style,
+        url_encode: table.url_encode,
+    }
+}
+
+/// The rows of the files of the stats. The names of the files are judged first, then their folders.
+pub(super) fn rows_of(
+    alloc: Global,
+    form: &Form,
+    table: &HudiTable,
+    kinds: &[PartKind],
+    stats: &[Stat],
+    files: &[FileRow],
+) -> Result<Items<FileRow>, HudiError>
+    requires counted { length kinds.now ≡ length table.now.partition }
+    ensures names { IfOk result (λ _. name_fault form.now (suffix_of form.now) stats.now ≡ None) }
+    ensures inside { IfOk result
+        (λ _. are_in_folders (style_of table.now) table.now.partition files.now ≡ true) }
+    ensures values { IfOk result
+        (HaveValues (style_of table.now) table.now.partition kinds.now files.now) }
+    ensures refused { IfErr result (OnlyFeature
+        (IsFileFault (name_fault form.now (suffix_of form.now) stats.now)
+        (style_of table.now) table.now.partition kinds.now files.now)) }
+{
+    let suffix = suffix_of(alloc, form)?;
+    if let Some(feature) = name_fault(form, suffix.as_slice(), stats) {
+        return Err(HudiError::Unsupported { feature });
+    }
+    rows_in_folders(
+        alloc,
+        style_of(table),
+        table.partition.as_slice(),
+        kinds,
+        files,
+    )
+}
+
+fn rows_in_folders(
+    alloc: Global,
+    style: FolderStyle,
+    names: &[Text],
+    kinds: &[PartKind],
+    files: &[FileRow],
+) -> Result<Items<FileRow>, HudiError>
+    requires counted { length kinds.now ≡ length names.now }
+    ensures inside { IfOk result (λ _. are_in_folders style names.now files.now ≡ true) }
+    ensures values { IfOk result (HaveValues style names.now kinds.now files.now) }
+    ensures refused { IfErr result
+        (OnlyFeature (IsFolderFault style names.now kinds.now files.now)) }
+{
+    if !are_in_folders(alloc, style, names, files)? {
+        return Err(PARTITION_PATH);
+    }
+    rows_with_values(alloc, style, names, kinds, files)
 }

@@ -49,7 +49,7 @@ returns-in-Some-clause-refused c =
     let long : c.is_any_long-is_any_long.result ≡ list_any is_long rows = c.is_any_long-is_any_long.ensures ∙ ap (list_any is_long) c.as_slice.ensures in
     record {
       distinct = rows_after_distinct form replaced before rows c.in_ok-old.ensures.distinct;
-      passed = sym (λ i. limit_passed c.args.table.now (long i) (live i)) ∙ sym c.limit_passed.ensures ∙ c.in-Some.is;
+      passed = sym (λ i. limit_passed c.args.table.now c.args.schema.now (long i) (live i)) ∙ sym c.limit_passed.ensures ∙ c.in-Some.is;
     }
 
 pub returns : goal.returns
@@ -74,7 +74,7 @@ returns c =
         diff = diff_of_groups form replaced before rows removed added (subst (λ l. IsDiff l (reverse (newest_rows form rows)) removed added) old (subst (λ l. IsDiff c.in_ok-old.old.items l removed added) newest c.in_ok-change_between.ensures));
         before_distinct = c.in_ok-old.ensures.distinct;
         distinct = rows_after_distinct form replaced before rows c.in_ok-old.ensures.distinct;
-        few = sym (λ i. limit_passed c.args.table.now (long i) (live i)) ∙ sym c.limit_passed.ensures ∙ c.in_default.is;
+        few = sym (λ i. limit_passed c.args.table.now c.args.schema.now (long i) (live i)) ∙ sym c.limit_passed.ensures ∙ c.in_default.is;
       };
       refused = tt;
     }

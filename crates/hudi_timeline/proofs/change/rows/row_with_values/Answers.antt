@@ -22,7 +22,7 @@ returns-in_err-values-clause-refused c =
     let p = err_from_is_err_and c.from_residual-in_err-values.result c.from_residual-in_err-values.ensures.1 in
     let spelled : value_parts c.args.style c.args.names.now c.args.file.now.path ≡ Some (map now_of c.in-Some.parts.items) =
     ap (value_parts c.args.style c.args.names.now) (ap (λ (r : FileRow). r.path) (sym c.file.view_is) ∙ sym c.as_str.ensures.value) ∙ sym c.in_ok-parts.ensures ∙ ap (option_map texts_of) c.in-Some.is in
-    rw (p.1, p.2) (shows_weaker _ (SpellsNoValues c.args.style c.args.names.now c.args.kinds.now c.args.file.now)
+    rw (p.1, p.2) (shows_weaker _ (SpellsNoValues c.args.style c.args.names.now c.args.kinds.now c.args.file.now.path)
     (λ none. record {
       parts = map now_of c.in-Some.parts.items;
       spelled = spelled;

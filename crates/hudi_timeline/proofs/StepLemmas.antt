@@ -1,0 +1,92 @@
+-- The steps towards a change, over the parts of the instant that each is given.
+use Rattle.std.proofs.Common.{◌≡◌, ◌↔◌, ℕ, true, List, length, map, Ok, Option, Some, None, sym, ap, subst, ◌∙◌}
+use Rattle.std.specs.List.{IsDistinct}
+use Rattle.std.specs.Str.{bytes_eq}
+use Rattle.std.proofs.lemmas.List.{length-map}
+use Rattle.lake_basics.specs.Outcome.{each}
+use Rattle.table_history.specs.Sound.{IsSound}
+use Rattle.table_history.specs.TypeTree.{ColumnTrees}
+use Rattle.table_history.specs.declared.row.FileRow.{FileRow}
+use Rattle.table_history.specs.declared.table.Change.{Change}
+use Rattle.table_history.specs.declared.table.Table.{Table}
+use Rattle.partition_map.specs.Columns.{column_kind, HasOtherKind}
+use Rattle.partition_map.specs.declared.kind.PartKind.{PartKind}
+use Rattle.hudi_timeline.specs.declared.error.HudiError.{HudiError}
+use Rattle.hudi_timeline.specs.declared.form.Form.{Form}
+use Rattle.hudi_timeline.specs.declared.instant.Instant.{Instant}
+use Rattle.hudi_timeline.specs.declared.instant.Stat.{Stat}
+use Rattle.hudi_timeline.specs.declared.table.HudiTable.{HudiTable}
+use Rattle.hudi_timeline.specs.Causes.{IsRefusalOf, rows_before}
+use Rattle.hudi_timeline.specs.Change.{IsChangeOf, GoesOn}
+use Rattle.hudi_timeline.specs.Files.{suffix_of, bare_row, name_fault}
+use Rattle.hudi_timeline.specs.GroupChange.{IsGroupChange, PassesLimitAfter}
+use Rattle.hudi_timeline.specs.Live.{Completed, completed}
+use Rattle.hudi_timeline.specs.Schemas.{stated_schema, schema_after, AreKindsOf}
+use Rattle.hudi_timeline.specs.Steps.{OnlyFeature, IsKindFault, IsFileFault}
+use Rattle.hudi_timeline.specs.Values.{style_of, are_in_folders, HaveValues}
+use Rattle.hudi_timeline.proofs.CauseLemmas.{no_schema, kind_refusal, file_refusal}
+use Rattle.hudi_timeline.proofs.MadeLemmas.{limit_refusal, made, is_change, made_goes_on}
+
+module _ (form : Form) (instant : Instant) (table : HudiTable) (base : Option Table) (stats : List Stat) (stats_is : stats ≡ instant.stats)
+    (files : List FileRow) (read : each (bare_row (suffix_of form)) stats ≡ Ok files) (stated : Option ColumnTrees) (states : stated_schema instant.schema ≡ Ok stated) where
+  abbrev u : Completed
+  u = completed form instant
+
+  pub read_all : each (bare_row (suffix_of form)) instant.stats ≡ Ok files
+  read_all = ap (each (bare_row (suffix_of form))) (sym stats_is) ∙ read
+
+  module _ (schema : ColumnTrees) (after : schema_after (Ok stated) base ≡ Some schema) (names : List (List ℕ)) (names_is : names ≡ table.partition) where
+    pub kinds_refused : (e : HudiError) → OnlyFeature (IsKindFault schema names base) e → IsRefusalOf u table base e
+    kinds_refused e h = kind_refusal u table base files read_all stated states schema after e (subst (λ l. OnlyFeature (IsKindFault schema l base) e) names_is h)
+
+    module _ (kinds : List PartKind) (distinct : IsDistinct bytes_eq names) (are : AreKindsOf schema names kinds)
+        (kept : (before : Table) → base ≡ Some before → HasOtherKind before.schema schema names → ⊥) where
+      all_distinct : IsDistinct bytes_eq table.partition
+      all_distinct = subst (IsDistinct bytes_eq) names_is distinct
+
+      all_are : AreKindsOf schema table.partition kinds
+      all_are = subst (λ l. AreKindsOf schema l kinds) names_is are
+
+      all_kept : (before : Table) → base ≡ Some before → HasOtherKind before.schema schema table.partition → ⊥
+      all_kept = subst (λ l. (before : Table) → base ≡ Some before → HasOtherKind before.schema schema l → ⊥) names_is kept
+
+      pub kinds_counted : length kinds ≡ length table.partition
+      kinds_counted = sym (length-map kinds Some) ∙ ap length (sym all_are) ∙ length-map table.partition (column_kind schema)
+
+      module _ (kind_slice : List PartKind) (kind_slice_is : kind_slice ≡ kinds) (file_slice : List FileRow) (file_slice_is : file_slice ≡ files) where
+        pub rows_refused : (e : HudiError) → OnlyFeature (IsFileFault (name_fault form (suffix_of form) stats) (style_of table) table.partition kind_slice file_slice) e → IsRefusalOf u table base e
+        rows_refused e h =
+            file_refusal u table base files read_all stated states schema after kinds all_distinct all_are all_kept e
+            (subst (λ l. OnlyFeature (IsFileFault (name_fault form (suffix_of form) l) (style_of table) table.partition kinds files) e) stats_is
+            (subst (λ l. OnlyFeature (IsFileFault (name_fault form (suffix_of form) stats) (style_of table) table.partition l files) e) kind_slice_is
+            (subst (λ l. OnlyFeature (IsFileFault (name_fault form (suffix_of form) stats) (style_of table) table.partition kind_slice l) e) file_slice_is h)))
+
+        module _ (rows : List FileRow) (named : name_fault form (suffix_of form) stats ≡ None) (inside : are_in_folders (style_of table) table.partition file_slice ≡ true)
+            (have : HaveValues (style_of table) table.partition kind_slice file_slice rows) (replaced : List (List ℕ × List ℕ)) (replaced_is : replaced ≡ instant.replaced)
+            (before : List FileRow) (before_is : before ≡ rows_before base) where
+          all_named : name_fault form (suffix_of form) instant.stats ≡ None
+          all_named = subst (λ l. name_fault form (suffix_of form) l ≡ None) stats_is named
+
+          all_inside : are_in_folders (style_of table) table.partition files ≡ true
+          all_inside = subst (λ l. are_in_folders (style_of table) table.partition l ≡ true) file_slice_is inside
+
+          all_have : HaveValues (style_of table) table.partition kinds files rows
+          all_have = subst (λ l. HaveValues (style_of table) table.partition l files rows) kind_slice_is (subst (λ l. HaveValues (style_of table) table.partition kind_slice l rows) file_slice_is have)
+
+          pub change_refused : (e : HudiError) → PassesLimitAfter form table schema replaced before rows e → IsRefusalOf u table base e
+          change_refused e h =
+              limit_refusal u table base files read_all stated states schema after kinds all_distinct all_are all_kept rows all_named all_inside all_have e
+              (subst (λ l. PassesLimitAfter form table schema l (rows_before base) rows e) replaced_is (subst (λ l. PassesLimitAfter form table schema replaced l rows e) before_is h))
+
+          module _ (sound : (s : ColumnTrees) → stated ≡ Some s → IsSound s) (group : Change) (is : IsGroupChange form table schema replaced before rows group) where
+            all_is : IsGroupChange form table schema instant.replaced (rows_before base) rows group
+            all_is = subst (λ l. IsGroupChange form table schema l (rows_before base) rows group) replaced_is (subst (λ l. IsGroupChange form table schema replaced l rows group) before_is is)
+
+            abbrev change : Change
+            change = record { schema = stated; removed = group.removed; added = group.added }
+
+            pub found : IsChangeOf u table base change
+            found = is_change u table base files read_all stated states schema after kinds all_distinct all_are all_kept rows all_named all_inside all_have sound group all_is
+
+            pub goes_on : GoesOn table base change
+            goes_on = made_goes_on u table base files read_all stated states schema after kinds all_distinct all_are all_kept rows all_named all_inside all_have sound group all_is

@@ -1,0 +1,112 @@
+-- The table after a timeline has the rows that are live, over those that were there before it.
+use Rattle.std.proofs.Common.{◌≡◌, ◌↔◌, ◌⊎◌, ℕ, List, [], ◌∷◌, ◌++◌, map, Ok, Option, Some, None, Contains, refl, sym, ap, subst, ◌∙◌, inl, inr, ⊎_elim}
+use Rattle.table_history.specs.Tables.{IsAfter, IsRowAfter}
+use Rattle.table_history.specs.TypeTree.{ColumnTrees}
+use Rattle.table_history.specs.declared.row.FileRow.{FileRow}
+use Rattle.table_history.specs.declared.table.Change.{Change}
+use Rattle.table_history.specs.declared.table.Table.{Table}
+use Rattle.table_history.proofs.RowListLemmas.{Contains-none, Contains-head, Contains-tail, Contains-cases}
+use Rattle.table_history.proofs.TableLemmas.{diff_leads}
+use Rattle.partition_map.specs.declared.kind.PartKind.{PartKind}
+use Rattle.hudi_timeline.specs.declared.table.HudiTable.{HudiTable}
+use Rattle.hudi_timeline.specs.Causes.{AreKinds, table_before, rows_before}
+use Rattle.hudi_timeline.specs.Change.{IsChangeOf, LeadsThrough}
+use Rattle.hudi_timeline.specs.Live.{Completed, Timeline, IsWrittenBy, Touches, HudiLive, IsLiveAfter, IsLiveOver}
+use Rattle.partition_map.specs.Columns.{column_kind, HasOtherKind}
+use Rattle.hudi_timeline.specs.Schemas.{schema_after, AreKindsOf}
+use Rattle.hudi_timeline.proofs.ChangeLemmas.{before_rows, schema_is}
+use Rattle.hudi_timeline.proofs.KindLemmas.{kinds_kept}
+
+-- ---- one instant in front of the others
+module _ (table : HudiTable) (kinds : List PartKind) (origin mid : List FileRow) (u : Completed) (timeline : Timeline) (row : FileRow) (is : Contains mid row ↔ IsLiveAfter table kinds u origin row) where
+  front_to : IsLiveOver table kinds mid timeline row → IsLiveOver table kinds origin (u ∷ timeline) row
+  front_to h =
+      ⊎_elim
+      (λ live. inl (record { before = u ∷ live.before; by = live.by; after = live.after; split = ap (λ l. u ∷ l) live.split; written = live.written; last = live.last }))
+      (λ stays.
+      ⊎_elim
+      (λ written. inl (record { before = []; by = u; after = timeline; split = refl; written = written; last = stays.1 }))
+      (λ kept. inr (kept.0, λ v there. ⊎_elim (λ same. subst (λ w. Touches w row.path → ⊥) same kept.1) (λ later. stays.1 v later) (Contains-cases u timeline v there)))
+      (is.0 stays.0))
+      h
+
+  front_live : (before : Timeline) (by : Completed) (after : Timeline) → u ∷ timeline ≡ before ++ by ∷ after → IsWrittenBy table kinds by row → ((later : Completed) → Contains after later → Touches later row.path → ⊥)
+      → IsLiveOver table kinds mid timeline row
+  front_live [] by after split written last =
+      let first : u ≡ by = cc in
+      let rest : timeline ≡ after = cc in
+      inr (is.1 (inl (subst (λ w. IsWrittenBy table kinds w row) (sym first) written)), λ v there. last v (subst (λ l. Contains l v) rest there))
+  front_live (b ∷ bs) by after split written last =
+      let rest : timeline ≡ bs ++ by ∷ after = cc in
+      inl (record { before = bs; by = by; after = after; split = rest; written = written; last = last })
+
+  front_from : IsLiveOver table kinds origin (u ∷ timeline) row → IsLiveOver table kinds mid timeline row
+  front_from h =
+      ⊎_elim
+      (λ live. front_live live.before live.by live.after live.split live.written live.last)
+      (λ stays. inr (is.1 (inr (stays.0, stays.1 u (Contains-head u timeline))), λ v there. stays.1 v (Contains-tail u timeline v there)))
+      h
+
+-- ---- one kind for each column all along
+same_kinds : (old new : ColumnTrees) (names : List (List ℕ)) (ks ls : List PartKind) → AreKindsOf old names ks → AreKindsOf new names ls
+    → ((name : List ℕ) → Contains names name → (o k : PartKind) → column_kind old name ≡ Some o → column_kind new name ≡ Some k → o ≡ k) → ks ≡ ls
+same_kinds old new [] [] [] are_old are_new same = refl
+same_kinds old new [] [] (l ∷ ls) are_old are_new same = absurd cc
+same_kinds old new [] (k ∷ ks) ls are_old are_new same = absurd cc
+same_kinds old new (n ∷ ns) [] ls are_old are_new same = absurd cc
+same_kinds old new (n ∷ ns) (k ∷ ks) [] are_old are_new same = absurd cc
+same_kinds old new (n ∷ ns) (k ∷ ks) (l ∷ ls) are_old are_new same =
+    let was : column_kind old n ≡ Some k = cc in
+    let is : column_kind new n ≡ Some l = cc in
+    let old_rest : AreKindsOf old ns ks = cc in
+    let new_rest : AreKindsOf new ns ls = cc in
+    λ i. same n (Contains-head n ns) k l was is i ∷ same_kinds old new ns ks ls old_rest new_rest (λ name there. same name (Contains-tail n ns name there)) i
+
+-- ---- a step of the timeline
+module _ (table : HudiTable) (base : Option Table) (u : Completed) (change : Change) (next : Table) (is : IsChangeOf u table base change) (after : IsAfter (table_before table base) change next) where
+  step_rows : (row : FileRow) → Contains next.rows row ↔ IsLiveAfter table is.kinds u (rows_before base) row
+  step_rows row =
+      let leads = diff_leads (rows_before base) is.after change.removed change.added is.diff is.before_distinct is.distinct row in (
+        λ there. (is.live row).0 (leads.0 (subst (λ l. IsRowAfter l change.removed change.added row) (before_rows table base) ((after.rows row).0 there))),
+        λ live. (after.rows row).1 (subst (λ l. IsRowAfter l change.removed change.added row) (sym (before_rows table base)) (leads.1 ((is.live row).1 live))),
+      )
+
+  step_schema : next.schema ≡ is.are_kinds.schema
+  step_schema = after.schema ∙ schema_is table base change.schema is.are_kinds.schema (ap (λ r. schema_after r base) (sym is.schema) ∙ is.are_kinds.in_force)
+
+  step_kinds : (v : Completed) (later : Change) (goes : IsChangeOf v table (Some next) later) → is.kinds ≡ goes.kinds
+  step_kinds v later goes =
+      same_kinds next.schema goes.are_kinds.schema table.partition is.kinds goes.kinds
+      (subst (λ s. AreKindsOf s table.partition is.kinds) (sym step_schema) is.are_kinds.are) goes.are_kinds.are
+      (kinds_kept next.schema goes.are_kinds.schema table.partition (λ other. goes.features.1.1.1.0 (goes.are_kinds.schema, goes.are_kinds.in_force, next, refl, other)))
+
+-- ---- a timeline of no instant
+no_split : (before : Timeline) (by : Completed) (behind : Timeline) → [] ≡ before ++ by ∷ behind → ⊥
+no_split [] by behind e = absurd cc
+no_split (b ∷ bs) by behind e = absurd cc
+
+none_live : (table : HudiTable) (kinds : List PartKind) (row : FileRow) → HudiLive table kinds [] row → ⊥
+none_live table kinds row live = no_split live.before live.by live.after live.split
+
+-- The rows of the table after a timeline are those that are live: some instant left the row live, or it was there before, and no instant has written or replaced its group.
+pub timeline_rows : (table : HudiTable) (base : Option Table) (u : Completed) (timeline : Timeline) (after : Table) (leads : LeadsThrough table base (u ∷ timeline) after)
+    → (row : FileRow) → Contains after.rows row ↔ IsLiveOver table leads.2.kinds (rows_before base) (u ∷ timeline) row
+timeline_rows table base u [] after leads row =
+    let next = leads.1 in
+    let end : after ≡ next = leads.4 in
+    let step = step_rows table base u leads.0 next leads.2 leads.3 row in (
+      λ there. front_to table leads.2.kinds (rows_before base) next.rows u [] row step (inr (subst (λ (t : Table). Contains t.rows row) end there, λ v none. absurd (Contains-none v none))),
+      λ live.
+          ⊎_elim
+          (λ some. absurd (none_live table leads.2.kinds row some))
+          (λ stays. subst (λ (t : Table). Contains t.rows row) (sym end) stays.0)
+          (front_from table leads.2.kinds (rows_before base) next.rows u [] row step live),
+    )
+timeline_rows table base u (v ∷ vs) after leads row =
+    let next = leads.1 in
+    let step = step_rows table base u leads.0 next leads.2 leads.3 row in
+    let rest = timeline_rows table (Some next) v vs after leads.4 row in
+    let kinds = step_kinds table base u leads.0 next leads.2 leads.3 v leads.4.0 leads.4.2 in (
+      λ there. front_to table leads.2.kinds (rows_before base) next.rows u (v ∷ vs) row step (subst (λ ks. IsLiveOver table ks next.rows (v ∷ vs) row) (sym kinds) (rest.0 there)),
+      λ live. rest.1 (subst (λ ks. IsLiveOver table ks next.rows (v ∷ vs) row) kinds (front_from table leads.2.kinds (rows_before base) next.rows u (v ∷ vs) row step live)),
+    )
