@@ -42,7 +42,7 @@ module _ (u : Completed) (table : HudiTable) (base : Option Table) (files : List
     not_malformed u table base files read stated states,
     no_feature u table base files read stated states schema after kinds distinct are kept rows names inside have,
     number_first u table base schema kinds rows (in_force u table base files read stated states schema after) (only_schema u table base files read stated states schema after)
-    (are_kinds u table base files read stated states schema after kinds distinct are kept) (only_kinds u table base files read stated states schema after kinds distinct are kept) are_rows which h.distinct h.passed,
+        (are_kinds u table base files read stated states schema after kinds distinct are kept) (only_kinds u table base files read stated states schema after kinds distinct are kept) are_rows which h.distinct h.passed,
   )
 
   module _ (sound : (s : ColumnTrees) → stated ≡ Some s → IsSound s) (group : Change) (is : IsGroupChange u.form table schema u.instant.replaced (rows_before base) rows group) where

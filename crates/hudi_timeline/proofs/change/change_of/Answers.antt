@@ -53,10 +53,10 @@ returns-in_err-kinds-clause-goes_on c = let p = err_from_is_err_and c.from_resid
 
 pub rows_of-requires : goal.rows_of-requires
 rows_of-requires c = record {
-    counted = ap length c.as_slice-2.ensures.value
-    ∙ kinds_counted c.args.form.now c.args.instant.now c.args.table.now (option_copied c.args.base) c.as_slice-stats.result.now c.as_slice-stats.ensures c.in_ok-files.files c.in_ok-files.ensures
-    c.in_ok-stated.stated c.in_ok-stated.ensures.ok c.in-Some.schema.now (sym c.schema_after.ensures ∙ ap option_copied c.in-Some.is) c.as_slice.result.now c.as_slice.ensures
-    c.in_ok-kinds.kinds.items c.in_ok-kinds.ensures.distinct c.in_ok-kinds.ensures.kinds c.in_ok-kinds.ensures.kept;
+  counted = ap length c.as_slice-2.ensures.value
+      ∙ kinds_counted c.args.form.now c.args.instant.now c.args.table.now (option_copied c.args.base) c.as_slice-stats.result.now c.as_slice-stats.ensures c.in_ok-files.files c.in_ok-files.ensures
+      c.in_ok-stated.stated c.in_ok-stated.ensures.ok c.in-Some.schema.now (sym c.schema_after.ensures ∙ ap option_copied c.in-Some.is) c.as_slice.result.now c.as_slice.ensures
+      c.in_ok-kinds.kinds.items c.in_ok-kinds.ensures.distinct c.in_ok-kinds.ensures.kinds c.in_ok-kinds.ensures.kept;
 }
 
 pub returns-in_err-rows-clause-found : goal.returns-in_err-rows-clause-found
