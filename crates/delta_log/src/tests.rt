@@ -1,8 +1,11 @@
 //! Commits as engines write them, hostile lines, and texts that read back.
-use crate::{DeltaCommit, FileAction, commit_text, name_of_version, read_commit, version_of_name};
+use crate::{
+    DeltaCommit, FileAction, change_of, commit_text, name_of_version, read_commit, version_of_name,
+};
 use std::alloc::{AllocError, Global};
 use std::process::Abort;
 use std::test::Fail;
+use table_history::Table;
 
 const SCHEMA: &str =
     r#"{\"type\":\"struct\",\"fields\":[{\"name\":\"id\",\"type\":\"long\",\"nullable\":true,\"metadata\":{}}]}"#;
@@ -254,5 +257,216 @@ fn names_have_20_digits(rt: HostRuntime) -> Result<(), Fail> {
         name_of_version(alloc, 12)?.as_str(),
         "00000000000000000012.json"
     );
+    Ok(())
+}
+
+// ---- changes
+
+fn commit(
+    alloc: Global,
+    protocol: &str,
+    columns: &str,
+    meta: &str,
+    lines: &str,
+) -> Result<String, AllocError> {
+    format!(in alloc;
+        "{}{protocol}{}{columns}{}{meta}{}{lines}",
+        r#"{"protocol":{"#,
+        "}}\n{\"metaData\":{\"id\":\"a\",\"format\":{\"provider\":\"parquet\"},\"schemaString\":\"{\\\"type\\\":\\\"struct\\\",\\\"fields\\\":[",
+        "]}\",",
+        "}}\n"
+    )
+}
+
+fn first_change(alloc: Global, text: &str) -> Result<String, AllocError> {
+    match read_commit(alloc, text.as_bytes()) {
+        Ok(commit) => match change_of(alloc, &commit, None) {
+            Ok(change) => {
+                format!(in alloc;
+                    "{} removed, {} added",
+                    change.removed.len(),
+                    change.added.len()
+                )
+            }
+            Err(error) => format!(in alloc; "{error:?}"),
+        },
+        Err(_) => String::from_str(alloc, "not read"),
+    }
+}
+
+fn check_changes(
+    rt: &(impl Abort + AllocGlobal),
+    rows: &[(&str, &str, &str, &str, &str)],
+) -> Result<(), AllocError> {
+    let alloc = rt.alloc();
+    for (protocol, columns, meta, lines, expected) in rows {
+        let text = commit(alloc, protocol, columns, meta, lines)?;
+        let found = first_change(alloc, text.as_str())?;
+        assert_eq!(rt; found.as_str(), *expected, "{text}");
+    }
+    Ok(())
+}
+
+#[test]
+fn a_first_commit_shows_its_causes_in_order(rt: HostRuntime) -> Result<(), Fail> {
+    let alloc = rt.alloc();
+    let plain = r#""minReaderVersion":1,"minWriterVersion":2"#;
+    let other = r#""minReaderVersion":4,"minWriterVersion":2"#;
+    let vectors =
+        r#""minReaderVersion":3,"minWriterVersion":7,"readerFeatures":["deletionVectors"]"#;
+    let unknown =
+        r#""minReaderVersion":3,"minWriterVersion":7,"readerFeatures":["timestampNtz","x"]"#;
+    let day = r#"{\"name\":\"d\",\"type\":\"integer\",\"nullable\":true}"#;
+    let real = r#"{\"name\":\"d\",\"type\":\"double\",\"nullable\":true}"#;
+    let void = r#"{\"name\":\"d\",\"type\":\"void\",\"nullable\":true}"#;
+    let nameless = r#"{\"type\":\"integer\",\"nullable\":true}"#;
+    let by_day = r#""partitionColumns":["d"]"#;
+    let twice = r#""partitionColumns":["d","d"]"#;
+    let stray = r#""partitionColumns":["e"]"#;
+    let mapped = r#""partitionColumns":["d"],"configuration":{"delta.columnMapping.mode":"name"}"#;
+    let unmapped =
+        r#""partitionColumns":["d"],"configuration":{"delta.columnMapping.mode":"none"}"#;
+    let one =
+        r#"{"add":{"path":"p","partitionValues":{"d":"1","x":"y"},"size":1,"stats":"{\"numRecords\":1}"}}"#;
+    let null = r#"{"add":{"path":"p","partitionValues":{},"size":1,"stats":"{\"numRecords\":1}"}}"#;
+    let word =
+        r#"{"add":{"path":"p","partitionValues":{"d":"one"},"size":1,"stats":"{\"numRecords\":1}"}}"#;
+    check_changes(
+        &rt,
+        &[
+            (plain, day, by_day, one, "0 removed, 1 added"),
+            (plain, day, by_day, null, "0 removed, 1 added"),
+            (
+                plain,
+                day,
+                by_day,
+                "{\"remove\":{\"path\":\"p\"}}",
+                "0 removed, 0 added",
+            ),
+            (vectors, day, unmapped, one, "0 removed, 1 added"),
+            (other, nameless, by_day, one, "Malformed { line: 0 }"),
+            (other, day, stray, one, "Malformed { line: 0 }"),
+            (
+                other,
+                void,
+                mapped,
+                one,
+                "Unsupported { feature: ReaderVersion, line: 0 }",
+            ),
+            (
+                unknown,
+                void,
+                mapped,
+                one,
+                "Unsupported { feature: ReaderFeature, line: 0 }",
+            ),
+            (
+                plain,
+                void,
+                mapped,
+                one,
+                "Unsupported { feature: ColumnMapping, line: 0 }",
+            ),
+            (
+                plain,
+                void,
+                by_day,
+                one,
+                "Unsupported { feature: SchemaType, line: 0 }",
+            ),
+            (
+                plain,
+                real,
+                by_day,
+                word,
+                "Unsupported { feature: PartitionType, line: 0 }",
+            ),
+            (
+                plain,
+                day,
+                twice,
+                word,
+                "Unsupported { feature: PartitionType, line: 0 }",
+            ),
+            (
+                plain,
+                day,
+                by_day,
+                word,
+                "Unsupported { feature: PartitionValue, line: 0 }",
+            ),
+        ],
+    )?;
+    assert_eq!(rt; first_change(alloc, one)?.as_str(), "Malformed { line: 0 }");
+    Ok(())
+}
+
+fn follow(
+    rt: &(impl Abort + AllocGlobal),
+    table: &mut Table,
+    text: &str,
+) -> Result<String, AllocError> {
+    let alloc = rt.alloc();
+    match read_commit(alloc, text.as_bytes()) {
+        Ok(commit) => match change_of(alloc, &commit, Some(&*table)) {
+            Ok(change) => {
+                table.apply(alloc, &change)?;
+                format!(in alloc;
+                    "{} removed, {} added, {} live",
+                    change.removed.len(),
+                    change.added.len(),
+                    table.rows.len()
+                )
+            }
+            Err(error) => format!(in alloc; "{error:?}"),
+        },
+        Err(_) => String::from_str(alloc, "not read"),
+    }
+}
+
+fn check_follow(
+    rt: &(impl Abort + AllocGlobal),
+    table: &mut Table,
+    rows: &[(&str, &str)],
+) -> Result<(), AllocError> {
+    for (text, expected) in rows {
+        let found = follow(rt, table, text)?;
+        assert_eq!(rt; found.as_str(), *expected, "{text}");
+    }
+    Ok(())
+}
+
+#[test]
+fn the_newest_action_on_a_path_decides(rt: HostRuntime) -> Result<(), Fail> {
+    let alloc = rt.alloc();
+    let mut table = Table::empty(alloc, &[])?;
+    let first = first_commit(alloc)?;
+    check_follow(
+        &rt,
+        &mut table,
+        &[
+            (first.as_str(), "0 removed, 1 added, 1 live"),
+            // Row by row the same: nothing changes.
+            (
+                r#"{"add":{"path":"p1.parquet","partitionValues":{},"size":100,"stats":"{\"numRecords\":5}"}}"#,
+                "0 removed, 0 added, 1 live",
+            ),
+            // The newest count is taken.
+            (
+                r#"{"add":{"path":"p1.parquet","partitionValues":{},"size":100,"stats":"{\"numRecords\":6}"}}"#,
+                "1 removed, 1 added, 1 live",
+            ),
+            // What isn't there may be removed.
+            (
+                "{\"remove\":{\"path\":\"p0.parquet\"}}",
+                "0 removed, 0 added, 1 live",
+            ),
+            (
+                "{\"remove\":{\"path\":\"p1.parquet\"}}",
+                "1 removed, 0 added, 0 live",
+            ),
+            (first.as_str(), "0 removed, 1 added, 1 live"),
+        ],
+    )?;
     Ok(())
 }
