@@ -22,4 +22,6 @@ pub use table::{HudiTable, check_properties};
 pub use time::{next_instant, read_time};
 
 #[cfg(test)]
+mod change_tests;
+#[cfg(test)]
 mod tests;
