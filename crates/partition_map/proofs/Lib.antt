@@ -7,3 +7,4 @@ pub mod StandsLemmas
 pub mod FolderLemmas
 pub mod AvroLemmas
 pub mod Laws
+pub mod ColumnLemmas

@@ -3,6 +3,7 @@
 #![tactic(auto)]
 
 mod avro;
+mod columns;
 mod date;
 mod delta;
 mod error;
@@ -13,6 +14,7 @@ mod texts;
 mod uri;
 
 pub use avro::{from_avro_value, to_avro_value};
+pub use columns::{are_distinct, column_kinds, has_other_kind};
 pub use delta::to_delta_text;
 pub use error::PartError;
 pub use folder::{FolderStyle, last_components, path_carries, unescape, value_part};
