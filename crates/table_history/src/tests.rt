@@ -3,115 +3,141 @@
 use super::*;
 use lake_basics::{Items, Text};
 use std::alloc::{AllocError, Global};
+use std::process::Abort;
 use std::test::Fail;
+
+fn check_paths(rt: &impl Abort, paths: &[&str], is_path: bool) {
+    for path in paths {
+        assert_eq!(rt; path_form(path.as_bytes()), is_path, "{path}");
+        assert_eq!(rt; path_form_of_any_length(path.as_bytes()), is_path, "{path}");
+    }
+}
+
+fn check_length(rt: &impl Abort, bytes: &[u8], is_path: bool, of_any_length: bool) {
+    assert_eq!(rt; path_form(bytes), is_path);
+    assert_eq!(rt; path_form_of_any_length(bytes), of_any_length);
+}
 
 #[test]
 fn paths_have_a_form(rt: HostRuntime) -> Result<(), Fail> {
-    let alloc = rt.alloc();
-    for (path, is_path) in [
-        (b"a".as_slice(), true),
-        (b"d=1/p 1.parquet", true),
-        (b"...", true),
-        (b"a/..b/c.", true),
-        (b"caf\xc3\xa9", true),
-        (b"\x7f", true),
-        (b"", false),
-        (b"/a", false),
-        (b"a/", false),
-        (b"a//b", false),
-        (b".", false),
-        (b"a/..", false),
-        (b"./a", false),
-        (b"a\x1fb", false),
-        (b"caf\xc3", false),
-    ] {
-        assert_eq!(rt; path_form(path), is_path);
-        assert_eq!(rt; path_form_of_any_length(path), is_path);
-    }
-    let longest = vec![in alloc; b'a'; 512]?;
-    assert_eq!(rt; path_form(&longest), true);
-    let longer = vec![in alloc; b'a'; 513]?;
-    assert_eq!(rt; path_form(&longer), false);
-    assert_eq!(rt; path_form_of_any_length(&longer), true);
+    check_paths(
+        &rt,
+        &[
+            "a",
+            "d=1/p 1.parquet",
+            "...",
+            "a/..b/c.",
+            "caf\u{e9}",
+            "\u{7f}",
+        ],
+        true,
+    );
+    check_paths(
+        &rt,
+        &["", "/a", "a/", "a//b", ".", "a/..", "./a", "a\u{1f}b"],
+        false,
+    );
+    check_length(&rt, b"caf\xc3", false, false);
+    check_length(&rt, &vec![in rt.alloc(); b'a'; 512]?, true, true);
+    check_length(&rt, &vec![in rt.alloc(); b'a'; 513]?, false, true);
     Ok(())
+}
+
+fn check_kind(rt: &impl Abort, kind: Kind, word: &str) {
+    assert_eq!(rt; kind.word(), word);
+    assert_eq!(rt; Kind::from_word(word), Some(kind));
 }
 
 #[test]
 fn names_are_printed(rt: HostRuntime) {
-    for kind in [Kind::Delta, Kind::Iceberg, Kind::Hudi] {
-        assert_eq!(rt; Kind::from_word(kind.word()), Some(kind));
-    }
-    assert_eq!(rt; Kind::Delta.word(), "delta");
-    assert_eq!(rt; Kind::Iceberg.word(), "iceberg");
-    assert_eq!(rt; Kind::Hudi.word(), "hudi");
+    check_kind(&rt, Kind::Delta, "delta");
+    check_kind(&rt, Kind::Iceberg, "iceberg");
+    check_kind(&rt, Kind::Hudi, "hudi");
     assert_eq!(rt; Kind::from_word("Delta"), None);
+}
+
+fn check_features(rt: &impl Abort, features: &[Feature], words: &str) {
+    let mut words = words.split(' ');
+    for feature in features {
+        assert_eq!(rt; Some(feature.word()), words.next());
+    }
+    assert!(rt; words.next().is_none());
 }
 
 #[test]
 fn features_have_words(rt: HostRuntime) {
-    for (feature, word) in [
-        (Feature::NeedsCheckpoint, "NeedsCheckpoint"),
-        (Feature::NeedsArchive, "NeedsArchive"),
-        (Feature::ReaderVersion, "ReaderVersion"),
-        (Feature::ReaderFeature, "ReaderFeature"),
-        (Feature::ColumnMapping, "ColumnMapping"),
-        (Feature::DeletionVector, "DeletionVector"),
-        (Feature::OutsideTable, "OutsideTable"),
-        (Feature::NoRecordCount, "NoRecordCount"),
-        (Feature::FileFormat, "FileFormat"),
-        (Feature::SchemaType, "SchemaType"),
-        (Feature::AvroName, "AvroName"),
-        (Feature::PartitionType, "PartitionType"),
-        (Feature::PartitionChange, "PartitionChange"),
-        (Feature::PartitionValue, "PartitionValue"),
-        (Feature::PartitionPath, "PartitionPath"),
-        (Feature::ValueForm, "ValueForm"),
-        (Feature::AvroCodec, "AvroCodec"),
-        (Feature::CompressedMetadata, "CompressedMetadata"),
-        (Feature::CatalogNames, "CatalogNames"),
-        (Feature::FormatVersion, "FormatVersion"),
-        (Feature::Transform, "Transform"),
-        (Feature::PartitionSpecs, "PartitionSpecs"),
-        (Feature::Renamed, "Renamed"),
-        (Feature::NoSchemaId, "NoSchemaId"),
-        (Feature::RowDeletes, "RowDeletes"),
-        (Feature::SharedFile, "SharedFile"),
-        (Feature::TypeChange, "TypeChange"),
-        (Feature::HudiType, "HudiType"),
-        (Feature::HudiVersion, "HudiVersion"),
-        (Feature::KeyGenerator, "KeyGenerator"),
-        (Feature::MergeOnRead, "MergeOnRead"),
-        (Feature::Restore, "Restore"),
-        (Feature::UnknownAction, "UnknownAction"),
-        (Feature::FileId, "FileId"),
-        (Feature::ExternalFile, "ExternalFile"),
-        (Feature::NoSchema, "NoSchema"),
-        (Feature::CompactAction, "CompactAction"),
-    ] {
-        assert_eq!(rt; feature.word(), word);
+    check_features(
+        &rt,
+        &[
+            Feature::NeedsCheckpoint,
+            Feature::NeedsArchive,
+            Feature::ReaderVersion,
+            Feature::ReaderFeature,
+            Feature::ColumnMapping,
+            Feature::DeletionVector,
+            Feature::OutsideTable,
+            Feature::NoRecordCount,
+            Feature::FileFormat,
+            Feature::SchemaType,
+            Feature::AvroName,
+            Feature::PartitionType,
+            Feature::PartitionChange,
+            Feature::PartitionValue,
+            Feature::PartitionPath,
+            Feature::ValueForm,
+            Feature::AvroCodec,
+            Feature::CompressedMetadata,
+            Feature::CatalogNames,
+            Feature::FormatVersion,
+            Feature::Transform,
+            Feature::PartitionSpecs,
+            Feature::Renamed,
+            Feature::NoSchemaId,
+            Feature::RowDeletes,
+            Feature::SharedFile,
+            Feature::TypeChange,
+            Feature::HudiType,
+            Feature::HudiVersion,
+            Feature::KeyGenerator,
+            Feature::MergeOnRead,
+            Feature::Restore,
+            Feature::UnknownAction,
+            Feature::FileId,
+            Feature::ExternalFile,
+            Feature::NoSchema,
+            Feature::CompactAction,
+        ],
+        "NeedsCheckpoint NeedsArchive ReaderVersion ReaderFeature ColumnMapping DeletionVector OutsideTable NoRecordCount FileFormat SchemaType AvroName PartitionType PartitionChange PartitionValue PartitionPath ValueForm AvroCodec CompressedMetadata CatalogNames FormatVersion Transform PartitionSpecs Renamed NoSchemaId RowDeletes SharedFile TypeChange HudiType HudiVersion KeyGenerator MergeOnRead Restore UnknownAction FileId ExternalFile NoSchema CompactAction",
+    );
+}
+
+fn check_limits(rt: &impl Abort, rows: &[(LimitKind, &str, u64)]) {
+    for (limit, word, number) in rows {
+        assert_eq!(rt; limit.word(), *word);
+        assert_eq!(rt; limit.number(Kind::Delta), *number, "{word}");
+        assert_eq!(rt; limit.number(Kind::Iceberg), *number, "{word}");
+        assert_eq!(rt; limit.number(Kind::Hudi), *number, "{word}");
     }
 }
 
 #[test]
 fn limits_have_words_and_numbers(rt: HostRuntime) {
-    for (limit, word, number) in [
-        (LimitKind::File, "File", 268_435_456),
-        (LimitKind::Names, "Names", 2_000_000),
-        (LimitKind::LiveFiles, "LiveFiles", 200_000),
-        (LimitKind::Commits, "Commits", 100_000),
-        (LimitKind::Publish, "Publish", 2_000),
-        (LimitKind::Actions, "Actions", 1_000_000),
-        (LimitKind::Values, "Values", 16_777_216),
-        (LimitKind::Path, "Path", 512),
-        (LimitKind::PartitionColumns, "PartitionColumns", 16),
-        (LimitKind::Columns, "Columns", 2_000),
-        (LimitKind::Depth, "Depth", 32),
-    ] {
-        assert_eq!(rt; limit.word(), word);
-        for format in [Kind::Delta, Kind::Iceberg, Kind::Hudi] {
-            assert_eq!(rt; limit.number(format), number, "{word}");
-        }
-    }
+    check_limits(
+        &rt,
+        &[
+            (LimitKind::File, "File", 268_435_456),
+            (LimitKind::Names, "Names", 2_000_000),
+            (LimitKind::LiveFiles, "LiveFiles", 200_000),
+            (LimitKind::Commits, "Commits", 100_000),
+            (LimitKind::Publish, "Publish", 2_000),
+            (LimitKind::Actions, "Actions", 1_000_000),
+            (LimitKind::Values, "Values", 16_777_216),
+            (LimitKind::Path, "Path", 512),
+            (LimitKind::PartitionColumns, "PartitionColumns", 16),
+            (LimitKind::Columns, "Columns", 2_000),
+            (LimitKind::Depth, "Depth", 32),
+        ],
+    );
     let versions = LimitKind::Versions;
     assert_eq!(rt; versions.word(), "Versions");
     assert_eq!(rt; versions.number(Kind::Delta), 9_223_372_036_854_775_807);
@@ -144,18 +170,24 @@ fn list_schema(alloc: Global, nullable: bool) -> Result<Schema, AllocError> {
     Ok(Schema::new(columns))
 }
 
+fn check_schemas(rt: &impl Abort, schema: &Schema, other: &Schema, same: bool) {
+    assert_eq!(rt; schema.columns().len(), 1);
+    assert_eq!(rt; *schema == *other, same);
+}
+
 #[test]
 fn schemas_differ_by_any_part(rt: HostRuntime) -> Result<(), Fail> {
     let alloc = rt.alloc();
     let schema = list_schema(alloc, true)?;
-    assert_eq!(rt; schema == schema.copy(alloc)?, true);
-    assert_eq!(rt; schema == list_schema(alloc, true)?, true);
-    assert_eq!(rt; schema == list_schema(alloc, false)?, false);
-    assert_eq!(rt; schema == Schema::new(Vec::new(alloc)), false);
-    assert_eq!(rt; schema.columns().len(), 1);
-    assert_eq!(rt; ColumnType::Int.is_same(&ColumnType::Int), true);
-    assert_eq!(rt; ColumnType::Int.is_same(&ColumnType::Long), false);
+    check_schemas(&rt, &schema, &schema.copy(alloc)?, true);
+    check_schemas(&rt, &schema, &list_schema(alloc, true)?, true);
+    check_schemas(&rt, &schema, &list_schema(alloc, false)?, false);
+    check_schemas(&rt, &schema, &Schema::new(Vec::new(alloc)), false);
     Ok(())
+}
+
+fn check_types(rt: &impl Abort, kind: &ColumnType, other: &ColumnType, same: bool) {
+    assert_eq!(rt; kind.is_same(other), same);
 }
 
 fn map_type(alloc: Global, nullable: bool) -> Result<ColumnType, AllocError> {
@@ -170,25 +202,33 @@ fn map_type(alloc: Global, nullable: bool) -> Result<ColumnType, AllocError> {
 fn a_copied_type_is_the_same(rt: HostRuntime) -> Result<(), Fail> {
     let alloc = rt.alloc();
     let copy = map_type(alloc, true)?.copy(alloc)?;
-    assert_eq!(rt; copy.is_same(&map_type(alloc, true)?), true);
-    assert_eq!(rt; copy.is_same(&map_type(alloc, false)?), false);
+    check_types(&rt, &copy, &map_type(alloc, true)?, true);
+    check_types(&rt, &copy, &map_type(alloc, false)?, false);
+    check_types(&rt, &ColumnType::Int, &ColumnType::Int, true);
+    check_types(&rt, &ColumnType::Int, &ColumnType::Long, false);
+    Ok(())
+}
+
+fn check_copies(rt: &(impl Abort + AllocGlobal), values: &[PartValue]) -> Result<(), AllocError> {
+    for value in values {
+        assert!(rt; value.copy(rt.alloc())? == *value);
+    }
     Ok(())
 }
 
 #[test]
 fn a_copied_value_is_the_same(rt: HostRuntime) -> Result<(), Fail> {
-    let alloc = rt.alloc();
-    let text = PartValue::Text(Text::from_str(alloc, "DE")?);
-    for value in [
-        &PartValue::Null,
-        &PartValue::Boolean(true),
-        &PartValue::Int(-1),
-        &PartValue::Long(9_000_000_000),
-        &text,
-        &PartValue::Date(19_727),
-    ] {
-        assert_eq!(rt; value.copy(alloc)? == *value, true);
-    }
+    check_copies(
+        &rt,
+        &[
+            PartValue::Null,
+            PartValue::Boolean(true),
+            PartValue::Int(-1),
+            PartValue::Long(9_000_000_000),
+            PartValue::Text(Text::from_str(rt.alloc(), "DE")?),
+            PartValue::Date(19_727),
+        ],
+    )?;
     Ok(())
 }
 
@@ -256,17 +296,47 @@ fn table_of(alloc: Global, rows: &[(&str, u32)]) -> Result<Table, AllocError> {
     Ok(table)
 }
 
+// Leads the table to the rows of another, by a change that is written so.
+fn check_lead(
+    rt: &(impl Abort + AllocGlobal),
+    table: &mut Table,
+    after: &Table,
+    line: &str,
+) -> Result<(), AllocError> {
+    let change = lead(rt.alloc(), table, after)?;
+    assert_eq!(rt; change.as_str(), line);
+    Ok(())
+}
+
+fn check_size(rt: &impl Abort, table: &Table, path: &str, size: u64) {
+    assert_eq!(rt; size_of(table, path), Some(size));
+}
+
 #[test]
 fn a_change_leads_from_one_table_to_another(rt: HostRuntime) -> Result<(), Fail> {
     let alloc = rt.alloc();
     let mut table = table_of(alloc, &[("stays", 1), ("grows", 2), ("goes", 3)])?;
     let after = table_of(alloc, &[("new", 4), ("grows", 5), ("stays", 1)])?;
-    let change = lead(alloc, &mut table, &after)?;
-    assert_eq!(rt; change.as_str(), "goes-grows-grows+new+");
-    assert_eq!(rt; size_of(&table, "grows"), Some(5));
-    let again = lead(alloc, &mut table, &after)?;
-    assert_eq!(rt; again.as_str(), "");
+    check_lead(&rt, &mut table, &after, "goes-grows-grows+new+")?;
+    check_size(&rt, &table, "grows", 5);
+    check_lead(&rt, &mut table, &after, "")?;
     Ok(())
+}
+
+fn check_tables(rt: &impl Abort, table: &Table, copy: &Table) {
+    assert_eq!(rt; copy.partition.len(), 0);
+    assert!(rt; copy.schema == table.schema);
+    check_size(rt, copy, "a", 1);
+    check_size(rt, copy, "b", 2);
+}
+
+fn check_rows(rt: &impl Abort, rows: &FileRows, copy: &FileRows) {
+    assert_eq!(rt; copy.len(), 2);
+    assert!(rt; !copy.is_empty());
+    assert!(rt; copy.at(0) == rows.at(0));
+    assert!(rt; copy.at(1) == rows.at(1));
+    assert!(rt; copy.at(1).is_some());
+    assert!(rt; copy.at(2).is_none());
 }
 
 #[test]
@@ -274,18 +344,9 @@ fn a_copied_table_is_the_same(rt: HostRuntime) -> Result<(), Fail> {
     let alloc = rt.alloc();
     let table = table_of(alloc, &[("a", 1), ("b", 2)])?;
     let copy = table.copy(alloc)?;
-    let rows = copy.rows.copy(alloc)?;
-    assert_eq!(rt; copy.partition.len(), 0);
-    assert_eq!(rt; copy.schema == table.schema, true);
-    assert_eq!(rt; size_of(&copy, "a"), Some(1));
-    assert_eq!(rt; size_of(&copy, "b"), Some(2));
-    assert_eq!(rt; rows.len(), 2);
-    assert_eq!(rt; rows.is_empty(), false);
-    assert_eq!(rt; rows.at(0) == table.rows.at(0), true);
-    assert_eq!(rt; rows.at(1) == table.rows.at(1), true);
-    assert_eq!(rt; rows.at(1).is_some(), true);
-    assert_eq!(rt; rows.at(2).is_some(), false);
-    assert_eq!(rt; FileRows::new(alloc).is_empty(), true);
+    check_tables(&rt, &table, &copy);
+    check_rows(&rt, &table.rows, &copy.rows.copy(alloc)?);
+    assert!(rt; FileRows::new(alloc).is_empty());
     Ok(())
 }
 
@@ -295,8 +356,7 @@ fn a_change_states_a_schema(rt: HostRuntime) -> Result<(), Fail> {
     let mut table = table_of(alloc, &[("a", 1)])?;
     let mut after = Table::empty(alloc, &[])?;
     after.schema = list_schema(alloc, true)?;
-    let change = lead(alloc, &mut table, &after)?;
-    assert_eq!(rt; change.as_str(), "a-");
-    assert_eq!(rt; table.schema == list_schema(alloc, true)?, true);
+    check_lead(&rt, &mut table, &after, "a-")?;
+    check_schemas(&rt, &after.schema, &table.schema, true);
     Ok(())
 }
