@@ -43,7 +43,7 @@ module _ (f : Data → Result ColumnTree Fault) (name : Data → List ℕ) where
       let eq : first.value ∷ others.value ≡ ys = let h : good (first.value ∷ others.value) ≡ good ys = others.behind in cc in
       rw (first.first, tops_from xs others.value others.first) (ap Ok eq)
 
-  tops_to : (xs : List Data) (ys : List ColumnTree) → each (λ d. in_column (name d) (f d)) xs ≡ Ok ys → each f xs ≡ Ok ys
+  pub tops_to : (xs : List Data) (ys : List ColumnTree) → each (λ d. in_column (name d) (f d)) xs ≡ Ok ys → each f xs ≡ Ok ys
   tops_to [] ys e = cc
   tops_to (x ∷ xs) ys e =
       let first = bound (in_column (name x) (f x)) _ ys e in

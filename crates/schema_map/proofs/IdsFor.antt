@@ -4,7 +4,7 @@ use Rattle.std.proofs.lemmas.List.{append-nil}
 use Rattle.std.specs.Prelude.{ℤ, Some, None}
 use Rattle.schema_map.specs.declared.fault.MapError.{MapError}
 use Rattle.lake_basics.specs.Outcome.{◌>>=◌}
-use Rattle.schema_map.specs.Ids.{Path, known_id, next_id, ids_for}
+use Rattle.schema_map.specs.Ids.{Path, known_id, next_id, id_step, ids_for}
 
 abbrev pub with_ids : List ℤ → Result (List ℤ) MapError → Result (List ℤ) MapError
 with_ids ids reading = do
@@ -22,8 +22,5 @@ joined : (ids : List ℤ) (id : ℤ) (reading : Result (List ℤ) MapError) → 
 joined ids id (Ok xs) = ap Ok (append_assoc ids (id ∷ []) xs)
 joined ids id (Err e) = refl
 
-pub with_ids-known : (ids : List ℤ) (known : List (Path × ℤ)) (last id : ℤ) (path : Path) (paths : List Path) → known_id known path ≡ Some id → with_ids (ids ++ id ∷ []) (ids_for known last paths) ≡ with_ids ids (ids_for known last (path ∷ paths))
-with_ids-known ids known last id path paths is = rw is (joined ids id (ids_for known last paths))
-
-pub with_ids-next : (ids : List ℤ) (known : List (Path × ℤ)) (last id : ℤ) (path : Path) (paths : List Path) → known_id known path ≡ None → next_id last ≡ Ok id → with_ids (ids ++ id ∷ []) (ids_for known id paths) ≡ with_ids ids (ids_for known last (path ∷ paths))
-with_ids-next ids known last id path paths is next = rw (is, next) (joined ids id (ids_for known id paths))
+pub with_ids-step : (ids : List ℤ) (known : List (Path × ℤ)) (last id later : ℤ) (path : Path) (paths : List Path) → id_step last (known_id known path) ≡ Ok (id, later) → with_ids (ids ++ id ∷ []) (ids_for known later paths) ≡ with_ids ids (ids_for known last (path ∷ paths))
+with_ids-step ids known last id later path paths is = rw is (joined ids id (ids_for known later paths))

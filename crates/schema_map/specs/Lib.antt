@@ -6,6 +6,8 @@ pub mod Shared
 pub mod Delta
 pub mod DeltaSpelling
 pub mod DeltaWriting
+pub mod Places
+pub mod DeltaRefusal
 pub mod Image
 pub mod Iceberg
 pub mod IcebergSpelling
@@ -13,6 +15,7 @@ pub mod Ids
 pub mod OwnIds
 pub mod IcebergFits
 pub mod IcebergWriting
+pub mod IcebergRefusal
 pub mod NameMapping
 pub mod Avro
 pub mod AvroSpelling

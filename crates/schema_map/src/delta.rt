@@ -1,6 +1,6 @@
 //! Reading Delta's spelling of schemas (Delta Lake protocol, "Schema Serialization Format").
 
-ghost use Rattle.std.specs.Prelude.{◌≡◌, map, IfOk, Ok};
+ghost use Rattle.std.specs.Prelude.{◌≡◌, map, IfOk, IfErr, Ok};
 ghost use Rattle.serde_json.specs.View.{view, items_view};
 ghost use Rattle.table_history.specs.SchemaView.{type_view, column_view, columns_view};
 ghost use Rattle.table_history.specs.TypeTree.{ColumnTrees};
@@ -11,6 +11,7 @@ ghost use Rattle.schema_map.specs.Delta.{delta_type, delta_shape, delta_nested, 
 ghost use Rattle.schema_map.specs.Delta.{delta_list, delta_map, delta_columns, delta_column};
 ghost use Rattle.schema_map.specs.Delta.{delta_top_column, delta_schema, delta_schema_of};
 ghost use Rattle.schema_map.specs.DeltaSpelling.{IsDeltaText};
+ghost use Rattle.schema_map.specs.DeltaRefusal.{IsDeltaRefused};
 ghost use Rattle.table_history.specs.SchemaSize.{IsWithinLimits};
 ghost use Rattle.table_history.specs.Sound.{IsSound};
 
@@ -187,13 +188,17 @@ fn schema_from(alloc: Global, text: &[u8]) -> Result<Schema, MapError>
     delta_schema(alloc, &value)
 }
 
-/// The schema that a Delta schema text spells.
+/// The schema that a Delta schema text spells. `BadSchema` comes only where the text isn't in the
+/// grammar or two columns of one struct have one name, `SchemaType` only where the column has a type
+/// without a row in the table of types, and `Limit` only where Columns or Depth is passed.
 pub fn from_delta(alloc: Global, text: &[u8]) -> Result<Schema, MapError>
     // What is read is spelled by the text, is sound, and is within the limits.
     ensures found { IfOk result (λ s. IsDeltaText s text.now × IsSound s × IsWithinLimits s) }
     // What a text spells within the limits is read, unless memory runs out.
     ensures only { (s : ColumnTrees) → IsDeltaText s text.now → IsWithinLimits s
         → GivesUnlessMemory is_memory (λ t. t) result (Ok s) }
+    // A refusal names its cause.
+    ensures refused { IfErr result (λ e. IsDeltaRefused text.now e) }
     // The same as a function of the bytes, which says the first fault too.
     ensures exact { GivesUnlessMemory is_memory (λ s. s) result (delta_schema_of text.now) }
 {

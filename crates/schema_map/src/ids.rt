@@ -1,17 +1,22 @@
 //! The Image of a schema in Iceberg, with field ids that stay.
 
-ghost use Rattle.std.specs.Prelude.{◌≡◌, ◌++◌, ◌∷◌, [], IfOk, OnOk, Some, map, option_map};
+ghost use Rattle.std.specs.Prelude.{◌≡◌, ◌++◌, ◌∷◌, [], IfOk, IfErr, OnOk, Some, map, option_map};
 ghost use Rattle.table_history.specs.SchemaView.{type_view, column_view, columns_view};
 ghost use Rattle.table_history.specs.declared.kind.Kind.TheVariants.{Iceberg};
 ghost use Rattle.lake_basics.specs.Outcome.{GivesUnlessMemory};
 ghost use Rattle.schema_map.specs.Errors.{is_memory};
 ghost use Rattle.schema_map.specs.Image.{wide_type, wide_columns, image};
-ghost use Rattle.schema_map.specs.OwnIds.{AreKnown, AreDistinct, KeepsKnown};
+ghost use Rattle.schema_map.specs.OwnIds.{AreKnown, AreDistinct, AreIds, KeepsKnown};
+ghost use Rattle.schema_map.specs.IcebergFits.{FitsIceberg};
 ghost use Rattle.table_history.specs.Sound.{IsSound};
-ghost use Rattle.schema_map.specs.Ids.{below, inner_paths, column_paths, known_id, next_id, ids_for};
+ghost use Rattle.table_history.specs.SchemaSize.{IsWithinLimits};
+ghost use Rattle.schema_map.specs.Ids.{below, inner_paths, column_paths, known_id, next_id, id_step};
+ghost use Rattle.schema_map.specs.Ids.{ids_for, new_count, new_ids, ids_after, PassesGreatest};
+ghost use Rattle.schema_map.specs.Ids.{HasNoIds};
 
 use crate::fault::MapError;
 use crate::iceberg::Ids;
+use lake_basics::limits::MAX_ICEBERG_VERSION;
 use lake_basics::{Items, Text};
 use std::alloc::{AllocError, Global};
 use table_history::{Column, ColumnType, LimitKind, Schema};
@@ -173,10 +178,13 @@ fn known_id(known: &[(ColumnPath, i32)], path: &ColumnPath) -> Option<i32>
     None
 }
 
+/// The greatest field id, which is Iceberg's greatest number of 32 bits.
+const MAX_FIELD_ID: i32 = MAX_ICEBERG_VERSION as i32;
+
 fn next_id(last: i32) -> Result<i32, MapError>
     ensures { GivesUnlessMemory is_memory (λ id. id) result (next_id last) }
 {
-    if last < 2_147_483_647 {
+    if last < MAX_FIELD_ID {
         Ok(last + 1)
     } else {
         Err(MapError::Limit {
@@ -185,21 +193,57 @@ fn next_id(last: i32) -> Result<i32, MapError>
     }
 }
 
-fn ids_for(alloc: Global, known: &KnownIds, paths: &[ColumnPath]) -> Result<Ids, MapError>
-    ensures { GivesUnlessMemory is_memory (λ ids. ids) result (ids_for known.now.pairs known.now.last paths.now) }
+/// The id of a path and the last id then: a known id, or the next.
+fn id_step(last: i32, known: Option<i32>) -> Result<(i32, i32), MapError>
+    ensures { GivesUnlessMemory is_memory (λ p. p) result (id_step last known) }
 {
-    let mut ids = Vec::new(alloc);
-    let mut last = known.last;
-    for path in paths {
-        match known_id(known.pairs.as_slice(), path) {
-            Some(id) => ids.push(id)?,
-            None => {
-                last = next_id(last)?;
-                ids.push(last)?;
-            }
+    match known {
+        Some(id) => Ok((id, last)),
+        None => {
+            let id = next_id(last)?;
+            Ok((id, id))
         }
     }
+}
+
+#[tactic(auto, using(crate::proofs::IdRange::pushed_are))]
+fn push_id(ids: &mut Vec<i32>, id: i32) -> Result<(), AllocError>
+    ensures items { OnOk result (ids.new.items ≡ ids.old.items ++ id ∷ []) }
+    ensures are { OnOk result (AreIds ids.old.items → AreIds ids.new.items) }
+{
+    ids.push(id)?;
+    Ok(())
+}
+
+fn ids_for(alloc: Global, known: &KnownIds, paths: &[ColumnPath]) -> Result<Ids, MapError>
+    ensures given { GivesUnlessMemory is_memory (λ ids. ids) result
+        (ids_for known.now.pairs known.now.last paths.now) }
+    ensures are { IfOk result (λ ids. AreIds ids) }
+{
+    let mut ids = Vec::with_capacity(alloc, paths.len())?;
+    let mut last = known.last;
+    for path in paths {
+        let (id, last_given) = id_step(last, known_id(known.pairs.as_slice(), path))?;
+        push_id(&mut ids, id)?;
+        last = last_given;
+    }
     Ok(Items::from_vec(ids))
+}
+
+fn image_and_ids(
+    alloc: Global,
+    schema: &Schema,
+    known: &KnownIds,
+) -> Result<(Schema, Ids), MapError>
+    ensures image { IfOk result (λ p. p.0 ≡ wide_columns schema.now) }
+    ensures ids { GivesUnlessMemory is_memory (λ p. p.1) result
+        (ids_for known.now.pairs known.now.last (column_paths schema.now)) }
+    ensures are { IfOk result (λ p. AreIds p.1) }
+{
+    let paths = column_paths(alloc, schema)?;
+    let ids = ids_for(alloc, known, paths.as_slice())?;
+    let columns = wide_columns(alloc, schema.columns())?;
+    Ok((Schema::new(columns), ids))
 }
 
 /// The Image of a schema in Iceberg, and its field ids: a known column path keeps its id, and the
@@ -210,16 +254,26 @@ pub fn to_iceberg(
     known: &KnownIds,
 ) -> Result<(Schema, Ids), MapError>
     ensures image { IfOk result (λ p. image Iceberg schema.now ≡ Some p.0) }
-    ensures ids { GivesUnlessMemory is_memory (λ p. p.1) result (ids_for known.now.pairs known.now.last (column_paths schema.now)) }
+    ensures ids { GivesUnlessMemory is_memory (λ p. p.1) result
+        (ids_for known.now.pairs known.now.last (column_paths schema.now)) }
     // A known column path keeps its id.
     ensures keeps { IfOk result (λ p. KeepsKnown known.now.pairs (column_paths schema.now) p.1) }
+    // The ids of the others are those behind the last one, in order.
+    ensures next { IfOk result (λ p. new_ids known.now.pairs (column_paths schema.now) p.1
+        ≡ ids_after known.now.last (new_count known.now.pairs (column_paths schema.now))) }
+    // It refuses where a new id would pass the greatest one, and nowhere else.
+    ensures room { IfOk result
+        (λ _. PassesGreatest known.now.pairs known.now.last (column_paths schema.now) → ⊥) }
+    ensures limit { IfErr result
+        (λ e. HasNoIds known.now.pairs known.now.last (column_paths schema.now) e) }
     // No two column paths share an id.
+    ensures own_ids { IfOk result (λ p. AreKnown known.now.pairs known.now.last
+        → IsSound schema.now → AreDistinct p.1) }
+    // `iceberg_json` spells the Image with these ids, and `from_iceberg` gives both back.
+    ensures fits { IfOk result (λ p. IsSound schema.now → IsWithinLimits schema.now
+        → FitsIceberg p.0 p.1) }
     // What the Image reads back as has that Image too.
     ensures settled { IfOk result (λ p. image Iceberg p.0 ≡ Some p.0) }
-    ensures own_ids { IfOk result (λ p. AreKnown known.now.pairs known.now.last → IsSound schema.now → AreDistinct p.1) }
 {
-    let paths = column_paths(alloc, schema)?;
-    let ids = ids_for(alloc, known, paths.as_slice())?;
-    let columns = wide_columns(alloc, schema.columns())?;
-    Ok((Schema::new(columns), ids))
+    image_and_ids(alloc, schema, known)
 }

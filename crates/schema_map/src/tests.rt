@@ -1,139 +1,274 @@
 //! Every type in the three spellings, and every refusal.
+use crate::shared::json_of;
 use crate::{
     KnownIds, MapError, column_paths, from_avro, from_delta, from_iceberg, iceberg_json,
     name_mapping, read_avro, schema_limit, to_avro, to_delta, to_iceberg,
 };
 use json_reading::json_text;
 use lake_basics::{Items, Text};
-use serde_json::Value;
 use std::alloc::{AllocError, Global};
+use std::process::Abort;
 use std::test::Fail;
-use table_history::{LimitKind, Schema};
+use table_history::Schema;
 
-const EVERY_DELTA_TYPE: &str =
-    r#"{"fields":[{"metadata":{},"name":"a","nullable":true,"type":"boolean"},{"metadata":{},"name":"b","nullable":true,"type":"byte"},{"metadata":{},"name":"c","nullable":false,"type":"short"},{"metadata":{},"name":"d","nullable":true,"type":"integer"},{"metadata":{},"name":"e","nullable":true,"type":"long"},{"metadata":{},"name":"f","nullable":true,"type":"float"},{"metadata":{},"name":"g","nullable":true,"type":"double"},{"metadata":{},"name":"h","nullable":true,"type":"decimal(38,9)"},{"metadata":{},"name":"i","nullable":true,"type":"string"},{"metadata":{},"name":"j","nullable":true,"type":"binary"},{"metadata":{},"name":"k","nullable":true,"type":"date"},{"metadata":{},"name":"l","nullable":true,"type":"timestamp"},{"metadata":{},"name":"m","nullable":true,"type":"timestamp_ntz"},{"metadata":{},"name":"n","nullable":true,"type":{"fields":[{"metadata":{},"name":"x","nullable":false,"type":"long"}],"type":"struct"}},{"metadata":{},"name":"o","nullable":true,"type":{"containsNull":false,"elementType":"long","type":"array"}},{"metadata":{},"name":"p","nullable":true,"type":{"keyType":"string","type":"map","valueContainsNull":true,"valueType":"date"}}],"type":"struct"}"#;
+/// What is done with a text.
+#[derive(Clone, Copy)]
+enum Step {
+    DeltaRead,
+    AvroRead,
+    IcebergRead,
+    IcebergAgain,
+    AvroWritten,
+    IcebergWritten,
+    Mapped,
+}
 
-const EVERY_ICEBERG_TYPE: &str =
-    r#"{"fields":[{"id":1,"name":"a","required":false,"type":"boolean"},{"id":2,"name":"d","required":true,"type":"int"},{"id":3,"name":"e","required":false,"type":"long"},{"id":4,"name":"f","required":false,"type":"float"},{"id":5,"name":"g","required":false,"type":"double"},{"id":6,"name":"h","required":false,"type":"decimal( 38 ,9)"},{"id":7,"name":"i","required":false,"type":"string"},{"id":8,"name":"j","required":false,"type":"binary"},{"id":9,"name":"k","required":false,"type":"date"},{"id":10,"name":"l","required":false,"type":"timestamptz"},{"id":11,"name":"m","required":false,"type":"timestamp"},{"id":12,"name":"n","required":false,"type":{"fields":[{"id":13,"name":"x","required":true,"type":"long"}],"type":"struct"}},{"id":14,"name":"o","required":false,"type":{"element":"long","element-id":15,"element-required":true,"type":"list"}},{"id":16,"name":"p","required":false,"type":{"key":"string","key-id":17,"type":"map","value":"date","value-id":18,"value-required":false}}],"schema-id":0,"type":"struct"}"#;
-
-const THE_SAME_IN_DELTA: &str =
-    r#"{"fields":[{"metadata":{},"name":"a","nullable":true,"type":"boolean"},{"metadata":{},"name":"d","nullable":false,"type":"integer"},{"metadata":{},"name":"e","nullable":true,"type":"long"},{"metadata":{},"name":"f","nullable":true,"type":"float"},{"metadata":{},"name":"g","nullable":true,"type":"double"},{"metadata":{},"name":"h","nullable":true,"type":"decimal(38,9)"},{"metadata":{},"name":"i","nullable":true,"type":"string"},{"metadata":{},"name":"j","nullable":true,"type":"binary"},{"metadata":{},"name":"k","nullable":true,"type":"date"},{"metadata":{},"name":"l","nullable":true,"type":"timestamp"},{"metadata":{},"name":"m","nullable":true,"type":"timestamp_ntz"},{"metadata":{},"name":"n","nullable":true,"type":{"fields":[{"metadata":{},"name":"x","nullable":false,"type":"long"}],"type":"struct"}},{"metadata":{},"name":"o","nullable":true,"type":{"containsNull":false,"elementType":"long","type":"array"}},{"metadata":{},"name":"p","nullable":true,"type":{"keyType":"string","type":"map","valueContainsNull":true,"valueType":"date"}}],"type":"struct"}"#;
-
-const BAD_DELTA_TEXTS: [&str; 4] = [
-    "{",
-    "{}",
-    r#"{"type":"struct","fields":[{"name":"v","type":"long"}]}"#,
-    r#"{"type":"struct","fields":[{"name":"v","type":"long","nullable":true},{"name":"v","type":"long","nullable":true}]}"#,
-];
-
-const UNKNOWN_DELTA_TYPES: [&str; 3] = [
-    r#"{"type":"struct","fields":[{"name":"v","type":"variant","nullable":true}]}"#,
-    r#"{"type":"struct","fields":[{"name":"v","type":"decimal(39,0)","nullable":true}]}"#,
-    r#"{"type":"struct","fields":[{"name":"v","type":"decimal(3,4)","nullable":true}]}"#,
-];
-
-/// The column of the type that has no row in the table of types.
-fn unknown_column(read: Result<Schema, MapError>) -> Option<Text> {
-    match read {
-        Err(MapError::SchemaType { column }) => Some(column),
-        _other => None,
+/// Known ids that are none, with this last id.
+fn no_ids(alloc: Global, last: i32) -> KnownIds {
+    KnownIds {
+        pairs: Items::new(alloc),
+        last,
     }
 }
 
-/// The column that the writer refuses, and whether it does for the column's name.
-fn refused_column(written: Result<Text, MapError>) -> Option<(Text, bool)> {
-    match written {
-        Err(MapError::SchemaType { column }) => Some((column, false)),
-        Err(MapError::AvroName { column }) => Some((column, true)),
-        _other => None,
-    }
-}
-
-fn read_and_written(alloc: Global, text: &str) -> Result<Text, MapError> {
-    let schema = from_delta(alloc, text.as_bytes())?;
+fn delta_of_iceberg(alloc: Global, text: &[u8]) -> Result<Text, MapError> {
+    let value = json_of(alloc, text)?;
+    let (schema, _ids) = from_iceberg(alloc, &value)?;
     to_delta(alloc, &schema)
 }
 
-#[test]
-fn every_delta_type_is_read_and_written(rt: HostRuntime) -> Result<(), Fail> {
-    let text = read_and_written(rt.alloc(), EVERY_DELTA_TYPE)?;
-    assert_eq!(rt; text.as_str(), EVERY_DELTA_TYPE);
+/// What is read of Iceberg's JSON, written with its ids.
+fn iceberg_again(alloc: Global, text: &[u8]) -> Result<Text, MapError> {
+    let value = json_of(alloc, text)?;
+    let (schema, ids) = from_iceberg(alloc, &value)?;
+    let value = iceberg_json(alloc, &schema, &ids, 0)?;
+    Ok(json_text(alloc, &value)?)
+}
+
+/// Iceberg's JSON of the Image of a schema.
+fn iceberg_of(alloc: Global, schema: &Schema, known: &KnownIds) -> Result<Text, MapError> {
+    let (image, ids) = to_iceberg(alloc, schema, known)?;
+    let value = iceberg_json(alloc, &image, &ids, 0)?;
+    Ok(json_text(alloc, &value)?)
+}
+
+fn mapping_of(alloc: Global, schema: &Schema) -> Result<Text, MapError> {
+    let (image, ids) = to_iceberg(alloc, schema, &no_ids(alloc, 0))?;
+    name_mapping(alloc, &image, &ids)
+}
+
+/// What a step gives: Delta's text of what is read, and what is written of Delta's text.
+fn given(alloc: Global, step: Step, text: &[u8]) -> Result<Text, MapError> {
+    match step {
+        Step::DeltaRead => to_delta(alloc, &from_delta(alloc, text)?),
+        Step::AvroRead => to_delta(alloc, &from_avro(alloc, text)?),
+        Step::IcebergRead => delta_of_iceberg(alloc, text),
+        Step::IcebergAgain => iceberg_again(alloc, text),
+        Step::AvroWritten => to_avro(alloc, &from_delta(alloc, text)?),
+        Step::IcebergWritten => iceberg_of(alloc, &from_delta(alloc, text)?, &no_ids(alloc, 0)),
+        Step::Mapped => mapping_of(alloc, &from_delta(alloc, text)?),
+    }
+}
+
+/// The text that is given, or the refusal with its column or its limit.
+fn told(alloc: Global, given: Result<Text, MapError>) -> Result<String, AllocError> {
+    match given {
+        Ok(text) => String::from_str(alloc, text.as_str()),
+        Err(MapError::Memory) => String::from_str(alloc, "Memory"),
+        Err(MapError::BadSchema) => String::from_str(alloc, "BadSchema"),
+        Err(MapError::SchemaType { column }) => format!(in alloc; "SchemaType {}", column.as_str()),
+        Err(MapError::AvroName { column }) => format!(in alloc; "AvroName {}", column.as_str()),
+        Err(MapError::Limit { which }) => format!(in alloc; "Limit {}", which.word()),
+    }
+}
+
+fn check(
+    rt: &(impl Abort + AllocGlobal),
+    step: Step,
+    rows: &[(&str, &str)],
+) -> Result<(), AllocError> {
+    for (text, expected) in rows {
+        let found = told(rt.alloc(), given(rt.alloc(), step, text.as_bytes()))?;
+        assert_eq!(rt; found.as_str(), *expected, "{text}");
+    }
     Ok(())
 }
 
-#[test]
-fn every_iceberg_type_is_read(rt: HostRuntime) -> Result<(), Fail> {
-    let value = Value::from_str(rt.alloc(), EVERY_ICEBERG_TYPE)?;
-    let (schema, ids) = from_iceberg(rt.alloc(), &value)?;
-    assert_eq!(rt; ids.len(), 18);
-    let text = to_delta(rt.alloc(), &schema)?;
-    assert_eq!(rt; text.as_str(), THE_SAME_IN_DELTA);
-    let known = KnownIds {
-        pairs: Items::new(rt.alloc()),
-        last: 0,
-    };
-    let (image, given) = to_iceberg(rt.alloc(), &schema, &known)?;
-    assert!(rt; given.as_slice() == ids.as_slice());
-    assert_eq!(rt; to_delta(rt.alloc(), &image)?.as_str(), THE_SAME_IN_DELTA);
-    Ok(())
-}
+const EVERY_TYPE_IN_DELTA: &str =
+    r#"{"fields":[{"metadata":{},"name":"a","nullable":true,"type":"boolean"},{"metadata":{},"name":"b","nullable":true,"type":"byte"},{"metadata":{},"name":"c","nullable":false,"type":"short"},{"metadata":{},"name":"d","nullable":true,"type":"integer"},{"metadata":{},"name":"e","nullable":true,"type":"long"},{"metadata":{},"name":"f","nullable":true,"type":"float"},{"metadata":{},"name":"g","nullable":true,"type":"double"},{"metadata":{},"name":"h","nullable":true,"type":"decimal(38,9)"},{"metadata":{},"name":"i","nullable":true,"type":"string"},{"metadata":{},"name":"j","nullable":true,"type":"binary"},{"metadata":{},"name":"k","nullable":true,"type":"date"},{"metadata":{},"name":"l","nullable":true,"type":"timestamp"},{"metadata":{},"name":"m","nullable":true,"type":"timestamp_ntz"},{"metadata":{},"name":"n","nullable":true,"type":{"fields":[{"metadata":{},"name":"x","nullable":false,"type":"long"}],"type":"struct"}},{"metadata":{},"name":"o","nullable":true,"type":{"containsNull":false,"elementType":"long","type":"array"}},{"metadata":{},"name":"p","nullable":true,"type":{"keyType":"string","type":"map","valueContainsNull":true,"valueType":"date"}}],"type":"struct"}"#;
 
-#[test]
-fn bad_delta_texts_are_refused(rt: HostRuntime) -> Result<(), Fail> {
-    for text in BAD_DELTA_TEXTS {
-        let read = from_delta(rt.alloc(), text.as_bytes());
-        assert!(rt; matches!(read, Err(MapError::BadSchema)), "{text}");
-    }
-    for text in UNKNOWN_DELTA_TYPES {
-        let column = unknown_column(from_delta(rt.alloc(), text.as_bytes()));
-        assert_eq!(rt; column.expect(&rt, "a column").as_str(), "v", "{text}");
-    }
-    Ok(())
-}
+/// The same without byte and short, which Iceberg and Avro don't have.
+const WIDE_IN_DELTA: &str =
+    r#"{"fields":[{"metadata":{},"name":"a","nullable":true,"type":"boolean"},{"metadata":{},"name":"b","nullable":true,"type":"integer"},{"metadata":{},"name":"c","nullable":false,"type":"integer"},{"metadata":{},"name":"d","nullable":true,"type":"integer"},{"metadata":{},"name":"e","nullable":true,"type":"long"},{"metadata":{},"name":"f","nullable":true,"type":"float"},{"metadata":{},"name":"g","nullable":true,"type":"double"},{"metadata":{},"name":"h","nullable":true,"type":"decimal(38,9)"},{"metadata":{},"name":"i","nullable":true,"type":"string"},{"metadata":{},"name":"j","nullable":true,"type":"binary"},{"metadata":{},"name":"k","nullable":true,"type":"date"},{"metadata":{},"name":"l","nullable":true,"type":"timestamp"},{"metadata":{},"name":"m","nullable":true,"type":"timestamp_ntz"},{"metadata":{},"name":"n","nullable":true,"type":{"fields":[{"metadata":{},"name":"x","nullable":false,"type":"long"}],"type":"struct"}},{"metadata":{},"name":"o","nullable":true,"type":{"containsNull":false,"elementType":"long","type":"array"}},{"metadata":{},"name":"p","nullable":true,"type":{"keyType":"string","type":"map","valueContainsNull":true,"valueType":"date"}}],"type":"struct"}"#;
 
-#[test]
-fn ids_end_at_the_greatest(rt: HostRuntime) -> Result<(), Fail> {
-    let schema = from_delta(rt.alloc(), EVERY_DELTA_TYPE.as_bytes())?;
-    let known = KnownIds {
-        pairs: Items::new(rt.alloc()),
-        last: 2_147_483_640,
-    };
-    match to_iceberg(rt.alloc(), &schema, &known) {
-        Err(MapError::Limit { which }) => assert!(rt; which == LimitKind::Versions),
-        _ => assert!(rt; false),
-    }
-    Ok(())
-}
+const EVERY_TYPE_IN_ICEBERG: &str =
+    r#"{"fields":[{"id":1,"name":"a","required":false,"type":"boolean"},{"id":2,"name":"b","required":false,"type":"int"},{"id":3,"name":"c","required":true,"type":"int"},{"id":4,"name":"d","required":false,"type":"int"},{"id":5,"name":"e","required":false,"type":"long"},{"id":6,"name":"f","required":false,"type":"float"},{"id":7,"name":"g","required":false,"type":"double"},{"id":8,"name":"h","required":false,"type":"decimal(38, 9)"},{"id":9,"name":"i","required":false,"type":"string"},{"id":10,"name":"j","required":false,"type":"binary"},{"id":11,"name":"k","required":false,"type":"date"},{"id":12,"name":"l","required":false,"type":"timestamptz"},{"id":13,"name":"m","required":false,"type":"timestamp"},{"id":14,"name":"n","required":false,"type":{"fields":[{"id":15,"name":"x","required":true,"type":"long"}],"type":"struct"}},{"id":16,"name":"o","required":false,"type":{"element":"long","element-id":17,"element-required":true,"type":"list"}},{"id":18,"name":"p","required":false,"type":{"key":"string","key-id":19,"type":"map","value":"date","value-id":20,"value-required":false}}],"schema-id":0,"type":"struct"}"#;
+
+const EVERY_TYPE_IN_AVRO: &str =
+    r#"{"fields":[{"default":null,"name":"a","type":["null","boolean"]},{"default":null,"name":"b","type":["null","int"]},{"name":"c","type":"int"},{"default":null,"name":"d","type":["null","int"]},{"default":null,"name":"e","type":["null","long"]},{"default":null,"name":"f","type":["null","float"]},{"default":null,"name":"g","type":["null","double"]},{"default":null,"name":"h","type":["null",{"logicalType":"decimal","precision":38,"scale":9,"type":"bytes"}]},{"default":null,"name":"i","type":["null","string"]},{"default":null,"name":"j","type":["null","bytes"]},{"default":null,"name":"k","type":["null",{"logicalType":"date","type":"int"}]},{"default":null,"name":"l","type":["null",{"logicalType":"timestamp-micros","type":"long"}]},{"default":null,"name":"m","type":["null",{"logicalType":"local-timestamp-micros","type":"long"}]},{"default":null,"name":"n","type":["null",{"fields":[{"name":"x","type":"long"}],"name":"r1","type":"record"}]},{"default":null,"name":"o","type":["null",{"items":"long","type":"array"}]},{"default":null,"name":"p","type":["null",{"type":"map","values":["null",{"logicalType":"date","type":"int"}]}]}],"name":"r0","type":"record"}"#;
+
+const EVERY_NAME_MAPPED: &str =
+    r#"[{"field-id":1,"names":["a"]},{"field-id":2,"names":["b"]},{"field-id":3,"names":["c"]},{"field-id":4,"names":["d"]},{"field-id":5,"names":["e"]},{"field-id":6,"names":["f"]},{"field-id":7,"names":["g"]},{"field-id":8,"names":["h"]},{"field-id":9,"names":["i"]},{"field-id":10,"names":["j"]},{"field-id":11,"names":["k"]},{"field-id":12,"names":["l"]},{"field-id":13,"names":["m"]},{"field-id":14,"fields":[{"field-id":15,"names":["x"]}],"names":["n"]},{"field-id":16,"fields":[{"field-id":17,"names":["element"]}],"names":["o"]},{"field-id":18,"fields":[{"field-id":19,"names":["key"]},{"field-id":20,"names":["value"]}],"names":["p"]}]"#;
 
 const ONE_COLUMN: &str =
     r#"{"fields":[{"metadata":{},"name":"id","nullable":true,"type":"long"}],"type":"struct"}"#;
+
+const ONE_COLUMN_IN_ICEBERG: &str =
+    r#"{"fields":[{"id":1,"name":"id","required":false,"type":"long"}],"schema-id":0,"type":"struct"}"#;
 
 const ONE_COLUMN_IN_AVRO: &str =
     r#"{"fields":[{"default":null,"name":"id","type":["null","long"]}],"name":"r0","type":"record"}"#;
 
 #[test]
-fn one_column_has_its_spellings(rt: HostRuntime) -> Result<(), Fail> {
-    let alloc = rt.alloc();
-    let schema = from_delta(alloc, ONE_COLUMN.as_bytes())?;
-    assert_eq!(rt; column_paths(alloc, &schema)?.len(), 1);
-    let known = KnownIds {
-        pairs: Items::new(alloc),
-        last: 0,
-    };
-    let (image, ids) = to_iceberg(alloc, &schema, &known)?;
-    assert_eq!(rt; ids.as_slice(), [1i32].as_slice());
-    let value = iceberg_json(alloc, &image, &ids, 0)?;
-    assert_eq!(rt;
-        json_text(alloc, &value)?.as_str(),
-        r#"{"fields":[{"id":1,"name":"id","required":false,"type":"long"}],"schema-id":0,"type":"struct"}"#
-    );
-    assert_eq!(rt;
-        name_mapping(alloc, &schema, &ids)?.as_str(),
-        r#"[{"field-id":1,"names":["id"]}]"#
-    );
-    assert_eq!(rt; to_avro(alloc, &schema)?.as_str(), ONE_COLUMN_IN_AVRO);
-    let read = from_avro(alloc, ONE_COLUMN_IN_AVRO.as_bytes())?;
-    assert_eq!(rt; to_delta(alloc, &read)?.as_str(), ONE_COLUMN);
+fn every_type_is_written(rt: HostRuntime) -> Result<(), Fail> {
+    check(
+        &rt,
+        Step::DeltaRead,
+        &[(EVERY_TYPE_IN_DELTA, EVERY_TYPE_IN_DELTA)],
+    )?;
+    check(
+        &rt,
+        Step::IcebergWritten,
+        &[
+            (EVERY_TYPE_IN_DELTA, EVERY_TYPE_IN_ICEBERG),
+            (ONE_COLUMN, ONE_COLUMN_IN_ICEBERG),
+        ],
+    )?;
+    check(
+        &rt,
+        Step::AvroWritten,
+        &[
+            (EVERY_TYPE_IN_DELTA, EVERY_TYPE_IN_AVRO),
+            (ONE_COLUMN, ONE_COLUMN_IN_AVRO),
+        ],
+    )?;
+    check(
+        &rt,
+        Step::Mapped,
+        &[
+            (EVERY_TYPE_IN_DELTA, EVERY_NAME_MAPPED),
+            (ONE_COLUMN, r#"[{"field-id":1,"names":["id"]}]"#),
+        ],
+    )?;
+    Ok(())
+}
+
+#[test]
+fn every_type_is_read(rt: HostRuntime) -> Result<(), Fail> {
+    check(
+        &rt,
+        Step::IcebergRead,
+        &[
+            (EVERY_TYPE_IN_ICEBERG, WIDE_IN_DELTA),
+            (ONE_COLUMN_IN_ICEBERG, ONE_COLUMN),
+        ],
+    )?;
+    check(
+        &rt,
+        Step::IcebergAgain,
+        &[
+            (EVERY_TYPE_IN_ICEBERG, EVERY_TYPE_IN_ICEBERG),
+            (ONE_COLUMN_IN_ICEBERG, ONE_COLUMN_IN_ICEBERG),
+        ],
+    )?;
+    check(
+        &rt,
+        Step::AvroRead,
+        &[
+            (EVERY_TYPE_IN_AVRO, WIDE_IN_DELTA),
+            (ONE_COLUMN_IN_AVRO, ONE_COLUMN),
+        ],
+    )?;
+    Ok(())
+}
+
+#[test]
+fn delta_texts_are_refused_by_name(rt: HostRuntime) -> Result<(), Fail> {
+    check(
+        &rt,
+        Step::DeltaRead,
+        &[
+            ("{", "BadSchema"),
+            ("{}", "BadSchema"),
+            (
+                r#"{"type":"struct","fields":[{"name":"v","type":"long"}]}"#,
+                "BadSchema",
+            ),
+            (
+                r#"{"type":"struct","fields":[{"name":"v","type":1,"nullable":true}]}"#,
+                "BadSchema",
+            ),
+            (
+                r#"{"type":"struct","fields":[{"name":"v","type":"long","nullable":true},{"name":"v","type":"long","nullable":true}]}"#,
+                "BadSchema",
+            ),
+            (
+                r#"{"type":"struct","fields":[{"name":"w","nullable":true,"type":{"type":"struct","fields":[{"name":"v","type":"long","nullable":true},{"name":"v","type":"date","nullable":true}]}}]}"#,
+                "BadSchema",
+            ),
+            (
+                r#"{"type":"struct","fields":[{"name":"v","type":"variant","nullable":true}]}"#,
+                "SchemaType v",
+            ),
+            (
+                r#"{"type":"struct","fields":[{"name":"v","type":"decimal(39,0)","nullable":true}]}"#,
+                "SchemaType v",
+            ),
+            (
+                r#"{"type":"struct","fields":[{"name":"v","type":"decimal(3,4)","nullable":true}]}"#,
+                "SchemaType v",
+            ),
+            (
+                r#"{"type":"struct","fields":[{"name":"v","nullable":true,"type":{"type":"set","elementType":"long"}}]}"#,
+                "SchemaType v",
+            ),
+        ],
+    )?;
+    Ok(())
+}
+
+#[test]
+fn iceberg_schemas_are_refused_by_name(rt: HostRuntime) -> Result<(), Fail> {
+    check(
+        &rt,
+        Step::IcebergRead,
+        &[
+            ("[]", "BadSchema"),
+            (r#"{"type":"struct"}"#, "BadSchema"),
+            (
+                r#"{"type":"struct","fields":[{"name":"v","type":"long","required":true}]}"#,
+                "BadSchema",
+            ),
+            (
+                r#"{"type":"struct","fields":[{"id":2147483648,"name":"v","type":"long","required":true}]}"#,
+                "BadSchema",
+            ),
+            (
+                r#"{"type":"struct","fields":[{"id":1,"name":"v","type":"long","required":true},{"id":2,"name":"v","type":"long","required":true}]}"#,
+                "BadSchema",
+            ),
+            (
+                r#"{"type":"struct","fields":[{"id":1,"name":"v","required":true,"type":{"type":"list","element":"long","element-required":true}}]}"#,
+                "BadSchema",
+            ),
+            (
+                r#"{"type":"struct","fields":[{"id":1,"name":"v","type":"uuid","required":true}]}"#,
+                "SchemaType v",
+            ),
+            (
+                r#"{"type":"struct","fields":[{"id":1,"name":"v","type":"fixed[16]","required":true}]}"#,
+                "SchemaType v",
+            ),
+            (
+                r#"{"type":"struct","fields":[{"id":1,"name":"v","type":"decimal(4, 5)","required":true}]}"#,
+                "SchemaType v",
+            ),
+            (
+                r#"{"type":"struct","fields":[{"id":1,"name":"v","type":"decimal( 9 ,2)","required":true}]}"#,
+                r#"{"fields":[{"metadata":{},"name":"v","nullable":false,"type":"decimal(9,2)"}],"type":"struct"}"#,
+            ),
+        ],
+    )?;
     Ok(())
 }
 
@@ -143,76 +278,195 @@ const AVRO_TYPES: &str =
 const THE_AVRO_TYPES_IN_DELTA: &str =
     r#"{"fields":[{"metadata":{},"name":"a","nullable":true,"type":"boolean"},{"metadata":{},"name":"b","nullable":false,"type":"decimal(5,0)"},{"metadata":{},"name":"c","nullable":false,"type":"decimal(9,2)"},{"metadata":{},"name":"d","nullable":false,"type":"date"},{"metadata":{},"name":"e","nullable":false,"type":"timestamp"},{"metadata":{},"name":"g","nullable":false,"type":"timestamp_ntz"},{"metadata":{},"name":"h","nullable":false,"type":"string"},{"metadata":{},"name":"i","nullable":false,"type":{"containsNull":true,"elementType":"float","type":"array"}},{"metadata":{},"name":"j","nullable":false,"type":{"keyType":"string","type":"map","valueContainsNull":false,"valueType":"double"}},{"metadata":{},"name":"k","nullable":false,"type":{"fields":[{"metadata":{},"name":"x","nullable":false,"type":"integer"}],"type":"struct"}}],"type":"struct"}"#;
 
-const UNKNOWN_AVRO_TYPES: [&str; 4] = [
-    r#"{"type":"record","name":"r","fields":[{"name":"v","type":{"type":"enum","name":"e","symbols":["A"]}}]}"#,
-    r#"{"type":"record","name":"r","fields":[{"name":"v","type":["null","long","int"]}]}"#,
-    r#"{"type":"record","name":"r","fields":[{"name":"v","type":{"type":"int","logicalType":"time-millis"}}]}"#,
-    r#"{"type":"record","name":"r","fields":[{"name":"v","type":{"type":"bytes","logicalType":"decimal"}}]}"#,
-];
-
 #[test]
-fn avro_types_are_read(rt: HostRuntime) -> Result<(), Fail> {
-    let schema = from_avro(rt.alloc(), AVRO_TYPES.as_bytes())?;
-    assert_eq!(rt;
-        to_delta(rt.alloc(), &schema)?.as_str(),
-        THE_AVRO_TYPES_IN_DELTA
-    );
-    for text in UNKNOWN_AVRO_TYPES {
-        let column = unknown_column(from_avro(rt.alloc(), text.as_bytes()));
-        assert_eq!(rt; column.expect(&rt, "a column").as_str(), "v", "{text}");
-    }
-    let recursive = r#"{"type":"record","name":"r","fields":[{"name":"v","type":"r"}]}"#;
-    let read = from_avro(rt.alloc(), recursive.as_bytes());
-    assert!(rt; matches!(read, Err(MapError::BadSchema)));
+fn avro_schemas_are_read_or_refused_by_name(rt: HostRuntime) -> Result<(), Fail> {
+    check(
+        &rt,
+        Step::AvroRead,
+        &[
+            (AVRO_TYPES, THE_AVRO_TYPES_IN_DELTA),
+            (r#""long""#, "BadSchema"),
+            (
+                r#"{"type":"record","name":"r","fields":[{"name":"v","type":"r"}]}"#,
+                "BadSchema",
+            ),
+            (
+                r#"{"type":"record","name":"r","fields":[{"name":"v","type":{"type":"enum","name":"e","symbols":["A"]}}]}"#,
+                "SchemaType v",
+            ),
+            (
+                r#"{"type":"record","name":"r","fields":[{"name":"v","type":{"type":"fixed","name":"f","size":4}}]}"#,
+                "SchemaType v",
+            ),
+            (
+                r#"{"type":"record","name":"r","fields":[{"name":"v","type":"null"}]}"#,
+                "SchemaType v",
+            ),
+            (
+                r#"{"type":"record","name":"r","fields":[{"name":"v","type":["null","long","int"]}]}"#,
+                "SchemaType v",
+            ),
+            (
+                r#"{"type":"record","name":"r","fields":[{"name":"v","type":{"type":"int","logicalType":"time-millis"}}]}"#,
+                "SchemaType v",
+            ),
+            (
+                r#"{"type":"record","name":"r","fields":[{"name":"v","type":{"type":"long","logicalType":"time-micros"}}]}"#,
+                "SchemaType v",
+            ),
+            (
+                r#"{"type":"record","name":"r","fields":[{"name":"v","type":{"type":"bytes","logicalType":"decimal"}}]}"#,
+                "SchemaType v",
+            ),
+            (
+                r#"{"type":"record","name":"r","fields":[{"name":"v","type":{"type":"bytes","logicalType":"decimal","precision":4,"scale":5}}]}"#,
+                "SchemaType v",
+            ),
+        ],
+    )?;
+    check(
+        &rt,
+        Step::AvroWritten,
+        &[
+            (
+                r#"{"type":"struct","fields":[{"name":"a-b","type":"long","nullable":true}]}"#,
+                "AvroName a-b",
+            ),
+            (
+                r#"{"type":"struct","fields":[{"name":"1a","type":"long","nullable":true}]}"#,
+                "AvroName 1a",
+            ),
+            (
+                r#"{"type":"struct","fields":[{"name":"v","nullable":true,"type":{"type":"struct","fields":[{"name":"","type":"long","nullable":true}]}}]}"#,
+                "AvroName v",
+            ),
+            (
+                r#"{"type":"struct","fields":[{"name":"a-b","type":"long","nullable":true},{"name":"v","type":{"type":"map","keyType":"long","valueType":"long","valueContainsNull":true},"nullable":true}]}"#,
+                "SchemaType v",
+            ),
+        ],
+    )?;
     Ok(())
 }
 
-/// An Avro record whose one field is a list of lists, of so many levels in all, the record among them.
-fn nested_lists(alloc: Global, levels: u32) -> Result<String, AllocError> {
-    let mut text = String::new(alloc);
-    text.push_str(r#"{"type":"record","name":"r","fields":[{"name":"v","type":"#)?;
-    for _ in 2..levels {
-        text.push_str(r#"{"type":"array","items":"#)?;
+// ---- limits
+
+/// A schema whose one column has a type of so many levels above that of a long.
+fn nested(alloc: Global, head: &str, open: &str, levels: usize) -> Result<String, AllocError> {
+    let opened = open.repeat(alloc, levels)?;
+    let closed = "}".repeat(alloc, levels)?;
+    format!(in alloc; "{head}{opened}\"long\"{closed}}}]}}")
+}
+
+const DELTA_HEAD: &str = r#"{"type":"struct","fields":[{"name":"v","nullable":true,"type":"#;
+
+const DELTA_LIST: &str = r#"{"type":"array","containsNull":true,"elementType":"#;
+
+const ICEBERG_HEAD: &str =
+    r#"{"type":"struct","fields":[{"id":1,"name":"v","required":true,"type":"#;
+
+const ICEBERG_LIST: &str = r#"{"type":"list","element-id":2,"element-required":true,"element":"#;
+
+const AVRO_HEAD: &str = r#"{"type":"record","name":"r","fields":[{"name":"v","type":"#;
+
+const AVRO_LIST: &str = r#"{"type":"array","items":"#;
+
+/// Whether the step refuses lists in lists, of so many levels, for their depth.
+fn is_too_deep(alloc: Global, step: Step, levels: usize) -> Result<bool, AllocError> {
+    let (head, open) = match step {
+        Step::IcebergRead => (ICEBERG_HEAD, ICEBERG_LIST),
+        Step::AvroRead => (AVRO_HEAD, AVRO_LIST),
+        _ => (DELTA_HEAD, DELTA_LIST),
+    };
+    let text = nested(alloc, head, open, levels)?;
+    let found = told(alloc, given(alloc, step, text.as_bytes()))?;
+    Ok(found.as_str() == "Limit Depth")
+}
+
+#[test]
+fn a_schema_has_at_most_32_levels(rt: HostRuntime) -> Result<(), Fail> {
+    for step in [Step::DeltaRead, Step::IcebergRead, Step::AvroRead] {
+        assert_eq!(rt; is_too_deep(rt.alloc(), step, 30)?, false);
+        assert_eq!(rt; is_too_deep(rt.alloc(), step, 31)?, true);
     }
-    text.push_str(r#""int""#)?;
-    for _ in 2..levels {
-        text.push_str("}")?;
+    Ok(())
+}
+
+/// Delta's text of a schema of so many columns, and one more.
+fn columns_and_one(alloc: Global, count: u64) -> Result<String, AllocError> {
+    let mut text = String::from_str(alloc, r#"{"type":"struct","fields":["#)?;
+    for n in 0..count {
+        let field = format!(in alloc;
+            "{{\"name\":\"c{n}\",\"nullable\":true,\"type\":\"long\"}},"
+        )?;
+        text.push_str(field.as_str())?;
     }
-    text.push_str("}]}")?;
+    text.push_str(r#"{"name":"last","nullable":true,"type":"long"}]}"#)?;
     Ok(text)
 }
 
 #[test]
-fn avro_schemas_of_any_size_are_read(rt: HostRuntime) -> Result<(), Fail> {
+fn a_schema_has_at_most_2000_columns(rt: HostRuntime) -> Result<(), Fail> {
     let alloc = rt.alloc();
-    let widest = nested_lists(alloc, 32)?;
-    let schema = read_avro(alloc, widest.as_bytes())?;
+    let most = columns_and_one(alloc, 1_999)?;
+    let schema = from_delta(alloc, most.as_bytes())?;
     assert!(rt; schema_limit(&schema).is_none());
-    let deeper = nested_lists(alloc, 33)?;
-    let schema = read_avro(alloc, deeper.as_bytes())?;
-    assert!(rt; schema_limit(&schema) == Some(LimitKind::Depth));
-    match from_avro(alloc, deeper.as_bytes()) {
-        Err(MapError::Limit { which }) => assert!(rt; which == LimitKind::Depth),
-        _ => assert!(rt; false),
-    }
+    let more = columns_and_one(alloc, 2_000)?;
+    let found = told(alloc, given(alloc, Step::DeltaRead, more.as_bytes()))?;
+    assert_eq!(rt; found.as_str(), "Limit Columns");
     Ok(())
 }
 
 #[test]
-fn what_avro_cannot_spell_is_refused(rt: HostRuntime) -> Result<(), Fail> {
-    let dashed = from_delta(
-        rt.alloc(),
-        r#"{"type":"struct","fields":[{"name":"a-b","type":"long","nullable":true}]}"#.as_bytes(),
-    )?;
-    let (column, by_name) = refused_column(to_avro(rt.alloc(), &dashed)).expect(&rt, "a column");
-    assert_eq!(rt; column.as_str(), "a-b");
-    assert_eq!(rt; by_name, true);
-    let keyed = from_delta(
-        rt.alloc(),
-        r#"{"type":"struct","fields":[{"name":"v","type":{"type":"map","keyType":"long","valueType":"long","valueContainsNull":true},"nullable":true}]}"#.as_bytes(),
-    )?;
-    let (column, by_name) = refused_column(to_avro(rt.alloc(), &keyed)).expect(&rt, "a column");
-    assert_eq!(rt; column.as_str(), "v");
-    assert_eq!(rt; by_name, false);
+fn avro_schemas_of_any_size_are_read(rt: HostRuntime) -> Result<(), Fail> {
+    let text = nested(rt.alloc(), AVRO_HEAD, AVRO_LIST, 31)?;
+    let schema = read_avro(rt.alloc(), text.as_bytes())?;
+    assert!(rt; schema_limit(&schema).is_some());
+    Ok(())
+}
+
+// ---- field ids
+
+/// The ids of a schema's column paths.
+fn known_of(
+    alloc: Global,
+    schema: &Schema,
+    ids: &[i32],
+    last: i32,
+) -> Result<KnownIds, AllocError> {
+    let mut known = no_ids(alloc, last);
+    for (path, id) in column_paths(alloc, schema)?.into_iter().zip(ids) {
+        known.pairs.push((path, *id))?;
+    }
+    Ok(known)
+}
+
+const OLDER: &str =
+    r#"{"type":"struct","fields":[{"name":"a","type":"long","nullable":true},{"name":"b","nullable":true,"type":{"type":"array","elementType":"long","containsNull":true}}]}"#;
+
+const NEWER: &str =
+    r#"{"type":"struct","fields":[{"name":"element","type":"long","nullable":true},{"name":"b","nullable":true,"type":{"type":"array","containsNull":true,"elementType":{"type":"struct","fields":[{"name":"a","type":"long","nullable":true}]}}},{"name":"a","type":"date","nullable":true}]}"#;
+
+/// The text of the ids of the newer schema, where those of the older one are known, and the last.
+fn newer_ids(alloc: Global, last: i32) -> Result<Text, MapError> {
+    let older = from_delta(alloc, OLDER.as_bytes())?;
+    let newer = from_delta(alloc, NEWER.as_bytes())?;
+    let known = known_of(alloc, &older, [1i32, 2, 7].as_slice(), last)?;
+    let (_image, ids) = to_iceberg(alloc, &newer, &known)?;
+    Ok(Text::from_str(alloc, format!(in alloc; "{:?}", ids.as_slice())?.as_str())?)
+}
+
+#[test]
+fn known_paths_keep_their_ids(rt: HostRuntime) -> Result<(), Fail> {
+    let alloc = rt.alloc();
+    assert_eq!(rt; newer_ids(alloc, 9)?.as_str(), "[10, 2, 7, 11, 1]");
+    assert_eq!(rt;
+        newer_ids(alloc, 2_147_483_645)?.as_str(),
+        "[2147483646, 2, 7, 2147483647, 1]"
+    );
+    assert_eq!(rt;
+        told(alloc, newer_ids(alloc, 2_147_483_646))?.as_str(),
+        "Limit Versions"
+    );
     Ok(())
 }

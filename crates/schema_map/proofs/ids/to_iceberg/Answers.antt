@@ -1,21 +1,28 @@
-use Rattle.std.proofs.Common.{◌≡◌, ◌∙◌, ap, sym, Ok, Some, rules}
-use Rattle.schema_map.specs.Ids.{column_paths, ids_for}
-use Rattle.schema_map.specs.Image.{wide_columns}
-use Rattle.schema_map.proofs.ImageTwice.{columns_twice}
-use Rattle.schema_map.proofs.OwnIdsGiven.{own_schema_ids, kept_ids}
+use Rattle.schema_map.specs.Ids.{column_paths}
+use Rattle.schema_map.proofs.IdsGiven.{given_next, given_room, given_limit}
+use Rattle.schema_map.proofs.IcebergGiven.{given_image, given_settled, given_keeps, given_own, given_fits}
 use Rattle.schema_map.proofs.ids.to_iceberg.Goals as goal
 
-pub returns-clause-own_ids : goal.returns-clause-own_ids
-returns-clause-own_ids c are sound =
-    let given : ids_for c.args.known.now.pairs c.args.known.now.last (column_paths c.args.schema.now) ≡ Ok c.in_ok-ids.ids = search rules in
-    own_schema_ids _ _ c.args.schema.now c.in_ok-ids.ids are sound given
+pub returns-clause-image : goal.returns-clause-image
+returns-clause-image c = given_image _ _ c.image_and_ids.ensures.image
 
 pub returns-clause-keeps : goal.returns-clause-keeps
-returns-clause-keeps c =
-    let given : ids_for c.args.known.now.pairs c.args.known.now.last (column_paths c.args.schema.now) ≡ Ok c.in_ok-ids.ids = search rules in
-    kept_ids _ _ _ _ given
+returns-clause-keeps c = given_keeps c.args.known.now.pairs c.args.known.now.last c.args.schema.now _ c.image_and_ids.ensures.ids
+
+pub returns-clause-next : goal.returns-clause-next
+returns-clause-next c = given_next _ c.args.known.now.pairs c.args.known.now.last (column_paths c.args.schema.now) _ c.image_and_ids.ensures.ids
+
+pub returns-clause-room : goal.returns-clause-room
+returns-clause-room c = given_room _ c.args.known.now.pairs c.args.known.now.last (column_paths c.args.schema.now) _ c.image_and_ids.ensures.ids
+
+pub returns-clause-limit : goal.returns-clause-limit
+returns-clause-limit c = given_limit _ c.args.known.now.pairs c.args.known.now.last (column_paths c.args.schema.now) _ c.image_and_ids.ensures.ids
+
+pub returns-clause-own_ids : goal.returns-clause-own_ids
+returns-clause-own_ids c = given_own c.args.known.now.pairs c.args.known.now.last c.args.schema.now _ c.image_and_ids.ensures.ids
+
+pub returns-clause-fits : goal.returns-clause-fits
+returns-clause-fits c = given_fits c.args.known.now.pairs c.args.known.now.last c.args.schema.now _ c.image_and_ids.ensures.image c.image_and_ids.ensures.are c.image_and_ids.ensures.ids
 
 pub returns-clause-settled : goal.returns-clause-settled
-returns-clause-settled c =
-    let made : c.new.result ≡ wide_columns c.args.schema.now = c.new.ensures ∙ c.in_ok-columns.ensures ∙ ap wide_columns c.columns.ensures in
-    ap Some (ap wide_columns made ∙ columns_twice c.args.schema.now ∙ sym made)
+returns-clause-settled c = given_settled _ _ c.image_and_ids.ensures.image

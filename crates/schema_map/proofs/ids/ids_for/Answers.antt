@@ -1,0 +1,14 @@
+use Rattle.std.proofs.Common.{◌≡◌, rules, arith}
+use Rattle.std.specs.Prelude.{Ok}
+use Rattle.std.proofs.lemmas.Grind.{common_steps}
+use Rattle.schema_map.specs.Ids.{known_id, id_step}
+use Rattle.schema_map.proofs.IdsFor.{with_ids-step}
+use Rattle.schema_map.proofs.ids.ids_for.Goals as goal
+
+pub loop-path-preserved : goal.loop-path-preserved
+loop-path-preserved c =
+    let step : id_step c.loop-path.last (known_id c.args.known.now.pairs c.path-item.result) ≡ Ok (c.in_ok-id.id, c.in_ok-id.last_given) = first_of (search rules, cc) in
+    record {
+      given = grind (arith, common_steps, with_ids-step, step);
+      are = c.in_ok-push_id.ensures.are c.loop-path.invariant.are;
+    }
