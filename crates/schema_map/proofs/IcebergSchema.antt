@@ -33,7 +33,7 @@ module _ (f : Data → Result (ColumnTree × List ℤ) Fault) (name : Data → L
       let eq : all ≡ p = let h : good all ≡ good p = others.behind in cc in
       rw (first.first, tops_from xs others.value others.first) (ap Ok eq)
 
-  tops_to : (xs : List Data) (p : List ColumnTree × List ℤ) → each_with_ids (λ d. in_column (name d) (f d)) xs ≡ Ok p → each_with_ids f xs ≡ Ok p
+  pub tops_to : (xs : List Data) (p : List ColumnTree × List ℤ) → each_with_ids (λ d. in_column (name d) (f d)) xs ≡ Ok p → each_with_ids f xs ≡ Ok p
   tops_to [] p e = let h : mapped ([], []) ≡ mapped p = e in cc
   tops_to (x ∷ xs) p e =
       let first = bound (in_column (name x) (f x)) _ p e in

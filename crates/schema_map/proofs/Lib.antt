@@ -18,6 +18,7 @@ pub mod OwnIdsGiven
 pub mod IcebergOnly
 pub mod IcebergFound
 pub mod IcebergSchema
+pub mod IcebergRefused
 pub mod Sound
 pub mod IcebergWritten
 pub mod IcebergGiven

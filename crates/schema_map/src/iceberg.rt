@@ -1,7 +1,7 @@
 //! Reading Iceberg's spelling of schemas (Apache Iceberg specification, "JSON serialization", Schemas)
 //! with its field ids.
 
-ghost use Rattle.std.specs.Prelude.{◌≡◌, ◌∷◌, ◌++◌, map, IfOk, Ok, Some, List, ℤ};
+ghost use Rattle.std.specs.Prelude.{◌≡◌, ◌∷◌, ◌++◌, map, IfOk, IfErr, Ok, Some, List, ℤ};
 ghost use Rattle.serde_json.specs.View.{view, items_view};
 ghost use Rattle.table_history.specs.SchemaView.{type_view, column_view, columns_view};
 ghost use Rattle.table_history.specs.TypeTree.{ColumnTrees};
@@ -17,6 +17,7 @@ ghost use Rattle.schema_map.specs.Iceberg.{iceberg_list, iceberg_map, iceberg_co
 ghost use Rattle.schema_map.specs.Iceberg.{iceberg_column, iceberg_top_column, iceberg_schema};
 ghost use Rattle.schema_map.specs.Iceberg.{each_with_ids};
 ghost use Rattle.schema_map.specs.IcebergSpelling.{IsIcebergSchema};
+ghost use Rattle.schema_map.specs.IcebergRefusal.{IsIcebergRefused};
 ghost use Rattle.table_history.specs.SchemaSize.{IsWithinLimits};
 
 use crate::decimal::decimal_of;
@@ -279,6 +280,9 @@ fn schema_and_ids(alloc: Global, value: &Value) -> Result<(Schema, Ids), MapErro
 }
 
 /// The schema that Iceberg's JSON of a schema spells, and its field ids in depth-first order.
+/// `BadSchema` comes only where the JSON isn't in the grammar or two columns of one struct have one
+/// name, `SchemaType` only where the column has a type without a row in the table of types, and
+/// `Limit` only where Columns or Depth is passed.
 pub fn from_iceberg(alloc: Global, value: &Value) -> Result<(Schema, Ids), MapError>
     // What is read is spelled by the value with these ids, and is within the limits.
     ensures found { IfOk result
@@ -289,6 +293,8 @@ pub fn from_iceberg(alloc: Global, value: &Value) -> Result<(Schema, Ids), MapEr
     // What a value spells within the limits is read, unless memory runs out.
     ensures only { (s : ColumnTrees) (ids : List ℤ) → IsIcebergSchema s ids (view value.now)
         → IsWithinLimits s → GivesUnlessMemory is_memory (λ p. p) result (Ok (s, ids)) }
+    // A refusal names its cause.
+    ensures refused { IfErr result (λ e. IsIcebergRefused (view value.now) e) }
     // The same as a function of the value, which says the first fault too.
     ensures exact { GivesUnlessMemory is_memory (λ p. p) result (iceberg_schema (view value.now)) }
 {

@@ -1,5 +1,6 @@
 use Rattle.schema_map.proofs.IcebergSchema.{given_found, given_only}
 use Rattle.schema_map.proofs.IcebergSound.{given_fits, given_settled}
+use Rattle.schema_map.proofs.IcebergRefused.{given_refused}
 use Rattle.schema_map.proofs.iceberg.from_iceberg.Goals as goal
 
 pub returns-clause-found : goal.returns-clause-found
@@ -13,3 +14,6 @@ returns-clause-settled c = given_settled _ _ c.schema_and_ids.ensures
 
 pub returns-clause-only : goal.returns-clause-only
 returns-clause-only c = given_only _ _ c.schema_and_ids.ensures
+
+pub returns-clause-refused : goal.returns-clause-refused
+returns-clause-refused c = given_refused _ _ c.schema_and_ids.ensures
