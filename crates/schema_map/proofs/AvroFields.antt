@@ -1,10 +1,10 @@
 -- The fields of a record and the branches of a union, one by one.
-use Rattle.std.proofs.Common.{◌≡◌, ℕ, Bool, true, false, ◌+◌, ◌<◌, ◌≤◌, List, [], ◌∷◌, length, get_or, drop, map, ◌++◌, Option, Some, None, Result, Ok, Err, refl, sym, ap, subst, ◌∙◌, arith, add-one, drop-cons}
+use Rattle.std.proofs.Common.{◌≡◌, ℕ, false, ◌+◌, ◌<◌, ◌≤◌, List, [], ◌∷◌, length, get_or, drop, map, ◌++◌, Option, Some, None, Result, Ok, Err, refl, sym, ap, subst, ◌∙◌, arith, add-one, drop-cons}
 use Rattle.avro_schema.specs.declared.schema.Field.{Field}
 use Rattle.avro_schema.specs.declared.schema.Schema.{Schema}
 use Rattle.avro_schema.specs.Tree as avro
 use Rattle.avro_schema.specs.Tree.{FieldTree, FieldTrees, field, SchemaTree, schema_tree, BranchTrees, tree_of, field_of, fields_of, branches_of}
-use Rattle.table_history.specs.TypeTree.{TypeTree, ColumnTree}
+use Rattle.table_history.specs.TypeTree.{ColumnTree}
 use Rattle.table_history.specs.SchemaView.{column_view}
 use Rattle.table_history.specs.declared.schema.Column.{Column}
 use Rattle.lake_basics.specs.Outcome.{with_front}

@@ -1,18 +1,16 @@
 -- What is read of an Avro type is the column type that it is, and no other column type is read.
-use Rattle.std.proofs.Common.{◌≡◌, ◌⊎◌, inl, inr, ℕ, ◌+◌, ◌<◌, ◌≤◌, List, [], ◌∷◌, Bool, true, false, ◌&&◌, Option, Some, None, Result, Ok, Err, refl, sym, ap, subst, ◌∙◌, arith, cond}
-use Rattle.std.specs.Prelude.{codes, nat_lt, unwrap_or}
+use Rattle.std.proofs.Common.{◌≡◌, ◌⊎◌, inl, inr, ℕ, ◌<◌, ◌≤◌, List, [], ◌∷◌, Bool, true, false, Option, Some, None, Result, Ok, Err, refl, sym, ap, subst, ◌∙◌, arith, cond}
+use Rattle.std.specs.Prelude.{codes, unwrap_or}
 use Rattle.std.specs.Str.{bytes_eq}
 use Rattle.std.proofs.lemmas.Slice.Eq.{bytes_eq-Decides}
-use Rattle.std.proofs.lemmas.Bool.{ltb-true, lt-ltb}
 use Rattle.avro_schema.specs.Tree as avro
 use Rattle.avro_schema.specs.Tree.{SchemaTree, schema_tree, ShapeTree, BranchTrees, no_branches, branch, FieldTrees, no_fields, field}
 use Rattle.table_history.specs.TypeTree as tree
 use Rattle.table_history.specs.TypeTree.{TypeTree, ColumnTree, ColumnTrees, no_columns, column, columns_of}
 use Rattle.schema_map.specs.declared.fault.TypeFault.{TypeFault}
-use Rattle.schema_map.specs.declared.fault.TypeFault.TheVariants.{NoRow}
 use Rattle.schema_map.specs.Decimal.{decimal_in_range}
-use Rattle.schema_map.specs.Avro.{is_logical, decimal_type, avro_decimal, avro_int, avro_long, avro_bytes, avro_fixed, Part, is_null, nullable_if, avro_list, avro_map, avro_struct, avro_column, avro_front, avro_type, avro_shape, avro_part, avro_union, avro_columns}
-use Rattle.schema_map.specs.AvroSpelling.{IsNoneOf, shape_of, IsUnion, IsPart, IsAvroType, AreAvroColumns}
+use Rattle.schema_map.specs.Avro.{is_logical, decimal_type, avro_decimal, avro_int, avro_long, avro_bytes, avro_fixed, Part, is_null, nullable_if, avro_list, avro_map, avro_struct, avro_column, avro_type, avro_shape, avro_part, avro_union, avro_columns}
+use Rattle.schema_map.specs.AvroSpelling.{shape_of, IsUnion, IsPart, IsAvroType, AreAvroColumns}
 use Rattle.schema_map.proofs.Bound.{bound, chosen}
 use Rattle.schema_map.proofs.Sound.{range_is}
 

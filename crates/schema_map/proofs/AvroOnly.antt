@@ -1,6 +1,6 @@
 -- An Avro type that is a column type is read as it.
-use Rattle.std.proofs.Common.{◌≡◌, ◌⊎◌, inl, inr, ℕ, ◌+◌, ◌<◌, ◌≤◌, List, [], ◌∷◌, Bool, true, false, ◌&&◌, Option, Some, None, Result, Ok, Err, refl, sym, ap, subst, ◌∙◌, arith, cond}
-use Rattle.std.specs.Prelude.{codes, nat_lt, unwrap_or}
+use Rattle.std.proofs.Common.{◌≡◌, inl, inr, ℕ, ◌+◌, ◌<◌, ◌≤◌, List, ◌∷◌, Bool, true, false, Option, Some, None, Result, Ok, refl, ap, ◌∙◌, arith}
+use Rattle.std.specs.Prelude.{unwrap_or}
 use Rattle.std.specs.Str.{bytes_eq}
 use Rattle.std.proofs.lemmas.Slice.Eq.{bytes_eq-Decides}
 use Rattle.std.proofs.lemmas.Bool.{lt-ltb}
@@ -10,8 +10,8 @@ use Rattle.table_history.specs.TypeTree as tree
 use Rattle.table_history.specs.TypeTree.{TypeTree, ColumnTree, ColumnTrees, no_columns, column, columns_of}
 use Rattle.schema_map.specs.declared.fault.TypeFault.{TypeFault}
 use Rattle.schema_map.specs.Decimal.{decimal_in_range}
-use Rattle.schema_map.specs.Avro.{is_logical, avro_decimal, avro_int, avro_long, avro_bytes, avro_fixed, Part, is_null, nullable_if, avro_list, avro_map, avro_struct, avro_column, avro_front, avro_type, avro_shape, avro_part, avro_union, avro_columns}
-use Rattle.schema_map.specs.AvroSpelling.{IsNoneOf, shape_of, IsUnion, IsPart, IsAvroType, AreAvroColumns}
+use Rattle.schema_map.specs.Avro.{is_logical, avro_decimal, avro_int, avro_long, Part, is_null, nullable_if, avro_column, avro_front, avro_type, avro_part, avro_union, avro_columns}
+use Rattle.schema_map.specs.AvroSpelling.{shape_of, IsUnion, IsPart, IsAvroType, AreAvroColumns}
 use Rattle.schema_map.proofs.DeltaOnly.{column_list, columns_of-column_list}
 
 no_logical : (word : List ℕ) (logical : Option (List ℕ)) → (logical ≡ Some word → ⊥) → is_logical word logical ≡ false

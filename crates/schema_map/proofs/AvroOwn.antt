@@ -1,5 +1,5 @@
 -- The fields of each record of an Avro schema text have names of their own, so what is read is sound.
-use Rattle.std.proofs.Common.{◌≡◌, ◌⊎◌, inl, inr, ℕ, ◌+◌, ◌<◌, ◌≤◌, List, [], ◌∷◌, Bool, true, false, not, ◌&&◌, ◌||◌, Option, Some, None, Result, Ok, Err, refl, sym, ap, subst, ◌∙◌, arith, cond}
+use Rattle.std.proofs.Common.{◌≡◌, inl, inr, ℕ, List, [], ◌∷◌, Bool, true, false, not, ◌&&◌, ◌||◌, Option, Some, None, refl, sym, ap, subst, ◌∙◌, arith, cond}
 use Rattle.std.specs.Prelude.{codes}
 use Rattle.std.specs.List.{list_any}
 use Rattle.std.specs.Str.{bytes_eq}
@@ -8,11 +8,11 @@ use Rattle.serde_json.specs.Data.{Data}
 use Rattle.avro_schema.specs.Tree as avro
 use Rattle.avro_schema.specs.Tree.{SchemaTree, schema_tree, ShapeTree, BranchTrees, no_branches, branch, FieldTrees, no_fields, field}
 use Rattle.avro_schema.specs.Names.{Definition, primitive_of, definition_of, with_definition, are_distinct}
-use Rattle.avro_schema.specs.Grammar.{Place, OwnUse, is_a_fault, is_any_type, top, inside, IsPrimitive, StandsFor, field_names, Declares, DeclaresComplex, DeclaresBranches, DeclaresFields, IsSchemaText}
+use Rattle.avro_schema.specs.Grammar.{Place, OwnUse, is_a_fault, is_any_type, top, inside, field_names, Declares, DeclaresComplex, DeclaresBranches, DeclaresFields, IsSchemaText}
 use Rattle.table_history.specs.TypeTree as tree
 use Rattle.table_history.specs.TypeTree.{TypeTree, ColumnTrees, no_columns, column}
 use Rattle.table_history.specs.Sound.{is_named, have_own_names, IsSoundType, AreSound, IsSound}
-use Rattle.schema_map.specs.AvroSpelling.{shape_of, IsUnion, IsPart, IsAvroType, AreAvroColumns, IsAvroText}
+use Rattle.schema_map.specs.AvroSpelling.{shape_of, IsPart, IsAvroType, AreAvroColumns, IsAvroText}
 
 -- ---- records whose fields have names of their own, at all levels
 

@@ -21,11 +21,11 @@ use Rattle.table_history.specs.Sound.{IsSound}
 use Rattle.table_history.specs.SchemaSize.{column_count, column_levels, max_type_levels, IsWithinLimits}
 use Rattle.schema_map.specs.Limits.{schema_limit}
 use Rattle.schema_map.specs.Avro.{Part, avro_column, avro_front, avro_part, avro_columns, avro_top_column, avro_top_columns, schema_with, schema_of_avro, avro_schema_of, unless_limit, limited_avro_schema_of}
-use Rattle.schema_map.specs.AvroSpelling.{shape_of, IsPart, IsAvroType, IsAvroText, HasRow, HasNoRow, IsFirstWithoutRow, IsUnread, IsAvroRefused}
-use Rattle.schema_map.proofs.Bound.{bound, chosen}
+use Rattle.schema_map.specs.AvroSpelling.{shape_of, IsAvroType, IsAvroText, HasRow, HasNoRow, IsFirstWithoutRow, IsUnread, IsAvroRefused}
+use Rattle.schema_map.proofs.Bound.{bound}
 use Rattle.schema_map.proofs.DeltaOnly.{column_list, columns_of-column_list}
 use Rattle.schema_map.proofs.DeltaSchema.{gives_same}
-use Rattle.schema_map.proofs.AvroFound.{part_found, columns_found, column_value}
+use Rattle.schema_map.proofs.AvroFound.{part_found, columns_found}
 use Rattle.schema_map.proofs.AvroOnly.{part_only, type_only, columns_only}
 use Rattle.schema_map.proofs.AvroOwn.{text_sound}
 

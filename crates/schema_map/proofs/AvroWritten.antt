@@ -1,12 +1,12 @@
 -- What is written of a schema is an Avro schema text of its Image.
-use Rattle.std.proofs.Common.{◌≡◌, ◌⊎◌, inl, inr, ℕ, ◌+◌, ◌*◌, ◌%◌, ◌<◌, ◌≤◌, List, [], ◌∷◌, ◌++◌, length, Bool, true, false, not, ◌&&◌, ◌||◌, Option, Some, None, Result, Ok, refl, sym, ap, subst, ◌∙◌, arith, cond}
+use Rattle.std.proofs.Common.{◌≡◌, inl, inr, ℕ, ◌+◌, ◌*◌, ◌%◌, ◌<◌, ◌≤◌, List, [], ◌∷◌, ◌++◌, length, Bool, true, false, not, ◌&&◌, ◌||◌, Option, Some, None, Ok, refl, sym, ap, subst, ◌∙◌, arith, cond}
 use Rattle.std.specs.Prelude.{codes, decimal, ◌==◌, ◌^◌, nat_lt, nat_le, option_and_then}
 use Rattle.std.specs.List.{list_any}
 use Rattle.std.specs.Str.{bytes_eq}
 use Rattle.std.proofs.lemmas.Bool.{ne_eqb, le-leb, lt-ltb}
 use Rattle.std.proofs.lemmas.Slice.Eq.{bytes_eq-Decides}
 use Rattle.std.proofs.lemmas.Fmt.{decimal_by_steps, decimal_injective}
-use Rattle.serde_json.specs.Data.{Data, null, string, number, unsigned, array, depth, items_depth, Items, no_items, item}
+use Rattle.serde_json.specs.Data.{Data, string, number, unsigned, depth, items_depth, no_items, item}
 use Rattle.serde_json.specs.Find.{get, as_array}
 use Rattle.serde_json.specs.Read.{max_depth}
 use Rattle.serde_json.specs.View.{items_of}
@@ -14,10 +14,10 @@ use Rattle.json_reading.specs.Json.{json, items, whole, text_member}
 use Rattle.json_reading.proofs.Laws.{items-items_of}
 use Rattle.avro_schema.specs.Tree as avro
 use Rattle.avro_schema.specs.Tree.{SchemaTree, schema_tree, ShapeTree, BranchTrees, no_branches, branch, FieldTrees, no_fields, field}
-use Rattle.avro_schema.specs.Sizes.{max_levels, max_types, type_count, field_type_count, level_count, field_level_count}
+use Rattle.avro_schema.specs.Sizes.{type_count, field_type_count, level_count, field_level_count}
 use Rattle.avro_schema.specs.Names.{has_dot, dot, namespace_of, full_name, is_name, Definition, definition_of, with_definition, are_distinct}
 use Rattle.avro_schema.specs.Reading.{id_member, below_2_31}
-use Rattle.avro_schema.specs.Grammar.{Place, top, is_a_fault, inside, field_names, IsPrimitive, Annotates, DefinesName, Declares, DeclaresComplex, DeclaresBranches, DeclaresFields, IsSchemaText}
+use Rattle.avro_schema.specs.Grammar.{Place, top, is_a_fault, inside, field_names, IsPrimitive, Declares, DeclaresFields, IsSchemaText}
 use Rattle.table_history.specs.TypeTree as tree
 use Rattle.table_history.specs.TypeTree.{TypeTree, ColumnTrees, no_columns, column}
 use Rattle.table_history.specs.Sound.{is_named, have_own_names, IsSoundType, AreSound, IsSound}

@@ -1,20 +1,19 @@
 -- Each refusal of a schema in Delta's spelling shows in its JSON.
 use Rattle.std.proofs.Common.{◌≡◌, ℕ, zero, suc, ◌<◌, ◌≤◌, List, [], ◌∷◌, map, Bool, true, false, Option, Some, None, Result, Ok, Err, refl, sym, ap, subst, ◌∙◌, arith, cond}
-use Rattle.std.specs.Prelude.{◌⊎◌, codes, nat_lt, unwrap_or, option_and_then, IfErr}
+use Rattle.std.specs.Prelude.{◌⊎◌, codes, nat_lt, unwrap_or, IfErr}
 use Rattle.std.specs.List.{IsDistinct}
 use Rattle.std.specs.Str.{bytes_eq}
 use Rattle.std.proofs.lemmas.Bool.{true≢false, ltb-true}
 use Rattle.std.proofs.lemmas.Slice.Eq.{bytes_eq-Decides}
 use Rattle.serde_json.specs.Data.{Data, null, boolean, number, string, array, object, Items, Members}
-use Rattle.serde_json.specs.Find.{get, get_member, as_str, as_array}
-use Rattle.table_history.specs.TypeTree as tree
+use Rattle.serde_json.specs.Find.{get, get_member}
 use Rattle.table_history.specs.TypeTree.{TypeTree, ColumnTree, ColumnTrees, columns_of}
 use Rattle.table_history.specs.Sound.{have_own_names, names_of}
 use Rattle.table_history.proofs.Laws.{own_names_distinct}
 use Rattle.table_history.specs.SchemaSize.{levels, column_count, max_type_levels}
 use Rattle.table_history.specs.declared.limit.LimitKind.TheVariants.{Columns}
 use Rattle.lake_basics.specs.declared.limits.TheConstants.{MAX_COLUMNS}
-use Rattle.lake_basics.specs.Outcome.{◌>>=◌, required, each, GivesUnlessMemory}
+use Rattle.lake_basics.specs.Outcome.{required, each, GivesUnlessMemory}
 use Rattle.json_reading.specs.Json.{json, text_member, bool_member, list_member, items}
 use Rattle.schema_map.specs.declared.fault.Fault.{Fault}
 use Rattle.schema_map.specs.declared.fault.Fault.TheVariants.{BadSchema, SchemaType, Depth}
@@ -22,14 +21,14 @@ use Rattle.schema_map.specs.declared.fault.MapError.{MapError}
 use Rattle.schema_map.specs.declared.fault.MapError.TheVariants as errors
 use Rattle.schema_map.specs.Errors.{in_column, error_in, is_memory}
 use Rattle.schema_map.specs.Names.{columns_with_own_names}
-use Rattle.schema_map.specs.Shared.{decimal_or, column_name, schema_fields, schema_of}
+use Rattle.schema_map.specs.Shared.{decimal_or, column_name, schema_fields}
 use Rattle.schema_map.specs.Limits.{schema_of_few_columns}
 use Rattle.schema_map.specs.Delta.{delta_type, delta_shape, delta_nested, delta_struct, delta_list, delta_map, delta_columns, delta_column, delta_word, delta_simple, delta_top_column, delta_schema, delta_schema_of}
 use Rattle.schema_map.specs.DeltaSpelling.{IsDeltaType}
 use Rattle.schema_map.specs.Decimal.{decimal_of}
 use Rattle.schema_map.specs.OwnIds.{IsAmong}
 use Rattle.schema_map.specs.Places.{IsWithin, IsNamed, field_names}
-use Rattle.schema_map.specs.DeltaRefusal.{IsDeltaPart, IsBadDeltaField, HasBadDeltaFields, IsBadDeltaType, IsOtherDeltaType, DeltaPasses, DeltaColumnHasOther, IsBadDeltaSchema, IsRefusedDelta, IsDeltaRefused}
+use Rattle.schema_map.specs.DeltaRefusal.{IsDeltaPart, IsBadDeltaField, IsBadDeltaType, IsOtherDeltaType, IsBadDeltaSchema, IsRefusedDelta, IsDeltaRefused}
 use Rattle.schema_map.proofs.Bound.{bound, was_there, was_text, was_array, chosen, good}
 use Rattle.schema_map.proofs.Failing.{failed, missed, each_failed, chose, told_of, not_word}
 use Rattle.schema_map.proofs.DeltaFound.{own_found, columns_found, delta_found}

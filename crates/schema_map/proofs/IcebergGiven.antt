@@ -1,5 +1,5 @@
 -- The Image with the ids that are given fits Iceberg.
-use Rattle.std.proofs.Common.{◌≡◌, List, ◌∷◌, ◌++◌, length, map, Result, Ok, Err, refl, sym, ap, subst, ◌∙◌}
+use Rattle.std.proofs.Common.{◌≡◌, List, ◌++◌, length, Result, Ok, Err, refl, sym, ap, subst, ◌∙◌}
 use Rattle.std.specs.Prelude.{ℤ, codes, Some, IfOk}
 use Rattle.lake_basics.specs.Outcome.{GivesUnlessMemory}
 use Rattle.schema_map.specs.Errors.{is_memory}

@@ -11,7 +11,7 @@ use Rattle.table_history.specs.Sound.{names_of}
 use Rattle.table_history.specs.SchemaSize.{levels, column_count, max_type_levels}
 use Rattle.table_history.specs.declared.limit.LimitKind.TheVariants.{Columns}
 use Rattle.lake_basics.specs.declared.limits.TheConstants.{MAX_COLUMNS}
-use Rattle.lake_basics.specs.Outcome.{◌>>=◌, required, GivesUnlessMemory}
+use Rattle.lake_basics.specs.Outcome.{required, GivesUnlessMemory}
 use Rattle.json_reading.specs.Json.{text_member, bool_member, int_member, list_member, items}
 use Rattle.schema_map.specs.declared.fault.Fault.{Fault}
 use Rattle.schema_map.specs.declared.fault.Fault.TheVariants.{BadSchema, SchemaType, Depth}

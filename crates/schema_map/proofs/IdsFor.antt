@@ -1,10 +1,10 @@
 -- A loop that gives ids to paths: those that it gave, before those of the paths left.
 use Rattle.std.proofs.Common.{◌≡◌, List, [], ◌∷◌, ◌++◌, Result, Ok, Err, refl, ap, append_assoc}
 use Rattle.std.proofs.lemmas.List.{append-nil}
-use Rattle.std.specs.Prelude.{ℤ, Some, None}
+use Rattle.std.specs.Prelude.{ℤ}
 use Rattle.schema_map.specs.declared.fault.MapError.{MapError}
 use Rattle.lake_basics.specs.Outcome.{◌>>=◌}
-use Rattle.schema_map.specs.Ids.{Path, known_id, next_id, id_step, ids_for}
+use Rattle.schema_map.specs.Ids.{Path, known_id, id_step, ids_for}
 
 abbrev pub with_ids : List ℤ → Result (List ℤ) MapError → Result (List ℤ) MapError
 with_ids ids reading = do

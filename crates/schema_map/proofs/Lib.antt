@@ -11,6 +11,7 @@ pub mod Gather
 pub mod ImageTwice
 pub mod Widened
 pub mod IdsFor
+pub mod IdMap
 pub mod Paths
 pub mod IdRange
 pub mod IdsGiven

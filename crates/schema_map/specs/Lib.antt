@@ -12,6 +12,7 @@ pub mod Image
 pub mod Iceberg
 pub mod IcebergSpelling
 pub mod Ids
+pub mod IdMap
 pub mod OwnIds
 pub mod IcebergFits
 pub mod IcebergWriting

@@ -7,10 +7,11 @@ ghost use Rattle.lake_basics.specs.Outcome.{GivesUnlessMemory};
 ghost use Rattle.schema_map.specs.Errors.{is_memory};
 ghost use Rattle.schema_map.specs.Image.{wide_type, wide_columns, image};
 ghost use Rattle.schema_map.specs.OwnIds.{AreKnown, AreDistinct, AreIds, KeepsKnown};
+ghost use Rattle.schema_map.specs.IdMap.{id_at, HoldsIds};
 ghost use Rattle.schema_map.specs.IcebergFits.{FitsIceberg};
 ghost use Rattle.table_history.specs.Sound.{IsSound};
 ghost use Rattle.table_history.specs.SchemaSize.{IsWithinLimits};
-ghost use Rattle.schema_map.specs.Ids.{below, inner_paths, column_paths, known_id, next_id, id_step};
+ghost use Rattle.schema_map.specs.Ids.{below, inner_paths, column_paths, next_id, id_step};
 ghost use Rattle.schema_map.specs.Ids.{ids_for, new_count, new_ids, ids_after, PassesGreatest};
 ghost use Rattle.schema_map.specs.Ids.{HasNoIds};
 
@@ -19,6 +20,7 @@ use crate::iceberg::Ids;
 use lake_basics::limits::MAX_ICEBERG_VERSION;
 use lake_basics::{Items, Text};
 use std::alloc::{AllocError, Global};
+use std::collections::BTreeMap;
 use table_history::{Column, ColumnType, LimitKind, Schema};
 
 /// The names from the top, with `element`, `key` and `value` for the parts of lists and maps.
@@ -167,15 +169,27 @@ pub fn column_paths(alloc: Global, schema: &Schema) -> Result<Vec<ColumnPath>, A
 
 // ---- ids
 
-fn known_id(known: &[(ColumnPath, i32)], path: &ColumnPath) -> Option<i32>
-    ensures { result ≡ known_id known.now path.now }
+/// The known ids by their paths. Of two pairs with one path the first stands.
+fn ids_by_path<'a>(
+    alloc: Global,
+    known: &'a [(ColumnPath, i32)],
+) -> Result<BTreeMap<&'a [Text], &'a i32>, AllocError>
+    ensures { IfOk result (λ m. HoldsIds m known.now) }
 {
-    for (known_path, id) in known {
-        if *known_path == *path {
-            return Some(*id);
-        }
+    let mut found = BTreeMap::new(alloc);
+    let mut place = known.len();
+    while place > 0 {
+        place -= 1;
+        let pair = &known[place];
+        found.insert(pair.0.as_slice(), &pair.1)?;
     }
-    None
+    Ok(found)
+}
+
+fn known_id<'a>(found: &BTreeMap<&'a [Text], &'a i32>, path: &'a ColumnPath) -> Option<i32>
+    ensures { result ≡ id_at found.now path.now }
+{
+    found.get(&path.as_slice()).copied().copied()
 }
 
 /// The greatest field id, which is Iceberg's greatest number of 32 bits.
@@ -215,15 +229,16 @@ fn push_id(ids: &mut Vec<i32>, id: i32) -> Result<(), AllocError>
     Ok(())
 }
 
-fn ids_for(alloc: Global, known: &KnownIds, paths: &[ColumnPath]) -> Result<Ids, MapError>
+fn ids_for<'a>(alloc: Global, known: &'a KnownIds, paths: &'a [ColumnPath]) -> Result<Ids, MapError>
     ensures given { GivesUnlessMemory is_memory (λ ids. ids) result
         (ids_for known.now.pairs known.now.last paths.now) }
     ensures are { IfOk result (λ ids. AreIds ids) }
 {
+    let found = ids_by_path(alloc, known.pairs.as_slice())?;
     let mut ids = Vec::with_capacity(alloc, paths.len())?;
     let mut last = known.last;
     for path in paths {
-        let (id, last_given) = id_step(last, known_id(known.pairs.as_slice(), path))?;
+        let (id, last_given) = id_step(last, known_id(&found, path))?;
         push_id(&mut ids, id)?;
         last = last_given;
     }

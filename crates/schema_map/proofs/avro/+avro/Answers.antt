@@ -1,4 +1,4 @@
-use Rattle.std.proofs.Common.{◌≡◌, Some, None, map, rules, ap, ◌∙◌}
+use Rattle.std.proofs.Common.{◌≡◌, Some, None, map, rules}
 use Rattle.avro_schema.specs.declared.schema.Schema.{the_lemmas}
 use Rattle.avro_schema.specs.Tree.{tree_of, branches_of}
 use Rattle.schema_map.proofs.AvroFields.{union_in, union_read, plain_read}
