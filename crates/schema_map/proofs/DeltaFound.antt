@@ -17,6 +17,7 @@ use Rattle.schema_map.specs.DeltaSpelling.{IsDeltaType, AreDeltaColumns}
 use Rattle.schema_map.specs.Decimal.{decimal_of}
 use Rattle.table_history.specs.Sound.{have_own_names}
 use Rattle.schema_map.specs.Names.{columns_with_own_names}
+use Rattle.schema_map.proofs.DecimalLaw.{text_found}
 use Rattle.schema_map.proofs.Bound.{bound, was_there, was_text, was_bool, was_array, chosen, good}
 
 pub record Found (n : ℕ) (t : TypeTree) (d : Data) : Type 0 where
@@ -56,7 +57,7 @@ simple_found n w None t is e = word_found n w t e
 simple_found n w (Some p) t is e =
     let eq : tree.decimal p.0 p.1 ≡ t = cc in
     let P : TypeTree → Type 0 = λ v. Found (suc n) v (string w) in
-    subst P eq (record { is = (w, refl, is); small = omega arith })
+    subst P eq (record { is = (w, refl, text_found w p is); small = omega arith })
 
 -- what a column's JSON spells
 record ColumnFound (n : ℕ) (c : ColumnTree) (d : Data) : Type 0 where

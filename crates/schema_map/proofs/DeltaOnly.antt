@@ -12,6 +12,7 @@ use Rattle.table_history.specs.SchemaSize.{levels, column_levels}
 use Rattle.schema_map.specs.Delta.{delta_type, delta_shape, delta_nested, delta_struct, delta_list, delta_map, delta_columns, delta_column, delta_word}
 use Rattle.schema_map.specs.DeltaSpelling.{IsDeltaType, AreDeltaColumns}
 use Rattle.schema_map.specs.Decimal.{decimal_of, number_at}
+use Rattle.schema_map.proofs.DecimalLaw.{text_read}
 
 abbrev pub column_list : ColumnTrees → List ColumnTree
 column_list no_columns = []
@@ -65,7 +66,7 @@ mutual
   delta_only (suc n) tree.date d is small = ap (delta_shape (delta_type n)) is
   delta_only (suc n) tree.timestamp d is small = ap (delta_shape (delta_type n)) is
   delta_only (suc n) tree.timestamp_ntz d is small = ap (delta_shape (delta_type n)) is
-  delta_only (suc n) (tree.decimal p s) d is small = rw (is.1, is.2)
+  delta_only (suc n) (tree.decimal p s) d is small = rw (is.1, text_read p s is.0 is.2)
   delta_only (suc n) (tree.struct_of cs) d is small =
       let columns = delta_only_columns n cs is.1 is.6 (let h : 1 + column_levels cs ≤ suc n = small in omega (arith, h)) in
       rw (is.2, is.3, is.4, columns, columns_of-column_list cs, is.5)

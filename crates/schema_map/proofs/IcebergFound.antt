@@ -17,6 +17,7 @@ use Rattle.schema_map.specs.IcebergSpelling.{IsIcebergType, AreIcebergColumns}
 use Rattle.schema_map.specs.Decimal.{decimal_of}
 use Rattle.table_history.specs.Sound.{have_own_names}
 use Rattle.schema_map.specs.Names.{columns_with_own_names}
+use Rattle.schema_map.proofs.DecimalLaw.{text_found}
 use Rattle.schema_map.proofs.Bound.{bound, was_there, was_text, was_bool, was_array, chosen, good}
 use Rattle.schema_map.proofs.DeltaFound.{own_found, named}
 use Rattle.schema_map.proofs.IcebergOnly.{not_not}
@@ -66,7 +67,7 @@ decimal_found n w None t is e = word_found n w t e
 decimal_found n w (Some p) t is e =
     let eq : tree.decimal p.0 p.1 ≡ t = cc in
     let P : TypeTree → Type 0 = λ v. WordFound n w v in
-    subst P eq (record { found = record { is = (w, refl, refl, is); small = omega arith } })
+    subst P eq (record { found = record { is = (w, refl, refl, text_found w p is); small = omega arith } })
 
 simple_found : (n : ℕ) (w : List ℕ) (p : TypeTree × List ℤ) → iceberg_simple w ≡ Ok p → Found (suc n) p.0 p.1 (string w)
 simple_found n w p e =

@@ -11,6 +11,7 @@ use Rattle.table_history.specs.SchemaSize.{levels, column_levels}
 use Rattle.schema_map.specs.Iceberg.{iceberg_type, iceberg_shape, iceberg_nested, iceberg_struct, iceberg_list, iceberg_map, iceberg_columns, iceberg_column, iceberg_word, each_with_ids}
 use Rattle.schema_map.specs.IcebergSpelling.{IsIcebergType, AreIcebergColumns}
 use Rattle.schema_map.specs.Decimal.{decimal_of, number_at}
+use Rattle.schema_map.proofs.DecimalLaw.{text_read}
 use Rattle.schema_map.proofs.DeltaOnly.{column_list, columns_of-column_list, one_level}
 
 pub not_not : (b : Bool) → not (not b) ≡ b
@@ -46,7 +47,7 @@ mutual
   iceberg_only (suc n) tree.date ids d is small = word_only n tree.date ids (codes "date") d refl is
   iceberg_only (suc n) tree.timestamp ids d is small = word_only n tree.timestamp ids (codes "timestamptz") d refl is
   iceberg_only (suc n) tree.timestamp_ntz ids d is small = word_only n tree.timestamp_ntz ids (codes "timestamp") d refl is
-  iceberg_only (suc n) (tree.decimal p s) ids d is small = rw (is.2, is.3, is.1)
+  iceberg_only (suc n) (tree.decimal p s) ids d is small = rw (is.2, text_read p s is.0 is.3, is.1)
   iceberg_only (suc n) (tree.struct_of cs) ids d is small =
       let columns = iceberg_only_columns n cs ids is.1 is.6 (let h : 1 + column_levels cs ≤ suc n = small in omega (arith, h)) in
       rw (is.2, is.3, is.4, columns, columns_of-column_list cs, is.5)

@@ -22,7 +22,6 @@ use Rattle.schema_map.specs.Iceberg.{iceberg_schema}
 use Rattle.schema_map.specs.IcebergWriting.{iceberg_value}
 use Rattle.schema_map.proofs.IcebergSchema.{SchemaFound, schema_found}
 use Rattle.schema_map.proofs.IcebergWritten.{id_count, column_id_count, column_ids_counted, iceberg_spelled, iceberg_reads_back}
-use Rattle.schema_map.proofs.Sound.{decimal_is}
 use Rattle.schema_map.specs.IcebergFits.{FitsIceberg}
 use Rattle.schema_map.specs.Image.{image}
 use Rattle.table_history.specs.declared.kind.Kind.TheVariants.{Iceberg}
@@ -104,7 +103,7 @@ mutual
   fits tree.date ids d is = leaf tree.date ids tt refl refl is.0
   fits tree.timestamp ids d is = leaf tree.timestamp ids tt refl refl is.0
   fits tree.timestamp_ntz ids d is = leaf tree.timestamp_ntz ids tt refl refl is.0
-  fits (tree.decimal p s) ids d is = leaf (tree.decimal p s) ids (decimal_is is.0 (p, s) is.3) refl refl is.1
+  fits (tree.decimal p s) ids d is = leaf (tree.decimal p s) ids (let text = is.3 in let most = text.most in (text.some, omega (arith, most), text.within)) refl refl is.1
   fits (tree.struct_of cs) ids d is =
       let columns = columns_fit cs ids is.1 is.6 in
       record { sound = (is.5, columns.sound); are = columns.are; size = columns.size; wide = ap tree.struct_of columns.wide }

@@ -18,6 +18,7 @@ use Rattle.table_history.specs.SchemaSize.{levels, column_levels, inner_count, c
 use Rattle.table_history.specs.Sound.{is_named, have_own_names, IsSoundType, AreSound, IsSound}
 use Rattle.schema_map.specs.OwnIds.{AreIds}
 use Rattle.schema_map.proofs.IcebergSchema.{schema_only}
+use Rattle.schema_map.proofs.DecimalLaw.{text_found}
 use Rattle.schema_map.proofs.Spelled.{number_by}
 
 -- ---- decimals, with a space before the scale
@@ -206,7 +207,7 @@ mutual
   written tree.timestamp ids sound are enough = record { inner = []; size = refl; ids_are = refl; is = (refl, refl) }
   written tree.timestamp_ntz ids sound are enough = record { inner = []; size = refl; ids_are = refl; is = (refl, refl) }
   written (tree.decimal p s) ids sound are enough =
-      record { inner = []; size = refl; ids_are = refl; is = (iceberg_decimal_text p s, refl, refl, iceberg_decimal_read p s sound.0 sound.1 sound.2) }
+      record { inner = []; size = refl; ids_are = refl; is = (iceberg_decimal_text p s, refl, refl, text_found (iceberg_decimal_text p s) (p, s) (iceberg_decimal_read p s sound.0 sound.1 sound.2)) }
   written (tree.struct_of cs) ids sound are enough =
       let fields = fields_written cs ids sound.1 are enough in
       record { inner = fields.inner; size = fields.size; ids_are = fields.ids_are; is = (_, items_of (iceberg_fields cs ids).0, refl, refl, refl, own_wide cs ∙ sound.0, fields.are) }

@@ -1,6 +1,7 @@
 pub mod OwnNames
 pub mod Fields
 pub mod Bound
+pub mod DecimalLaw
 pub mod DeltaOnly
 pub mod DeltaFound
 pub mod DeltaSchema

@@ -1,12 +1,11 @@
 -- What is read is sound: its decimals are in range, and the columns of each struct have names of their own.
-use Rattle.std.proofs.Common.{◌≡◌, ℕ, ◌+◌, ◌<◌, ◌≤◌, List, Bool, true, false, ◌&&◌, Option, Some, None, refl, subst, arith, cond}
-use Rattle.std.specs.Prelude.{codes, nat_lt, option_and_then}
-use Rattle.std.specs.Str.{bytes_eq}
+use Rattle.std.proofs.Common.{◌≡◌, ℕ, ◌+◌, ◌<◌, ◌≤◌, Bool, true, false, ◌&&◌, Option, Some, None, refl, subst, arith, cond}
+use Rattle.std.specs.Prelude.{nat_lt, option_and_then}
 use Rattle.std.proofs.lemmas.Bool.{ltb-true}
 use Rattle.serde_json.specs.Data.{Data, Items}
 use Rattle.table_history.specs.TypeTree as tree
 use Rattle.table_history.specs.TypeTree.{TypeTree, ColumnTrees, no_columns, column}
-use Rattle.schema_map.specs.Decimal.{decimal_in_range, decimal_at_end, number_at, after_byte, after_word, decimal_of}
+use Rattle.schema_map.specs.Decimal.{decimal_in_range}
 use Rattle.schema_map.specs.DeltaSpelling.{IsDeltaType, AreDeltaColumns}
 use Rattle.table_history.specs.Sound.{IsSoundType, AreSound}
 
@@ -42,18 +41,6 @@ range_by p s false q is e = absurd (cc)
 pub range_is : (p s : ℕ) (q : ℕ × ℕ) → decimal_in_range p s ≡ Some q → IsDecimal q
 range_is p s q e = range_by p s _ q refl e
 
-end_by : (p : ℕ) (r : ℕ × List ℕ) (b : Bool) (q : ℕ × ℕ) → cond b (decimal_in_range p r.0) None ≡ Some q → IsDecimal q
-end_by p r true q e = range_is p r.0 q e
-end_by p r false q e = absurd (cc)
-
-pub decimal_is : (w : List ℕ) (q : ℕ × ℕ) → decimal_of w ≡ Some q → IsDecimal q
-unfolding decimal_of
-decimal_is w q e =
-    let precision = behind _ (option_and_then number_at (after_word (codes "decimal(") w)) q e in
-    let rest = behind _ (after_byte 44 precision.value.1) q precision.gives in
-    let scale = behind (decimal_at_end precision.value.0) (number_at rest.value) q rest.gives in
-    end_by precision.value.0 scale.value (bytes_eq scale.value.1 (codes ")")) q scale.gives
-
 mutual
   pub delta_sound : (t : TypeTree) (d : Data) → IsDeltaType t d → IsSoundType t
   delta_sound tree.boolean d is = tt
@@ -68,7 +55,7 @@ mutual
   delta_sound tree.date d is = tt
   delta_sound tree.timestamp d is = tt
   delta_sound tree.timestamp_ntz d is = tt
-  delta_sound (tree.decimal p s) d is = decimal_is is.0 (p, s) is.2
+  delta_sound (tree.decimal p s) d is = let text = is.2 in (text.some, (let most = text.most in omega (arith, most)), text.within)
   delta_sound (tree.struct_of cs) d is = (is.5, delta_columns_sound cs is.1 is.6)
   delta_sound (tree.list_of t b) d is = delta_sound t is.1 is.6
   delta_sound (tree.map_of k v b) d is = (delta_sound k is.1 is.8, delta_sound v is.2 is.9)

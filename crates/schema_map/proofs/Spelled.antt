@@ -13,6 +13,7 @@ use Rattle.schema_map.specs.DeltaSpelling.{IsDeltaType, AreDeltaColumns}
 use Rattle.schema_map.specs.DeltaWriting.{delta_data, delta_fields}
 use Rattle.table_history.specs.SchemaSize.{levels, column_levels, max_type_levels}
 use Rattle.table_history.specs.Sound.{IsSoundType, AreSound}
+use Rattle.schema_map.proofs.DecimalLaw.{text_found}
 use Rattle.schema_map.proofs.DeltaOnly.{one_level}
 
 -- ---- no float, and not too deep
@@ -124,7 +125,7 @@ mutual
   delta_spelled tree.date sound = refl
   delta_spelled tree.timestamp sound = refl
   delta_spelled tree.timestamp_ntz sound = refl
-  delta_spelled (tree.decimal p s) sound = (delta_decimal_text p s, refl, decimal_read p s sound.0 sound.1 sound.2)
+  delta_spelled (tree.decimal p s) sound = (delta_decimal_text p s, refl, text_found (delta_decimal_text p s) (p, s) (decimal_read p s sound.0 sound.1 sound.2))
   delta_spelled (tree.struct_of cs) sound = (_, delta_fields cs, refl, refl, refl, sound.0, delta_spelled_columns cs sound.1)
   delta_spelled (tree.list_of t b) sound = (_, delta_data t, refl, refl, refl, refl, delta_spelled t sound)
   delta_spelled (tree.map_of k v b) sound = (_, delta_data k, delta_data v, refl, refl, refl, refl, refl, delta_spelled k sound.0, delta_spelled v sound.1)

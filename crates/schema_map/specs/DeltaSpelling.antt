@@ -6,7 +6,7 @@ use Rattle.table_history.specs.TypeTree as tree
 use Rattle.table_history.specs.TypeTree.{TypeTree, ColumnTrees, no_columns, column}
 use Rattle.json_reading.specs.Json.{json}
 use Rattle.table_history.specs.Sound.{have_own_names}
-use Rattle.schema_map.specs.Decimal.{decimal_of}
+use Rattle.schema_map.specs.DecimalText.{IsDecimalText}
 
 abbrev mutual
   pub IsDeltaType : TypeTree → Data → Type 0
@@ -22,7 +22,7 @@ abbrev mutual
   IsDeltaType tree.date d = d ≡ string (codes "date")
   IsDeltaType tree.timestamp d = d ≡ string (codes "timestamp")
   IsDeltaType tree.timestamp_ntz d = d ≡ string (codes "timestamp_ntz")
-  IsDeltaType (tree.decimal p s) d = (name : List ℕ) × (d ≡ string name) × (decimal_of name ≡ Some (p, s))
+  IsDeltaType (tree.decimal p s) d = (name : List ℕ) × (d ≡ string name) × IsDecimalText p s name
   IsDeltaType (tree.struct_of cs) d =
       (ms : Members) × (ds : Items) × (d ≡ object ms)
       × (get_member (codes "type") ms ≡ Some (string (codes "struct")))

@@ -7,7 +7,7 @@ use Rattle.json_reading.specs.Json.{int_member}
 use Rattle.table_history.specs.TypeTree as tree
 use Rattle.table_history.specs.TypeTree.{TypeTree, ColumnTrees, no_columns, column}
 use Rattle.table_history.specs.Sound.{have_own_names}
-use Rattle.schema_map.specs.Decimal.{decimal_of}
+use Rattle.schema_map.specs.DecimalText.{IsDecimalText}
 
 -- Iceberg has no type of fewer than 32 bits. Required is the opposite of nullable.
 abbrev mutual
@@ -24,7 +24,7 @@ abbrev mutual
   IsIcebergType tree.date ids d = (ids ≡ []) × (d ≡ string (codes "date"))
   IsIcebergType tree.timestamp ids d = (ids ≡ []) × (d ≡ string (codes "timestamptz"))
   IsIcebergType tree.timestamp_ntz ids d = (ids ≡ []) × (d ≡ string (codes "timestamp"))
-  IsIcebergType (tree.decimal p s) ids d = (name : List ℕ) × (ids ≡ []) × (d ≡ string name) × (decimal_of name ≡ Some (p, s))
+  IsIcebergType (tree.decimal p s) ids d = (name : List ℕ) × (ids ≡ []) × (d ≡ string name) × IsDecimalText p s name
   IsIcebergType (tree.struct_of cs) ids d =
       (ms : Members) × (ds : Items) × (d ≡ object ms)
       × (get_member (codes "type") ms ≡ Some (string (codes "struct")))

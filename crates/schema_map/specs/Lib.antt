@@ -1,6 +1,7 @@
 pub mod Errors
 pub mod Names
 pub mod Decimal
+pub mod DecimalText
 pub mod Limits
 pub mod Shared
 pub mod Delta
