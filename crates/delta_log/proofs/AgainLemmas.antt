@@ -3,7 +3,10 @@ use Rattle.std.proofs.Common.{◌≡◌, ℕ, zero, suc, ◌+◌, ◌<◌, ◌�
 use Rattle.std.proofs.lemmas.Grind.{common_steps, flat_map-append}
 use Rattle.std.proofs.lemmas.Int.{ints}
 use Rattle.std.proofs.lemmas.List.{append-nil, map-append, length-map}
-use Rattle.std.proofs.lemmas.List.Elements.{All-head, All-tail}
+use Rattle.std.proofs.lemmas.Cmp.{nat_list_eq_equiv}
+use Rattle.std.proofs.lemmas.List.Elements.{All-nil, All-cons, All-head, All-tail}
+use Rattle.std.proofs.lemmas.List.Sorted.{IsPermutation-map}
+use Rattle.std.proofs.lemmas.Map.Keys.{IsDistinct-IsPermutation}
 use Rattle.std.proofs.lemmas.List.Splits.{slice_split-cons_no}
 use Rattle.std.specs.Prelude.{◌||◌, ◌&&◌, ◌==◌, flat_map, option_to_list, FitsSigned, nat_le, IsSome}
 use Rattle.std.specs.Int.{w64}
@@ -31,7 +34,7 @@ use Rattle.delta_log.specs.declared.error.LineFault.TheVariants.{Malformed}
 use Rattle.delta_log.specs.Commit.{file_path, file_paths}
 use Rattle.delta_log.specs.Grammar.{text_or_null, setting, partition_value, lists_features, protocol, meta_data, add, remove, object_action, line_action, record_count, stated_count}
 use Rattle.delta_log.specs.Judging.{is_newline, acts_on, with_action, with_line, with_lines, with_new_file, no_lines, commit_of}
-use Rattle.delta_log.specs.Sound.{HasNeededFeatures, IsSoundFile, IsWritable}
+use Rattle.delta_log.specs.Sound.{HaveDistinctNames, HasNeededFeatures, IsSoundFile, IsWritable}
 use Rattle.delta_log.specs.Writing.{add_data, protocol_data, meta_data_data, stats_data, file_data, line_text, commit_text, sorted_pairs, sorted_file, sorted_meta, sorted_commit, SameMeta, SameFile, SameFiles, SameCommit}
 use Rattle.delta_log.specs.Again.{HasReadableStats, HasReadableUri, IsFileAgain, IsProtocolAgain, HasReadableParts}
 use Rattle.delta_log.proofs.FaultLemmas.{distinct_last}
@@ -248,3 +251,32 @@ same_meta (Some m) names = (refl, refl, refl, sorted_pairs_same m.configuration 
 
 pub same_again : (c : DeltaCommit) → IsWritable c → SameCommit c (sorted_commit c)
 same_again c fits = record { protocol = refl; meta = same_meta c.meta fits.sound.configuration; files = same_files c.files fits.sound.files }
+
+-- ---- what is read again may be written again
+
+names_sorted : {A : Type 0} (ps : List (List ℕ × A)) → HaveDistinctNames ps → HaveDistinctNames (sorted_pairs ps)
+names_sorted ps distinct =
+    IsDistinct-IsPermutation bytes_eq (λ x y. nat_list_eq_equiv.symm x y) (map (λ p. p.0) ps) (map (λ p. p.0) (sorted_pairs ps)) (IsPermutation-map (λ p. p.0) ps (sorted_pairs ps) (sorted_pairs_same ps distinct)) distinct
+
+sound_file : (f : FileAction) → IsSoundFile f → IsSoundFile (sorted_file f)
+sound_file (file.Add path values size count) sound = (sound.0, names_sorted values sound.1, sound.2, sound.3)
+sound_file (file.Remove path) sound = sound
+
+sound_files : (fs : List FileAction) → All IsSoundFile fs → All IsSoundFile (map sorted_file fs)
+sound_files [] sound = All-nil IsSoundFile
+sound_files (f ∷ fs) sound = All-cons IsSoundFile (sorted_file f) (map sorted_file fs) (sound_file f (All-head IsSoundFile f fs sound)) (sound_files fs (All-tail IsSoundFile f fs sound))
+
+sound_settings : (o : Option MetaData) → IfSome o (λ m. HaveDistinctNames m.configuration) → IfSome (option_map sorted_meta o) (λ m. HaveDistinctNames m.configuration)
+sound_settings None names = tt
+sound_settings (Some m) names = names_sorted m.configuration names
+
+pub writable_again : (c : DeltaCommit) → IsWritable c → IsWritable (sorted_commit c)
+writable_again c fits = record {
+  sound = record {
+    files = sound_files c.files fits.sound.files;
+    distinct = subst (IsDistinct bytes_eq) (sym (same_paths c.files)) fits.sound.distinct;
+    configuration = sound_settings c.meta fits.sound.configuration;
+  };
+  protocol = fits.protocol;
+  few = rw length-map fits.few;
+}

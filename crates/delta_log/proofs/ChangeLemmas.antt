@@ -1,5 +1,5 @@
 -- The change of a commit, put together from that of its columns and that of its rows.
-use Rattle.std.proofs.Common.{◌≡◌, ◌⊎◌, ℕ, ◌<◌, ◌≤◌, nat_lt, Bool, true, false, not, cond, List, [], ◌∷◌, ◌++◌, length, filter, Option, Some, None, Result, Ok, Err, All, Contains, unwrap_or, IfOk, IfErr, OnOk, refl, sym, ap, subst, ◌∙◌, inl, inr, ⊎_elim, arith}
+use Rattle.std.proofs.Common.{◌≡◌, ◌⊎◌, ℕ, ◌<◌, ◌≤◌, nat_lt, Bool, true, false, not, cond, List, [], ◌∷◌, ◌++◌, length, filter, Option, Some, None, Result, Ok, Err, All, Contains, unwrap_or, IfOk, IfErr, OnOk, IfSome, refl, sym, ap, subst, ◌∙◌, inl, inr, ⊎_elim, arith}
 use Rattle.std.specs.List.{IsDistinct}
 use Rattle.std.specs.Str.{bytes_eq}
 use Rattle.std.proofs.lemmas.Bool.{cases_Bool, false≢true}
@@ -17,7 +17,7 @@ use Rattle.table_history.specs.declared.limit.LimitKind.TheVariants as limit
 use Rattle.table_history.specs.declared.row.FileRow.{FileRow}
 use Rattle.table_history.specs.declared.table.Change.{Change}
 use Rattle.table_history.specs.declared.table.Table.{Table}
-use Rattle.table_history.proofs.Laws.{change_fits, change_leads}
+use Rattle.table_history.proofs.Laws.{change_fits, change_leads, same_rows_length}
 use Rattle.table_history.proofs.RowListLemmas.{Contains-filter, filter_contains}
 use Rattle.partition_map.specs.declared.kind.PartKind.{PartKind}
 use Rattle.schema_map.specs.Delta.{delta_schema_of}
@@ -27,7 +27,7 @@ use Rattle.delta_log.specs.declared.commit.FileAction.{FileAction}
 use Rattle.delta_log.specs.declared.commit.MetaData.{MetaData}
 use Rattle.delta_log.specs.declared.error.DeltaError.{DeltaError}
 use Rattle.delta_log.specs.declared.error.DeltaError.TheVariants as errors
-use Rattle.delta_log.specs.Change.{IsOutsideGrammar, HasOtherValue, HasLargeSchema, HasManyFiles, SpellsNoValue, Shows, Passes, commit_features, commit_limits, AreRowsBehind, CanFollow, IsChangeOf, IsSoundRow, IsChangeRefusal}
+use Rattle.delta_log.specs.Change.{IsOutsideGrammar, HasOtherValue, HasLargeSchema, HasManyFiles, SpellsNoValue, Shows, Passes, commit_features, commit_limits, AreRowsBehind, CanFollow, IsChangeOf, IsSoundRow, IsTableSchema, GoesOn, IsChangeRefusal}
 use Rattle.delta_log.specs.ChangeSteps.{column_features, Tells, is_kept, rows_behind, limit_passed, AreColumnsBehind, AreRowsOf, IsChangeOver, IsRefusalOver}
 use Rattle.delta_log.specs.Commit.{file_paths}
 use Rattle.delta_log.specs.Judging.{acts_on}
@@ -35,7 +35,9 @@ use Rattle.delta_log.specs.Live.{PartColumns, AddsRow, ActsOn, IsRowBehind}
 use Rattle.delta_log.specs.Sound.{IsSound, IsSoundFile}
 use Rattle.delta_log.specs.TableBehind.{rows_before, schema_before, partition_behind, table_before, Spells, StatesSchema, IsSchemaBehind, ArePartColumns}
 use Rattle.delta_log.proofs.BehindLemmas.{on_path, path_on, behind_distinct}
+use Rattle.delta_log.proofs.KindLemmas.{KeepKinds, same_columns}
 use Rattle.delta_log.proofs.ReadableLemmas.{none_first}
+use Rattle.delta_log.proofs.TableLemmas.{before_rows, stated_sound, goes_on}
 use Rattle.delta_log.proofs.ValueLemmas.{row_from, row_to, rows_paths, has_values, sound_row, columns_length}
 
 -- ---- the numbers
@@ -87,27 +89,20 @@ module _ (columns : PartColumns) (before : List FileRow) (c : DeltaCommit) (rows
 
 -- ---- the change
 
+one_behind : (base : Option Table) (m : Option MetaData) (s t : ColumnTrees) → IsSchemaBehind m base s → IsSchemaBehind m base t → s ≡ t
+one_behind base None s t a b = a ∙ sym b
+one_behind base (Some m) s t a b = cc (sym a ∙ b)
+
+one_kind : (schema : ColumnTrees) (names : List (List ℕ)) → KeepKinds schema schema names
+one_kind schema names name there o k was is = cc (sym was ∙ is)
+
 module _ (c : DeltaCommit) (base : Option Table) (stated : Option ColumnTrees) (columns : PartColumns) (sound : IsSound c) (cols : AreColumnsBehind c base stated columns) where
   no_value : (rows : List FileRow) → AreRowsOf columns c.files rows → HasOtherValue c base → ⊥
   no_value rows added h =
       let schema = unwrap_or stated (schema_before base) in
-      let one_schema : h.0 ≡ schema = one_behind c.meta h.0 schema h.2 cols.behind in
-      let one_columns : h.1 ≡ columns = same_columns schema (partition_behind c.meta base) h.1 columns (subst (λ s. ArePartColumns s (partition_behind c.meta base) h.1) one_schema h.3) cols.kinds in
+      let one_schema : h.0 ≡ schema = one_behind base c.meta h.0 schema h.2 cols.behind in
+      let one_columns : h.1 ≡ columns = same_columns h.0 schema (partition_behind c.meta base) h.1 columns h.3 cols.kinds (subst (λ s. KeepKinds s schema (partition_behind c.meta base)) (sym one_schema) (one_kind schema (partition_behind c.meta base))) in
       has_values columns c.files rows h.4 h.5 added h.6 (subst (λ cs. Contains cs h.5) one_columns h.7) h.8
-    where
-      one_behind : (m : Option MetaData) (s t : ColumnTrees) → IsSchemaBehind m base s → IsSchemaBehind m base t → s ≡ t
-      one_behind None s t a b = a ∙ sym b
-      one_behind (Some m) s t a b = cc (sym a ∙ b)
-
-      same_columns : (schema : ColumnTrees) (names : List (List ℕ)) (xs ys : PartColumns) → ArePartColumns schema names xs → ArePartColumns schema names ys → xs ≡ ys
-      same_columns schema [] [] [] a b = refl
-      same_columns schema [] [] (y ∷ ys) a b = absurd b
-      same_columns schema [] (x ∷ xs) ys a b = absurd a
-      same_columns schema (n ∷ ns) [] ys a b = absurd a
-      same_columns schema (n ∷ ns) (x ∷ xs) [] a b = absurd b
-      same_columns schema (n ∷ ns) (x ∷ xs) (y ∷ ys) a b =
-          let kind : x.1 ≡ y.1 = cc (sym a.1 ∙ b.1) in
-          λ i. ((a.0 ∙ sym b.0) i, kind i) ∷ same_columns schema ns xs ys a.2 b.2 i
 
   shows_none : (rows : List FileRow) → AreRowsOf columns c.files rows → NoneOf (Shows c base) commit_features
   shows_none rows added =
@@ -149,12 +144,8 @@ module _ (c : DeltaCommit) (base : Option Table) (stated : Option ColumnTrees) (
     change_supported = shows_none over.rows over.added
 
     pub change_applies : CanApply (table_before c base) change
-    change_applies = change_fits (table_before c base) (behind_of over.rows) change (subst (λ l. IsDiff l (behind_of over.rows) change.removed change.added) (sym (same_before c base)) over.diff)
-        (subst HasDistinctPaths (sym (same_before c base)) over.distinct) the_rows.distinct
-      where
-        same_before : (c : DeltaCommit) (base : Option Table) → (table_before c base).rows ≡ rows_before base
-        same_before c None = refl
-        same_before c (Some t) = refl
+    change_applies = change_fits (table_before c base) (behind_of over.rows) change (subst (λ l. IsDiff l (behind_of over.rows) change.removed change.added) (sym (before_rows c base)) over.diff)
+        (subst HasDistinctPaths (sym (before_rows c base)) over.distinct) the_rows.distinct
 
     pub change_rows : (row : FileRow) → Contains change.added row → IsSoundRow (unwrap_or change.schema (schema_before base)) (partition_behind c.meta base) row
     change_rows row there =
@@ -167,6 +158,27 @@ module _ (c : DeltaCommit) (base : Option Table) (stated : Option ColumnTrees) (
         let by = row_from columns c.files over.rows row over.added new in
         subst (λ o. IsSoundRow (unwrap_or o (schema_before base)) (partition_behind c.meta base) row) (sym over.stated)
         (sound_row (unwrap_or stated (schema_before base)) (partition_behind c.meta base) columns by.0 row cols.kinds (All-contains IsSoundFile c.files by.0 sound.files by.1) by.2)
+
+    not_many : HasManyFiles c base → ⊥
+    not_many h =
+        let names = partition_behind c.meta base in
+        let schema = unwrap_or stated (schema_before base) in
+        let one_schema : h.0 ≡ schema = one_behind base c.meta h.0 schema h.3 cols.behind in
+        let one_columns : h.1 ≡ columns = same_columns h.0 schema names h.1 columns h.4 cols.kinds (subst (λ s. KeepKinds s schema names) (sym one_schema) (one_kind schema names)) in
+        let behind : AreRowsBehind columns (rows_before base) c h.2 = subst (λ cs. AreRowsBehind cs (rows_before base) c h.2) one_columns h.5 in
+        let same : length h.2 ≡ length (behind_of over.rows) =
+        same_rows_length h.2 (behind_of over.rows) behind.distinct the_rows.distinct (λ row. (λ there. (the_rows.rows row).1 ((behind.rows row).0 there), λ there. (behind.rows row).1 ((the_rows.rows row).0 there))) in
+        let few : length (behind_of over.rows) ≤ MAX_LIVE_FILES = (within_limits (length columns) (length (behind_of over.rows)) over.within).1 in
+        let many : MAX_LIVE_FILES < length h.2 = h.6 in
+        omega (arith, same, few, many)
+
+    pub change_follows : CanFollow c base
+    change_follows = record {
+      grammar = cols.grammar;
+      supported = change_supported;
+      schema = no_large_schema;
+      within = ((λ over. let few = change_is.few_columns in omega (arith, over, few)), (not_many, tt));
+    }
 
   -- ---- refusals
 
@@ -243,6 +255,20 @@ module _ (c : DeltaCommit) (base : Option Table) (stated : Option ColumnTrees) (
       → IfOk r (λ change. (row : FileRow) → Contains change.added row → IsSoundRow (unwrap_or change.schema (schema_before base)) (partition_behind c.meta base) row)
   rows_by (Ok change) over = change_rows c base stated columns sound cols change over
   rows_by (Err e) over = tt
+
+  pub schema_by : (r : Result Change DeltaError) → IfOk r (IsChangeOver columns (rows_before base) c.files stated) → IfOk r (λ change. IfSome change.schema IsTableSchema)
+  schema_by (Ok change) over = stated_sound c.meta change.schema (change_is c base stated columns sound cols change over).stated
+  schema_by (Err e) over = tt
+
+  pub goes_on_by : (r : Result Change DeltaError) → IfOk r (IsChangeOver columns (rows_before base) c.files stated) → IfOk r (GoesOn c base)
+  goes_on_by (Ok change) over =
+      goes_on c base change (change_is c base stated columns sound cols change over) (change_supported c base stated columns sound cols change over)
+      (change_rows c base stated columns sound cols change over) (change_applies c base stated columns sound cols change over)
+  goes_on_by (Err e) over = tt
+
+  pub follows_by : (r : Result Change DeltaError) → IfOk r (IsChangeOver columns (rows_before base) c.files stated) → OnOk r (CanFollow c base)
+  follows_by (Ok change) over = change_follows c base stated columns sound cols change over
+  follows_by (Err e) over = tt
 
   pub refused_by : (r : Result Change DeltaError) → IfErr r (IsRefusalOver columns (rows_before base) c.files) → IfErr r (IsChangeRefusal c base)
   refused_by (Ok change) told = tt

@@ -50,7 +50,7 @@ not_false false e = absurd (false≢true (sym e))
 
 -- ---- one schema at most
 
-one_schema : (m : MetaData) (s t : ColumnTrees) → Spells m s → Spells m t → s ≡ t
+pub one_schema : (m : MetaData) (s t : ColumnTrees) → Spells m s → Spells m t → s ≡ t
 one_schema m s t a b = cc (sym a ∙ b)
 
 no_fault : (m : MetaData) (s : ColumnTrees) (e : MapError) → Spells m s → delta_schema_of m.schema ≡ Err e → ⊥
@@ -205,10 +205,10 @@ no_stray schema (n ∷ ns) h stray =
 
 -- ---- other kinds
 
-names_same : (xs ys : List (List ℕ)) → (pointwise bytes_eq xs ys ≡ true → xs ≡ ys) × (xs ≡ ys → pointwise bytes_eq xs ys ≡ true)
+pub names_same : (xs ys : List (List ℕ)) → (pointwise bytes_eq xs ys ≡ true → xs ≡ ys) × (xs ≡ ys → pointwise bytes_eq xs ys ≡ true)
 names_same xs ys = slice_eq-Decides bytes_eq-Decides xs ys (pointwise bytes_eq xs ys) refl
 
-same_kind : (a b : PartKind) → is_same_kind a b ≡ true → a ≡ b
+pub same_kind : (a b : PartKind) → is_same_kind a b ≡ true → a ≡ b
 same_kind kind.Boolean kind.Boolean h = refl
 same_kind kind.Boolean kind.Int h = absurd (false≢true h)
 same_kind kind.Boolean kind.Long h = absurd (false≢true h)
@@ -235,7 +235,7 @@ same_kind kind.Date kind.Long h = absurd (false≢true h)
 same_kind kind.Date kind.Text h = absurd (false≢true h)
 same_kind kind.Date kind.Date h = refl
 
-kind_itself : (a : PartKind) → is_same_kind a a ≡ true
+pub kind_itself : (a : PartKind) → is_same_kind a a ≡ true
 kind_itself kind.Boolean = refl
 kind_itself kind.Int = refl
 kind_itself kind.Long = refl
@@ -284,7 +284,7 @@ columns_refused schema (n ∷ ns) e h = by (columns_refused schema ns) (column_k
     by rest (Some k) (Err x) kind is h = let same : x ≡ e = cc in let more = rest x is in (sym same ∙ more.0, more.1, Contains-tail n ns more.1 more.2, more.3)
 
 -- where each has a kind, and none is named twice, no kind is lacking
-has_kind : (schema : ColumnTrees) (names : List (List ℕ)) (columns : PartColumns) (name : List ℕ) → ArePartColumns schema names columns → Contains names name → column_kind schema name ≡ None → ⊥
+pub has_kind : (schema : ColumnTrees) (names : List (List ℕ)) (columns : PartColumns) (name : List ℕ) → ArePartColumns schema names columns → Contains names name → column_kind schema name ≡ None → ⊥
 has_kind schema [] columns name are there none = Contains-none name there
 has_kind schema (n ∷ ns) [] name are there none = are
 has_kind schema (n ∷ ns) (c ∷ cs) name are there none =

@@ -18,4 +18,6 @@ pub mod NameSetLemmas
 pub mod ValueLemmas
 pub mod ColumnLemmas
 pub mod ChangeLemmas
+pub mod KindLemmas
+pub mod TableLemmas
 pub mod LawLemmas

@@ -294,6 +294,11 @@ reads_whole bytes (Err e) is =
     let stops = subst (Ends [] (lines_of bytes)) is (ends_whole bytes) in
     record { front = stops.more; line = stops.line; behind = stops.behind; before = stops.actions; split = stops.split; readable = readable_of stops.more stops.actions stops.commit stops.holds; fault = stops.fault }
 
+-- what the reading gives is a commit that can be read
+pub commit_readable : (bytes : List ℕ) (c : DeltaCommit) → commit_of bytes ≡ Ok c → IsReadableCommit bytes c
+unfolding Reads
+commit_readable bytes c is = reads_whole bytes (Ok c) is
+
 same_options : {A : Type 0} (o q : Option A) → option_to_list o ≡ option_to_list q → o ≡ q
 same_options None None e = refl
 same_options None (Some y) e = absurd (cc)

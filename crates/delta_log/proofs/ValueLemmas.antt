@@ -5,20 +5,19 @@ use Rattle.std.specs.Str.{bytes_eq}
 use Rattle.std.proofs.lemmas.Bool.{cases_Bool}
 use Rattle.std.proofs.lemmas.List.{take_more, drop_more, drop_all, append-nil}
 use Rattle.std.proofs.lemmas.List.Elements.{All-contains, All-head, All-tail}
-use Rattle.table_history.specs.History.{IsOfType, column_type, FitsColumn, FitColumns}
+use Rattle.table_history.specs.History.{column_type, FitsColumn, FitColumns}
 use Rattle.table_history.specs.Path.{IsPath}
 use Rattle.table_history.specs.Rows.{paths_of}
-use Rattle.table_history.specs.TypeTree.{TypeTree, boolean, byte, short, int, long, float, double, decimal, text, binary, date, timestamp, timestamp_ntz, struct_of, list_of, map_of, ColumnTrees}
+use Rattle.table_history.specs.TypeTree.{TypeTree, ColumnTrees}
 use Rattle.table_history.specs.declared.row.FileRow.{FileRow}
 use Rattle.table_history.specs.declared.row.PartValue.{PartValue}
-use Rattle.table_history.specs.declared.row.PartValue.TheVariants as value
 use Rattle.table_history.specs.declared.feature.Feature.{Feature}
 use Rattle.table_history.proofs.RowListLemmas.{Contains-none, Contains-head, Contains-tail, Contains-cases}
 use Rattle.partition_map.specs.Columns.{column_kind}
 use Rattle.partition_map.specs.Kind.{part_kind_of, IsOfKind}
-use Rattle.partition_map.specs.Stands.{DeltaStands, IsTextOf}
+use Rattle.partition_map.specs.Stands.{DeltaStands}
 use Rattle.partition_map.specs.declared.kind.PartKind.{PartKind}
-use Rattle.partition_map.specs.declared.kind.PartKind.TheVariants as kind
+use Rattle.partition_map.proofs.Laws.{delta_of_kind, kind_of_type}
 use Rattle.partition_map.proofs.StandsLemmas.{delta_same}
 use Rattle.std.specs.Option.{option_and_then}
 use Rattle.delta_log.specs.declared.commit.FileAction.{FileAction}
@@ -178,85 +177,12 @@ has_values columns (file.Remove p ∷ files) rows f c h there column none =
 
 -- ---- values and their columns
 
-text_kind : (k : PartKind) (spelled : List ℕ) (v : PartValue) → IsTextOf k spelled v → IsOfKind k v
-text_kind kind.Boolean spelled v h = ⊎_elim (λ t. subst (IsOfKind kind.Boolean) (sym t.1) tt) (λ f. subst (IsOfKind kind.Boolean) (sym f.1) tt) h
-text_kind kind.Int spelled v h = subst (IsOfKind kind.Int) (sym h.3) tt
-text_kind kind.Long spelled v h = subst (IsOfKind kind.Long) (sym h.3) tt
-text_kind kind.Text spelled v h = subst (IsOfKind kind.Text) (sym h) tt
-text_kind kind.Date spelled v h = subst (IsOfKind kind.Date) (sym h.2) tt
-
-null_kind : (k : PartKind) (v : PartValue) → v ≡ value.Null → IsOfKind k v
-null_kind k v e = subst (IsOfKind k) (sym e) tt
-
-delta_kind : (k : PartKind) (spelled : Option (List ℕ)) (v : PartValue) → DeltaStands k spelled v → IsOfKind k v
-delta_kind k None v h = null_kind k v h
-delta_kind k (Some []) v h = null_kind k v h
-delta_kind k (Some (c ∷ spelled)) v h = text_kind k (c ∷ spelled) v h
-
 none_some : {A : Type 0} (x : A) → None ≡ Some x → ⊥
 none_some x e = absurd cc
 
-of_boolean : (t : TypeTree) (v : PartValue) → t ≡ boolean → IsOfKind kind.Boolean v → IsOfType t v
-of_boolean t value.Null e h = tt
-of_boolean t (value.Boolean b) e h = e
-of_boolean t (value.Int n) e h = absurd h
-of_boolean t (value.Long n) e h = absurd h
-of_boolean t (value.Text s) e h = absurd h
-of_boolean t (value.Date d) e h = absurd h
-
-of_int : (t : TypeTree) (v : PartValue) → (t ≡ byte) ⊎ ((t ≡ short) ⊎ (t ≡ int)) → IsOfKind kind.Int v → IsOfType t v
-of_int t value.Null e h = tt
-of_int t (value.Boolean b) e h = absurd h
-of_int t (value.Int n) e h = e
-of_int t (value.Long n) e h = absurd h
-of_int t (value.Text s) e h = absurd h
-of_int t (value.Date d) e h = absurd h
-
-of_long : (t : TypeTree) (v : PartValue) → t ≡ long → IsOfKind kind.Long v → IsOfType t v
-of_long t value.Null e h = tt
-of_long t (value.Boolean b) e h = absurd h
-of_long t (value.Int n) e h = absurd h
-of_long t (value.Long n) e h = e
-of_long t (value.Text s) e h = absurd h
-of_long t (value.Date d) e h = absurd h
-
-of_text : (t : TypeTree) (v : PartValue) → t ≡ text → IsOfKind kind.Text v → IsOfType t v
-of_text t value.Null e h = tt
-of_text t (value.Boolean b) e h = absurd h
-of_text t (value.Int n) e h = absurd h
-of_text t (value.Long n) e h = absurd h
-of_text t (value.Text s) e h = e
-of_text t (value.Date d) e h = absurd h
-
-of_date : (t : TypeTree) (v : PartValue) → t ≡ date → IsOfKind kind.Date v → IsOfType t v
-of_date t value.Null e h = tt
-of_date t (value.Boolean b) e h = absurd h
-of_date t (value.Int n) e h = absurd h
-of_date t (value.Long n) e h = absurd h
-of_date t (value.Text s) e h = absurd h
-of_date t (value.Date d) e h = e
-
-of_kind : (t : TypeTree) (k : PartKind) (v : PartValue) → part_kind_of t ≡ Some k → IsOfKind k v → IsOfType t v
-of_kind boolean k v e h = let same : k ≡ kind.Boolean = cc in of_boolean boolean v refl (subst (λ x. IsOfKind x v) same h)
-of_kind byte k v e h = let same : k ≡ kind.Int = cc in of_int byte v (inl refl) (subst (λ x. IsOfKind x v) same h)
-of_kind short k v e h = let same : k ≡ kind.Int = cc in of_int short v (inr (inl refl)) (subst (λ x. IsOfKind x v) same h)
-of_kind int k v e h = let same : k ≡ kind.Int = cc in of_int int v (inr (inr refl)) (subst (λ x. IsOfKind x v) same h)
-of_kind long k v e h = let same : k ≡ kind.Long = cc in of_long long v refl (subst (λ x. IsOfKind x v) same h)
-of_kind float k v e h = absurd (none_some k e)
-of_kind double k v e h = absurd (none_some k e)
-of_kind (decimal p s) k v e h = absurd (none_some k e)
-of_kind text k v e h = let same : k ≡ kind.Text = cc in of_text text v refl (subst (λ x. IsOfKind x v) same h)
-of_kind binary k v e h = absurd (none_some k e)
-of_kind date k v e h = let same : k ≡ kind.Date = cc in of_date date v refl (subst (λ x. IsOfKind x v) same h)
-of_kind timestamp k v e h = absurd (none_some k e)
-of_kind timestamp_ntz k v e h = absurd (none_some k e)
-of_kind (struct_of cs) k v e h = absurd (none_some k e)
-of_kind (list_of t b) k v e h = absurd (none_some k e)
-of_kind (map_of a b c) k v e h = absurd (none_some k e)
-
-fits_kind : (o : Option TypeTree) (k : PartKind) (v : PartValue) → option_and_then part_kind_of o ≡ Some k → IsOfKind k v → FitsColumn o v
+pub fits_kind : (o : Option TypeTree) (k : PartKind) (v : PartValue) → option_and_then part_kind_of o ≡ Some k → IsOfKind k v → FitsColumn o v
 fits_kind None k v e h = absurd (none_some k e)
-fits_kind (Some t) k v e h = of_kind t k v e h
+fits_kind (Some t) k v e h = (kind_of_type t k e v).0 h
 
 pub values_fit : (schema : ColumnTrees) (names : List (List ℕ)) (columns : PartColumns) (texts : Texts) (vs : List PartValue) → ArePartColumns schema names columns → AreValues columns texts vs → FitColumns schema names vs
 values_fit schema [] [] texts [] are h = tt
@@ -265,7 +191,7 @@ values_fit schema [] (c ∷ cs) texts vs are h = absurd are
 values_fit schema (n ∷ ns) [] texts vs are h = absurd are
 values_fit schema (n ∷ ns) (c ∷ cs) texts [] are h = absurd h
 values_fit schema (n ∷ ns) (c ∷ cs) texts (v ∷ vs) are h =
-    (fits_kind (column_type schema n) c.1 v are.1 (delta_kind c.1 (text_of c.0 texts) v h.0), values_fit schema ns cs texts vs are.2 h.1)
+    (fits_kind (column_type schema n) c.1 v are.1 (delta_of_kind c.1 (text_of c.0 texts) v h.0), values_fit schema ns cs texts vs are.2 h.1)
 
 -- ---- a row that an action adds
 

@@ -1,12 +1,16 @@
 -- The change that a commit makes of a table, and why a commit can't be taken over a table.
 use Rattle.std.specs.Prelude.{◌≡◌, ◌≢◌, ◌⊎◌, ℕ, ◌<◌, ◌≤◌, ◌^◌, pos, List, [], ◌∷◌, length, codes, Contains, Option, Some, None, unwrap_or, IfSome, Err}
+use Rattle.std.specs.List.{IsDistinct}
+use Rattle.std.specs.Str.{bytes_eq}
 use Rattle.lake_basics.specs.declared.limits.TheConstants.{MAX_LIVE_FILES, MAX_PARTITION_COLUMNS}
 use Rattle.table_history.specs.First.{IsFirst, NoneOf}
-use Rattle.table_history.specs.History.{column_type, FitColumns}
+use Rattle.table_history.specs.History.{column_type, FitColumns, IsSoundTable}
 use Rattle.table_history.specs.Path.{IsPath}
 use Rattle.table_history.specs.Row.{Row}
 use Rattle.table_history.specs.Rows.{HasDistinctPaths}
-use Rattle.table_history.specs.Tables.{IsAfter, IsDiff, LeadsTo}
+use Rattle.table_history.specs.SchemaSize.{IsWithinLimits}
+use Rattle.table_history.specs.Sound.{IsSound}
+use Rattle.table_history.specs.Tables.{CanApply, IsAfter, IsDiff, LeadsTo}
 use Rattle.table_history.specs.TypeTree.{ColumnTrees}
 use Rattle.table_history.specs.declared.feature.Feature.{Feature}
 use Rattle.table_history.specs.declared.feature.Feature.TheVariants.{ReaderVersion, ReaderFeature, ColumnMapping, SchemaType, PartitionType, PartitionChange, PartitionValue}
@@ -14,7 +18,7 @@ use Rattle.table_history.specs.declared.limit.LimitKind.{LimitKind}
 use Rattle.table_history.specs.declared.limit.LimitKind.TheVariants.{LiveFiles, PartitionColumns}
 use Rattle.table_history.specs.declared.table.Change.{Change}
 use Rattle.table_history.specs.declared.table.Table.{Table}
-use Rattle.partition_map.specs.Columns.{LacksKinds, HasOtherKind}
+use Rattle.partition_map.specs.Columns.{column_kind, LacksKinds, HasOtherKind}
 use Rattle.partition_map.specs.Stands.{DeltaStands}
 use Rattle.partition_map.specs.declared.kind.PartKind.{PartKind}
 use Rattle.table_history.specs.declared.row.PartValue.{PartValue}
@@ -166,6 +170,28 @@ pub record IsSoundRow (schema : ColumnTrees) (partition : List (List ℕ)) (row 
   pub count : row.count < 2 ^ 63
   pub size : row.size < 2 ^ 63
 
+-- ---- what callers go on with
+
+-- a schema that a table may have: its names and types are sound, and it passes no number
+abbrev pub IsTableSchema : ColumnTrees → Type 0
+IsTableSchema schema = IsSound schema × IsWithinLimits schema
+
+-- A table that commits may leave: its rows have distinct paths, each of them a path, and values of the kinds of the partition columns, and it passes no number.
+pub record IsTableOfLog (t : Table) : Type 0 where
+  pub partition_distinct : IsDistinct bytes_eq t.partition
+  pub partition_kinds : (name : List ℕ) → Contains t.partition name → column_kind t.schema name ≢ None
+  pub sound : IsSoundTable t
+  pub paths : (row : Row) → Contains t.rows row → IsPath row.path
+  pub partition_columns : length t.partition ≤ MAX_PARTITION_COLUMNS
+  pub live_files : length t.rows ≤ MAX_LIVE_FILES
+  pub schema : IsSound t.schema
+  pub size : IsWithinLimits t.schema
+
+-- The change fits the table before the commit. Where that one, if there is one, is a table that commits may leave, so is the table after.
+pub record GoesOn (c : DeltaCommit) (base : Option Table) (change : Change) : Type 0 where
+  pub fits : CanApply (table_before c base) change
+  pub leaves : ((before : Table) → base ≡ Some before → IsTableOfLog before) → (after : Table) → IsAfter (table_before c base) change after → IsTableOfLog after
+
 -- ---- refusals
 
 -- Memory ran out, or the commit as a whole has the fault, and none that is told before it.
@@ -183,3 +209,9 @@ abbrev pub LeadTo : PartColumns → Option Table → List DeltaCommit → Option
 LeadTo columns base [] last = base ≡ last
 LeadTo columns base (c ∷ commits) last =
     (change : Change) × (next : Table) × (is : IsChangeOf c base change) × (is.columns ≡ columns) × IsAfter (table_before c base) change next × LeadTo columns (Some next) commits last
+
+-- The table after the commits, each commit's change made in its turn. None of them shows a feature over the table that the one before it left.
+abbrev pub LeadsThrough : Option Table → List DeltaCommit → Option Table → Type 0
+LeadsThrough base [] last = base ≡ last
+LeadsThrough base (c ∷ commits) last =
+    (change : Change) × (next : Table) × IsChangeOf c base change × NoneOf (Shows c base) commit_features × IsAfter (table_before c base) change next × LeadsThrough (Some next) commits last

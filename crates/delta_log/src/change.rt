@@ -5,7 +5,7 @@ mod columns;
 mod features;
 mod rows;
 
-ghost use Rattle.std.specs.Prelude.{◌≡◌, [], IfOk, IfErr, OnOk, All, Contains, length, unwrap_or};
+ghost use Rattle.std.specs.Prelude.{◌≡◌, [], IfOk, IfErr, IfSome, OnOk, All, Contains, length, unwrap_or};
 ghost use Rattle.std.specs.List.{IsDistinct};
 ghost use Rattle.std.specs.Option.{option_copied};
 ghost use Rattle.std.specs.Str.{bytes_eq};
@@ -16,7 +16,7 @@ ghost use Rattle.table_history.specs.Tables.{CanApply};
 ghost use Rattle.delta_log.specs.Sound.{IsSound, IsSoundFile};
 ghost use Rattle.delta_log.specs.Commit.{file_paths};
 ghost use Rattle.delta_log.specs.TableBehind.{rows_before, schema_before, partition_behind, table_before};
-ghost use Rattle.delta_log.specs.Change.{IsOutsideGrammar, Shows, commit_features, CanFollow, IsChangeOf, IsSoundRow, IsChangeRefusal};
+ghost use Rattle.delta_log.specs.Change.{IsOutsideGrammar, Shows, commit_features, CanFollow, IsChangeOf, IsSoundRow, IsTableSchema, GoesOn, IsChangeRefusal};
 ghost use Rattle.delta_log.specs.ChangeSteps.{rows_behind, IsChangeOver, IsRefusalOver, limit_passed};
 ghost use Rattle.delta_log.specs.declared.error.DeltaError.TheVariants as errors;
 
@@ -47,12 +47,18 @@ pub fn change_of(
     ensures grammar { OnOk result (¬ IsOutsideGrammar commit.now (option_copied base.entry)) }
     ensures supported { OnOk result
         (NoneOf (Shows commit.now (option_copied base.entry)) commit_features) }
+    // Nor does it pass a number.
+    ensures follows { OnOk result (CanFollow commit.now (option_copied base.entry)) }
     // The change may be applied to the table before.
     ensures fits { IfOk result (CanApply (table_before commit.now (option_copied base.entry))) }
     // Each added row may stand in a table of this schema.
     ensures rows { IfOk result (λ change. (row : Row) → Contains change.added row
         → IsSoundRow (unwrap_or change.schema (schema_before (option_copied base.entry)))
         (partition_behind commit.now.meta (option_copied base.entry)) row) }
+    // The schema that it states is one that a table may have.
+    ensures schema { IfOk result (λ change. IfSome change.schema IsTableSchema) }
+    // The table after it may be followed on and published, where the table before may.
+    ensures goes_on { IfOk result (GoesOn commit.now (option_copied base.entry)) }
     // A refusal has its cause, and no cause that is told before it.
     ensures refused { IfErr result (IsChangeRefusal commit.now (option_copied base.entry)) }
     // Without a cause there is a change, unless memory runs out.

@@ -13,6 +13,7 @@ ghost use Rattle.json_reading.specs.Json.{IsReadAgain};
 ghost use Rattle.partition_map.specs.Uri.{escaped_path};
 ghost use Rattle.delta_log.specs.declared.commit.DeltaCommit.{DeltaCommit};
 ghost use Rattle.delta_log.specs.Judging.{commit_of};
+ghost use Rattle.delta_log.specs.Readable.{IsReadableCommit};
 ghost use Rattle.delta_log.specs.Sound.{IsWritable};
 ghost use Rattle.delta_log.specs.Writing.{only_member, put_texts, protocol_data, meta_data_data, stats_data, add_data, remove_data, file_data, line_text, commit_text, SameCommit};
 ghost use Rattle.delta_log.specs.Again.{HasReadableStats, HasReadableUri, IsProtocolAgain, IsFileAgain, HasReadableParts};
@@ -286,6 +287,9 @@ pub fn commit_text(alloc: Global, commit: &DeltaCommit, now_ms: u64) -> Result<B
     ensures text { IfOk result (λ b. b ≡ commit_text now_ms commit.now) }
     ensures reads_back { IfOk result (λ b. (d : DeltaCommit)
         × (commit_of b ≡ Ok d) × SameCommit commit.now d) }
+    // The bytes are a commit that can be read, which may be written again: the same, its pairs in any order.
+    ensures readable { IfOk result (λ b. (d : DeltaCommit)
+        × IsReadableCommit b d × IsWritable d × SameCommit commit.now d) }
     ensures memory { IfErr result (λ e. e ≡ DeltaError.Memory) }
 {
     Ok(Blob::from_vec(commit_bytes(alloc, commit, now_ms)?))

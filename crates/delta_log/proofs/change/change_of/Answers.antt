@@ -2,7 +2,7 @@ use Rattle.std.specs.Option.{option_copied}
 use Rattle.std.proofs.lemmas.Result.{err_from_is_err_and}
 use Rattle.delta_log.specs.TableBehind.{rows_before}
 use Rattle.delta_log.proofs.ColumnLemmas.{columns_given, columns_told}
-use Rattle.delta_log.proofs.ChangeLemmas.{over_these, told_these, found_by, supported_by, grammar_by, fits_by, rows_by, refused_by, no_refusal, complete_by}
+use Rattle.delta_log.proofs.ChangeLemmas.{over_these, told_these, found_by, supported_by, grammar_by, fits_by, rows_by, schema_by, goes_on_by, follows_by, refused_by, no_refusal, complete_by}
 use Rattle.delta_log.proofs.change.change_of.Goals as goal
 
 pub returns : goal.returns
@@ -22,6 +22,9 @@ returns c =
       supported = supported_by commit base stated columns c.requires cols r over;
       fits = fits_by commit base stated columns c.requires cols r over;
       rows = rows_by commit base stated columns c.requires cols r over;
+      schema = schema_by commit base stated columns c.requires cols r over;
+      goes_on = goes_on_by commit base stated columns c.requires cols r over;
+      follows = follows_by commit base stated columns c.requires cols r over;
       refused = refused;
       complete = complete_by commit base r refused;
     }
