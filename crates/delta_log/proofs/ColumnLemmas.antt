@@ -8,6 +8,7 @@ use Rattle.std.proofs.lemmas.Bool.{cases_Bool, false≢true, eqb-true}
 use Rattle.std.proofs.lemmas.Cmp.{nat_list_eq_equiv}
 use Rattle.std.proofs.lemmas.Map.Views.{Contains-from_any, list_any-from_Contains}
 use Rattle.std.proofs.lemmas.Slice.Eq.{bytes_eq-Decides, slice_eq-Decides}
+use Rattle.avro_schema.specs.Names.{are_distinct}
 use Rattle.lake_basics.specs.Outcome.{◌>>=◌, required, each, FailsUnlessMemory}
 use Rattle.table_history.specs.First.{IsFirst, NoneOf}
 use Rattle.table_history.specs.History.{column_type}
@@ -17,9 +18,9 @@ use Rattle.table_history.specs.declared.feature.Feature.TheVariants.{ReaderVersi
 use Rattle.table_history.specs.declared.limit.LimitKind.{LimitKind}
 use Rattle.table_history.specs.declared.table.Table.{Table}
 use Rattle.table_history.proofs.RowListLemmas.{Contains-none, Contains-head, Contains-tail, Contains-cases}
-use Rattle.partition_map.specs.Columns.{column_kind, LacksKinds, HasOtherKind}
+use Rattle.partition_map.specs.Columns.{column_kind, LacksKinds, HasOtherKind, has_other_kind}
 use Rattle.partition_map.specs.declared.kind.PartKind.{PartKind}
-use Rattle.partition_map.specs.declared.kind.PartKind.TheVariants as kind
+use Rattle.partition_map.proofs.ColumnLemmas.{distinct_exactly, has_other_exactly}
 use Rattle.schema_map.specs.Delta.{delta_schema_of}
 use Rattle.schema_map.specs.declared.fault.MapError.{MapError}
 use Rattle.schema_map.specs.declared.fault.MapError.TheVariants as map_errors
@@ -29,13 +30,12 @@ use Rattle.delta_log.specs.declared.commit.Protocol.{Protocol}
 use Rattle.delta_log.specs.declared.error.DeltaError.{DeltaError}
 use Rattle.delta_log.specs.declared.error.DeltaError.TheVariants as errors
 use Rattle.delta_log.specs.Change.{LacksFirstActions, IsOutsideGrammar, HasStrayColumn, HasOtherReader, known_features, NeedsOtherFeature, MapsColumns, TellsOfType, HasOtherType, HasOtherPartition, ChangesPartition, HasLargeSchema, Shows, commit_features, IsChangeRefusal}
-use Rattle.delta_log.specs.ChangeSteps.{is_reader, has_other_reader, is_known, is_unknown, lists_unknown, needs_other_feature, is_mapping, maps_columns, first_feature, unshown_by, unshown, is_column, with_columns, judged, judged_schema, are_distinct, part_column, judged_columns, is_same_kind, other_kind, changes_kind, changes_partition, changes_base, unchanged, ColumnsBehind, stated_columns, kept_columns, lacks_first_actions, columns_by, columns_of, column_features, AreColumnsBehind}
+use Rattle.delta_log.specs.ChangeSteps.{is_reader, has_other_reader, is_known, is_unknown, lists_unknown, needs_other_feature, is_mapping, maps_columns, first_feature, unshown_by, unshown, is_column, with_columns, judged, judged_schema, kind_named, part_column, judged_columns, changes_partition, changes_base, unchanged, ColumnsBehind, stated_columns, kept_columns, lacks_first_actions, columns_by, columns_of, column_features, AreColumnsBehind}
 use Rattle.delta_log.specs.Grammar.{lists_features}
 use Rattle.delta_log.specs.Judging.{is_memory}
 use Rattle.delta_log.specs.Live.{PartColumns}
 use Rattle.delta_log.specs.TableBehind.{schema_before, partition_behind, Spells, StatesSchema, IsSchemaBehind, ArePartColumns}
 use Rattle.delta_log.proofs.AnyLemmas.{any_from, any_to}
-use Rattle.delta_log.proofs.NameSetLemmas.{both_false, distinct_to, distinct_from}
 
 abbrev early_features : List Feature
 early_features = ReaderVersion ∷ ReaderFeature ∷ ColumnMapping ∷ []
@@ -47,6 +47,10 @@ not_true false e = refl
 not_false : (b : Bool) → not b ≡ false → b ≡ true
 not_false true e = refl
 not_false false e = absurd (false≢true (sym e))
+
+both_false : (a b : Bool) → (a || b) ≡ false → (a ≡ false) × (b ≡ false)
+both_false true b h = absurd (false≢true (sym h))
+both_false false b h = (refl, h)
 
 -- ---- one schema at most
 
@@ -208,56 +212,11 @@ no_stray schema (n ∷ ns) h stray =
 pub names_same : (xs ys : List (List ℕ)) → (pointwise bytes_eq xs ys ≡ true → xs ≡ ys) × (xs ≡ ys → pointwise bytes_eq xs ys ≡ true)
 names_same xs ys = slice_eq-Decides bytes_eq-Decides xs ys (pointwise bytes_eq xs ys) refl
 
-pub same_kind : (a b : PartKind) → is_same_kind a b ≡ true → a ≡ b
-same_kind kind.Boolean kind.Boolean h = refl
-same_kind kind.Boolean kind.Int h = absurd (false≢true h)
-same_kind kind.Boolean kind.Long h = absurd (false≢true h)
-same_kind kind.Boolean kind.Text h = absurd (false≢true h)
-same_kind kind.Boolean kind.Date h = absurd (false≢true h)
-same_kind kind.Int kind.Boolean h = absurd (false≢true h)
-same_kind kind.Int kind.Int h = refl
-same_kind kind.Int kind.Long h = absurd (false≢true h)
-same_kind kind.Int kind.Text h = absurd (false≢true h)
-same_kind kind.Int kind.Date h = absurd (false≢true h)
-same_kind kind.Long kind.Boolean h = absurd (false≢true h)
-same_kind kind.Long kind.Int h = absurd (false≢true h)
-same_kind kind.Long kind.Long h = refl
-same_kind kind.Long kind.Text h = absurd (false≢true h)
-same_kind kind.Long kind.Date h = absurd (false≢true h)
-same_kind kind.Text kind.Boolean h = absurd (false≢true h)
-same_kind kind.Text kind.Int h = absurd (false≢true h)
-same_kind kind.Text kind.Long h = absurd (false≢true h)
-same_kind kind.Text kind.Text h = refl
-same_kind kind.Text kind.Date h = absurd (false≢true h)
-same_kind kind.Date kind.Boolean h = absurd (false≢true h)
-same_kind kind.Date kind.Int h = absurd (false≢true h)
-same_kind kind.Date kind.Long h = absurd (false≢true h)
-same_kind kind.Date kind.Text h = absurd (false≢true h)
-same_kind kind.Date kind.Date h = refl
+some_other : (old new : ColumnTrees) (names : List (List ℕ)) → has_other_kind old new names ≡ true → HasOtherKind old new names
+some_other old new names h = (has_other_exactly old new names).0 h
 
-pub kind_itself : (a : PartKind) → is_same_kind a a ≡ true
-kind_itself kind.Boolean = refl
-kind_itself kind.Int = refl
-kind_itself kind.Long = refl
-kind_itself kind.Text = refl
-kind_itself kind.Date = refl
-
-other_at : (old new : Option PartKind) → other_kind old new ≡ true → (o : PartKind) × (k : PartKind) × (old ≡ Some o) × (new ≡ Some k) × ((o ≡ k) → ⊥)
-other_at None new h = absurd (false≢true h)
-other_at (Some o) None h = absurd (false≢true h)
-other_at (Some o) (Some k) h = (o, k, refl, refl, λ e. false≢true (sym (ap not (ap (λ x. is_same_kind o x) (sym e) ∙ kind_itself o)) ∙ h))
-
-some_other : (old new : ColumnTrees) (names : List (List ℕ)) → list_any (changes_kind old new) names ≡ true → HasOtherKind old new names
-some_other old new names h =
-    let found = any_to (changes_kind old new) names h in
-    let at = other_at (column_kind old found.0) (column_kind new found.0) found.2 in
-    record { name = found.0; named = found.1; old = at.0; was = at.2; new = at.1; is = at.3; changed = at.4 }
-
-no_other : (old new : ColumnTrees) (names : List (List ℕ)) → list_any (changes_kind old new) names ≡ false → HasOtherKind old new names → ⊥
-no_other old new names h other =
-    let same : is_same_kind other.old other.new ≡ false = ⊎_elim (λ t. absurd (other.changed (same_kind other.old other.new t))) (λ f. f) (cases_Bool (is_same_kind other.old other.new)) in
-    let changes : changes_kind old new other.name ≡ true = (λ i. other_kind (other.was i) (other.is i)) ∙ ap not same in
-    false≢true (sym h ∙ any_from (changes_kind old new) names other.name other.named changes)
+no_other : (old new : ColumnTrees) (names : List (List ℕ)) → has_other_kind old new names ≡ false → HasOtherKind old new names → ⊥
+no_other old new names h other = false≢true (sym h ∙ (has_other_exactly old new names).1 other)
 
 -- ---- the columns of a list of names
 
@@ -378,7 +337,7 @@ module _ (c : DeltaCommit) (m : MetaData) (base : Option Table) (is : c.meta ≡
         table : (t : Table) → base ≡ Some t → changes_partition t m schema ≡ true → (t : Table) × (base ≡ Some t) × (((m.partition ≡ t.partition) → ⊥) ⊎ HasOtherKind t.schema schema m.partition)
         table t is e =
             ⊎_elim
-            (λ same. (t, is, inr (some_other t.schema schema m.partition (subst (λ b. (not b || list_any (changes_kind t.schema schema) m.partition) ≡ true) same e))))
+            (λ same. (t, is, inr (some_other t.schema schema m.partition (subst (λ b. (not b || has_other_kind t.schema schema m.partition) ≡ true) same e))))
             (λ other. (t, is, inl (λ names. false≢true (sym other ∙ (names_same m.partition t.partition).1 names))))
             (cases_Bool (pointwise bytes_eq m.partition t.partition))
 
@@ -391,7 +350,7 @@ module _ (c : DeltaCommit) (m : MetaData) (base : Option Table) (is : c.meta ≡
     not_changed h changed =
         let t = changed.0 in
         let neither : changes_partition t m schema ≡ false = sym (ap (λ o. changes_base o m schema) changed.1) ∙ h in
-        let parts = both_false (not (pointwise bytes_eq m.partition t.partition)) (list_any (changes_kind t.schema schema) m.partition) neither in
+        let parts = both_false (not (pointwise bytes_eq m.partition t.partition)) (has_other_kind t.schema schema m.partition) neither in
         ⊎_elim
         (λ other. other ((names_same m.partition t.partition).0 (not_false _ parts.0)))
         (λ kind. no_other t.schema schema m.partition parts.1 kind)
@@ -495,8 +454,8 @@ module _ (c : DeltaCommit) (m : MetaData) (base : Option Table) (is : c.meta ≡
     columns_step : (b : Bool) → are_distinct m.partition ≡ b
         → Judged c base (cond b (each (part_column schema) m.partition) (Err (errors.Unsupported PartitionType 0)) >>= λ columns. unchanged base m schema >>= λ (u : Unit {0}). Ok (Some schema, columns))
     unfolding Judged
-    columns_step true twice = kinds_step (distinct_to m.partition twice) (each (part_column schema) m.partition) refl
-    columns_step false twice = partition_refusal c m base is first schema spells none early (inl (λ d. false≢true (sym twice ∙ distinct_from m.partition d)))
+    columns_step true twice = kinds_step ((distinct_exactly m.partition).0 twice) (each (part_column schema) m.partition) refl
+    columns_step false twice = partition_refusal c m base is first schema spells none early (inl (λ d. false≢true (sym twice ∙ (distinct_exactly m.partition).1 d)))
 
   read_step : (read : Result ColumnTrees DeltaError) → ReadAs (Ok read) → (f : Option Feature) → Early c f
       → Judged c base (unshown_by f >>= λ (u : Unit {0}). read >>= λ schema. judged_columns schema m.partition >>= λ columns. unchanged base m schema >>= λ (u : Unit {0}). Ok (Some schema, columns))
@@ -556,8 +515,8 @@ module _ (c : DeltaCommit) (t : Table) (none : c.meta ≡ None) where
 
   kept_step : NoneOf (Shows c None) early_features → (b : Bool) → are_distinct t.partition ≡ b → Judged c (Some t) (cond b (each (part_column t.schema) t.partition) (Err (errors.Unsupported PartitionType 0)) >>= λ columns. Ok (None, columns))
   unfolding Judged
-  kept_step early true twice = kept_kinds early (distinct_to t.partition twice) (each (part_column t.schema) t.partition) refl
-  kept_step early false twice = kept_refusal early (inl (λ d. false≢true (sym twice ∙ distinct_from t.partition d)))
+  kept_step early true twice = kept_kinds early ((distinct_exactly t.partition).0 twice) (each (part_column t.schema) t.partition) refl
+  kept_step early false twice = kept_refusal early (inl (λ d. false≢true (sym twice ∙ (distinct_exactly t.partition).1 d)))
 
   kept_first : (f : Option Feature) → Early c f → Judged c (Some t) (unshown_by f >>= λ (u : Unit {0}). judged_columns t.schema t.partition >>= λ columns. Ok (None, columns))
   unfolding Judged Early

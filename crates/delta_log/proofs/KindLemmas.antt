@@ -7,16 +7,29 @@ use Rattle.table_history.specs.TypeTree.{TypeTree, ColumnTrees}
 use Rattle.table_history.specs.declared.row.PartValue.{PartValue}
 use Rattle.table_history.specs.declared.row.PartValue.TheVariants as value
 use Rattle.table_history.proofs.RowListLemmas.{Contains-head, Contains-tail}
-use Rattle.partition_map.specs.Columns.{column_kind, HasOtherKind}
+use Rattle.partition_map.specs.Columns.{column_kind, HasOtherKind, is_same_kind}
 use Rattle.partition_map.specs.Kind.{part_kind_of, IsOfKind}
 use Rattle.partition_map.specs.declared.kind.PartKind.{PartKind}
 use Rattle.partition_map.specs.declared.kind.PartKind.TheVariants as kind
 use Rattle.partition_map.proofs.Laws.{kind_of_type}
-use Rattle.delta_log.specs.ChangeSteps.{is_same_kind}
 use Rattle.delta_log.specs.Live.{PartColumns}
 use Rattle.delta_log.specs.TableBehind.{ArePartColumns}
-use Rattle.delta_log.proofs.ColumnLemmas.{same_kind, kind_itself}
 use Rattle.delta_log.proofs.ValueLemmas.{fits_kind}
+
+same_kind : (a b : PartKind) → is_same_kind a b ≡ true → a ≡ b
+same_kind kind.Boolean kind.Boolean h = refl
+same_kind kind.Int kind.Int h = refl
+same_kind kind.Long kind.Long h = refl
+same_kind kind.Text kind.Text h = refl
+same_kind kind.Date kind.Date h = refl
+same_kind _ _ h = absurd (false≢true h)
+
+itself : (a : PartKind) → is_same_kind a a ≡ true
+itself kind.Boolean = refl
+itself kind.Int = refl
+itself kind.Long = refl
+itself kind.Text = refl
+itself kind.Date = refl
 
 -- a column of these names that has a kind in both schemas has the same one
 abbrev pub KeepKinds : ColumnTrees → ColumnTrees → List (List ℕ) → Type 0
@@ -26,7 +39,7 @@ pub kinds_kept : (old new : ColumnTrees) (names : List (List ℕ)) → (HasOther
 kinds_kept old new names kept name there o k was is =
     ⊎_elim
     (λ same. same_kind o k same)
-    (λ other. absurd (kept (record { name = name; named = there; old = o; was = was; new = k; is = is; changed = λ e. false≢true (sym other ∙ ap (λ x. is_same_kind o x) (sym e) ∙ kind_itself o) })))
+    (λ other. absurd (kept (record { name = name; named = there; old = o; was = was; new = k; is = is; changed = λ e. false≢true (sym other ∙ ap (λ x. is_same_kind o x) (sym e) ∙ itself o) })))
     (cases_Bool (is_same_kind o k))
 
 rest_kept : (old new : ColumnTrees) (n : List ℕ) (ns : List (List ℕ)) → KeepKinds old new (n ∷ ns) → KeepKinds old new ns

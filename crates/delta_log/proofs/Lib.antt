@@ -14,10 +14,10 @@ pub mod LiveLemmas
 pub mod BehindLemmas
 pub mod OrderedLemmas
 pub mod AnyLemmas
-pub mod NameSetLemmas
 pub mod ValueLemmas
 pub mod ColumnLemmas
 pub mod ChangeLemmas
+pub mod ColumnNameLemmas
 pub mod KindLemmas
 pub mod TableLemmas
 pub mod LawLemmas

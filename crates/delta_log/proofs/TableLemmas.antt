@@ -4,6 +4,7 @@ use Rattle.std.specs.Cmp.Lexicographic.{pointwise}
 use Rattle.std.specs.List.{IsDistinct}
 use Rattle.std.specs.Str.{bytes_eq}
 use Rattle.std.proofs.lemmas.Bool.{cases_Bool, false≢true}
+use Rattle.avro_schema.specs.Names.{are_distinct}
 use Rattle.lake_basics.specs.declared.limits.TheConstants.{MAX_LIVE_FILES, MAX_PARTITION_COLUMNS}
 use Rattle.table_history.specs.First.{NoneOf}
 use Rattle.table_history.specs.History.{FitColumns}
@@ -19,16 +20,15 @@ use Rattle.table_history.specs.declared.table.Table.{Table}
 use Rattle.table_history.proofs.Laws.{same_rows_length}
 use Rattle.table_history.proofs.RowListLemmas.{Contains-none}
 use Rattle.partition_map.specs.Columns.{column_kind}
+use Rattle.partition_map.proofs.ColumnLemmas.{distinct_exactly}
 use Rattle.schema_map.proofs.DeltaSchema.{given_found}
 use Rattle.delta_log.specs.declared.commit.DeltaCommit.{DeltaCommit}
 use Rattle.delta_log.specs.declared.commit.MetaData.{MetaData}
 use Rattle.delta_log.specs.Change.{HasOtherPartition, ChangesPartition, Shows, commit_features, IsChangeOf, IsSoundRow, IsTableSchema, IsTableOfLog, GoesOn}
-use Rattle.delta_log.specs.ChangeSteps.{are_distinct}
 use Rattle.delta_log.specs.Live.{PartColumns}
 use Rattle.delta_log.specs.TableBehind.{rows_before, schema_before, partition_behind, table_before, StatesSchema, IsSchemaBehind, ArePartColumns}
 use Rattle.delta_log.proofs.ColumnLemmas.{names_same, has_kind}
 use Rattle.delta_log.proofs.KindLemmas.{KeepKinds, kinds_kept, values_still_fit, same_columns}
-use Rattle.delta_log.proofs.NameSetLemmas.{distinct_to, distinct_from}
 
 -- ---- the table before
 
@@ -90,8 +90,8 @@ names_distinct : (c : DeltaCommit) (base : Option Table) (stated : Option Column
 names_distinct c base stated states none =
     let names = partition_behind c.meta base in
     ⊎_elim
-    (λ same. distinct_to names same)
-    (λ twice. absurd (none (unwrap_or stated (schema_before base), stated_behind c.meta base stated states, inl (λ d. false≢true (sym twice ∙ distinct_from names d)))))
+    (λ same. (distinct_exactly names).0 same)
+    (λ twice. absurd (none (unwrap_or stated (schema_before base), stated_behind c.meta base stated states, inl (λ d. false≢true (sym twice ∙ (distinct_exactly names).1 d)))))
     (cases_Bool (are_distinct names))
 
 -- ---- the rows before

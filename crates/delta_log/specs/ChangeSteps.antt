@@ -1,8 +1,11 @@
 -- The steps of a change: what each part of the work gives, and what its refusal says.
 use Rattle.std.specs.Prelude.{◌≡◌, ℕ, ℤ, pos, negsuc, ◌==◌, nat_lt, ◌&&◌, ◌||◌, not, List, [], ◌∷◌, ◌++◌, filter, flat_map, Bool, true, false, Option, Some, None, is_some, is_none, unwrap_or, Result, Ok, Err, Contains, codes, length, if◌then◌else◌}
 use Rattle.std.specs.Cmp.Lexicographic.{pointwise}
+use Rattle.std.specs.Borrow.{Bor}
+use Rattle.std.specs.HashSet.{HashSet, contains_by}
 use Rattle.std.specs.List.{list_any, list_all}
 use Rattle.std.specs.Str.{bytes_eq}
+use Rattle.avro_schema.specs.Names.{are_distinct}
 use Rattle.lake_basics.specs.Outcome.{◌>>=◌, required, each}
 use Rattle.lake_basics.specs.declared.limits.TheConstants.{MAX_LIVE_FILES, MAX_PARTITION_COLUMNS}
 use Rattle.table_history.specs.First.{NoneOf}
@@ -17,9 +20,8 @@ use Rattle.table_history.specs.declared.table.Change.{Change}
 use Rattle.table_history.specs.declared.table.Table.{Table}
 use Rattle.table_history.specs.declared.feature.Feature.{Feature}
 use Rattle.table_history.specs.declared.feature.Feature.TheVariants.{ReaderVersion, ReaderFeature, ColumnMapping, SchemaType, PartitionType, PartitionChange, PartitionValue}
-use Rattle.partition_map.specs.Columns.{column_kind}
+use Rattle.partition_map.specs.Columns.{column_kind, has_other_kind}
 use Rattle.partition_map.specs.declared.kind.PartKind.{PartKind}
-use Rattle.partition_map.specs.declared.kind.PartKind.TheVariants as kind
 use Rattle.schema_map.specs.Delta.{delta_schema_of}
 use Rattle.schema_map.specs.declared.fault.MapError.{MapError}
 use Rattle.schema_map.specs.declared.fault.MapError.TheVariants as map_errors
@@ -87,6 +89,10 @@ unshown c = unshown_by (first_feature c)
 abbrev pub is_column : ColumnTrees → List ℕ → Bool
 is_column schema name = is_some (column_type schema name)
 
+-- whether a set of names has this one
+abbrev pub has_name : {S : Type 0} → HashSet (Bor (List ℕ)) S → List ℕ → Bool
+has_name names name = contains_by (λ key. bytes_eq name key.now) names
+
 abbrev pub with_columns : MetaData → ColumnTrees → Result ColumnTrees DeltaError
 with_columns m schema = if list_all (is_column schema) m.partition then Ok schema else Err (errors.Malformed 0)
 
@@ -104,36 +110,19 @@ judged_schema m = judged m (delta_schema_of m.schema)
 
 -- ---- partition columns
 
-abbrev pub are_distinct : List (List ℕ) → Bool
-are_distinct [] = true
-are_distinct (name ∷ names) = not (list_any (bytes_eq name) names) && are_distinct names
+-- a partition column of this kind, which it must have
+abbrev pub kind_named : List ℕ → Option PartKind → Result (List ℕ × PartKind) DeltaError
+kind_named name kind = required (errors.Unsupported PartitionType 0) kind >>= λ k. Ok (name, k)
 
 -- a partition column with its kind
 abbrev pub part_column : ColumnTrees → List ℕ → Result (List ℕ × PartKind) DeltaError
-part_column schema name = required (errors.Unsupported PartitionType 0) (column_kind schema name) >>= λ kind. Ok (name, kind)
+part_column schema name = kind_named name (column_kind schema name)
 
 abbrev pub judged_columns : ColumnTrees → List (List ℕ) → Result PartColumns DeltaError
 judged_columns schema names = if are_distinct names then each (part_column schema) names else Err (errors.Unsupported PartitionType 0)
 
-abbrev pub is_same_kind : PartKind → PartKind → Bool
-is_same_kind kind.Boolean kind.Boolean = true
-is_same_kind kind.Int kind.Int = true
-is_same_kind kind.Long kind.Long = true
-is_same_kind kind.Text kind.Text = true
-is_same_kind kind.Date kind.Date = true
-is_same_kind _ _ = false
-
-abbrev pub other_kind : Option PartKind → Option PartKind → Bool
-other_kind None new = false
-other_kind (Some old) None = false
-other_kind (Some old) (Some new) = not (is_same_kind old new)
-
--- whether the column has a kind before and another behind
-abbrev pub changes_kind : ColumnTrees → ColumnTrees → List ℕ → Bool
-changes_kind before schema name = other_kind (column_kind before name) (column_kind schema name)
-
 abbrev pub changes_partition : Table → MetaData → ColumnTrees → Bool
-changes_partition t m schema = not (pointwise bytes_eq m.partition t.partition) || list_any (changes_kind t.schema schema) m.partition
+changes_partition t m schema = not (pointwise bytes_eq m.partition t.partition) || has_other_kind t.schema schema m.partition
 
 abbrev pub changes_base : Option Table → MetaData → ColumnTrees → Bool
 changes_base None m schema = false

@@ -1,24 +1,23 @@
 //! The schema and the partition columns behind a commit.
 
-ghost use Rattle.std.specs.Prelude.{◌≡◌, option_map, IfOk};
-ghost use Rattle.std.specs.List.{list_any, list_all};
+ghost use Rattle.std.specs.Prelude.{◌≡◌, ℕ, List, is_some, IfOk};
+ghost use Rattle.std.specs.List.{list_all};
 ghost use Rattle.std.specs.Option.{option_copied};
 ghost use Rattle.lake_basics.specs.Outcome.{each, GivesUnlessMemory};
 ghost use Rattle.table_history.specs.History.{column_type};
-ghost use Rattle.table_history.specs.SchemaView.{type_view};
-ghost use Rattle.partition_map.specs.Columns.{column_kind};
+ghost use Rattle.table_history.specs.SchemaView.{columns_view as trees_of};
 ghost use Rattle.delta_log.specs.Judging.{is_memory, Answers};
-ghost use Rattle.delta_log.specs.ChangeSteps.{is_column, are_distinct, part_column, judged_columns, is_same_kind, changes_kind, changes_partition, changes_base, judged_schema, with_columns, lacks_first_actions, unshown, unchanged, columns_view, stated_columns, kept_columns, columns_of};
+ghost use Rattle.delta_log.specs.ChangeSteps.{is_column, has_name, kind_named, part_column, judged_columns, changes_partition, changes_base, judged_schema, with_columns, lacks_first_actions, unshown, unchanged, columns_view, stated_columns, kept_columns, columns_of};
 
 use super::features::first_feature;
 use crate::commit::{DeltaCommit, MetaData};
 use crate::error::DeltaError;
 use indexmap::IndexSet;
 use lake_basics::{Items, Text};
-use partition_map::{PartKind, part_kind};
+use partition_map::{PartKind, are_distinct, column_kinds, has_other_kind};
 use schema_map::{MapError, from_delta};
 use std::alloc::{AllocError, Global};
-use table_history::{ColumnType, Feature, Schema, Table};
+use table_history::{Column, Feature, Schema, Table};
 
 const MALFORMED: DeltaError = DeltaError::Malformed { line: 0 };
 
@@ -46,58 +45,42 @@ pub(super) struct Columns {
 
 // ---- columns of a schema
 
-fn type_of<'a>(schema: &'a Schema, name: &str) -> Option<&'a ColumnType>
-    ensures { option_map (λ t. type_view t.now) result ≡ column_type schema.now name.now }
+/// The names of the columns.
+fn column_names<'a>(alloc: Global, columns: &'a [Column]) -> Result<IndexSet<&'a str>, AllocError>
+    ensures { IfOk result (λ names. (name : List ℕ)
+        → has_name names name ≡ is_some (column_type (trees_of columns.now) name)) }
 {
-    let columns = schema.columns();
+    let mut names = IndexSet::with_capacity(alloc, columns.len())?;
     for column in columns {
-        if column.name.as_str() == name {
-            return Some(&column.kind);
-        }
+        names.insert(column.name.as_str())?;
     }
-    None
+    Ok(names)
 }
 
-fn is_column(schema: &Schema, name: &str) -> bool
-    ensures { result ≡ is_column schema.now name.now }
+fn have_all(columns: &IndexSet<&str>, names: &[Text]) -> bool
+    ensures { result ≡ list_all (has_name columns.now) names.now }
 {
-    type_of(schema, name).is_some()
-}
-
-fn kind_of(schema: &Schema, name: &str) -> Option<PartKind>
-    ensures { result ≡ column_kind schema.now name.now }
-{
-    match type_of(schema, name) {
-        None => None,
-        Some(kind) => part_kind(kind),
-    }
+    names.iter().all(|name| columns.contains(name.as_str()))
 }
 
 /// Whether each name is that of a top-level column.
-fn are_columns(schema: &Schema, names: &[Text]) -> bool
-    ensures { result ≡ list_all (is_column schema.now) names.now }
+fn are_columns(alloc: Global, schema: &Schema, names: &[Text]) -> Result<bool, AllocError>
+    ensures { IfOk result (λ all. all ≡ list_all (is_column schema.now) names.now) }
 {
-    names.iter().all(|name| is_column(schema, name.as_str()))
-}
-
-fn are_distinct(alloc: Global, names: &[Text]) -> Result<bool, AllocError>
-    ensures { IfOk result (λ distinct. distinct ≡ are_distinct names.now) }
-{
-    let mut seen = IndexSet::new(alloc);
-    for name in names {
-        if !seen.insert(name.as_str())? {
-            return Ok(false);
-        }
-    }
-    Ok(true)
+    let columns = column_names(alloc, schema.columns())?;
+    Ok(have_all(&columns, names))
 }
 
 // ---- partition columns
 
-fn part_column(alloc: Global, schema: &Schema, name: &Text) -> Result<(Text, PartKind), DeltaError>
-    ensures { Answers result (part_column schema.now name.now) }
+fn part_column(
+    alloc: Global,
+    name: &Text,
+    kind: Option<PartKind>,
+) -> Result<(Text, PartKind), DeltaError>
+    ensures { Answers result (kind_named name.now kind) }
 {
-    let kind = kind_of(schema, name.as_str()).ok_or(PARTITION_TYPE)?;
+    let kind = kind.ok_or(PARTITION_TYPE)?;
     Ok((name.copy(alloc)?, kind))
 }
 
@@ -108,9 +91,10 @@ fn part_columns(
 ) -> Result<Items<(Text, PartKind)>, DeltaError>
     ensures { Answers result (each (part_column schema.now) names.now) }
 {
+    let kinds = column_kinds(alloc, schema, names)?;
     let mut columns = Items::new(alloc);
-    for name in names {
-        columns.push(part_column(alloc, schema, name)?)?;
+    for place in 0..names.len() {
+        columns.push(part_column(alloc, &names[place], kinds[place])?)?;
     }
     Ok(columns)
 }
@@ -129,46 +113,33 @@ fn judged_columns(
     part_columns(alloc, schema, names)
 }
 
-fn is_same_kind(kind: PartKind, other: PartKind) -> bool
-    ensures { result ≡ is_same_kind kind other }
-{
-    kind == other
-}
-
-fn changes_kind(before: &Schema, schema: &Schema, name: &str) -> bool
-    ensures { result ≡ changes_kind before.now schema.now name.now }
-{
-    match kind_of(before, name) {
-        None => false,
-        Some(was) => match kind_of(schema, name) {
-            None => false,
-            Some(kind) => !is_same_kind(was, kind),
-        },
-    }
-}
-
-fn has_other_kind(before: &Schema, schema: &Schema, names: &[Text]) -> bool
-    ensures { result ≡ list_any (changes_kind before.now schema.now) names.now }
-{
-    names
-        .iter()
-        .any(|name| changes_kind(before, schema, name.as_str()))
-}
-
 /// Whether the metadata changes the partition columns of the table before.
-fn changes_partition(table: &Table, meta: &MetaData, schema: &Schema) -> bool
-    ensures { result ≡ changes_partition table.now meta.now schema.now }
+fn changes_partition(
+    alloc: Global,
+    table: &Table,
+    meta: &MetaData,
+    schema: &Schema,
+) -> Result<bool, AllocError>
+    ensures { IfOk result (λ changes. changes ≡ changes_partition table.now meta.now schema.now) }
 {
-    meta.partition != table.partition
-        || has_other_kind(&table.schema, schema, meta.partition.as_slice())
+    if meta.partition != table.partition {
+        return Ok(true);
+    }
+    has_other_kind(alloc, &table.schema, schema, meta.partition.as_slice())
 }
 
-fn changes_base(base: Option<&Table>, meta: &MetaData, schema: &Schema) -> bool
-    ensures { result ≡ changes_base (option_copied base.entry) meta.now schema.now }
+fn changes_base(
+    alloc: Global,
+    base: Option<&Table>,
+    meta: &MetaData,
+    schema: &Schema,
+) -> Result<bool, AllocError>
+    ensures { IfOk result
+        (λ changes. changes ≡ changes_base (option_copied base.entry) meta.now schema.now) }
 {
     match base {
-        None => false,
-        Some(table) => changes_partition(table, meta, schema),
+        None => Ok(false),
+        Some(table) => changes_partition(alloc, table, meta, schema),
     }
 }
 
@@ -180,7 +151,7 @@ fn judged_schema(alloc: Global, meta: &MetaData) -> Result<Result<Schema, DeltaE
     ensures { Answers result (judged_schema meta.now) }
 {
     match from_delta(alloc, meta.schema.as_bytes()) {
-        Ok(schema) => Ok(Ok(with_columns(schema, meta)?)),
+        Ok(schema) => Ok(Ok(with_columns(alloc, schema, meta)?)),
         Err(MapError::Memory) => Err(DeltaError::Memory),
         Err(MapError::BadSchema) => Err(MALFORMED),
         Err(MapError::SchemaType { .. }) => Ok(Err(SCHEMA_TYPE)),
@@ -189,10 +160,10 @@ fn judged_schema(alloc: Global, meta: &MetaData) -> Result<Result<Schema, DeltaE
     }
 }
 
-fn with_columns(schema: Schema, meta: &MetaData) -> Result<Schema, DeltaError>
+fn with_columns(alloc: Global, schema: Schema, meta: &MetaData) -> Result<Schema, DeltaError>
     ensures { Answers result (with_columns meta.now schema) }
 {
-    if are_columns(&schema, meta.partition.as_slice()) {
+    if are_columns(alloc, &schema, meta.partition.as_slice())? {
         Ok(schema)
     } else {
         Err(MALFORMED)
@@ -217,10 +188,15 @@ fn unshown(commit: &DeltaCommit) -> Result<(), DeltaError>
     }
 }
 
-fn unchanged(base: Option<&Table>, meta: &MetaData, schema: &Schema) -> Result<(), DeltaError>
+fn unchanged(
+    alloc: Global,
+    base: Option<&Table>,
+    meta: &MetaData,
+    schema: &Schema,
+) -> Result<(), DeltaError>
     ensures { Answers result (unchanged (option_copied base.entry) meta.now schema.now) }
 {
-    if changes_base(base, meta, schema) {
+    if changes_base(alloc, base, meta, schema)? {
         return Err(PARTITION_CHANGE);
     }
     Ok(())
@@ -240,7 +216,7 @@ fn stated_columns(
     unshown(commit)?;
     let schema = read?;
     let columns = judged_columns(alloc, &schema, meta.partition.as_slice())?;
-    unchanged(base, meta, &schema)?;
+    unchanged(alloc, base, meta, &schema)?;
     Ok(Columns {
         stated: Some(schema),
         columns,

@@ -3,5 +3,5 @@ use Rattle.lake_basics.specs.Outcome.{each, with_front}
 use Rattle.delta_log.specs.ChangeSteps.{part_column}
 use Rattle.delta_log.proofs.change.columns.part_columns.Given as goal
 
-abbrev pub invariant-loop-name : goal.invariant-loop-name
-invariant-loop-name l = with_front l.columns (each (part_column l.schema) (drop l.name-index l.names)) ≡ each (part_column l.schema) l.names
+abbrev pub invariant-loop-place : goal.invariant-loop-place
+invariant-loop-place l = with_front l.columns (each (part_column l.schema) (drop l.place l.names)) ≡ each (part_column l.schema) l.names
