@@ -311,15 +311,20 @@ same_stated actions c d says also =
     ∙ ap (λ o. record { protocol = d.protocol; meta = o; files = c.files }) (same_options c.meta d.meta (says.meta ∙ sym also.meta))
     ∙ ap (λ l. record { protocol = d.protocol; meta = d.meta; files = l }) (says.files ∙ sym also.files)
 
+-- A commit that can be read has no first fault.
+pub fault_excluded : (bytes : List ℕ) (c : DeltaCommit) (e : DeltaError) → IsReadableCommit bytes c → IsFirstFault bytes e → ⊥
+unfolding Found
+fault_excluded bytes c e whole first =
+    let found = found_at (lines_of bytes) first.front first.line first.behind first.before whole.actions first.split first.readable.grammar.read whole.readable.grammar.read in
+    any_fault (lines_of bytes) first.line first.before found.0 found.1 (1 + length first.front) e found.2 (subst (AreReadable (lines_of bytes)) found.3 whole.readable) first.fault
+
 read_by : (bytes : List ℕ) (c : DeltaCommit) (r : Result DeltaCommit DeltaError) → commit_of bytes ≡ r → Reads bytes r → IsReadableCommit bytes c → r ≡ Ok c
 unfolding Reads Found
 read_by bytes c (Ok d) is reads whole =
     let one = reads.readable.grammar.read in let other = whole.readable.grammar.read in let same : reads.actions ≡ whole.actions = cc in
     let says : States whole.actions d = subst (λ l. States l d) same reads.states in
     ap Ok (same_stated whole.actions d c says whole.states)
-read_by bytes c (Err e) is reads whole =
-    let found = found_at (lines_of bytes) reads.front reads.line reads.behind reads.before whole.actions reads.split reads.readable.grammar.read whole.readable.grammar.read in
-    absurd (any_fault (lines_of bytes) reads.line reads.before found.0 found.1 (1 + length reads.front) e found.2 (subst (AreReadable (lines_of bytes)) found.3 whole.readable) reads.fault)
+read_by bytes c (Err e) is reads whole = absurd (fault_excluded bytes c e whole reads)
 
 -- what is a commit that can be read is read
 pub is_read : (bytes : List ℕ) (c : DeltaCommit) → IsReadableCommit bytes c → commit_of bytes ≡ Ok c
