@@ -1,11 +1,7 @@
 -- Values of the kinds of partition columns.
-use Rattle.std.proofs.Common.{◌≡◌, ◌≢◌, ◌⊎◌, ℕ, Bool, true, false, not, ◌||◌, ◌&&◌, List, [], ◌∷◌, map, Option, Some, None, MatchOption, Contains, Vec, Global, refl, sym, ap, subst, ◌∙◌, inl, inr, ⊎_elim}
-use Rattle.std.specs.List.{list_any, IsDistinct, AllByRecursion}
+use Rattle.std.proofs.Common.{◌≡◌, ◌≢◌, ◌⊎◌, ◌↔◌, ℕ, pos, Bool, true, false, not, ◌||◌, ◌&&◌, List, [], ◌∷◌, map, Option, Some, None, MatchOption, Contains, Vec, Global, refl, sym, ap, subst, ◌∙◌, inl, inr, ⊎_elim}
 use Rattle.std.specs.Option.{option_and_then}
-use Rattle.std.specs.Str.{bytes_eq}
 use Rattle.std.proofs.lemmas.Bool.{cases_Bool, false≢true}
-use Rattle.std.proofs.lemmas.Map.Keys.{IsDistinct-cons, IsDistinct-head, IsDistinct-tail}
-use Rattle.avro_schema.specs.Names.{are_distinct}
 use Rattle.table_history.specs.TypeTree.{TypeTree, ColumnTrees}
 use Rattle.table_history.specs.History.{IsOfType, column_type, FitsColumn, FitColumns}
 use Rattle.table_history.specs.declared.row.PartValue.{PartValue}
@@ -17,41 +13,21 @@ use Rattle.partition_map.specs.declared.kind.PartKind.{PartKind}
 use Rattle.partition_map.specs.declared.kind.PartKind.TheVariants as kind
 use Rattle.partition_map.proofs.Laws.{hive_of_kind, kind_of_type}
 use Rattle.partition_map.specs.declared.folder.FolderStyle.{FolderStyle}
-use Rattle.partition_map.specs.Columns.{column_kind, HasOtherKind}
+use Rattle.partition_map.specs.Columns.{column_kind, HasOtherKind, is_same_kind}
 use Rattle.hudi_timeline.specs.Schemas.{AreKindsOf}
-use Rattle.hudi_timeline.specs.Steps.{is_same_kind, is_other_kind, has_other_kind}
 use Rattle.hudi_timeline.specs.Values.{PartsStand}
 
 none_some : {A : Type 0} (x : A) → None ≡ Some x → ⊥
 none_some x e = absurd cc
 
 -- ---- the same kind
-pub same_kind : (a b : PartKind) → is_same_kind a b ≡ true → a ≡ b
+same_kind : (a b : PartKind) → is_same_kind a b ≡ true → a ≡ b
 same_kind kind.Boolean kind.Boolean h = refl
-same_kind kind.Boolean kind.Int h = absurd (false≢true h)
-same_kind kind.Boolean kind.Long h = absurd (false≢true h)
-same_kind kind.Boolean kind.Text h = absurd (false≢true h)
-same_kind kind.Boolean kind.Date h = absurd (false≢true h)
-same_kind kind.Int kind.Boolean h = absurd (false≢true h)
 same_kind kind.Int kind.Int h = refl
-same_kind kind.Int kind.Long h = absurd (false≢true h)
-same_kind kind.Int kind.Text h = absurd (false≢true h)
-same_kind kind.Int kind.Date h = absurd (false≢true h)
-same_kind kind.Long kind.Boolean h = absurd (false≢true h)
-same_kind kind.Long kind.Int h = absurd (false≢true h)
 same_kind kind.Long kind.Long h = refl
-same_kind kind.Long kind.Text h = absurd (false≢true h)
-same_kind kind.Long kind.Date h = absurd (false≢true h)
-same_kind kind.Text kind.Boolean h = absurd (false≢true h)
-same_kind kind.Text kind.Int h = absurd (false≢true h)
-same_kind kind.Text kind.Long h = absurd (false≢true h)
 same_kind kind.Text kind.Text h = refl
-same_kind kind.Text kind.Date h = absurd (false≢true h)
-same_kind kind.Date kind.Boolean h = absurd (false≢true h)
-same_kind kind.Date kind.Int h = absurd (false≢true h)
-same_kind kind.Date kind.Long h = absurd (false≢true h)
-same_kind kind.Date kind.Text h = absurd (false≢true h)
 same_kind kind.Date kind.Date h = refl
+same_kind _ _ h = absurd (false≢true h)
 
 itself : (a : PartKind) → is_same_kind a a ≡ true
 itself kind.Boolean = refl
@@ -75,6 +51,37 @@ kind_of t (value.Int n) h = inr (kind.Int, ⊎_elim (λ e. ap part_kind_of e) (�
 kind_of t (value.Long n) h = inr (kind.Long, ap part_kind_of h, tt)
 kind_of t (value.Text s) h = inr (kind.Text, ap part_kind_of h, tt)
 kind_of t (value.Date d) h = inr (kind.Date, ap part_kind_of h, tt)
+
+-- ---- a column that has a kind
+value_of : (k : PartKind) → (v : PartValue) × (v ≢ value.Null) × IsOfKind k v
+value_of kind.Boolean = (value.Boolean true, λ e. absurd cc, tt)
+value_of kind.Int = (value.Int (pos 0), λ e. absurd cc, tt)
+value_of kind.Long = (value.Long (pos 0), λ e. absurd cc, tt)
+value_of kind.Text = (value.Text [], λ e. absurd cc, tt)
+value_of kind.Date = (value.Date (pos 0), λ e. absurd cc, tt)
+
+some_kind : (o : Option PartKind) → o ≢ None → (k : PartKind) × (o ≡ Some k)
+some_kind None h = absurd (h refl)
+some_kind (Some k) h = (k, refl)
+
+typed : (o : Option TypeTree) → option_and_then part_kind_of o ≢ None → (t : TypeTree) × (v : PartValue) × (o ≡ Some t) × (v ≢ value.Null) × IsOfType t v
+typed None h = absurd (h refl)
+typed (Some t) h =
+    let is = some_kind (part_kind_of t) h in
+    let v = value_of is.0 in
+    (t, v.0, refl, v.1, (kind_of_type t is.0 is.1 v.0).0 v.2)
+
+kinded : (o : Option TypeTree) → ((t : TypeTree) × (v : PartValue) × (o ≡ Some t) × (v ≢ value.Null) × IsOfType t v) → option_and_then part_kind_of o ≢ None
+kinded o h none =
+    ⊎_elim
+    (λ null. h.3 null)
+    (λ has. none_some has.0 (sym none ∙ ap (option_and_then part_kind_of) h.2 ∙ has.1))
+    (kind_of h.0 h.1 h.4)
+
+-- A column has a kind exactly where some value other than null is of its type.
+pub kind_exactly : (schema : ColumnTrees) (name : List ℕ)
+    → (column_kind schema name ≢ None) ↔ ((t : TypeTree) × (v : PartValue) × (column_type schema name ≡ Some t) × (v ≢ value.Null) × IsOfType t v)
+kind_exactly schema name = (typed (column_type schema name), kinded (column_type schema name))
 
 null_fits : (o : Option TypeTree) (v : PartValue) → v ≡ value.Null → FitsColumn o v
 null_fits None v e = e
@@ -117,78 +124,12 @@ values_still_fit old new (n ∷ ns) (k ∷ ks) (v ∷ vs) are same h =
     )
 
 -- ---- columns of another kind
-both_false : (a b : Bool) → (a || b) ≡ false → (a ≡ false) × (b ≡ false)
-both_false true b h = absurd (false≢true (sym h))
-both_false false b h = (refl, h)
-
 pub kinds_kept : (old new : ColumnTrees) (names : List (List ℕ)) → (HasOtherKind old new names → ⊥) → (name : List ℕ) → Contains names name → (o k : PartKind) → column_kind old name ≡ Some o → column_kind new name ≡ Some k → o ≡ k
 kinds_kept old new names kept name there o k was is =
     ⊎_elim
     (λ same. same_kind o k same)
     (λ other. absurd (kept (record { name = name; named = there; old = o; was = was; new = k; is = is; changed = other_kind o k other })))
     (cases_Bool (is_same_kind o k))
-
-other_at : (old new : Option PartKind) → is_other_kind old new ≡ true → (o : PartKind) × (k : PartKind) × (old ≡ Some o) × (new ≡ Some k) × (o ≢ k)
-other_at None new h = absurd (false≢true h)
-other_at (Some o) None h = absurd (false≢true h)
-other_at (Some o) (Some k) h = (o, k, refl, refl, λ e. false≢true (sym (ap not (ap (λ x. is_same_kind o x) (sym e) ∙ itself o)) ∙ h))
-
-no_other_at : (old new : Option PartKind) (o k : PartKind) → is_other_kind old new ≡ false → old ≡ Some o → new ≡ Some k → o ≡ k
-no_other_at old new o k h was is =
-    ⊎_elim
-    (λ same. same_kind o k same)
-    (λ other. absurd (false≢true (sym h ∙ (λ i. is_other_kind (was i) (is i)) ∙ ap not other)))
-    (cases_Bool (is_same_kind o k))
-
-pub has_other : (old new : ColumnTrees) (names : List (List ℕ)) → has_other_kind (map (column_kind old) names) (map (column_kind new) names) ≡ true → HasOtherKind old new names
-has_other old new [] h = absurd (false≢true h)
-has_other old new (n ∷ ns) h =
-    ⊎_elim
-    (λ here. let at = other_at (column_kind old n) (column_kind new n) here in record { name = n; named = Contains-head n ns; old = at.0; was = at.2; new = at.1; is = at.3; changed = at.4 })
-    (λ not_here.
-    let later = has_other old new ns (sym (ap (λ b. b || has_other_kind (map (column_kind old) ns) (map (column_kind new) ns)) not_here) ∙ h) in
-    record { name = later.name; named = Contains-tail n ns later.name later.named; old = later.old; was = later.was; new = later.new; is = later.is; changed = later.changed })
-    (cases_Bool (is_other_kind (column_kind old n) (column_kind new n)))
-
-pub has_no_other : (old new : ColumnTrees) (names : List (List ℕ)) → has_other_kind (map (column_kind old) names) (map (column_kind new) names) ≡ false → HasOtherKind old new names → ⊥
-has_no_other old new names h other = other.changed (at names other.name other.named h other.old other.new other.was other.is)
-  where
-    at : (ns : List (List ℕ)) (name : List ℕ) → Contains ns name → has_other_kind (map (column_kind old) ns) (map (column_kind new) ns) ≡ false
-        → (o k : PartKind) → column_kind old name ≡ Some o → column_kind new name ≡ Some k → o ≡ k
-    at [] name there h o k was is = absurd (Contains-none name there)
-    at (n ∷ ns) name there h o k was is =
-        let both = both_false (is_other_kind (column_kind old n) (column_kind new n)) (has_other_kind (map (column_kind old) ns) (map (column_kind new) ns)) h in
-        ⊎_elim
-        (λ e. no_other_at (column_kind old n) (column_kind new n) o k both.0 (ap (column_kind old) e ∙ was) (ap (column_kind new) e ∙ is))
-        (λ later. at ns name later both.1 o k was is)
-        (Contains-cases n ns name there)
-
--- ---- distinct names
-not_again : (x : List ℕ) (xs : List (List ℕ)) → list_any (bytes_eq x) xs ≡ false → AllByRecursion (λ y. bytes_eq x y ≡ false) xs
-not_again x [] h = tt
-not_again x (y ∷ ys) h = let both = both_false (bytes_eq x y) (list_any (bytes_eq x) ys) h in (both.0, not_again x ys both.1)
-
-none_again : (x : List ℕ) (xs : List (List ℕ)) → AllByRecursion (λ y. bytes_eq x y ≡ false) xs → list_any (bytes_eq x) xs ≡ false
-none_again x [] h = refl
-none_again x (y ∷ ys) h = (λ i. h.0 i || none_again x ys h.1 i)
-
-distinct_by : (a b : Bool) → (not a && b) ≡ true → (a ≡ false) × (b ≡ true)
-distinct_by true b h = absurd (false≢true h)
-distinct_by false b h = (refl, h)
-
-distinct_nothing : IsDistinct bytes_eq []
-unfolding IsDistinct
-distinct_nothing = tt
-
-pub distinct_to : (xs : List (List ℕ)) → are_distinct xs ≡ true → IsDistinct bytes_eq xs
-distinct_to [] h = distinct_nothing
-distinct_to (x ∷ xs) h =
-    let both = distinct_by (list_any (bytes_eq x) xs) (are_distinct xs) h in IsDistinct-cons bytes_eq x xs (not_again x xs both.0) (distinct_to xs both.1)
-
-pub distinct_from : (xs : List (List ℕ)) → IsDistinct bytes_eq xs → are_distinct xs ≡ true
-distinct_from [] d = refl
-distinct_from (x ∷ xs) d =
-    (λ i. not (none_again x xs (IsDistinct-head bytes_eq x xs d) i) && distinct_from xs (IsDistinct-tail bytes_eq x xs d) i)
 
 -- ---- names without a kind
 pub lacks_kind : (f : List ℕ → Option PartKind) (names : List (List ℕ)) → Contains (map f names) None → (name : List ℕ) × Contains names name × (f name ≡ None)
@@ -213,14 +154,14 @@ module _ (schema : ColumnTrees) (names : List (List ℕ)) (found : List (Option 
   known None kinds h e = absurd (none_some kinds e)
   known (Some ks) kinds h e = let same : ks ≡ kinds = cc in sym found_is ∙ h ∙ ap (λ (v : Vec PartKind Global). map Some v.items) same
 
-  pub changed : (base : Option Table) (b : Bool) → MatchOption base (b ≡ false) (λ before. b ≡ has_other_kind (map (column_kind before.schema) names) found) → b ≡ true
+  pub changed : (base : Option Table) (b : Bool) → MatchOption base (b ≡ false) (λ before. (b ≡ true) ↔ HasOtherKind before.schema schema names) → b ≡ true
       → (before : Table) × (base ≡ Some before) × HasOtherKind before.schema schema names
   changed None b h is = absurd (false≢true (sym h ∙ is))
-  changed (Some before) b h is = (before, refl, has_other before.schema schema names (ap (has_other_kind (map (column_kind before.schema) names)) (sym found_is) ∙ sym h ∙ is))
+  changed (Some before) b h is = (before, refl, h.0 is)
 
-  pub unchanged : (base : Option Table) (b : Bool) → MatchOption base (b ≡ false) (λ before. b ≡ has_other_kind (map (column_kind before.schema) names) found) → b ≡ false
+  pub unchanged : (base : Option Table) (b : Bool) → MatchOption base (b ≡ false) (λ before. (b ≡ true) ↔ HasOtherKind before.schema schema names) → b ≡ false
       → (before : Table) → base ≡ Some before → HasOtherKind before.schema schema names → ⊥
   unchanged None b h stays before e = absurd (none_some before e)
   unchanged (Some old) b h stays before e =
       let same : old ≡ before = cc in
-      subst (λ (t : Table). HasOtherKind t.schema schema names → ⊥) same (has_no_other old.schema schema names (ap (has_other_kind (map (column_kind old.schema) names)) (sym found_is) ∙ sym h ∙ stays))
+      subst (λ (t : Table). HasOtherKind t.schema schema names → ⊥) same (λ other. false≢true (sym stays ∙ h.1 other))

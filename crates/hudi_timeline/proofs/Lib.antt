@@ -13,6 +13,7 @@ pub mod KindLemmas
 pub mod LineLemmas
 pub mod LiveLemmas
 pub mod MadeLemmas
+pub mod NameLemmas
 pub mod NewestLemmas
 pub mod PairLemmas
 pub mod PathForms

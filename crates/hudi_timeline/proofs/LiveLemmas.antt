@@ -4,8 +4,7 @@ use Rattle.std.specs.List.{list_any}
 use Rattle.std.specs.List.Sorted.{IsPermutation}
 use Rattle.std.specs.Str.{bytes_eq}
 use Rattle.std.proofs.lemmas.Bool.{cases_Bool, cond-true, cond-false, false≢true, eqb-true}
-use Rattle.std.proofs.lemmas.List.Elements.{Contains-append_left, Contains-append_right, Contains-append_cases, Contains-push_cases}
-use Rattle.std.proofs.lemmas.List.{append_assoc}
+use Rattle.std.proofs.lemmas.List.Elements.{Contains-append_left, Contains-append_right, Contains-append_cases}
 use Rattle.std.proofs.lemmas.List.Sorted.{IsPermutation-reverse, IsPermutation-sym, Contains-permutation}
 use Rattle.std.proofs.lemmas.Slice.Eq.{bytes_eq-Decides}
 use Rattle.lake_basics.specs.Outcome.{◌>>=◌, each}
@@ -24,7 +23,7 @@ use Rattle.hudi_timeline.specs.Files.{suffix_of, without_end, group_name, has_so
 use Rattle.hudi_timeline.specs.Values.{style_of, HaveValues}
 use Rattle.hudi_timeline.specs.GroupSets.{is_row_of_group, names_group, newest_rows}
 use Rattle.hudi_timeline.specs.GroupChange.{is_touched, rows_after}
-use Rattle.hudi_timeline.specs.Live.{Completed, Timeline, AreRowsOf, IsNewestOfGroup, IsWrittenBy, Writes, Replaces, Touches, HudiLive, AreLive, IsLiveAfter}
+use Rattle.hudi_timeline.specs.Live.{Completed, AreRowsOf, IsNewestOfGroup, IsWrittenBy, Writes, Replaces, Touches, IsLiveAfter}
 use Rattle.hudi_timeline.proofs.AnyLemmas.{any_from, any_to, any_none, or_true}
 use Rattle.hudi_timeline.proofs.GroupSetLemmas.{row_in_group, group_has_row}
 use Rattle.hudi_timeline.proofs.NewestLemmas.{newest_from, newest_to}
@@ -137,57 +136,4 @@ module _ (table : HudiTable) (kinds : List PartKind) (u : Completed) (rows : Lis
         (λ no. ap not no)
         (cases_Bool (is_touched u.form u.instant.replaced rows (group_name u.form row.path))))))
         h,
-  )
-
--- ---- a timeline with one more instant
-end_or_before : {X : Type 0} (xs : List X) (u : X) (before : List X) (w : X) (after : List X) → xs ++ u ∷ [] ≡ before ++ w ∷ after
-    → ((w ≡ u) × (after ≡ [])) ⊎ ((rest : List X) × (after ≡ rest ++ u ∷ []) × (xs ≡ before ++ w ∷ rest))
-end_or_before [] u [] w after e = inl (cc, cc)
-end_or_before [] u (b ∷ []) w after e = absurd cc
-end_or_before [] u (b ∷ c ∷ bs) w after e = absurd cc
-end_or_before (x ∷ xs) u [] w after e = inr (xs, cc, cc)
-end_or_before (x ∷ xs) u (b ∷ bs) w after e =
-    let heads : x ≡ b = cc in
-    let tails : xs ++ u ∷ [] ≡ bs ++ w ∷ after = cc in
-    ⊎_elim
-    (λ last. inl last)
-    (λ inner. inr (inner.0, inner.1, (λ i. heads i ∷ inner.2 i)))
-    (end_or_before xs u bs w after tails)
-
-module _ (table : HudiTable) (kinds : List PartKind) (timeline : Timeline) (u : Completed) (before : List FileRow) (live : AreLive table kinds timeline before) where
-  pub timeline_step : (row : FileRow) → IsLiveAfter table kinds u before row ↔ HudiLive table kinds (timeline ++ u ∷ []) row
-  timeline_step row = (
-    λ h.
-        ⊎_elim
-        (λ w. record { before = timeline; by = u; after = []; split = refl; written = w; last = λ later there. absurd (Contains-none later there) })
-        (λ kept.
-        let was = (live row).0 kept.0 in
-        record {
-          before = was.before;
-          by = was.by;
-          after = was.after ++ u ∷ [];
-          split = ap (λ l. l ++ u ∷ []) was.split ∙ append_assoc was.before (was.by ∷ was.after) (u ∷ []);
-          written = was.written;
-          last = λ later there touches.
-              ⊎_elim
-              (λ among. was.last later among touches)
-              (λ e. kept.1 (subst (λ v. Touches v row.path) (sym e) touches))
-              (Contains-push_cases was.after u later there);
-        })
-        h,
-    λ h.
-        ⊎_elim
-        (λ end. inl (subst (λ v. IsWrittenBy table kinds v row) end.0 h.written))
-        (λ inner. inr (
-          (live row).1 (record {
-            before = h.before;
-            by = h.by;
-            after = inner.0;
-            split = inner.2;
-            written = h.written;
-            last = λ later there. h.last later (subst (λ l. Contains l later) (sym inner.1) (Contains-append_left inner.0 (u ∷ []) later there));
-          }),
-          h.last u (subst (λ l. Contains l u) (sym inner.1) (Contains-append_right inner.0 (u ∷ []) u (Contains-head u []))),
-        ))
-        (end_or_before timeline u h.before h.by h.after h.split),
   )

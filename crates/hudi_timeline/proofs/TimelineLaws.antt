@@ -1,5 +1,7 @@
 -- The table after a timeline has the rows that are live, over those that were there before it.
 use Rattle.std.proofs.Common.{◌≡◌, ◌↔◌, ◌⊎◌, ℕ, List, [], ◌∷◌, ◌++◌, map, Ok, Option, Some, None, Contains, refl, sym, ap, subst, ◌∙◌, inl, inr, ⊎_elim}
+use Rattle.std.proofs.lemmas.List.Elements.{Contains-append_left, Contains-append_right, Contains-push_cases}
+use Rattle.std.proofs.lemmas.List.{append_assoc}
 use Rattle.table_history.specs.Tables.{IsAfter, IsRowAfter}
 use Rattle.table_history.specs.TypeTree.{ColumnTrees}
 use Rattle.table_history.specs.declared.row.FileRow.{FileRow}
@@ -11,11 +13,112 @@ use Rattle.partition_map.specs.declared.kind.PartKind.{PartKind}
 use Rattle.hudi_timeline.specs.declared.table.HudiTable.{HudiTable}
 use Rattle.hudi_timeline.specs.Causes.{AreKinds, table_before, rows_before}
 use Rattle.hudi_timeline.specs.Change.{IsChangeOf, LeadsThrough}
-use Rattle.hudi_timeline.specs.Live.{Completed, Timeline, IsWrittenBy, Touches, HudiLive, IsLiveAfter, IsLiveOver}
+use Rattle.hudi_timeline.specs.Live.{Completed, Timeline, IsWrittenBy, Touches, HudiLive, AreLive, IsLiveAfter, IsLiveOver}
 use Rattle.partition_map.specs.Columns.{column_kind, HasOtherKind}
 use Rattle.hudi_timeline.specs.Schemas.{schema_after, AreKindsOf}
 use Rattle.hudi_timeline.proofs.ChangeLemmas.{before_rows, schema_is}
 use Rattle.hudi_timeline.proofs.KindLemmas.{kinds_kept}
+
+-- ---- a timeline with one more instant
+end_or_before : {X : Type 0} (xs : List X) (u : X) (before : List X) (w : X) (after : List X) → xs ++ u ∷ [] ≡ before ++ w ∷ after
+    → ((w ≡ u) × (after ≡ [])) ⊎ ((rest : List X) × (after ≡ rest ++ u ∷ []) × (xs ≡ before ++ w ∷ rest))
+end_or_before [] u [] w after e = inl (cc, cc)
+end_or_before [] u (b ∷ []) w after e = absurd cc
+end_or_before [] u (b ∷ c ∷ bs) w after e = absurd cc
+end_or_before (x ∷ xs) u [] w after e = inr (xs, cc, cc)
+end_or_before (x ∷ xs) u (b ∷ bs) w after e =
+    let heads : x ≡ b = cc in
+    let tails : xs ++ u ∷ [] ≡ bs ++ w ∷ after = cc in
+    ⊎_elim
+    (λ last. inl last)
+    (λ inner. inr (inner.0, inner.1, (λ i. heads i ∷ inner.2 i)))
+    (end_or_before xs u bs w after tails)
+
+module _ (table : HudiTable) (kinds : List PartKind) (timeline : Timeline) (u : Completed) (row : FileRow) where
+  written_last : IsWrittenBy table kinds u row → HudiLive table kinds (timeline ++ u ∷ []) row
+  written_last w = record { before = timeline; by = u; after = []; split = refl; written = w; last = λ later there. absurd (Contains-none later there) }
+
+  still_live : HudiLive table kinds timeline row → (Touches u row.path → ⊥) → HudiLive table kinds (timeline ++ u ∷ []) row
+  still_live was spared = record {
+    before = was.before;
+    by = was.by;
+    after = was.after ++ u ∷ [];
+    split = ap (λ l. l ++ u ∷ []) was.split ∙ append_assoc was.before (was.by ∷ was.after) (u ∷ []);
+    written = was.written;
+    last = λ later there touches.
+        ⊎_elim
+        (λ among. was.last later among touches)
+        (λ e. spared (subst (λ v. Touches v row.path) (sym e) touches))
+        (Contains-push_cases was.after u later there);
+  }
+
+  last_or_before : HudiLive table kinds (timeline ++ u ∷ []) row → IsWrittenBy table kinds u row ⊎ (HudiLive table kinds timeline row × (Touches u row.path → ⊥))
+  last_or_before h =
+      ⊎_elim
+      (λ end. inl (subst (λ v. IsWrittenBy table kinds v row) end.0 h.written))
+      (λ inner. inr (
+        record {
+          before = h.before;
+          by = h.by;
+          after = inner.0;
+          split = inner.2;
+          written = h.written;
+          last = λ later there. h.last later (subst (λ l. Contains l later) (sym inner.1) (Contains-append_left inner.0 (u ∷ []) later there));
+        },
+        h.last u (subst (λ l. Contains l u) (sym inner.1) (Contains-append_right inner.0 (u ∷ []) u (Contains-head u []))),
+      ))
+      (end_or_before timeline u h.before h.by h.after h.split)
+
+-- One instant more: what it makes of the live rows is what is live after the longer timeline.
+module _ (table : HudiTable) (kinds : List PartKind) (timeline : Timeline) (u : Completed) (before : List FileRow) (live : AreLive table kinds timeline before) where
+  pub timeline_step : (row : FileRow) → IsLiveAfter table kinds u before row ↔ HudiLive table kinds (timeline ++ u ∷ []) row
+  timeline_step row = (
+    λ h.
+        ⊎_elim
+        (λ w. written_last table kinds timeline u row w)
+        (λ kept. still_live table kinds timeline u row ((live row).0 kept.0) kept.1)
+        h,
+    λ h.
+        ⊎_elim
+        (λ w. inl w)
+        (λ was. inr ((live row).1 was.0, was.1))
+        (last_or_before table kinds timeline u row h),
+  )
+
+-- The same over an older table, of which the rows of the origin are.
+module _ (table : HudiTable) (kinds : List PartKind) (origin : List FileRow) (timeline : Timeline) (u : Completed) (before : List FileRow)
+    (live : (row : FileRow) → Contains before row ↔ IsLiveOver table kinds origin timeline row) where
+  pub over_step : (row : FileRow) → IsLiveAfter table kinds u before row ↔ IsLiveOver table kinds origin (timeline ++ u ∷ []) row
+  over_step row = (
+    λ h.
+        ⊎_elim
+        (λ w. inl (written_last table kinds timeline u row w))
+        (λ kept.
+        ⊎_elim
+        (λ was. inl (still_live table kinds timeline u row was kept.1))
+        (λ stays. inr (
+          stays.0,
+          λ v there touches.
+              ⊎_elim
+              (λ among. stays.1 v among touches)
+              (λ e. kept.1 (subst (λ w. Touches w row.path) (sym e) touches))
+              (Contains-push_cases timeline u v there),
+        ))
+        ((live row).0 kept.0))
+        h,
+    λ h.
+        ⊎_elim
+        (λ l.
+        ⊎_elim
+        (λ w. inl w)
+        (λ was. inr ((live row).1 (inl was.0), was.1))
+        (last_or_before table kinds timeline u row l))
+        (λ stays. inr (
+          (live row).1 (inr (stays.0, λ v there. stays.1 v (Contains-append_left timeline (u ∷ []) v there))),
+          stays.1 u (Contains-append_right timeline (u ∷ []) u (Contains-head u [])),
+        ))
+        h,
+  )
 
 -- ---- one instant in front of the others
 module _ (table : HudiTable) (kinds : List PartKind) (origin mid : List FileRow) (u : Completed) (timeline : Timeline) (row : FileRow) (is : Contains mid row ↔ IsLiveAfter table kinds u origin row) where
@@ -47,6 +150,15 @@ module _ (table : HudiTable) (kinds : List PartKind) (origin mid : List FileRow)
       (λ stays. inr (is.1 (inr (stays.0, stays.1 u (Contains-head u timeline))), λ v there. stays.1 v (Contains-tail u timeline v there)))
       h
 
+-- The first instant of a timeline makes rows of the origin, and the others go on from these.
+pub over_first : (table : HudiTable) (kinds : List PartKind) (origin mid : List FileRow) (u : Completed) (timeline : Timeline)
+    → ((row : FileRow) → Contains mid row ↔ IsLiveAfter table kinds u origin row)
+    → (row : FileRow) → IsLiveOver table kinds mid timeline row ↔ IsLiveOver table kinds origin (u ∷ timeline) row
+over_first table kinds origin mid u timeline step row = (
+  front_to table kinds origin mid u timeline row (step row),
+  front_from table kinds origin mid u timeline row (step row),
+)
+
 -- ---- one kind for each column all along
 same_kinds : (old new : ColumnTrees) (names : List (List ℕ)) (ks ls : List PartKind) → AreKindsOf old names ks → AreKindsOf new names ls
     → ((name : List ℕ) → Contains names name → (o k : PartKind) → column_kind old name ≡ Some o → column_kind new name ≡ Some k → o ≡ k) → ks ≡ ls
@@ -74,11 +186,26 @@ module _ (table : HudiTable) (base : Option Table) (u : Completed) (change : Cha
   step_schema : next.schema ≡ is.are_kinds.schema
   step_schema = after.schema ∙ schema_is table base change.schema is.are_kinds.schema (ap (λ r. schema_after r base) (sym is.schema) ∙ is.are_kinds.in_force)
 
-  step_kinds : (v : Completed) (later : Change) (goes : IsChangeOf v table (Some next) later) → is.kinds ≡ goes.kinds
-  step_kinds v later goes =
-      same_kinds next.schema goes.are_kinds.schema table.partition is.kinds goes.kinds
-      (subst (λ s. AreKindsOf s table.partition is.kinds) (sym step_schema) is.are_kinds.are) goes.are_kinds.are
-      (kinds_kept next.schema goes.are_kinds.schema table.partition (λ other. goes.features.1.1.1.0 (goes.are_kinds.schema, goes.are_kinds.in_force, next, refl, other)))
+  step_are : AreKindsOf next.schema table.partition is.kinds
+  step_are = subst (λ s. AreKindsOf s table.partition is.kinds) (sym step_schema) is.are_kinds.are
+
+-- The kinds of the columns in a table are their kinds after an instant that goes on from it.
+pub kinds_stay : (table : HudiTable) (before : Table) (u : Completed) (change : Change) (is : IsChangeOf u table (Some before) change) (kinds : List PartKind)
+    → AreKindsOf before.schema table.partition kinds → kinds ≡ is.kinds
+kinds_stay table before u change is kinds are =
+    same_kinds before.schema is.are_kinds.schema table.partition kinds is.kinds are is.are_kinds.are
+    (kinds_kept before.schema is.are_kinds.schema table.partition (λ other. is.features.1.1.1.0 (is.are_kinds.schema, is.are_kinds.in_force, before, refl, other)))
+
+-- The kinds of the columns after a timeline are those that its first instant found.
+pub timeline_kinds : (table : HudiTable) (base : Option Table) (u : Completed) (timeline : Timeline) (after : Table) (leads : LeadsThrough table base (u ∷ timeline) after)
+    → AreKindsOf after.schema table.partition leads.2.kinds
+timeline_kinds table base u [] after leads =
+    let end : after ≡ leads.1 = leads.4 in
+    subst (λ (t : Table). AreKindsOf t.schema table.partition leads.2.kinds) (sym end) (step_are table base u leads.0 leads.1 leads.2 leads.3)
+timeline_kinds table base u (v ∷ vs) after leads =
+    subst (AreKindsOf after.schema table.partition)
+    (sym (kinds_stay table leads.1 v leads.4.0 leads.4.2 leads.2.kinds (step_are table base u leads.0 leads.1 leads.2 leads.3)))
+    (timeline_kinds table (Some leads.1) v vs after leads.4)
 
 -- ---- a timeline of no instant
 no_split : (before : Timeline) (by : Completed) (behind : Timeline) → [] ≡ before ++ by ∷ behind → ⊥
@@ -106,7 +233,7 @@ timeline_rows table base u (v ∷ vs) after leads row =
     let next = leads.1 in
     let step = step_rows table base u leads.0 next leads.2 leads.3 row in
     let rest = timeline_rows table (Some next) v vs after leads.4 row in
-    let kinds = step_kinds table base u leads.0 next leads.2 leads.3 v leads.4.0 leads.4.2 in (
+    let kinds = kinds_stay table next v leads.4.0 leads.4.2 leads.2.kinds (step_are table base u leads.0 next leads.2 leads.3) in (
       λ there. front_to table leads.2.kinds (rows_before base) next.rows u (v ∷ vs) row step (subst (λ ks. IsLiveOver table ks next.rows (v ∷ vs) row) (sym kinds) (rest.0 there)),
       λ live. rest.1 (subst (λ ks. IsLiveOver table ks next.rows (v ∷ vs) row) kinds (front_from table leads.2.kinds (rows_before base) next.rows u (v ∷ vs) row step live)),
     )

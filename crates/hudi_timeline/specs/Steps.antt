@@ -1,5 +1,5 @@
 -- What the steps towards a change refuse.
-use Rattle.std.specs.Prelude.{◌≡◌, ◌⊎◌, ℕ, List, Bool, true, false, ◌||◌, [], ◌∷◌, not, Option, Some, None, Result, Err, Contains}
+use Rattle.std.specs.Prelude.{◌≡◌, ◌⊎◌, ℕ, List, true, false, Option, Some, None, Result, Err, Contains}
 use Rattle.table_history.specs.Row.{Row}
 use Rattle.table_history.specs.TypeTree.{ColumnTrees}
 use Rattle.table_history.specs.declared.feature.Feature.{Feature}
@@ -8,7 +8,6 @@ use Rattle.table_history.specs.declared.table.Table.{Table}
 use Rattle.schema_map.specs.declared.fault.MapError.{MapError}
 use Rattle.schema_map.specs.declared.fault.MapError.TheVariants as map_errors
 use Rattle.partition_map.specs.declared.kind.PartKind.{PartKind}
-use Rattle.partition_map.specs.declared.kind.PartKind.TheVariants as kind
 use Rattle.partition_map.specs.declared.folder.FolderStyle.{FolderStyle}
 use Rattle.hudi_timeline.specs.declared.error.HudiError.{HudiError}
 use Rattle.hudi_timeline.specs.declared.error.HudiError.TheVariants as errors
@@ -45,25 +44,3 @@ IsFolderFault style names kinds files shown =
 abbrev pub IsFileFault : Option Feature → FolderStyle → List (List ℕ) → List PartKind → List Row → Feature → Type 0
 IsFileFault name_fault style names kinds files shown =
     (name_fault ≡ Some shown) ⊎ ((name_fault ≡ None) × IsFolderFault style names kinds files shown)
-
--- ---- kinds of columns
-
-abbrev pub is_same_kind : PartKind → PartKind → Bool
-is_same_kind kind.Boolean kind.Boolean = true
-is_same_kind kind.Int kind.Int = true
-is_same_kind kind.Long kind.Long = true
-is_same_kind kind.Text kind.Text = true
-is_same_kind kind.Date kind.Date = true
-is_same_kind _ _ = false
-
--- whether both kinds are known, and differ
-abbrev pub is_other_kind : Option PartKind → Option PartKind → Bool
-is_other_kind None after = false
-is_other_kind (Some old) None = false
-is_other_kind (Some old) (Some new) = not (is_same_kind old new)
-
--- the same of some column
-abbrev pub has_other_kind : List (Option PartKind) → List (Option PartKind) → Bool
-has_other_kind [] after = false
-has_other_kind (b ∷ before) [] = false
-has_other_kind (b ∷ before) (a ∷ after) = is_other_kind b a || has_other_kind before after

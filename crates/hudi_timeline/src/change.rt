@@ -22,7 +22,8 @@ use std::alloc::Global;
 use table_history::{Change, Feature, FileRows, Table};
 
 /// The change that a completed instant makes of a table. `base` is the table before it, and `None`
-/// before the first instant. Refusals are told in this order: the instant isn't in its grammar, it
+/// before the first instant; its partition columns are to be those of `table`, which the caller
+/// judges. Refusals are told in this order: the instant isn't in its grammar, it
 /// shows a feature that isn't supported, or it passes a number (Hudi technical specification,
 /// "Timeline" and "File Layout Hierarchy").
 pub fn change_of(

@@ -1,9 +1,9 @@
 //! Changes and refusals of instants, worked by hand from Hudi's rules.
-use crate::{Form, HudiError, HudiTable, Instant, Stat, change_of};
+use crate::{Form, HudiError, HudiTable, Instant, Stat, change_of, read_instant};
 use lake_basics::{Items, Text};
 use std::alloc::{AllocError, Global};
 use std::test::Fail;
-use table_history::{Change, Feature, LimitKind, PartValue, Table};
+use table_history::{Change, Feature, FileRow, LimitKind, PartValue, Schema, Table};
 
 const SCHEMA: &str =
     r#"{"type":"record","name":"r","fields":[{"name":"id","type":"long"},{"name":"d","type":["null",{"type":"int","logicalType":"date"}]}]}"#;
@@ -93,7 +93,7 @@ fn is_change(change: &Change, removed: &[&str], added: &[(&str, u64)]) -> bool {
         ) == *expected)
 }
 
-#[derive(Drop)]
+#[derive(Clone, Copy)]
 struct Step<'a> {
     shows: &'a str,
     written: &'a [Written<'a>],
@@ -104,237 +104,411 @@ struct Step<'a> {
 
 const DAY_1: &str = "d=2024-01-01";
 
+const FIRST: &[Written] = &[
+    (DAY_1, "f1", "d=2024-01-01/f1_0-1-0_1.parquet", 3),
+    (DAY_1, "f2", "d=2024-01-01/f2_0-1-0_1.parquet", 4),
+    ("d=2024-01-02", "f1", "d=2024-01-02/f1_0-1-0_1.parquet", 5),
+];
+
+const STEPS: &[Step] = &[
+    Step {
+        shows: "a newer file of a group",
+        written: &[(DAY_1, "f1", "d=2024-01-01/f1_0-2-0_2.parquet", 7)],
+        replaced: &[],
+        removed: &["d=2024-01-01/f1_0-1-0_1.parquet"],
+        added: &[("d=2024-01-01/f1_0-2-0_2.parquet", 7)],
+    },
+    Step {
+        shows: "a replaced group, and none of another folder",
+        written: &[],
+        replaced: &[(DAY_1, "f1")],
+        removed: &["d=2024-01-01/f1_0-1-0_1.parquet"],
+        added: &[],
+    },
+    Step {
+        shows: "a write of a group that the same instant replaces",
+        written: &[(DAY_1, "f1", "d=2024-01-01/f1_0-2-0_2.parquet", 7)],
+        replaced: &[(DAY_1, "f1")],
+        removed: &["d=2024-01-01/f1_0-1-0_1.parquet"],
+        added: &[("d=2024-01-01/f1_0-2-0_2.parquet", 7)],
+    },
+    Step {
+        shows: "the last of several files of a group",
+        written: &[
+            (DAY_1, "f2", "d=2024-01-01/f2_0-2-0_2.parquet", 7),
+            (DAY_1, "f2", "d=2024-01-01/f2_0-3-0_2.parquet", 8),
+        ],
+        replaced: &[],
+        removed: &["d=2024-01-01/f2_0-1-0_1.parquet"],
+        added: &[("d=2024-01-01/f2_0-3-0_2.parquet", 8)],
+    },
+    Step {
+        shows: "a file written again as it was",
+        written: &[(DAY_1, "f1", "d=2024-01-01/f1_0-1-0_1.parquet", 3)],
+        replaced: &[],
+        removed: &[],
+        added: &[],
+    },
+    Step {
+        shows: "a file written again with another count",
+        written: &[(DAY_1, "f1", "d=2024-01-01/f1_0-1-0_1.parquet", 9)],
+        replaced: &[],
+        removed: &["d=2024-01-01/f1_0-1-0_1.parquet"],
+        added: &[("d=2024-01-01/f1_0-1-0_1.parquet", 9)],
+    },
+    Step {
+        shows: "replaced ids that name no group of the table",
+        written: &[],
+        replaced: &[("", "d=2024-01-01/f1"), (DAY_1, "f3")],
+        removed: &[],
+        added: &[],
+    },
+    Step {
+        shows: "paths in byte order",
+        written: &[
+            (DAY_1, "f4", "d=2024-01-01/f4_0-2-0_2.parquet", 1),
+            (DAY_1, "f3", "d=2024-01-01/f3_0-2-0_2.parquet", 2),
+        ],
+        replaced: &[("d=2024-01-02", "f1"), (DAY_1, "f2")],
+        removed: &[
+            "d=2024-01-01/f2_0-1-0_1.parquet",
+            "d=2024-01-02/f1_0-1-0_1.parquet",
+        ],
+        added: &[
+            ("d=2024-01-01/f3_0-2-0_2.parquet", 2),
+            ("d=2024-01-01/f4_0-2-0_2.parquet", 1),
+        ],
+    },
+];
+
+fn is_step(alloc: Global, table: &HudiTable, base: &Table, step: &Step) -> Result<bool, Fail> {
+    let next = instant(alloc, "", step.written, step.replaced)?;
+    let change = change_of(alloc, &next, &Form::Base, table, Some(base))?;
+    Ok(change.schema.is_none() && is_change(&change, step.removed, step.added))
+}
+
+/// What the first step shows that makes another change.
+fn other_step<'a>(
+    alloc: Global,
+    table: &HudiTable,
+    base: &Table,
+    steps: &[Step<'a>],
+) -> Result<Option<&'a str>, Fail> {
+    for step in steps {
+        if !is_step(alloc, table, base, step)? {
+            return Ok(Some(step.shows));
+        }
+    }
+    Ok(None)
+}
+
 #[test]
 fn changes_by_file_groups(rt: HostRuntime) -> Result<(), Fail> {
     let alloc = rt.alloc();
     let table = hudi_table(alloc, &["d"])?;
-    let first = instant(
-        alloc,
-        SCHEMA,
-        &[
-            (DAY_1, "f1", "d=2024-01-01/f1_0-1-0_1.parquet", 3),
-            (DAY_1, "f2", "d=2024-01-01/f2_0-1-0_1.parquet", 4),
-            ("d=2024-01-02", "f1", "d=2024-01-02/f1_0-1-0_1.parquet", 5),
-        ],
-        &[],
-    )?;
+    let first = instant(alloc, SCHEMA, FIRST, &[])?;
     let base = table_after(alloc, &Form::Base, &table, &first)?;
     assert_eq!(rt; base.rows.len(), 3);
-    let steps = [
-        Step {
-            shows: "a newer file of a group",
-            written: &[(DAY_1, "f1", "d=2024-01-01/f1_0-2-0_2.parquet", 7)],
-            replaced: &[],
-            removed: &["d=2024-01-01/f1_0-1-0_1.parquet"],
-            added: &[("d=2024-01-01/f1_0-2-0_2.parquet", 7)],
-        },
-        Step {
-            shows: "a replaced group, and none of another folder",
-            written: &[],
-            replaced: &[(DAY_1, "f1")],
-            removed: &["d=2024-01-01/f1_0-1-0_1.parquet"],
-            added: &[],
-        },
-        Step {
-            shows: "a write of a group that the same instant replaces",
-            written: &[(DAY_1, "f1", "d=2024-01-01/f1_0-2-0_2.parquet", 7)],
-            replaced: &[(DAY_1, "f1")],
-            removed: &["d=2024-01-01/f1_0-1-0_1.parquet"],
-            added: &[("d=2024-01-01/f1_0-2-0_2.parquet", 7)],
-        },
-        Step {
-            shows: "the last of several files of a group",
-            written: &[
-                (DAY_1, "f2", "d=2024-01-01/f2_0-2-0_2.parquet", 7),
-                (DAY_1, "f2", "d=2024-01-01/f2_0-3-0_2.parquet", 8),
-            ],
-            replaced: &[],
-            removed: &["d=2024-01-01/f2_0-1-0_1.parquet"],
-            added: &[("d=2024-01-01/f2_0-3-0_2.parquet", 8)],
-        },
-        Step {
-            shows: "a file written again as it was",
-            written: &[(DAY_1, "f1", "d=2024-01-01/f1_0-1-0_1.parquet", 3)],
-            replaced: &[],
-            removed: &[],
-            added: &[],
-        },
-        Step {
-            shows: "a file written again with another count",
-            written: &[(DAY_1, "f1", "d=2024-01-01/f1_0-1-0_1.parquet", 9)],
-            replaced: &[],
-            removed: &["d=2024-01-01/f1_0-1-0_1.parquet"],
-            added: &[("d=2024-01-01/f1_0-1-0_1.parquet", 9)],
-        },
-        Step {
-            shows: "replaced ids that name no group of the table",
-            written: &[],
-            replaced: &[("", "d=2024-01-01/f1"), (DAY_1, "f3")],
-            removed: &[],
-            added: &[],
-        },
-        Step {
-            shows: "paths in byte order",
-            written: &[
-                (DAY_1, "f4", "d=2024-01-01/f4_0-2-0_2.parquet", 1),
-                (DAY_1, "f3", "d=2024-01-01/f3_0-2-0_2.parquet", 2),
-            ],
-            replaced: &[("d=2024-01-02", "f1"), (DAY_1, "f2")],
-            removed: &[
-                "d=2024-01-01/f2_0-1-0_1.parquet",
-                "d=2024-01-02/f1_0-1-0_1.parquet",
-            ],
-            added: &[
-                ("d=2024-01-01/f3_0-2-0_2.parquet", 2),
-                ("d=2024-01-01/f4_0-2-0_2.parquet", 1),
-            ],
-        },
-    ];
-    for step in steps {
-        let next = instant(alloc, "", step.written, step.replaced)?;
-        let change = change_of(alloc, &next, &Form::Base, &table, Some(&base))?;
-        assert!(rt; change.schema.is_none(), "{}", step.shows);
-        assert!(rt;
-            is_change(&change, step.removed, step.added),
-            "{}",
-            step.shows
-        );
-    }
+    assert_eq!(rt; other_step(alloc, &table, &base, STEPS)?, None);
     Ok(())
+}
+
+const HUDI_COMMIT: &str =
+    r#"{"partitionToWriteStats":{"":[{"path":null},{"fileId":"","path":null,"numWrites":0},{"fileId":"b7e1-0","path":"b7e1-0_0-22-30_20240105120000000.parquet","cdcStats":null,"prevCommit":"20240105110000000","numWrites":3,"numDeletes":0,"numUpdateWrites":1,"numInserts":1,"totalWriteBytes":434690,"totalWriteErrors":0,"tempPath":null,"partitionPath":"","totalLogRecords":0,"minEventTime":null,"maxEventTime":null,"runtimeStats":{"totalScanTime":0.5},"numLogFiles":0,"fileSizeInBytes":434690}]},"compacted":false,"extraMetadata":{"schema":"{\"type\":\"record\",\"name\":\"r\",\"namespace\":\"hoodie.t\",\"fields\":[{\"name\":\"_hoodie_commit_time\",\"type\":[\"null\",\"string\"],\"doc\":\"\",\"default\":null},{\"name\":\"id\",\"type\":\"long\"}]}","commit_extra":null},"operationType":"UPSERT"}"#;
+
+fn column_count(schema: &Option<Schema>) -> Option<usize> {
+    match schema {
+        None => None,
+        Some(schema) => Some(schema.columns().len()),
+    }
+}
+
+#[test]
+fn a_commit_of_hudi_itself(rt: HostRuntime) -> Result<(), Fail> {
+    let alloc = rt.alloc();
+    let table = hudi_table(alloc, &[])?;
+    let read = read_instant(alloc, HUDI_COMMIT.as_bytes())?;
+    let change = change_of(alloc, &read, &Form::Base, &table, None)?;
+    assert!(rt;
+        is_change(
+            &change,
+            &[],
+            &[("b7e1-0_0-22-30_20240105120000000.parquet", 3)]
+        )
+    );
+    assert!(rt;
+        change
+            .added
+            .as_slice()
+            .iter()
+            .all(|row| row.size == 434690 && row.values.is_empty())
+    );
+    assert_eq!(rt; column_count(&change.schema), Some(2));
+    Ok(())
+}
+
+fn is_null(row: &FileRow) -> bool {
+    row.values.len() == 1
+        && row
+            .values
+            .as_slice()
+            .iter()
+            .all(|value| *value == PartValue::Null)
+}
+
+fn external(alloc: Global) -> Result<Form, AllocError> {
+    Ok(Form::External {
+        time: Text::from_str(alloc, "20240105120000000")?,
+    })
 }
 
 #[test]
 fn files_of_other_writers(rt: HostRuntime) -> Result<(), Fail> {
     let alloc = rt.alloc();
     let table = hudi_table(alloc, &["d"])?;
-    let form = Form::External {
-        time: Text::from_str(alloc, "20240105120000000")?,
-    };
+    let folder = "d=__HIVE_DEFAULT_PARTITION__";
     let path = "d=__HIVE_DEFAULT_PARTITION__/p_1.parquet_20240105120000000_hudiext";
-    let files = [("d=__HIVE_DEFAULT_PARTITION__", "p_1.parquet", path, 5)];
-    let first = instant(alloc, SCHEMA, &files, &[])?;
-    let change = change_of(alloc, &first, &form, &table, None)?;
-    let own_path = "d=__HIVE_DEFAULT_PARTITION__/p_1.parquet";
-    assert!(rt; is_change(&change, &[], &[(own_path, 5)]));
-    for row in change.added.as_slice() {
-        for value in row.values.as_slice() {
-            assert!(rt; *value == PartValue::Null);
-        }
-    }
-    for path in [
-        "d=2024-01-01/p.parquet",
-        "d=2024-01-01/p.parquet_20240105120000001_hudiext",
-        "d=2024-01-01/._20240105120000000_hudiext",
-        "_20240105120000000_hudiext",
-    ] {
-        let odd = instant(alloc, SCHEMA, &[(DAY_1, "p.parquet", path, 5)], &[])?;
-        let refused = change_of(alloc, &odd, &form, &table, None).is_err_and(|e| e
-            == HudiError::Malformed { line: 0 });
-        assert!(rt; refused, "{path}");
-    }
+    let first = instant(alloc, SCHEMA, &[(folder, "p_1.parquet", path, 5)], &[])?;
+    let change = change_of(alloc, &first, &external(alloc)?, &table, None)?;
+    assert!(rt;
+        is_change(
+            &change,
+            &[],
+            &[("d=__HIVE_DEFAULT_PARTITION__/p_1.parquet", 5)]
+        )
+    );
+    assert!(rt; change.added.as_slice().iter().all(|row| is_null(row)));
     Ok(())
 }
 
+// Without the suffix of their instant, and no paths without it.
+const NO_FILES: &[&str] = &[
+    "d=2024-01-01/p.parquet",
+    "d=2024-01-01/p.parquet_20240105120000001_hudiext",
+    "d=2024-01-01/._20240105120000000_hudiext",
+    "d=2024-01-01/../p.parquet_20240105120000000_hudiext",
+    "_20240105120000000_hudiext",
+];
+
+/// The first path that isn't refused as no file's.
+fn first_file<'a>(alloc: Global, paths: &[&'a str]) -> Result<Option<&'a str>, AllocError> {
+    let table = hudi_table(alloc, &["d"])?;
+    let form = external(alloc)?;
+    for path in paths {
+        let odd = instant(alloc, SCHEMA, &[(DAY_1, "p.parquet", path, 5)], &[])?;
+        if !change_of(alloc, &odd, &form, &table, None).is_err_and(|e| e == MALFORMED) {
+            return Ok(Some(*path));
+        }
+    }
+    Ok(None)
+}
+
+#[test]
+fn paths_of_no_file(rt: HostRuntime) -> Result<(), Fail> {
+    assert_eq!(rt; first_file(rt.alloc(), NO_FILES)?, None);
+    Ok(())
+}
+
+const MALFORMED: HudiError = HudiError::Malformed { line: 0 };
+
 const PLAIN: Written<'static> = (DAY_1, "f1", "d=2024-01-01/f1_0-1-0_1.parquet", 3);
 
-fn shown(feature: Feature) -> HudiError {
-    HudiError::Unsupported { feature }
+const EXTERNAL: Written<'static> = ("", "f2", "f2.orc_1_hudiext", 3);
+
+const OTHER_ID: Written<'static> = ("", "f3", "f2_1.orc", 3);
+
+const OTHER_FILE: Written<'static> = ("", "f2", "f2_1.orc", 3);
+
+const UP: Written<'static> = ("x", "y.parquet", "x/../y.parquet", 3);
+
+const NO_SCHEMA: HudiError = HudiError::Unsupported {
+    feature: Feature::NoSchema,
+};
+
+const SCHEMA_TYPE: HudiError = HudiError::Unsupported {
+    feature: Feature::SchemaType,
+};
+
+const PARTITION_TYPE: HudiError = HudiError::Unsupported {
+    feature: Feature::PartitionType,
+};
+
+const PARTITION_CHANGE: HudiError = HudiError::Unsupported {
+    feature: Feature::PartitionChange,
+};
+
+const EXTERNAL_FILE: HudiError = HudiError::Unsupported {
+    feature: Feature::ExternalFile,
+};
+
+const FILE_ID: HudiError = HudiError::Unsupported {
+    feature: Feature::FileId,
+};
+
+const FILE_FORMAT: HudiError = HudiError::Unsupported {
+    feature: Feature::FileFormat,
+};
+
+const PARTITION_PATH: HudiError = HudiError::Unsupported {
+    feature: Feature::PartitionPath,
+};
+
+const PARTITION_VALUE: HudiError = HudiError::Unsupported {
+    feature: Feature::PartitionValue,
+};
+
+/// The partition columns, the schema and the files of a first instant, and why it is refused.
+type Refused<'a> = (&'a [&'a str], &'a str, &'a [Written<'a>], HudiError);
+
+const REFUSED: &[Refused] = &[
+    (&["d"], "{", &[], MALFORMED),
+    (&["d"], "\"long\"", &[], MALFORMED),
+    (&["d"], "", &[], NO_SCHEMA),
+    (&["x"], ENUM, &[], SCHEMA_TYPE),
+    (&["d"], NO_COLUMN, &[EXTERNAL], PARTITION_TYPE),
+    (&["d"], NO_KIND, &[], PARTITION_TYPE),
+    (&["d", "d"], SCHEMA, &[], PARTITION_TYPE),
+    (&["d"], SCHEMA, &[OTHER_ID, EXTERNAL], EXTERNAL_FILE),
+    (&["d"], SCHEMA, &[OTHER_FILE, OTHER_ID], FILE_ID),
+    (&["d"], SCHEMA, &[OTHER_FILE], FILE_FORMAT),
+    (
+        &["d"],
+        SCHEMA,
+        &[("2024-01-01", "f1", "2024-01-01/f1_1.parquet", 3)],
+        PARTITION_PATH,
+    ),
+    (
+        &["d"],
+        SCHEMA,
+        &[
+            ("", "f1", "f1_1.parquet", 3),
+            ("d=x", "f1", "d=x/f1_1.parquet", 3),
+        ],
+        PARTITION_PATH,
+    ),
+    (
+        &["d"],
+        SCHEMA,
+        &[("d=2024-02-30", "f1", "d=2024-02-30/f1_1.parquet", 3)],
+        PARTITION_VALUE,
+    ),
+    (&["d"], SCHEMA, &[EXTERNAL, UP], MALFORMED),
+];
+
+fn is_refused(alloc: Global, row: &Refused) -> Result<bool, AllocError> {
+    let table = hudi_table(alloc, row.0)?;
+    let first = instant(alloc, row.1, row.2, &[])?;
+    Ok(change_of(alloc, &first, &Form::Base, &table, None).is_err_and(|e| e == row.3))
+}
+
+/// What the first of them was to be refused for, that isn't.
+fn other_refusal(alloc: Global, rows: &[Refused]) -> Result<Option<HudiError>, AllocError> {
+    for row in rows {
+        if !is_refused(alloc, row)? {
+            return Ok(Some(row.3));
+        }
+    }
+    Ok(None)
 }
 
 #[test]
 fn refusals_before_the_first_instant(rt: HostRuntime) -> Result<(), Fail> {
-    let alloc = rt.alloc();
-    let external = ("", "f2", "f2.orc_1_hudiext", 3);
-    let other_id = ("", "f3", "f2_1.orc", 3);
-    let other_file = ("", "f2", "f2_1.orc", 3);
-    let table: [(&[&str], &str, &[Written], HudiError); 13] = [
-        (&["d"], "{", &[], HudiError::Malformed { line: 0 }),
-        (&["d"], "\"long\"", &[], HudiError::Malformed { line: 0 }),
-        (&["d"], "", &[], shown(Feature::NoSchema)),
-        (&["x"], ENUM, &[], shown(Feature::SchemaType)),
-        (
-            &["d"],
-            NO_COLUMN,
-            &[external],
-            shown(Feature::PartitionType),
-        ),
-        (&["d"], NO_KIND, &[], shown(Feature::PartitionType)),
-        (&["d", "d"], SCHEMA, &[], shown(Feature::PartitionType)),
-        (
-            &["d"],
-            SCHEMA,
-            &[other_id, external],
-            shown(Feature::ExternalFile),
-        ),
-        (
-            &["d"],
-            SCHEMA,
-            &[other_file, other_id],
-            shown(Feature::FileId),
-        ),
-        (&["d"], SCHEMA, &[other_file], shown(Feature::FileFormat)),
-        (
-            &["d"],
-            SCHEMA,
-            &[("2024-01-01", "f1", "2024-01-01/f1_1.parquet", 3)],
-            shown(Feature::PartitionPath),
-        ),
-        (
-            &["d"],
-            SCHEMA,
-            &[
-                ("", "f1", "f1_1.parquet", 3),
-                ("d=x", "f1", "d=x/f1_1.parquet", 3),
-            ],
-            shown(Feature::PartitionPath),
-        ),
-        (
-            &["d"],
-            SCHEMA,
-            &[("d=2024-02-30", "f1", "d=2024-02-30/f1_1.parquet", 3)],
-            shown(Feature::PartitionValue),
-        ),
-    ];
-    for (names, schema, written, expected) in table {
-        let hudi = hudi_table(alloc, names)?;
-        let first = instant(alloc, schema, written, &[])?;
-        let refused = change_of(alloc, &first, &Form::Base, &hudi, None);
-        assert!(rt; refused.is_err_and(|e| e == expected), "{expected:?}");
-    }
+    assert_eq!(rt; other_refusal(rt.alloc(), REFUSED)?, None);
     Ok(())
+}
+
+fn changes_kind(alloc: Global, written: &[Written]) -> Result<bool, Fail> {
+    let table = hudi_table(alloc, &["d"])?;
+    let first = instant(alloc, SCHEMA, written, &[])?;
+    let base = table_after(alloc, &Form::Base, &table, &first)?;
+    let next = instant(alloc, OTHER_KIND, &[("", "", "x_hudiext", 1)], &[])?;
+    let refused = change_of(alloc, &next, &Form::Base, &table, Some(&base));
+    Ok(refused.is_err_and(|e| e == PARTITION_CHANGE))
 }
 
 #[test]
 fn a_column_keeps_its_kind(rt: HostRuntime) -> Result<(), Fail> {
-    let alloc = rt.alloc();
-    let table = hudi_table(alloc, &["d"])?;
-    for written in [&[PLAIN] as &[Written], &[]] {
-        let first = instant(alloc, SCHEMA, written, &[])?;
-        let base = table_after(alloc, &Form::Base, &table, &first)?;
-        let next = instant(alloc, OTHER_KIND, &[("", "", "x_hudiext", 1)], &[])?;
-        let refused = change_of(alloc, &next, &Form::Base, &table, Some(&base));
-        assert!(rt; refused.is_err_and(|e| e == shown(Feature::PartitionChange)));
-    }
+    assert!(rt; changes_kind(rt.alloc(), &[PLAIN])?);
+    assert!(rt; changes_kind(rt.alloc(), &[])?);
     Ok(())
 }
 
-#[test]
-fn a_path_may_be_too_long(rt: HostRuntime) -> Result<(), Fail> {
-    let alloc = rt.alloc();
-    let table = hudi_table(alloc, &[])?;
-    for (length, fits) in [(504_usize, true), (505, false)] {
-        let mut path = String::new(alloc);
-        for _ in 0..length {
-            path.push('f')?;
-        }
-        path.push_str(".parquet")?;
-        let first = instant(alloc, SCHEMA, &[("", path.as_str(), path.as_str(), 1)], &[])?;
-        let result = change_of(alloc, &first, &Form::Base, &table, None);
-        let limit = HudiError::Limit {
-            which: LimitKind::Path,
-        };
-        assert!(rt; result.is_ok() == fits);
-        assert!(rt; result.is_err_and(|e| e == limit) != fits);
+// ---- numbers
+
+/// The number that a first instant passes.
+fn number_passed(
+    alloc: Global,
+    names: &[&str],
+    first: &Instant,
+) -> Result<Option<LimitKind>, Fail> {
+    let table = hudi_table(alloc, names)?;
+    match change_of(alloc, first, &Form::Base, &table, None) {
+        Ok(_) => Ok(None),
+        Err(HudiError::Limit { which }) => Ok(Some(which)),
+        Err(_) => Err(Fail::from("another refusal")),
     }
+}
+
+/// The number that an instant passes whose one file has a name of so many bytes before `.parquet`.
+fn passed_by_path(alloc: Global, bytes: usize) -> Result<Option<LimitKind>, Fail> {
+    let mut path = String::new(alloc);
+    for _ in 0..bytes {
+        path.push('f')?;
+    }
+    path.push_str(".parquet")?;
+    let path = path.as_str();
+    number_passed(
+        alloc,
+        &[],
+        &instant(alloc, SCHEMA, &[("", path, path, 1)], &[])?,
+    )
+}
+
+/// The number that an instant passes whose schema has so many columns.
+fn passed_by_columns(alloc: Global, columns: u32) -> Result<Option<LimitKind>, Fail> {
+    let mut schema = String::from_str(alloc, r#"{"type":"record","name":"r","fields":["#)?;
+    for number in 1..columns {
+        schema.push_str(format!(in alloc; r#"{{"name":"c{number}","type":"long"}},"#)?.as_str())?;
+    }
+    schema.push_str(r#"{"name":"c0","type":"long"}]}"#)?;
+    number_passed(alloc, &[], &instant(alloc, schema.as_str(), &[], &[])?)
+}
+
+#[test]
+fn numbers_of_paths_and_columns(rt: HostRuntime) -> Result<(), Fail> {
+    let alloc = rt.alloc();
+    assert_eq!(rt; passed_by_path(alloc, 504)?, None);
+    assert_eq!(rt; passed_by_path(alloc, 505)?, Some(LimitKind::Path));
+    assert_eq!(rt; passed_by_columns(alloc, 2000)?, None);
+    assert_eq!(rt; passed_by_columns(alloc, 2001)?, Some(LimitKind::Columns));
+    Ok(())
+}
+
+const SIXTEEN: &[&str] = &[
+    "a", "b", "c", "d", "e", "f", "g", "h", "i", "j", "k", "l", "m", "n", "o", "p",
+];
+
+const SEVENTEEN: &[&str] = &[
+    "a", "b", "c", "d", "e", "f", "g", "h", "i", "j", "k", "l", "m", "n", "o", "p", "q",
+];
+
+/// The number that an instant passes of a table of these partition columns.
+fn passed_by_partition(alloc: Global, names: &[&str]) -> Result<Option<LimitKind>, Fail> {
+    let mut schema = String::from_str(alloc, r#"{"type":"record","name":"r","fields":["#)?;
+    for name in names {
+        schema.push_str(format!(in alloc; r#"{{"name":"{name}","type":"long"}},"#)?.as_str())?;
+    }
+    schema.push_str(r#"{"name":"id","type":"long"}]}"#)?;
+    number_passed(alloc, names, &instant(alloc, schema.as_str(), &[], &[])?)
+}
+
+#[test]
+fn partition_columns(rt: HostRuntime) -> Result<(), Fail> {
+    let alloc = rt.alloc();
+    assert_eq!(rt; passed_by_partition(alloc, SIXTEEN)?, None);
+    assert_eq!(rt;
+        passed_by_partition(alloc, SEVENTEEN)?,
+        Some(LimitKind::PartitionColumns)
+    );
     Ok(())
 }

@@ -8,67 +8,70 @@ use std::alloc::{AllocError, Global};
 use std::test::Fail;
 use table_history::{Feature, LimitKind, path_form_of_any_length};
 
+const NAMES: &[(&str, Option<(usize, Action, State)>)] = &[
+    (
+        "20240105120000.inflight",
+        Some((14, Action::Commit, State::Inflight)),
+    ),
+    (
+        "20240105120000000.clean",
+        Some((17, Action::Ignored, State::Completed)),
+    ),
+    (
+        "20240105120000000.savepoint.inflight",
+        Some((17, Action::Ignored, State::Inflight)),
+    ),
+    (
+        "20240105120000000.rollback",
+        Some((17, Action::Ignored, State::Completed)),
+    ),
+    (
+        "20240105120000000.commit",
+        Some((17, Action::Commit, State::Completed)),
+    ),
+    (
+        "20240105120000000.commit.requested",
+        Some((17, Action::Commit, State::Requested)),
+    ),
+    (
+        "20240105120000000.replacecommit.inflight",
+        Some((17, Action::ReplaceCommit, State::Inflight)),
+    ),
+    (
+        "20240105120000000.deltacommit.requested",
+        Some((17, Action::MergeOnRead, State::Requested)),
+    ),
+    (
+        "20240105120000000.restore",
+        Some((17, Action::Restore, State::Completed)),
+    ),
+    (
+        "20240105120000000.schemacommit",
+        Some((17, Action::Unknown, State::Completed)),
+    ),
+    (
+        "20240105120000000.commit.inflight",
+        Some((17, Action::Unknown, State::Inflight)),
+    ),
+    ("hoodie.properties", None),
+    ("2024010512000000.commit", None),
+    ("20240105120000000", None),
+    ("", None),
+];
+
+/// The first name that says something else.
+fn other_name<'a>(rows: &[(&'a str, Option<(usize, Action, State)>)]) -> Option<&'a str> {
+    for (name, expected) in rows {
+        if instant_of_name(name.as_bytes()) != *expected {
+            return Some(*name);
+        }
+    }
+    None
+}
+
 #[test]
-fn names(rt: HostRuntime) -> Result<(), Fail> {
-    let table = [
-        (
-            "20240105120000.inflight",
-            14,
-            Action::Commit,
-            State::Inflight,
-        ),
-        (
-            "20240105120000000.clean",
-            17,
-            Action::Ignored,
-            State::Completed,
-        ),
-        (
-            "20240105120000000.commit",
-            17,
-            Action::Commit,
-            State::Completed,
-        ),
-        (
-            "20240105120000000.commit.requested",
-            17,
-            Action::Commit,
-            State::Requested,
-        ),
-        (
-            "20240105120000000.replacecommit.inflight",
-            17,
-            Action::ReplaceCommit,
-            State::Inflight,
-        ),
-        (
-            "20240105120000000.deltacommit.requested",
-            17,
-            Action::MergeOnRead,
-            State::Requested,
-        ),
-        (
-            "20240105120000000.commit.inflight",
-            17,
-            Action::Unknown,
-            State::Inflight,
-        ),
-    ];
-    for (name, digits, action, state) in table {
-        assert!(rt;
-            instant_of_name(name.as_bytes()) == Some((digits, action, state)),
-            "{name}"
-        );
-    }
-    for name in [
-        "hoodie.properties",
-        "2024010512000000.commit",
-        "20240105120000000",
-        "",
-    ] {
-        assert!(rt; instant_of_name(name.as_bytes()).is_none(), "{name}");
-    }
-    Ok(())
+fn names(rt: HostRuntime) {
+    assert_eq!(rt; other_name(NAMES), None);
 }
 
 fn shown(alloc: Global, bytes: &[u8]) -> Result<String, AllocError> {
@@ -89,92 +92,149 @@ fn shown(alloc: Global, bytes: &[u8]) -> Result<String, AllocError> {
     }
 }
 
+// What java.util.Properties of JDK 17 gives, but for lone surrogates, which are refused here.
+const PROPERTIES: &[(&[u8], &str)] = &[
+    (b"# c\na\\ b = c\\\n  d\nk:v\n", "[a b]=[cd][k]=[v]"),
+    (b"a=\\u12\n", "malformed 1"),
+    (b"k=\xe9", "[k]=[\u{e9}]"),
+    (b"k=\\u00e9", "[k]=[\u{e9}]"),
+    (b"k=\\ud83d\\ude00", "[k]=[\u{1f600}]"),
+    (b"a=b\\", "[a]=[b]"),
+    (b"a=b\\\n", "[a]=[b]"),
+    (b"a=\\\n# foo\nx=1", "[a]=[# foo][x]=[1]"),
+    (b"\\\n\nb=1", "[b]=[1]"),
+    (b"a=1\\\r\n  2\r\nb=3\r\n", "[a]=[12][b]=[3]"),
+    (b"a=1\\\r\r\nb=3", "[a]=[1][b]=[3]"),
+    (b"#c\\\na=1", "[a]=[1]"),
+    (b"a=\\u00\\\n  41", "[a]=[A]"),
+    (b"a=\\ud83d\\\n  \\ude00", "[a]=[\u{1f600}]"),
+    (b"a=\\\nu0041", "[a]=[u0041]"),
+    (b"abc", "[abc]=[]"),
+    (b"a==b", "[a]=[=b]"),
+    (b"a : = b ", "[a]=[= b ]"),
+    (b"=b", "[]=[b]"),
+    (b"a\\u003db=c", "[a=b]=[c]"),
+    (b"a\\u00=3db", "malformed 1"),
+    (b"\x0ca\x0cb\x0cc", "[a]=[b\x0cc]"),
+    (b"a=\\U0041\\x", "[a]=[U0041x]"),
+    (b"a=1\na=2", "[a]=[2]"),
+    (b"a=1\\\\\nb=2", "[a]=[1\\][b]=[2]"),
+    (b"a=1\nb=\\ud83d", "malformed 2"),
+    (b"a=\\ude00\\ud83d", "malformed 1"),
+    (b"a=\\ud800", "malformed 1"),
+];
+
+/// The first text that gives something else, with what it was to give.
+fn other_pairs<'a>(
+    alloc: Global,
+    rows: &[(&[u8], &'a str)],
+) -> Result<Option<&'a str>, AllocError> {
+    for (bytes, expected) in rows {
+        if shown(alloc, bytes)?.as_str() != *expected {
+            return Ok(Some(*expected));
+        }
+    }
+    Ok(None)
+}
+
 #[test]
 fn properties(rt: HostRuntime) -> Result<(), Fail> {
-    let alloc = rt.alloc();
-    // What java.util.Properties of JDK 17 gives, but for the last two.
-    let table: [(&[u8], &str); 27] = [
-        (b"# c\na\\ b = c\\\n  d\nk:v\n", "[a b]=[cd][k]=[v]"),
-        (b"a=\\u12\n", "malformed 1"),
-        (b"k=\xe9", "[k]=[\u{e9}]"),
-        (b"k=\\u00e9", "[k]=[\u{e9}]"),
-        (b"k=\\ud83d\\ude00", "[k]=[\u{1f600}]"),
-        (b"a=b\\", "[a]=[b]"),
-        (b"a=b\\\n", "[a]=[b]"),
-        (b"a=\\\n# foo\nx=1", "[a]=[# foo][x]=[1]"),
-        (b"\\\n\nb=1", "[b]=[1]"),
-        (b"a=1\\\r\n  2\r\nb=3\r\n", "[a]=[12][b]=[3]"),
-        (b"a=1\\\r\r\nb=3", "[a]=[1][b]=[3]"),
-        (b"#c\\\na=1", "[a]=[1]"),
-        (b"a=\\u00\\\n  41", "[a]=[A]"),
-        (b"a=\\ud83d\\\n  \\ude00", "[a]=[\u{1f600}]"),
-        (b"a=\\\nu0041", "[a]=[u0041]"),
-        (b"abc", "[abc]=[]"),
-        (b"a==b", "[a]=[=b]"),
-        (b"a : = b ", "[a]=[= b ]"),
-        (b"=b", "[]=[b]"),
-        (b"a\\u003db=c", "[a=b]=[c]"),
-        (b"a\\u00=3db", "malformed 1"),
-        (b"\x0ca\x0cb\x0cc", "[a]=[b\x0cc]"),
-        (b"a=\\U0041\\x", "[a]=[U0041x]"),
-        (b"a=1\na=2", "[a]=[2]"),
-        (b"a=1\\\\\nb=2", "[a]=[1\\][b]=[2]"),
-        (b"a=1\nb=\\ud83d", "malformed 2"),
-        (b"a=\\ude00\\ud83d", "malformed 1"),
-    ];
-    for (bytes, expected) in table {
-        assert_eq!(rt; shown(alloc, bytes)?.as_str(), expected);
-    }
+    assert_eq!(rt; other_pairs(rt.alloc(), PROPERTIES)?, None);
     Ok(())
 }
 
-fn next_after(alloc: Global, last: &str, now_ms: u64) -> Result<Result<Text, HudiError>, Fail> {
+const PAST_9999: HudiError = HudiError::Limit {
+    which: LimitKind::Versions,
+};
+
+fn next_after(alloc: Global, last: &str, now_ms: u64) -> Result<Text, HudiError> {
     let last = Text::from_str(alloc, last)?;
     match read_time(last.as_bytes()) {
-        None => Err(Fail::from("no time")),
-        Some(_) => Ok(next_instant(alloc, Some(&last), now_ms)),
+        None => Err(HudiError::Malformed { line: 0 }),
+        Some(_) => next_instant(alloc, Some(&last), now_ms),
     }
 }
+
+/// The first instant that is to be next, and isn't, after the last one at a time of the clock.
+fn other_next<'a>(
+    alloc: Global,
+    rows: &[(&str, u64, &'a str)],
+) -> Result<Option<&'a str>, HudiError> {
+    for (last, now_ms, next) in rows {
+        if next_after(alloc, last, *now_ms)?.as_str() != *next {
+            return Ok(Some(*next));
+        }
+    }
+    Ok(None)
+}
+
+const NEXT: &[(&str, u64, &str)] = &[
+    ("20240105120000000", 0, "20240105120000001"),
+    ("20231231235959999", 0, "20240101000000000"),
+    ("20231231235959999", 1704456000000, "20240105120000000"),
+    ("99991231235959998", 0, "99991231235959999"),
+];
 
 #[test]
 fn instants_rise_with_the_clock_or_by_a_millisecond(rt: HostRuntime) -> Result<(), Fail> {
     let alloc = rt.alloc();
-    let first = next_instant(alloc, None, 1704456000000)?;
-    assert_eq!(rt; first.as_str(), "20240105120000000");
-    for (last, now_ms, next) in [
-        ("20240105120000000", 0, "20240105120000001"),
-        ("20231231235959999", 0, "20240101000000000"),
-        ("20231231235959999", 1704456000000, "20240105120000000"),
-    ] {
-        assert_eq!(rt; next_after(alloc, last, now_ms)??.as_str(), next);
-    }
-    let past = HudiError::Limit {
-        which: LimitKind::Versions,
-    };
-    assert!(rt; next_after(alloc, "99991231235959999", 0)?.is_err_and(|e| e == past));
-    assert!(rt; next_instant(alloc, None, u64::MAX).is_err_and(|e| e == past));
-    for text in [
-        "20240230000000000",
-        "20240105240000000",
-        "2024010512000000",
-        "",
-    ] {
-        assert!(rt; read_time(text.as_bytes()).is_none(), "{text}");
-    }
+    assert_eq!(rt;
+        next_instant(alloc, None, 1704456000000)?.as_str(),
+        "20240105120000000"
+    );
+    assert_eq!(rt;
+        next_instant(alloc, None, 253402300799999)?.as_str(),
+        "99991231235959999"
+    );
+    assert_eq!(rt; other_next(alloc, NEXT)?, None);
+    assert!(rt; next_after(alloc, "99991231235959999", 0).is_err_and(|e| e == PAST_9999));
+    assert!(rt; next_instant(alloc, None, 253402300800000).is_err_and(|e| e == PAST_9999));
+    assert!(rt; next_instant(alloc, None, u64::MAX).is_err_and(|e| e == PAST_9999));
     Ok(())
 }
 
-#[test]
-fn groups(rt: HostRuntime) -> Result<(), Fail> {
-    for (path, folder, id) in [
-        ("d=1/f1_0-1-2_20240105.parquet", 3, 2),
-        ("a/b/c", 3, 1),
-        ("p.parquet", 0, 9),
-        ("_x", 0, 0),
-    ] {
-        assert!(rt; group_of(path.as_bytes()) == (folder, id), "{path}");
+/// The first of the texts that spells a time.
+fn first_time<'a>(texts: &[&'a str]) -> Option<&'a str> {
+    for text in texts {
+        if read_time(text.as_bytes()).is_some() {
+            return Some(*text);
+        }
     }
-    Ok(())
+    None
+}
+
+const NO_TIMES: &[&str] = &[
+    "20240230000000000",
+    "20240105240000000",
+    "2024010512000000",
+    "",
+];
+
+#[test]
+fn texts_that_spell_no_time(rt: HostRuntime) {
+    assert_eq!(rt; first_time(NO_TIMES), None);
+}
+
+const GROUPS: &[(&str, usize, usize)] = &[
+    ("d=1/f1_0-1-2_20240105.parquet", 3, 2),
+    ("a/b/c", 3, 1),
+    ("p.parquet", 0, 9),
+    ("_x", 0, 0),
+];
+
+/// The first path of another group.
+fn other_group<'a>(rows: &[(&'a str, usize, usize)]) -> Option<&'a str> {
+    for (path, folder, id) in rows {
+        if group_of(path.as_bytes()) != (*folder, *id) {
+            return Some(*path);
+        }
+    }
+    None
+}
+
+#[test]
+fn groups(rt: HostRuntime) {
+    assert_eq!(rt; other_group(GROUPS), None);
 }
 
 fn refusal(alloc: Global, bytes: &[u8]) -> Option<Feature> {
@@ -187,50 +247,65 @@ fn refusal(alloc: Global, bytes: &[u8]) -> Option<Feature> {
     }
 }
 
+const TABLES: &[(&str, Option<Feature>)] = &[
+    ("hoodie.table.version=6", Some(Feature::HudiType)),
+    (
+        "hoodie.table.type=MERGE_ON_READ\nhoodie.table.version=6",
+        Some(Feature::HudiType),
+    ),
+    (
+        "hoodie.table.type=COPY_ON_WRITE\nhoodie.table.version=8",
+        Some(Feature::HudiVersion),
+    ),
+    (
+        "hoodie.table.type=COPY_ON_WRITE",
+        Some(Feature::HudiVersion),
+    ),
+    (
+        "hoodie.table.type=COPY_ON_WRITE\nhoodie.table.version=5\nhoodie.table.base.file.format=ORC",
+        Some(Feature::FileFormat),
+    ),
+    (
+        "hoodie.table.type=COPY_ON_WRITE\nhoodie.table.version=5\nhoodie.table.keygenerator.class=org.apache.hudi.keygen.CustomKeyGenerator",
+        Some(Feature::KeyGenerator),
+    ),
+    (
+        "hoodie.table.type=COPY_ON_WRITE\nhoodie.table.version=5\nhoodie.table.base.file.format=parquet",
+        None,
+    ),
+    (
+        "hoodie.table.type=COPY_ON_WRITE\nhoodie.table.version=6",
+        None,
+    ),
+];
+
+/// The first table that shows another feature.
+fn other_table<'a>(alloc: Global, rows: &[(&'a str, Option<Feature>)]) -> Option<&'a str> {
+    for (text, feature) in rows {
+        if refusal(alloc, text.as_bytes()) != *feature {
+            return Some(*text);
+        }
+    }
+    None
+}
+
+const TABLE: &str =
+    "hoodie.table.type=COPY_ON_WRITE\nhoodie.table.version=6\nlakebridge.version=1\nhoodie.table.partition.fields= a , b c,,d\nhoodie.datasource.write.hive_style_partitioning=true\nhoodie.datasource.write.partitionpath.urlencode=TRUE";
+
+fn are_texts(texts: &[Text], expected: &[&str]) -> bool {
+    texts.len() == expected.len()
+        && texts
+            .iter()
+            .zip(expected)
+            .all(|(text, other)| text.as_str() == *other)
+}
+
 #[test]
 fn tables_by_their_properties(rt: HostRuntime) -> Result<(), Fail> {
     let alloc = rt.alloc();
-    let table: [(&[u8], Option<Feature>); 8] = [
-        (b"hoodie.table.version=6", Some(Feature::HudiType)),
-        (
-            b"hoodie.table.type=MERGE_ON_READ\nhoodie.table.version=6",
-            Some(Feature::HudiType),
-        ),
-        (
-            b"hoodie.table.type=COPY_ON_WRITE\nhoodie.table.version=8",
-            Some(Feature::HudiVersion),
-        ),
-        (
-            b"hoodie.table.type=COPY_ON_WRITE",
-            Some(Feature::HudiVersion),
-        ),
-        (
-            b"hoodie.table.type=COPY_ON_WRITE\nhoodie.table.version=5\nhoodie.table.base.file.format=ORC",
-            Some(Feature::FileFormat),
-        ),
-        (
-            b"hoodie.table.type=COPY_ON_WRITE\nhoodie.table.version=5\nhoodie.table.keygenerator.class=org.apache.hudi.keygen.CustomKeyGenerator",
-            Some(Feature::KeyGenerator),
-        ),
-        (
-            b"hoodie.table.type=COPY_ON_WRITE\nhoodie.table.version=5\nhoodie.table.base.file.format=parquet",
-            None,
-        ),
-        (
-            b"hoodie.table.type=COPY_ON_WRITE\nhoodie.table.version=6",
-            None,
-        ),
-    ];
-    for (bytes, feature) in table {
-        assert!(rt; refusal(alloc, bytes) == feature, "{bytes:?}");
-    }
-    let bytes =
-        b"hoodie.table.type=COPY_ON_WRITE\nhoodie.table.version=6\nlakebridge.version=1\nhoodie.table.partition.fields= a , b c,,d\nhoodie.datasource.write.hive_style_partitioning=true\nhoodie.datasource.write.partitionpath.urlencode=TRUE";
-    let hudi = check_properties(alloc, &read_properties(alloc, bytes)?)?;
-    assert_eq!(rt; hudi.partition.len(), 3);
-    for (name, expected) in hudi.partition.as_slice().iter().zip(["a", "b c", "d"]) {
-        assert_eq!(rt; name.as_str(), expected);
-    }
+    assert_eq!(rt; other_table(alloc, TABLES), None);
+    let hudi = check_properties(alloc, &read_properties(alloc, TABLE.as_bytes())?)?;
+    assert!(rt; are_texts(hudi.partition.as_slice(), &["a", "b c", "d"]));
     assert!(rt; hudi.hive_style && !hudi.url_encode && hudi.ours);
     Ok(())
 }
@@ -247,19 +322,26 @@ fn written_properties(rt: HostRuntime) -> Result<(), Fail> {
 const COMPLETED: &str =
     r#"{"compacted":false,"extraMetadata":{"lakebridge.mark":"{\"at\":\"20240105120000000\",\"by\":\"lakebridge\",\"source\":\"delta\",\"table\":\"a1\",\"to\":\"0\",\"version\":2}","schema":"{\"fields\":[{\"default\":null,\"name\":\"id\",\"type\":[\"null\",\"long\"]}],\"name\":\"r0\",\"type\":\"record\"}"},"operationType":"INSERT_OVERWRITE","partitionToReplaceFileIds":{},"partitionToWriteStats":{"":[{"fileId":"p1.parquet","fileSizeInBytes":100,"numDeletes":0,"numInserts":5,"numUpdateWrites":0,"numWrites":5,"partitionPath":"","path":"p1.parquet_20240105120000000_hudiext","prevCommit":"null","totalWriteBytes":100,"totalWriteErrors":0}]}}"#;
 
+fn is_file(stat: &Stat, path: &str, file_id: &str, writes: u64, size: u64) -> bool {
+    stat.path.as_str() == path
+        && stat.file_id.as_str() == file_id
+        && stat.writes == writes
+        && stat.size == size
+}
+
 #[test]
 fn a_completed_instant_is_read(rt: HostRuntime) -> Result<(), Fail> {
-    let alloc = rt.alloc();
-    let instant = read_instant(alloc, COMPLETED.as_bytes())?;
+    let instant = read_instant(rt.alloc(), COMPLETED.as_bytes())?;
+    let path = "p1.parquet_20240105120000000_hudiext";
     assert_eq!(rt; instant.stats.len(), 1);
-    for stat in instant.stats.as_slice() {
-        assert_eq!(rt; stat.path.as_str(), "p1.parquet_20240105120000000_hudiext");
-        assert_eq!(rt; stat.file_id.as_str(), "p1.parquet");
-        assert_eq!(rt; (stat.writes, stat.size), (5, 100));
-    }
-    assert!(rt; instant.replaced.is_empty());
-    assert!(rt; instant.schema.is_some());
-    assert!(rt; instant.mark.is_some());
+    assert!(rt;
+        instant
+            .stats
+            .as_slice()
+            .iter()
+            .all(|stat| is_file(stat, path, "p1.parquet", 5, 100))
+    );
+    assert!(rt; instant.replaced.is_empty() && instant.schema.is_some() && instant.mark.is_some());
     Ok(())
 }
 
@@ -316,42 +398,57 @@ fn counts(alloc: Global, bytes: &[u8]) -> Option<(usize, usize)> {
     }
 }
 
+const INSTANTS: &[(&[u8], Option<(usize, usize)>)] = &[
+    (
+        br#"{"partitionToWriteStats":{"":[{"fileId":"f","path":"f.parquet","partitionPath":"","numWrites":3,"cdcStats":null,"prevCommit":"x"},{"fileId":"f","path":"f2.parquet","partitionPath":"","numWrites":3,"fileSizeInBytes":4}]},"extraMetadata":null,"operationType":"UPSERT","writeStats":[1.5]}"#,
+        Some((2, 0)),
+    ),
+    (
+        br#"{"partitionToWriteStats":{"a":[{"path":null},{}]},"partitionToReplaceFileIds":{"a":["x","y"],"b":[]},"extraMetadata":{"schema":null}}"#,
+        Some((0, 2)),
+    ),
+    (
+        br#"{"partitionToWriteStats":{},"partitionToReplaceFileIds":null}"#,
+        Some((0, 0)),
+    ),
+    (br#"{"partitionToReplaceFileIds":{}}"#, None),
+    (br#"{"partitionToWriteStats":{"":[1]}}"#, None),
+    (
+        br#"{"partitionToWriteStats":{"":[{"fileId":"f","path":"f","partitionPath":"","numWrites":-1}]}}"#,
+        None,
+    ),
+    (
+        br#"{"partitionToWriteStats":{"":[{"fileId":"f","path":"f","partitionPath":"","numWrites":9223372036854775808}]}}"#,
+        None,
+    ),
+    (
+        br#"{"partitionToWriteStats":{"":[{"fileId":"f","path":"a//f","partitionPath":"a","numWrites":1}]}}"#,
+        None,
+    ),
+    (
+        br#"{"partitionToWriteStats":{},"extraMetadata":{"schema":7}}"#,
+        None,
+    ),
+    (
+        br#"{"partitionToWriteStats":{"":[{"fileId":"y","path":"x/../y.parquet","partitionPath":"x","numWrites":1}]}}"#,
+        None,
+    ),
+];
+
+/// The first text that is read otherwise: so many write stats and replaced ids, or not at all.
+fn other_instant<'a>(
+    alloc: Global,
+    rows: &[(&'a [u8], Option<(usize, usize)>)],
+) -> Option<&'a [u8]> {
+    for (bytes, expected) in rows {
+        if counts(alloc, bytes) != *expected {
+            return Some(*bytes);
+        }
+    }
+    None
+}
+
 #[test]
 fn what_hudi_writes_is_read(rt: HostRuntime) {
-    let alloc = rt.alloc();
-    let table: [(&[u8], Option<(usize, usize)>); 9] = [
-        (
-            br#"{"partitionToWriteStats":{"":[{"fileId":"f","path":"f.parquet","partitionPath":"","numWrites":3,"cdcStats":null,"prevCommit":"x"},{"fileId":"f","path":"f2.parquet","partitionPath":"","numWrites":3,"fileSizeInBytes":4}]},"extraMetadata":null,"operationType":"UPSERT","writeStats":[1.5]}"#,
-            Some((2, 0)),
-        ),
-        (
-            br#"{"partitionToWriteStats":{"a":[{"path":null},{}]},"partitionToReplaceFileIds":{"a":["x","y"],"b":[]},"extraMetadata":{"schema":null}}"#,
-            Some((0, 2)),
-        ),
-        (
-            br#"{"partitionToWriteStats":{},"partitionToReplaceFileIds":null}"#,
-            Some((0, 0)),
-        ),
-        (br#"{"partitionToReplaceFileIds":{}}"#, None),
-        (br#"{"partitionToWriteStats":{"":[1]}}"#, None),
-        (
-            br#"{"partitionToWriteStats":{"":[{"fileId":"f","path":"f","partitionPath":"","numWrites":-1}]}}"#,
-            None,
-        ),
-        (
-            br#"{"partitionToWriteStats":{"":[{"fileId":"f","path":"f","partitionPath":"","numWrites":9223372036854775808}]}}"#,
-            None,
-        ),
-        (
-            br#"{"partitionToWriteStats":{"":[{"fileId":"f","path":"a//f","partitionPath":"a","numWrites":1}]}}"#,
-            None,
-        ),
-        (
-            br#"{"partitionToWriteStats":{},"extraMetadata":{"schema":7}}"#,
-            None,
-        ),
-    ];
-    for (bytes, expected) in table {
-        assert!(rt; counts(alloc, bytes) == expected, "{bytes:?}");
-    }
+    assert_eq!(rt; other_instant(rt.alloc(), INSTANTS), None);
 }

@@ -22,9 +22,11 @@ const PAST_9999: HudiError = HudiError::Limit {
     which: LimitKind::Versions,
 };
 
-/// The milliseconds since the start of 1970 in UTC, if the bytes are 17 digits that spell a real day and time.
+/// The milliseconds since the start of 1970 in UTC, if the bytes are 17 digits that spell a real day
+/// and time.
 pub fn read_time(digits: &[u8]) -> Option<i64>
-    ensures { MatchOption result ((ms : ℤ) → ¬ IsTime digits.now ms) (λ ms. IsTime digits.now ms) }
+    ensures { MatchOption result ((ms : ℤ) → ¬ IsTime digits.now ms)
+        (λ ms. IsTime digits.now ms) }
 {
     match str::from_utf8(digits) {
         Ok(text) => time_of_text(text),
@@ -50,7 +52,8 @@ fn time_of_text(text: &str) -> Option<i64>
 
 // The number that 17 digits write.
 fn read_digits(text: &str) -> Option<u64>
-    ensures digits { MatchOption result (¬ IsDigits text.now) (λ n. IsDigits text.now × (n ≡ digits_value 10 text.now)) }
+    ensures digits { MatchOption result (¬ IsDigits text.now)
+        (λ n. IsDigits text.now × (n ≡ digits_value 10 text.now)) }
     ensures small { IfSome result (λ n. n < 10 ^ 17) }
 {
     if text.len() != 17 {
@@ -100,9 +103,11 @@ fn digits_text(alloc: Global, number: u64) -> Result<Text, AllocError>
 
 // The number `YYYYMMDDhhmmssSSS` of a time in the years 0 to 9999.
 fn time_number(ms: i64) -> Option<u64>
-    ensures number { MatchOption result ((n : ℕ) → n < 10 ^ 17 → ¬ IsTimeNumber n ms) (λ n. (n < 10 ^ 17) × IsTimeNumber n ms) }
+    ensures number { MatchOption result ((n : ℕ) → n < 10 ^ 17 → ¬ IsTimeNumber n ms)
+        (λ n. (n < 10 ^ 17) × IsTimeNumber n ms) }
     // What is as late as some time that has a number, and has none, is past them all.
-    ensures past { IfNone result ((n : ℕ) (earlier : ℤ) → IsTimeNumber n earlier → earlier ≤ℤ ms → IsPast9999 ms) }
+    ensures past { IfNone result ((n : ℕ) (earlier : ℤ)
+        → IsTimeNumber n earlier → earlier ≤ℤ ms → IsPast9999 ms) }
 {
     let date = match Date::from_unix_epoch_day(ms.div_euclid(DAY_MS)) {
         Ok(date) => date,
@@ -138,14 +143,18 @@ fn time_digits(ms: u32) -> u32
     ((minutes / 60 * 100 + minutes % 60) * 100 + seconds % 60) * 1000 + ms % 1000
 }
 
-/// The digits of the next instant: the time of the clock, or the millisecond after the last instant where that is later.
+/// The digits of the next instant: the time of the clock, or the millisecond after the last instant
+/// where that is later. Refused with `Limit Versions` past the year 9999.
 pub fn next_instant(alloc: Global, last: Option<&Text>, now_ms: u64) -> Result<Text, HudiError>
     requires { IfSome (option_copied last) IsSomeTime }
-    ensures next { IfOk result (λ t. (ms : ℤ) × IsTime t ms × IsNext (option_copied last.entry) now_ms ms) }
-    ensures later { IfOk result (λ t. IfSome (option_copied last.entry) (λ l. slice_cmp nat_cmp l t ≡ Less)) }
+    ensures next { IfOk result
+        (λ t. (ms : ℤ) × IsTime t ms × IsNext (option_copied last.entry) now_ms ms) }
+    ensures later { IfOk result
+        (λ t. IfSome (option_copied last.entry) (λ l. slice_cmp nat_cmp l t ≡ Less)) }
     ensures limit { IsErrOf result (HudiError.Limit Versions)
         ↔ ((ms : ℤ) → IsNext (option_copied last.entry) now_ms ms → IsPast9999 ms) }
-    ensures errors { IfErr result (λ e. (e ≡ HudiError.Memory) ⊎ (e ≡ HudiError.Limit Versions)) }
+    ensures errors { IfErr result
+        (λ e. (e ≡ HudiError.Memory) ⊎ (e ≡ HudiError.Limit Versions)) }
 {
     if now_ms >= 1 << 63 {
         return Err(PAST_9999);

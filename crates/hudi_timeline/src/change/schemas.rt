@@ -1,22 +1,20 @@
 //! The schema that holds after an instant, and the kinds of the partition columns in it.
 
-ghost use Rattle.std.specs.Prelude.{◌≡◌, Ok, None, Some, true, false, IfOk, IfErr, MatchOption, Contains, map, length};
+ghost use Rattle.std.specs.Prelude.{◌≡◌, ◌↔◌, Ok, None, Some, false, IfOk, IfErr, IsTrue, MatchOption, Contains, map};
 ghost use Rattle.std.specs.List.{IsDistinct};
 ghost use Rattle.std.specs.Option.{option_copied};
 ghost use Rattle.std.specs.Str.{bytes_eq};
-ghost use Rattle.avro_schema.specs.Names.{are_distinct};
 ghost use Rattle.table_history.specs.Sound.{IsSound};
 ghost use Rattle.table_history.specs.TypeTree.{ColumnTrees};
 ghost use Rattle.table_history.specs.declared.table.Table.{Table};
-ghost use Rattle.partition_map.specs.Columns.{column_kind, HasOtherKind};
+ghost use Rattle.partition_map.specs.Columns.{HasOtherKind};
 ghost use Rattle.hudi_timeline.specs.Schemas.{stated_schema, spelled_schema, schema_after, AreKindsOf};
-ghost use Rattle.hudi_timeline.specs.Steps.{IsTextRefusal, OnlyFeature, IsKindFault, is_same_kind, is_other_kind, has_other_kind};
+ghost use Rattle.hudi_timeline.specs.Steps.{IsTextRefusal, OnlyFeature, IsKindFault};
 
 use super::rows::MALFORMED;
 use crate::error::HudiError;
-use indexmap::IndexSet;
 use lake_basics::Text;
-use partition_map::{PartKind, part_kind};
+use partition_map::{PartKind, are_distinct, column_kinds, has_other_kind};
 use schema_map::{MapError, read_avro};
 use std::alloc::{AllocError, Global};
 use table_history::{Feature, Schema, Table};
@@ -105,51 +103,10 @@ pub(super) fn partition_kinds(
     let Some(kinds) = known_kinds(alloc, found.as_slice())? else {
         return Err(PARTITION_TYPE);
     };
-    if changes_kind(alloc, base, names, found.as_slice())? {
+    if changes_kind(alloc, base, schema, names)? {
         return Err(PARTITION_CHANGE);
     }
     Ok(kinds)
-}
-
-/// Whether no two of the names are one.
-fn are_distinct(alloc: Global, names: &[Text]) -> Result<bool, AllocError>
-    ensures { IfOk result (λ distinct. distinct ≡ are_distinct names.now) }
-{
-    let mut seen = IndexSet::new(alloc);
-    for name in names {
-        if !seen.insert(name.as_str())? {
-            return Ok(false);
-        }
-    }
-    Ok(true)
-}
-
-/// The kinds of the columns of these names, in their order.
-fn column_kinds(
-    alloc: Global,
-    schema: &Schema,
-    names: &[Text],
-) -> Result<Vec<Option<PartKind>>, AllocError>
-    ensures { IfOk result (λ v. v.items ≡ map (column_kind schema.now) names.now) }
-{
-    let mut kinds = Vec::with_capacity(alloc, names.len())?;
-    for name in names {
-        kinds.push(column_kind(schema, name.as_bytes()))?;
-    }
-    Ok(kinds)
-}
-
-/// The kind of the top-level column of this name.
-fn column_kind(schema: &Schema, name: &[u8]) -> Option<PartKind>
-    ensures { result ≡ column_kind schema.now name.now }
-{
-    let columns = schema.columns();
-    for column in columns {
-        if column.name.as_bytes() == name {
-            return part_kind(&column.kind);
-        }
-    }
-    None
 }
 
 /// The kinds, where each is known.
@@ -170,51 +127,18 @@ fn known_kinds(
     Ok(Some(kinds))
 }
 
-/// Whether one of the columns, which are of these kinds, has another kind in the table before.
+/// Whether one of the columns has another kind than in the table before.
 fn changes_kind(
     alloc: Global,
     base: Option<&Table>,
+    schema: &Schema,
     names: &[Text],
-    after: &[Option<PartKind>],
 ) -> Result<bool, AllocError>
-    requires { length after.now ≡ length names.now }
     ensures { IfOk result (λ changes. MatchOption (option_copied base.entry) (changes ≡ false)
-        (λ before. changes ≡ has_other_kind (map (column_kind before.schema) names.now) after.now)) }
+        (λ before. IsTrue changes ↔ HasOtherKind before.schema schema.now names.now)) }
 {
-    let Some(before) = base else {
-        return Ok(false);
-    };
-    let before = column_kinds(alloc, &before.schema, names)?;
-    Ok(has_other_kind(before.as_slice(), after))
-}
-
-fn has_other_kind(before: &[Option<PartKind>], after: &[Option<PartKind>]) -> bool
-    requires { length before.now ≡ length after.now }
-    ensures { result ≡ has_other_kind before.now after.now }
-{
-    for place in 0..before.len() {
-        if is_other_kind(before[place], after[place]) {
-            return true;
-        }
+    match base {
+        None => Ok(false),
+        Some(before) => has_other_kind(alloc, &before.schema, schema, names),
     }
-    false
-}
-
-/// Whether the kinds are known, and differ.
-fn is_other_kind(before: Option<PartKind>, after: Option<PartKind>) -> bool
-    ensures { result ≡ is_other_kind before after }
-{
-    match before {
-        None => false,
-        Some(old) => match after {
-            None => false,
-            Some(new) => !is_same_kind(old, new),
-        },
-    }
-}
-
-fn is_same_kind(kind: PartKind, other: PartKind) -> bool
-    ensures { result ≡ is_same_kind kind other }
-{
-    kind == other
 }

@@ -5,7 +5,6 @@ use Rattle.table_history.specs.Tables.{IsDiff}
 use Rattle.table_history.proofs.RowListLemmas.{distinct_filter}
 use Rattle.hudi_timeline.specs.GroupSets.{newest_rows}
 use Rattle.hudi_timeline.specs.GroupChange.{is_long, limit_passed, rows_after}
-use Rattle.hudi_timeline.proofs.LiveLemmas.{live_after, timeline_step}
 use Rattle.hudi_timeline.proofs.GroupChangeLemmas.{touched, diff_of_groups, rows_after_distinct, reversed_distinct, length-rows_after, old_rows, old_shorter}
 use Rattle.hudi_timeline.proofs.change.between.group_change.Goals as goal
 

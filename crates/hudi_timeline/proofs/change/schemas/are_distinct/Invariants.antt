@@ -1,9 +1,0 @@
-use Rattle.std.proofs.Common.{◌≡◌, true, map, take}
-use Rattle.avro_schema.specs.Names.{are_distinct}
-use Rattle.hudi_timeline.proofs.change.schemas.are_distinct.Given as goal
-
-abbrev pub invariant-loop-name : goal.invariant-loop-name
-invariant-loop-name l = record {
-  read : map (λ s. s.now) l.seen.keys ≡ take l.name-index l.names;
-  distinct : are_distinct (take l.name-index l.names) ≡ true;
-}
