@@ -1,2 +1,15 @@
 pub mod AncestryLemmas
+pub mod ConsistentLemmas
+pub mod ContentLemmas
+pub mod IdSetLemmas
+pub mod JudgedLemmas
+pub mod ListLemmas
+pub mod LocationLemmas
+pub mod MalformedLemmas
 pub mod NameLemmas
+pub mod PathLemmas
+pub mod PathMapLemmas
+pub mod ReadLemmas
+pub mod SchemaListLemmas
+pub mod StepLemmas
+pub mod ToldLemmas

@@ -1,5 +1,14 @@
 pub mod Ancestry
 pub mod ById
 pub mod Errors
+pub mod Grammar
+pub mod IdSets
+pub mod Judging
+pub mod Location
 pub mod Members
+pub mod PathMaps
+pub mod Paths
+pub mod Reading
+pub mod SchemaLists
+pub mod Schemas
 pub mod VersionName

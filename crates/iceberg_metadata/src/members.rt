@@ -1,6 +1,6 @@
 //! The members of table metadata by their kinds.
 
-ghost use Rattle.std.specs.Prelude.{codes, Some};
+ghost use Rattle.std.specs.Prelude.{◌≡◌, codes, Some};
 ghost use Rattle.serde_json.specs.Find.{get};
 ghost use Rattle.serde_json.specs.View.{view, items_view, members_view};
 ghost use Rattle.lake_basics.specs.Outcome.{each};
@@ -242,5 +242,15 @@ pub(crate) fn properties_of(
     match value.get("properties") {
         None => Ok(Items::new(alloc)),
         Some(member) => properties_in(alloc, member.as_object().ok_or(MALFORMED)?),
+    }
+}
+
+/// Whether `refs`, where it is there, is an object.
+pub(crate) fn refs_fit(value: &Value) -> bool
+    ensures { result ≡ read.refs_fit (get (codes "refs") (view value.now)) }
+{
+    match value.get("refs") {
+        None => true,
+        Some(member) => member.is_object(),
     }
 }

@@ -3,9 +3,7 @@
 ghost use Rattle.std.specs.Prelude.{◌≡◌, IfOk};
 
 use lake_basics::{Items, Text};
-
-type Ids = Items<i32>;
-
+use schema_map::Ids;
 use std::alloc::{AllocError, Global};
 use table_history::Schema;
 

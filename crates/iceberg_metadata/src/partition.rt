@@ -1,0 +1,168 @@
+//! The default partition spec, and the columns of which its fields are made.
+
+ghost use Rattle.std.specs.Prelude.{◌≡◌, ◌||◌, not, option_map, option_and_then, is_none, IfOk};
+ghost use Rattle.std.specs.List.{list_any};
+ghost use Rattle.std.specs.Option.{option_copied};
+ghost use Rattle.table_history.specs.History.{column_type};
+ghost use Rattle.table_history.specs.SchemaView.{type_view};
+ghost use Rattle.partition_map.specs.Columns.{column_kind};
+ghost use Rattle.iceberg_metadata.specs.Paths.{held_spec, held_schema, default_fields, sources, top_kind, path_of, path_ids_of};
+ghost use Rattle.iceberg_metadata.specs.PathMaps.{path_at};
+ghost use Rattle.iceberg_metadata.specs.Judging.{is_other_transform, are_distinct, has_other_partition};
+
+use crate::ids::id_set;
+use crate::metadata::{Metadata, Spec, SpecField};
+use crate::paths::{PathsById, path_at, path_ids_of, paths_by_id};
+use lake_basics::Text;
+use partition_map::{PartKind, part_kind};
+use schema_map::Ids;
+use std::alloc::{AllocError, Global};
+use table_history::{ColumnType, Schema};
+
+fn held_spec(specs: &[Spec], id: i32) -> Option<&Spec>
+    ensures { option_copied result ≡ held_spec specs.now id }
+{
+    for spec in specs {
+        if spec.id == id {
+            return Some(spec);
+        }
+    }
+    None
+}
+
+/// The fields of the default spec.
+pub(crate) fn default_fields(metadata: &Metadata) -> &[SpecField]
+    ensures { result.now ≡ default_fields metadata.now }
+{
+    match held_spec(metadata.specs.as_slice(), metadata.default_spec) {
+        None => &[],
+        Some(spec) => spec.fields.as_slice(),
+    }
+}
+
+/// Whether a field has another transform than identity.
+pub(crate) fn has_other_transform(fields: &[SpecField]) -> bool
+    ensures { result ≡ list_any is_other_transform fields.now }
+{
+    fields
+        .iter()
+        .any(|field| field.transform.as_str() != "identity")
+}
+
+// ---- columns
+
+fn type_of<'a>(schema: &'a Schema, name: &str) -> Option<&'a ColumnType>
+    ensures { option_map (λ t. type_view t.now) result ≡ column_type schema.now name.now }
+{
+    let columns = schema.columns();
+    for column in columns {
+        if column.name.as_str() == name {
+            return Some(&column.kind);
+        }
+    }
+    None
+}
+
+fn kind_of(schema: &Schema, name: &str) -> Option<PartKind>
+    ensures { result ≡ column_kind schema.now name.now }
+{
+    match type_of(schema, name) {
+        None => None,
+        Some(kind) => part_kind(kind),
+    }
+}
+
+/// The kind of the column at this path, if it is a top-level one.
+fn top_kind(schema: &Schema, path: &[Text]) -> Option<PartKind>
+    ensures { result ≡ top_kind schema.now path.now }
+{
+    match path {
+        [name] => kind_of(schema, name.as_str()),
+        _ => None,
+    }
+}
+
+fn source_kind(schema: &Schema, paths: &PathsById, id: i32) -> Option<PartKind>
+    ensures { result ≡ option_and_then (top_kind schema.now) (path_at paths.now id) }
+{
+    match path_at(paths, id) {
+        None => None,
+        Some(path) => top_kind(schema, path.as_slice()),
+    }
+}
+
+// ---- fields
+
+fn source_ids(alloc: Global, fields: &[SpecField]) -> Result<Vec<i64>, AllocError>
+    ensures { IfOk result (λ ids. ids.items ≡ sources fields.now) }
+{
+    let mut ids = Vec::with_capacity(alloc, fields.len())?;
+    for field in fields {
+        ids.push(i64::from(field.source_id))?;
+    }
+    Ok(ids)
+}
+
+/// Whether the field is made of no top-level column, or of one whose type has no kind.
+fn lacks_kind(schema: &Schema, paths: &PathsById, field: &SpecField) -> bool
+    ensures { result ≡ is_none
+        (option_and_then (top_kind schema.now) (path_at paths.now field.now.source_id)) }
+{
+    match source_kind(schema, paths, field.source_id) {
+        None => true,
+        Some(_) => false,
+    }
+}
+
+fn has_other_source(schema: &Schema, paths: &PathsById, fields: &[SpecField]) -> bool
+    ensures { result ≡ list_any (λ f. is_none
+        (option_and_then (top_kind schema.now) (path_at paths.now f.source_id))) fields.now }
+{
+    for field in fields {
+        if lacks_kind(schema, paths, field) {
+            return true;
+        }
+    }
+    false
+}
+
+fn lacks_kinds(
+    alloc: Global,
+    fields: &[SpecField],
+    schema: &Schema,
+    ids: &Ids,
+) -> Result<bool, AllocError>
+    ensures { IfOk result (λ lacks. lacks ≡ (not (are_distinct (sources fields.now))
+        || list_any (λ f. is_none (option_and_then (top_kind schema.now)
+        (path_of (path_ids_of schema.now ids.now) f.source_id))) fields.now)) }
+{
+    let sources = source_ids(alloc, fields)?;
+    if id_set(alloc, sources.as_slice())?.is_none() {
+        return Ok(true);
+    }
+    let pairs = path_ids_of(alloc, schema, ids)?;
+    let paths = paths_by_id(alloc, pairs.as_slice())?;
+    Ok(has_other_source(schema, &paths, fields))
+}
+
+fn held_schema(schemas: &[(i32, Schema, Ids)], id: i32) -> Option<&(i32, Schema, Ids)>
+    ensures { option_copied result ≡ held_schema schemas.now id }
+{
+    for schema in schemas {
+        if schema.0 == id {
+            return Some(schema);
+        }
+    }
+    None
+}
+
+/// Whether a field of the default spec is made of a column that isn't a top-level one of the current
+/// schema, that another field is made of too, or whose type has no kind.
+pub(crate) fn has_other_partition(alloc: Global, metadata: &Metadata) -> Result<bool, AllocError>
+    ensures { IfOk result (λ has. has ≡ has_other_partition metadata.now) }
+{
+    match held_schema(metadata.schemas.as_slice(), metadata.current_schema) {
+        None => Ok(false),
+        Some((_, schema, ids)) => lacks_kinds(alloc, default_fields(metadata), schema, ids),
+    }
+}

@@ -1,0 +1,202 @@
+//! Reading the metadata of a table.
+
+ghost use Rattle.std.specs.Prelude.{◌≡◌, ◌⊎◌, codes, IfOk, IfErr, OnOk, Err};
+ghost use Rattle.serde_json.specs.View.{view};
+ghost use Rattle.lake_basics.specs.Outcome.{required};
+ghost use Rattle.json_reading.specs.Json.{json, whole_member};
+ghost use Rattle.table_history.specs.First.{IsFirst, NoneOf};
+ghost use Rattle.iceberg_metadata.specs.Errors.{Gives, GivesBy};
+ghost use Rattle.iceberg_metadata.specs.Judging.{members, unkept, consistent, version_two, contents, limit_passed, judged, metadata_of};
+ghost use Rattle.iceberg_metadata.specs.Reading.{HasCause, causes, IsRead};
+ghost use Rattle.iceberg_metadata.specs.declared.error.MetadataError.TheVariants as errors;
+
+use crate::consistent::is_consistent;
+use crate::error::{MALFORMED, MetadataError};
+use crate::members::{
+    current_snapshot_of, properties_of, refs_fit, required_int, required_list, required_text,
+    required_whole, snapshots_of, specs_of,
+};
+use crate::metadata::{Metadata, SpecField};
+use crate::partition::{default_fields, has_other_partition, has_other_transform};
+use crate::paths::is_renamed;
+use crate::schemas::{has_limit_of_columns, has_limit_of_depth, has_schema_type, schemas_in};
+use json_reading::{read_json, whole_of};
+use lake_basics::limits::MAX_PARTITION_COLUMNS;
+use lake_basics::{Items, ReadError};
+use schema_map::Ids;
+use serde_json::Value;
+use std::alloc::Global;
+use table_history::{LimitKind, Schema};
+
+fn json_of(alloc: Global, bytes: &[u8]) -> Result<Value, MetadataError>
+    ensures { GivesBy view result (required errors.Malformed (json bytes.now)) }
+{
+    match read_json(alloc, bytes, MALFORMED) {
+        Ok(value) => Ok(value),
+        Err(ReadError::Memory) => Err(MetadataError::Memory),
+        Err(ReadError::Fault(fault)) => Err(fault),
+    }
+}
+
+/// The format version is 2.
+fn version_two(value: &Value) -> Result<(), MetadataError>
+    ensures { Gives result (version_two (whole_member (codes "format-version") (view value.now))) }
+{
+    match whole_of(value, "format-version") {
+        None => Err(MALFORMED),
+        Some(2) => Ok(()),
+        Some(_) => Err(MetadataError::FormatVersion),
+    }
+}
+
+/// The members that are kept, beside these schemas.
+#[tactic(auto, unfolding(crate::specs::Judging::members))]
+fn members_of(
+    alloc: Global,
+    value: &Value,
+    schemas: Items<(i32, Schema, Ids)>,
+) -> Result<Metadata, MetadataError>
+    ensures { Gives result (members (view value.now) schemas) }
+{
+    let uuid = required_text(alloc, value, "table-uuid")?;
+    let location = required_text(alloc, value, "location")?;
+    let last_sequence = required_whole(value, "last-sequence-number")?;
+    let last_updated = required_whole(value, "last-updated-ms")?;
+    let last_column_id = required_int(value, "last-column-id")?;
+    let current_schema = required_int(value, "current-schema-id")?;
+    let listed = required_list(value, "partition-specs")?;
+    let specs = specs_of(alloc, listed)?;
+    let default_spec = required_int(value, "default-spec-id")?;
+    let last_partition_id = required_int(value, "last-partition-id")?;
+    let properties = properties_of(alloc, value)?;
+    let current_snapshot = current_snapshot_of(value)?;
+    let snapshots = snapshots_of(alloc, value)?;
+    Ok(Metadata {
+        uuid,
+        location,
+        last_sequence,
+        last_updated,
+        last_column_id,
+        schemas,
+        current_schema,
+        specs,
+        default_spec,
+        last_partition_id,
+        properties,
+        current_snapshot,
+        snapshots,
+    })
+}
+
+/// The members that aren't kept are of their kinds.
+#[tactic(auto, unfolding(crate::specs::Judging::unkept))]
+fn unkept(value: &Value) -> Result<(), MetadataError>
+    ensures { Gives result (unkept (view value.now)) }
+{
+    required_list(value, "sort-orders")?;
+    required_int(value, "default-sort-order-id")?;
+    if refs_fit(value) {
+        Ok(())
+    } else {
+        Err(MALFORMED)
+    }
+}
+
+fn consistent(alloc: Global, metadata: &Metadata, schemas: &[i64]) -> Result<(), MetadataError>
+    ensures { Gives result (consistent metadata.now schemas.now) }
+{
+    if is_consistent(alloc, metadata, schemas)? {
+        Ok(())
+    } else {
+        Err(MALFORMED)
+    }
+}
+
+/// What the value says, and why schemas can't be taken over.
+#[tactic(auto, unfolding(crate::specs::Judging::contents))]
+fn contents_of(
+    alloc: Global,
+    value: &Value,
+) -> Result<(Metadata, Items<MetadataError>), MetadataError>
+    ensures { Gives result (contents (view value.now)) }
+{
+    version_two(value)?;
+    let listed = required_list(value, "schemas")?;
+    let schemas = schemas_in(alloc, listed)?;
+    let metadata = members_of(alloc, value, schemas.read)?;
+    unkept(value)?;
+    consistent(alloc, &metadata, schemas.ids.as_slice())?;
+    Ok((metadata, schemas.refusals))
+}
+
+/// Nothing is shown that isn't supported, and no number is passed.
+fn judged(
+    alloc: Global,
+    metadata: &Metadata,
+    refusals: &[MetadataError],
+) -> Result<(), MetadataError>
+    ensures { Gives result (judged metadata.now refusals.now) }
+{
+    let fields = default_fields(metadata);
+    if has_schema_type(refusals) {
+        return Err(MetadataError::SchemaType);
+    }
+    if has_other_transform(fields) {
+        return Err(MetadataError::Transform);
+    }
+    if is_renamed(alloc, metadata.schemas.as_slice())? {
+        return Err(MetadataError::Renamed);
+    }
+    if has_other_partition(alloc, metadata)? {
+        return Err(MetadataError::PartitionType);
+    }
+    match limit_passed(fields, refusals) {
+        None => Ok(()),
+        Some(which) => Err(MetadataError::Limit { which }),
+    }
+}
+
+fn limit_passed(fields: &[SpecField], refusals: &[MetadataError]) -> Option<LimitKind>
+    ensures { result ≡ limit_passed fields.now refusals.now }
+{
+    if has_limit_of_columns(refusals) {
+        Some(LimitKind::Columns)
+    } else if has_limit_of_depth(refusals) {
+        Some(LimitKind::Depth)
+    } else if fields.len() as u64 > MAX_PARTITION_COLUMNS {
+        Some(LimitKind::PartitionColumns)
+    } else {
+        None
+    }
+}
+
+#[tactic(auto, unfolding(crate::specs::Judging::metadata_of))]
+fn metadata_of(alloc: Global, bytes: &[u8]) -> Result<Metadata, MetadataError>
+    ensures { Gives result (metadata_of bytes.now) }
+{
+    let value = json_of(alloc, bytes)?;
+    let (metadata, refusals) = contents_of(alloc, &value)?;
+    judged(alloc, &metadata, refusals.as_slice())?;
+    Ok(metadata)
+}
+
+/// The metadata that a text says (Apache Iceberg specification, "Table Metadata"). `FormatVersion`
+/// where its format version is a whole number other than 2; then `Malformed` where it isn't in the
+/// grammar; then what isn't supported, `SchemaType`, `Transform`, `Renamed` and `PartitionType`; then
+/// `Limit`, of the columns and levels of a schema and of partition columns.
+pub fn read_metadata(alloc: Global, bytes: &[u8]) -> Result<Metadata, MetadataError>
+    // What is read is what the text says.
+    ensures found { IfOk result (IsRead bytes.now) }
+    // It is read only where there is no cause against it.
+    ensures supported { OnOk result (NoneOf (HasCause bytes.now) causes) }
+    // A refusal has its cause, and no cause that is told before it.
+    ensures refused { IfErr result (λ e. (e ≡ errors.Memory)
+        ⊎ IsFirst (HasCause bytes.now) causes e) }
+    // Without a cause the text is read, unless memory runs out.
+    ensures complete { NoneOf (HasCause bytes.now) causes
+        → IfErr result (λ e. e ≡ errors.Memory) }
+    // The same as a function.
+    ensures exact { Gives result (metadata_of bytes.now) }
+{
+    metadata_of(alloc, bytes)
+}
