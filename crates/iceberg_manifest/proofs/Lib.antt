@@ -1,3 +1,6 @@
+pub mod ContainerLaws
 pub mod EachLaws
+pub mod FieldLemmas
+pub mod ListLemmas
 pub mod LiveLemmas
 pub mod LiveLaws

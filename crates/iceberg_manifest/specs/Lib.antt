@@ -1,5 +1,12 @@
 pub mod Entry
 pub mod Errors
+pub mod Fields
+pub mod Values
+pub mod Partition
+pub mod EntryReading
+pub mod ListReading
+pub mod Containers
+pub mod Scans
 pub mod Lists
 pub mod Live
 pub mod LiveRows

@@ -57,3 +57,19 @@ pub(crate) enum Fault {
 }
 
 pub(crate) const MALFORMED: ReadError<Fault> = ReadError::Fault(Fault::Malformed);
+
+/// What is wrong with Avro values that should be entries or rows of a list.
+#[derive(Clone, Copy, Debug, Drop, PartialEq, Eq)]
+pub(crate) enum Flaw {
+    Malformed,
+}
+
+pub(crate) const FLAW: ReadError<Flaw> = ReadError::Fault(Flaw::Malformed);
+
+/// What is wrong with an entry.
+#[derive(Clone, Copy, Debug, Drop, PartialEq, Eq)]
+pub(crate) enum EntryFault {
+    Malformed,
+    RowDeletes,
+    FileFormat,
+}

@@ -1,16 +1,28 @@
-//! Iceberg's manifests (Apache Iceberg table specification, "Manifests"): their entries, and the rows
-//! of those that are live ("Scan Planning").
+//! Iceberg's manifests and manifest lists (Apache Iceberg table specification, "Manifests" and
+//! "Manifest Lists"), and the rows of the entries that are live ("Scan Planning").
 #![tactic(auto)]
 
+mod data_file;
 mod entry;
 mod error;
+mod field;
 mod info;
+mod list;
 mod live;
+mod partition;
+mod plan;
+mod reading;
+mod scan;
+mod value;
 
 pub use entry::{Entries, Entry};
 pub use error::ManifestError;
 pub use info::{Infos, ManifestInfo};
 pub use live::{LiveRow, Rows, live_rows};
+pub use partition::PartColumn;
+pub use reading::{entries_of, read_list, read_manifest};
 
+#[cfg(test)]
+mod reading_tests;
 #[cfg(test)]
 mod tests;
