@@ -2,5 +2,6 @@ pub mod ContainerLaws
 pub mod EachLaws
 pub mod FieldLemmas
 pub mod ListLemmas
+pub mod ListWrittenLemmas
 pub mod LiveLemmas
 pub mod LiveLaws

@@ -5,6 +5,8 @@ pub mod Values
 pub mod Partition
 pub mod EntryReading
 pub mod ListReading
+pub mod WrittenTypes
+pub mod ListWriting
 pub mod Containers
 pub mod Scans
 pub mod Lists

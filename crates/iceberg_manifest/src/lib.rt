@@ -1,5 +1,6 @@
 //! Iceberg's manifests and manifest lists (Apache Iceberg table specification, "Manifests" and
-//! "Manifest Lists"), and the rows of the entries that are live ("Scan Planning").
+//! "Manifest Lists"): both read, lists written, and the rows of the entries that are live ("Scan
+//! Planning").
 #![tactic(auto)]
 
 mod data_file;
@@ -8,16 +9,19 @@ mod error;
 mod field;
 mod info;
 mod list;
+mod list_writing;
 mod live;
 mod partition;
 mod plan;
 mod reading;
 mod scan;
+mod schema;
 mod value;
 
 pub use entry::{Entries, Entry};
 pub use error::ManifestError;
 pub use info::{Infos, ManifestInfo};
+pub use list_writing::list_bytes;
 pub use live::{LiveRow, Rows, live_rows};
 pub use partition::PartColumn;
 pub use reading::{entries_of, read_list, read_manifest};

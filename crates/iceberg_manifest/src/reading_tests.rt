@@ -1,5 +1,9 @@
 //! Manifests and manifest lists of another writer, and what is refused of their bytes.
-use super::{Entries, LiveRow, ManifestError, PartColumn, live_rows, read_list, read_manifest};
+use super::{
+    Entries, LiveRow, ManifestError, ManifestInfo, PartColumn, list_bytes, live_rows, read_list,
+    read_manifest,
+};
+use lake_basics::Text;
 use std::alloc::{AllocError, Global};
 use std::test::Fail;
 use table_history::LimitKind;
@@ -113,5 +117,33 @@ fn bytes_that_are_no_manifest_are_refused(rt: HostRuntime) -> Result<(), Fail> {
     assert_eq!(rt; refusal(alloc, &LIST), Some(ManifestError::Malformed));
     assert_eq!(rt; refusal(alloc, &MANY), Some(limit));
     assert_eq!(rt; refusal(alloc, &DEFLATED), Some(ManifestError::Codec));
+    Ok(())
+}
+
+#[test]
+fn a_manifest_list_is_written(rt: HostRuntime) -> Result<(), Fail> {
+    let alloc = rt.alloc();
+    let infos = [ManifestInfo {
+        manifest_path: Text::from_str(alloc, "/w/metadata/m1.avro")?,
+        manifest_length: 965,
+        partition_spec_id: 0,
+        content: 0,
+        sequence_number: 3,
+        min_sequence_number: 2,
+        added_snapshot_id: 30,
+        added_files_count: 1,
+        existing_files_count: 1,
+        deleted_files_count: 1,
+        added_rows_count: 4,
+        existing_rows_count: 5,
+        deleted_rows_count: 1,
+        place: 0,
+    }];
+    let bytes = list_bytes(alloc, &infos, 30, Some(20), 3)?;
+    let list = read_list(alloc, bytes.as_slice())?;
+    let Some(info) = list.get(0) else {
+        return Ok(());
+    };
+    assert_eq!(rt; info.min_sequence_number, 2);
     Ok(())
 }

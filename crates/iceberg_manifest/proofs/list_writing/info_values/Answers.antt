@@ -1,0 +1,12 @@
+use Rattle.iceberg_manifest.proofs.ListWrittenLemmas.{at_next, trees_more, ints_more}
+use Rattle.iceberg_manifest.proofs.list_writing.info_values.Goals as goal
+
+pub loop-info-preserved : goal.loop-info-preserved
+loop-info-preserved c =
+    let is = c.args.infos.now in
+    let k = c.loop-info.info-index in
+    let next = at_next is k c.info-item.result c.loop-info-test.true c.info-item.is in
+    record {
+      trees = trees_more c.loop-info.values.items _ c.in_ok-info_value.field-0 is k c.info-item.result c.in_ok-push.ensures.items c.in_ok-info_value.ensures.tree next c.loop-info.invariant.trees;
+      ints = ints_more is k c.info-item.result next c.in_ok-info_value.ensures.ints c.loop-info.invariant.ints;
+    }
