@@ -26,7 +26,7 @@ pub contested_by_script : (old mid : FuseStore) (to : List ℕ) (inner : Memory)
     → inner ≡ changed mid.inner (stored mid.inner.disk to others_file) → contests ≡ next_of mid.contests → PublishesByScript {T = Unit {0}} to old (record mid { inner = inner; contests = contests }) (Err Taken)
 contested_by_script old mid to inner contests is works named file more =
     let inside : mid.inner ≡ old.inner = ap inner_of is in
-    let before : mid.contests ≡ old.contests = ap contests_of is in
+    let before : mid.contests ≡ old.contests = ap (λ (f : FuseStore). f.contests) is in
     let script : mid.script ≡ old.script = ap script_of is in
     let contested : is_contested old.script old.calls ≡ true = ap (λ (s : Script). is_contested s old.calls) (sym script) ∙ named in
     record {

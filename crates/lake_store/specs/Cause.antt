@@ -1,11 +1,22 @@
 -- Why a call refuses. A count of a store or of a sink is a function of its state, and so is whether it may go up at all.
 use Rattle.std.specs.Prelude.{◌≡◌, ℕ, ◌+◌, ◌-◌, ◌^◌, ◌≤◌, min, Result, Ok, Err, IsErrOf}
+use Rattle.std.proofs.Common.{arith}
 use Rattle.lake_store.specs.declared.store.StoreError.{StoreError}
 use Rattle.lake_store.specs.declared.store.StoreError.TheVariants as error
 
 -- a count of 64 bits went up, or stands at its last number
 abbrev pub Rose : ℕ → ℕ → Type 0
 Rose before now = min (before + 1) (2 ^ 64 - 1) ≤ now
+
+-- what a field of 64 bits counts, which never passes the last number
+abbrev pub count_of : ℕ → ℕ
+count_of n = min n (2 ^ 64 - 1)
+
+pub count_ends : (n : ℕ) → count_of n ≤ 2 ^ 64 - 1
+count_ends n = omega arith
+
+pub nothing_counted : 0 ≤ 2 ^ 64 - 1
+nothing_counted = omega arith
 
 -- A refusal for a fault comes only where a fault may come, and was counted.
 pub record HasFault {S : Type 0} (faults : S → ℕ) (may_fail : S → Type 0) (old new : S) (Refused : Type 0) : Type 0 where

@@ -100,6 +100,7 @@ impl FuseStore {
 }
 
 impl Store for FuseStore {
+    ghost use Rattle.lake_store.specs.Cause.{count_ends};
     ghost use Rattle.lake_store.specs.Fuse.{FuseCanBeContested, FuseCanFail, contests_of, faults_of, fuse_disk, fuse_left_since, fuse_time};
     ghost use Rattle.lake_store.specs.Memory.{counts_now, earlier, only_now};
 
@@ -118,6 +119,8 @@ impl Store for FuseStore {
     ghost contests = { contests_of };
 
     ghost may_contest = { FuseCanBeContested };
+
+    ghost counts_end = { λ s. (count_ends s.faults, count_ends s.contests) };
 
     ghost earlier = { λ s t u image told le left. earlier s.inner t u image le left };
 

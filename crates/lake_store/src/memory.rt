@@ -117,6 +117,7 @@ impl MemoryStore {
 }
 
 impl Store for MemoryStore {
+    ghost use Rattle.lake_store.specs.Cause.{nothing_counted};
     ghost use Rattle.lake_store.specs.Memory.{counts_now, disk_of, earlier, left_since_of, only_now, time_of};
 
     ghost tells = { Unit {0} };
@@ -134,6 +135,8 @@ impl Store for MemoryStore {
     ghost contests = { λ _. 0 };
 
     ghost may_contest = { λ _. ⊥ };
+
+    ghost counts_end = { λ _. (nothing_counted, nothing_counted) };
 
     ghost earlier = { λ m t u image told le left. earlier m t u image le left };
 

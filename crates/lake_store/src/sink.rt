@@ -1,5 +1,5 @@
 //! Where lines of output go.
-ghost use Rattle.std.specs.Prelude.{◌≡◌, [], ◌++◌, List, ℕ, take, IsErrOf, OnErr, OnOk};
+ghost use Rattle.std.specs.Prelude.{◌≡◌, ◌≤◌, ◌-◌, ◌^◌, [], ◌++◌, List, ℕ, take, IsErrOf, OnErr, OnOk};
 ghost use Rattle.lake_store.specs.Cause.{HasFault};
 
 use std::alloc::{AllocError, Global};
@@ -35,6 +35,9 @@ pub trait Sink {
 
     /// Whether a put may fail.
     ghost may_fail: { Self → Type 0 };
+
+    /// The count doesn't pass the last number of 64 bits, at which it stands still.
+    ghost count_ends: { (sink : Self) → faults sink ≤ 2 ^ 64 - 1 };
 
     /// Puts a piece out. After a refusal a front of it may have gone out.
     fn put(&mut self, bytes: &[u8]) -> Result<(), SinkError>
@@ -81,6 +84,7 @@ impl MemorySink {
 }
 
 impl Sink for MemorySink {
+    ghost use Rattle.lake_store.specs.Cause.{count_ends};
     ghost use Rattle.lake_store.specs.Sink.{PutsByNumber, SinkCanFail, output_of, sink_faults_of};
 
     ghost tells = { Unit {0} };
@@ -90,6 +94,8 @@ impl Sink for MemorySink {
     ghost faults = { sink_faults_of };
 
     ghost may_fail = { SinkCanFail };
+
+    ghost count_ends = { λ s. count_ends s.faults };
 
     fn put(&mut self, bytes: &[u8]) -> Result<(), SinkError>
         ensures ok { OnOk result (output_of self.new ≡ output_of self.old ++ bytes.now) }

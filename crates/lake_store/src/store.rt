@@ -1,5 +1,5 @@
 //! A store of files as the bridge sees it: what its calls do, and what a crash may leave.
-ghost use Rattle.std.specs.Prelude.{◌≡◌, ◌⊎◌, ◌<◌, ◌≤◌, List, ℕ, drop, length, take, IfOk, IfSome, IsErrOf, IsSome, None, OnErr, OnOk};
+ghost use Rattle.std.specs.Prelude.{◌≡◌, ◌⊎◌, ◌<◌, ◌≤◌, ◌-◌, ◌^◌, List, ℕ, drop, length, take, IfOk, IfSome, IsErrOf, IsSome, None, OnErr, OnOk};
 ghost use Rattle.std.specs.Option.{option_map};
 ghost use Rattle.std.specs.FinMap as map;
 ghost use Rattle.std.specs.Ordering.{nat_cmp};
@@ -184,6 +184,10 @@ pub trait Store {
         ensures not_too_long { IsNotTooLong result }
         ensures contest { HasNoContest contests may_contest self.old self.new
             (IsErrOf result StoreError.Taken) };
+
+    /// No count passes the last number of 64 bits, at which a count stands still.
+    ghost counts_end: { (store : Self)
+        → (faults store ≤ 2 ^ 64 - 1) × (contests store ≤ 2 ^ 64 - 1) };
 
     /// The moments since a time are among those since an earlier one.
     ghost earlier: { (store : Self) (t u : ℕ) (image : Files) → tells → t ≤ u

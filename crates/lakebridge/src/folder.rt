@@ -87,6 +87,7 @@ impl<R> FolderStore<R> {
 
 impl<R: Files + AllocGlobal + Clone + Drop> Store for FolderStore<R> {
     ghost use Rattle.std.specs.Prelude.{ℕ};
+    ghost use Rattle.lake_store.specs.Cause.{count_ends, count_of};
     ghost use Rattle.lake_store.specs.Disk.{empty_disk};
 
     ghost tells = { ⊥ };
@@ -97,13 +98,15 @@ impl<R: Files + AllocGlobal + Clone + Drop> Store for FolderStore<R> {
 
     ghost left_since = { λ _ t image. ⊥ };
 
-    ghost faults = { λ s. s.faults };
+    ghost faults = { λ s. count_of s.faults };
 
     ghost may_fail = { λ _. Unit {0} };
 
-    ghost contests = { λ s. s.contests };
+    ghost contests = { λ s. count_of s.contests };
 
     ghost may_contest = { λ _. Unit {0} };
+
+    ghost counts_end = { λ s. (count_ends s.faults, count_ends s.contests) };
 
     ghost earlier = { λ s t u image told le left. absurd told };
 

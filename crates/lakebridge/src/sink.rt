@@ -1,6 +1,6 @@
 //! The standard output as a sink.
 ghost use Rattle.std.specs.Prelude.{◌≡◌, ◌≤◌, [], ℕ, List};
-ghost use Rattle.lake_store.specs.Cause.{Rose};
+ghost use Rattle.lake_store.specs.Cause.{Rose, count_of, count_ends as small};
 
 use lake_store::{Sink, SinkError};
 use std::io::{self, Write};
@@ -32,9 +32,11 @@ impl<R: Print> Sink for StdSink<R> {
 
     ghost output = { λ _. [] };
 
-    ghost faults = { λ s. s.faults };
+    ghost faults = { λ s. count_of s.faults };
 
     ghost may_fail = { λ _. Unit {0} };
+
+    ghost count_ends = { λ s. small s.faults };
 
     fn put(&mut self, bytes: &[u8]) -> Result<(), SinkError> {
         match io::writer(&self.rt).write_all(bytes) {
