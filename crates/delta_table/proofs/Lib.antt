@@ -1,0 +1,5 @@
+pub mod PathLaws
+pub mod LogLaws
+pub mod Runs
+mod VersionRuns
+mod NamedVersions

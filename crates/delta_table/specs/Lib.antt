@@ -1,0 +1,3 @@
+pub mod Versions
+pub mod Log
+pub mod Refusals

@@ -1,0 +1,166 @@
+//! What the versions of a log say, one after another.
+
+ghost use Rattle.std.specs.Prelude.{◌≡◌, ◌<◌, ◌≤◌, ◌+◌, ◌^◌, ◌⊎◌, ℕ, IfErr, IfOk, IsErrOf, OnOk, Some, None, unwrap_or};
+ghost use Rattle.lake_basics.specs.declared.limits.TheConstants.{MAX_DELTA_VERSION};
+ghost use Rattle.lake_store.specs.Runs.{FailsBy, IsUncontestedBy, OnlyReads};
+ghost use Rattle.delta_log.specs.Change.{IsChangeRefusal};
+ghost use Rattle.delta_log.specs.Sound.{IsSound};
+ghost use Rattle.delta_table.specs.Log.{HasLiveRows, IsLogOf, IsStep, SaysCommit};
+ghost use Rattle.delta_table.specs.Refusals.{IsLogRefusal, IsStepRefusal, IsVersionRefusal, error_at};
+ghost use Rattle.delta_table.specs.declared.error.LogError.TheVariants.{StoreFault};
+
+use crate::error::{LogError, error_of_read};
+use crate::versions::version_path;
+use delta_log::{DeltaCommit, DeltaError, MetaData, Protocol, change_of, read_commit};
+use lake_basics::limits::MAX_COMMITS;
+use lake_store::Store;
+use std::alloc::Global;
+use table_history::Table;
+
+/// What a log's versions have said so far: the table, and the newest metadata and protocol.
+#[derive(Drop)]
+pub struct Log {
+    pub table: Table,
+    pub meta: MetaData,
+    pub protocol: Protocol,
+}
+
+/// The commit of a version, up to version 2^63 - 1.
+pub fn read_version<S: Store>(
+    alloc: Global,
+    store: &mut S,
+    version: u64,
+) -> Result<DeltaCommit, LogError>
+    requires { version ≤ MAX_DELTA_VERSION }
+    ensures says { S.tells → IfOk result (SaysCommit (S.disk store.old).files version) }
+    ensures sound { IfOk result IsSound }
+    ensures refused { S.tells → IfErr result (IsVersionRefusal (S.disk store.old).files version) }
+    ensures only_reads { S.tells → OnlyReads ⟦<S as Store>⟧ store.old store.new }
+    ensures cause { FailsBy ⟦<S as Store>⟧ store.old store.new (IsErrOf result StoreFault) }
+    ensures contest { IsUncontestedBy ⟦<S as Store>⟧ store.old store.new ⊥ }
+{
+    let path = version_path(alloc, version)?;
+    let bytes = match store.read(alloc, path.as_str()) {
+        Ok(Some(bytes)) => bytes,
+        Ok(None) => return Err(LogError::Missing { version }),
+        Err(error) => return Err(error_of_read(error, version)),
+    };
+    match read_commit(alloc, bytes.as_slice()) {
+        Ok(commit) => Ok(commit),
+        Err(error) => Err(error_at(version, error)),
+    }
+}
+
+/// What is told of a version's commit that is refused.
+fn error_at(version: u64, error: DeltaError) -> LogError
+    ensures { result ≡ error_at version error }
+{
+    match error {
+        DeltaError::Memory => LogError::Memory,
+        error => LogError::Refused { version, error },
+    }
+}
+
+/// What the first commit says.
+fn first_log(alloc: Global, commit: DeltaCommit) -> Result<Log, DeltaError>
+    requires { IsSound commit }
+    ensures step { IfOk result (λ log. IsStep commit None log.table) }
+    ensures meta { IfOk result (λ log. commit.meta ≡ Some log.meta) }
+    ensures protocol { IfOk result (λ log. commit.protocol ≡ Some log.protocol) }
+    ensures refused { IfErr result (IsChangeRefusal commit None) }
+{
+    let change = change_of(alloc, &commit, None)?;
+    let DeltaCommit { protocol, meta, .. } = commit;
+    let Some(meta) = meta else {
+        unreachable!();
+    };
+    let Some(protocol) = protocol else {
+        unreachable!();
+    };
+    let mut table = Table::empty(alloc, meta.partition.as_slice())?;
+    table.apply(alloc, &change)?;
+    Ok(Log {
+        table,
+        meta,
+        protocol,
+    })
+}
+
+/// What one commit more says.
+fn next_log(alloc: Global, log: Log, commit: DeltaCommit) -> Result<Log, DeltaError>
+    requires { IsSound commit }
+    ensures step { IfOk result (λ next. IsStep commit (Some log.table) next.table) }
+    ensures meta { IfOk result (λ next. next.meta ≡ unwrap_or commit.meta log.meta) }
+    ensures protocol { IfOk result
+        (λ next. next.protocol ≡ unwrap_or commit.protocol log.protocol) }
+    ensures refused { IfErr result (IsChangeRefusal commit (Some log.table)) }
+{
+    let change = change_of(alloc, &commit, Some(&log.table))?;
+    let DeltaCommit { protocol, meta, .. } = commit;
+    let mut table = log.table;
+    table.apply(alloc, &change)?;
+    Ok(Log {
+        table,
+        meta: meta.unwrap_or(log.meta),
+        protocol: protocol.unwrap_or(log.protocol),
+    })
+}
+
+fn read_first<S: Store>(alloc: Global, store: &mut S) -> Result<Log, LogError>
+    ensures log { S.tells → IfOk result (IsLogOf (S.disk store.old).files 1) }
+    ensures refused { S.tells → IfErr result (IsStepRefusal (S.disk store.old).files 0 None) }
+    ensures only_reads { S.tells → OnlyReads ⟦<S as Store>⟧ store.old store.new }
+    ensures cause { FailsBy ⟦<S as Store>⟧ store.old store.new (IsErrOf result StoreFault) }
+    ensures contest { IsUncontestedBy ⟦<S as Store>⟧ store.old store.new ⊥ }
+{
+    let commit = read_version(alloc, store, 0)?;
+    match first_log(alloc, commit) {
+        Ok(log) => Ok(log),
+        Err(error) => Err(error_at(0, error)),
+    }
+}
+
+/// What the log says with one version more.
+fn read_next<S: Store>(
+    alloc: Global,
+    store: &mut S,
+    log: Log,
+    version: u64,
+) -> Result<Log, LogError>
+    requires { version ≤ MAX_DELTA_VERSION }
+    ensures log { S.tells → IsLogOf (S.disk store.old).files version log
+        → IfOk result (IsLogOf (S.disk store.old).files (version + 1)) }
+    ensures refused { S.tells
+        → IfErr result (IsStepRefusal (S.disk store.old).files version (Some log.table)) }
+    ensures only_reads { S.tells → OnlyReads ⟦<S as Store>⟧ store.old store.new }
+    ensures cause { FailsBy ⟦<S as Store>⟧ store.old store.new (IsErrOf result StoreFault) }
+    ensures contest { IsUncontestedBy ⟦<S as Store>⟧ store.old store.new ⊥ }
+{
+    let commit = read_version(alloc, store, version)?;
+    match next_log(alloc, log, commit) {
+        Ok(log) => Ok(log),
+        Err(error) => Err(error_at(version, error)),
+    }
+}
+
+/// What the versions of a log say from the first to the newest (Delta protocol, "Action
+/// Reconciliation"). Each is read once. A refusal is that of the first version at fault.
+pub fn read_log<S: Store>(alloc: Global, store: &mut S, newest: u64) -> Result<Log, LogError>
+    requires { newest ≤ MAX_DELTA_VERSION }
+    ensures log { S.tells → IfOk result (IsLogOf (S.disk store.old).files (newest + 1)) }
+    ensures live { S.tells → IfOk result
+        (λ log. HasLiveRows (S.disk store.old).files (newest + 1) log.table) }
+    ensures refused { S.tells → IfErr result (IsLogRefusal (S.disk store.old).files newest) }
+    ensures only_reads { S.tells → OnlyReads ⟦<S as Store>⟧ store.old store.new }
+    ensures cause { FailsBy ⟦<S as Store>⟧ store.old store.new (IsErrOf result StoreFault) }
+    ensures contest { IsUncontestedBy ⟦<S as Store>⟧ store.old store.new ⊥ }
+{
+    if newest >= MAX_COMMITS {
+        return Err(LogError::ManyCommits);
+    }
+    let mut log = read_first(alloc, store)?;
+    for version in 1..newest + 1 {
+        log = read_next(alloc, store, log, version)?;
+    }
+    Ok(log)
+}
