@@ -19,7 +19,7 @@ use Rattle.delta_log.proofs.TableLemmas.{before_rows, before_schema, kinds_stay,
 use Rattle.delta_log.specs.declared.commit.DeltaCommit.{DeltaCommit}
 use Rattle.delta_log.specs.declared.commit.FileAction.{FileAction}
 use Rattle.delta_table.specs.declared.log.Log.{Log}
-use Rattle.delta_table.specs.Log.{HasLiveRows, IsLiveBefore, IsLog, IsLogOf, IsNewestPart, IsStep, SaysCommit}
+use Rattle.delta_table.specs.Log.{HasLiveRows, IsLiveBefore, IsLog, IsLogBy, IsLogOf, IsNewestPart, IsReadLog, IsStep, IsTaken, SaysCommit}
 use Rattle.delta_table.specs.Refusals.{IsLogRefusal, IsStepRefusal}
 use Rattle.delta_table.specs.declared.error.LogError.{LogError}
 use Rattle.delta_table.specs.declared.error.LogError.TheVariants as error
@@ -27,10 +27,16 @@ use Rattle.delta_table.proofs.PathLaws.{says_once}
 
 -- ---- one version more
 
-pub longer : (files : Files) (version : ℕ) (base : Option Table) (c : DeltaCommit) (next : Table) → IsLog files version base → SaysCommit files version c → IsStep c base next → IsLog files (version + 1) (Some next)
-longer files version base c next log says step =
+pub longer : (Taken : DeltaCommit → Option Table → Table → Type 0) (files : Files) (version : ℕ) (base : Option Table) (c : DeltaCommit) (next : Table) → IsLogBy Taken files version base → SaysCommit files version c → Taken c base next
+    → IsLogBy Taken files (version + 1) (Some next)
+longer Taken files version base c next log says taken =
     let count : suc version ≡ version + 1 = omega arith in
-    subst (λ n. IsLog files n (Some next)) count (base, log, c, says, next, step, refl)
+    subst (λ n. IsLogBy Taken files n (Some next)) count (base, log, c, says, next, taken, refl)
+
+-- a log that is read is a log
+pub read_is_log : (files : Files) (count : ℕ) (last : Option Table) → IsReadLog files count last → IsLog files count last
+read_is_log files zero last log = log
+read_is_log files (suc version) last log = (log.0, read_is_log files version log.0 log.1, log.2, log.3, log.4, log.5.0, log.6)
 
 -- under a number, or that number
 split : (m n : ℕ) → m < n + 1 → (m < n) ⊎ (m ≡ n)
@@ -64,23 +70,23 @@ module _ {A : Type 0} (part : DeltaCommit → Option A) (files : Files) where
 
 -- ---- what a log says
 
-pub log_first : (files : Files) (c : DeltaCommit) (log : Log) → SaysCommit files 0 c → IsStep c None log.table → c.meta ≡ Some log.meta → c.protocol ≡ Some log.protocol → IsLogOf files 1 log
+pub log_first : (files : Files) (c : DeltaCommit) (log : Log) → SaysCommit files 0 c → IsTaken c None log.table → c.meta ≡ Some log.meta → c.protocol ≡ Some log.protocol → IsLogOf files 1 log
 log_first files c log says step meta protocol = record {
-  table = longer files 0 None c log.table refl says step;
+  table = longer IsTaken files 0 None c log.table refl says step;
   meta = newest_here (λ (d : DeltaCommit). d.meta) files 0 c log.meta says meta;
   protocol = newest_here (λ (d : DeltaCommit). d.protocol) files 0 c log.protocol says protocol;
 }
 
-pub log_next : (files : Files) (version : ℕ) (c : DeltaCommit) (log next : Log) → IsLogOf files version log → SaysCommit files version c → IsStep c (Some log.table) next.table
+pub log_next : (files : Files) (version : ℕ) (c : DeltaCommit) (log next : Log) → IsLogOf files version log → SaysCommit files version c → IsTaken c (Some log.table) next.table
     → next.meta ≡ unwrap_or c.meta log.meta → next.protocol ≡ unwrap_or c.protocol log.protocol → IsLogOf files (version + 1) next
 log_next files version c log next was says step meta protocol = record {
-  table = longer files version (Some log.table) c next.table was.table says step;
+  table = longer IsTaken files version (Some log.table) c next.table was.table says step;
   meta = subst (IsNewestPart (λ (d : DeltaCommit). d.meta) files (version + 1)) (sym meta) (newest_next (λ (d : DeltaCommit). d.meta) files version c log.meta says c.meta refl was.meta);
   protocol = subst (IsNewestPart (λ (d : DeltaCommit). d.protocol) files (version + 1)) (sym protocol) (newest_next (λ (d : DeltaCommit). d.protocol) files version c log.protocol says c.protocol refl was.protocol);
 }
 
 -- a version that is refused behind those that can be read
-pub stops_at : (files : Files) (newest version : ℕ) (base : Option Table) (e : LogError) → version ≤ newest → IsLog files version base → IsStepRefusal files version base e → IsLogRefusal files newest e
+pub stops_at : (files : Files) (newest version : ℕ) (base : Option Table) (e : LogError) → version ≤ newest → IsReadLog files version base → IsStepRefusal files version base e → IsLogRefusal files newest e
 stops_at files newest version base error.Memory within log refused = tt
 stops_at files newest version base error.StoreFault within log refused = tt
 stops_at files newest version base error.ManyNames within log refused = refused
@@ -133,12 +139,15 @@ columns_stay c t next columns step were = by c.meta refl step.schema
     by None is schema = go None (subst (λ m. StatesSchema m None) (sym is) refl) schema
     by (Some m) is schema = go (Some next.schema) (subst (λ o. StatesSchema o (Some next.schema)) (sym is) schema) refl
 
+pub none_some : (t : Table) → None ≡ Some t → ⊥
+none_some t e = cc
+
+pub some_once : (a b : Table) → Some a ≡ Some b → a ≡ b
+some_once a b e = cc
+
 none_zero : (files : Files) (version : ℕ) → IsLog files version None → version ≡ 0
 none_zero files zero log = refl
 none_zero files (suc version) log = absurd (none_some log.4 log.6)
-  where
-    none_some : (t : Table) → None ≡ Some t → ⊥
-    none_some t e = cc
 
 module _ (files : Files) (version : ℕ) (c : DeltaCommit) (says : SaysCommit files version c) (columns : PartColumns) where
   -- what the commit adds is live behind it
@@ -201,13 +210,10 @@ live_rows files zero table log = absurd (some_none table log)
 live_rows files (suc version) table log =
     let next = log.4 in
     let made = of_base (λ t before. live_rows files version t before) log.0 log.1 log.2 log.3 next log.5 in
-    let same : next ≡ table = one_some next table (sym log.6) in
+    let same : next ≡ table = some_once next table (sym log.6) in
     let count : version + 1 ≡ suc version = omega arith in
     subst (HasLiveRows files (suc version)) same (subst (λ n. HasLiveRows files n next) count made)
   where
-    one_some : (a b : Table) → Some a ≡ Some b → a ≡ b
-    one_some a b e = cc
-
     of_base : ((t : Table) → IsLog files version (Some t) → HasLiveRows files version t) → (base : Option Table) → IsLog files version base → (c : DeltaCommit) → SaysCommit files version c → (next : Table) → IsStep c base next → HasLiveRows files (version + 1) next
     of_base so_far None before c says next step = record {
       columns = step.columns;

@@ -5,7 +5,7 @@ use Rattle.lake_store.specs.Disk.{Files}
 use Rattle.table_history.specs.First.{NoneOf}
 use Rattle.table_history.specs.Row.{Row}
 use Rattle.table_history.specs.declared.table.Table.{Table}
-use Rattle.delta_log.specs.Change.{AreRowsBehind, IsOutsideGrammar, Shows, commit_features}
+use Rattle.delta_log.specs.Change.{AreRowsBehind, CanFollow, IsOutsideGrammar, Shows, commit_features}
 use Rattle.delta_log.specs.Live.{PartColumns, ActsOn, AddsRow}
 use Rattle.delta_log.specs.Readable.{IsReadableCommit}
 use Rattle.delta_log.specs.TableBehind.{ArePartColumns, IsSchemaBehind, partition_behind, rows_before}
@@ -33,11 +33,23 @@ pub record IsStep (c : DeltaCommit) (base : Option Table) (next : Table) : Type 
   pub kinds : ArePartColumns next.schema next.partition columns
   pub rows : AreRowsBehind columns (rows_before base) c next.rows
 
--- The versions before this one are there and can be read, and make this table, each over what those before it make. Before version 0 there is none.
+-- So is it taken by a reading, which asks too that no number is passed.
+abbrev pub IsTaken : DeltaCommit → Option Table → Table → Type 0
+IsTaken c base next = IsStep c base next × CanFollow c base
+
+-- The versions before this one are there and can be read, and make this table, each taken so over what those before it make. Before version 0 there is none.
+abbrev pub IsLogBy : (DeltaCommit → Option Table → Table → Type 0) → Files → ℕ → Option Table → Type 0
+IsLogBy Taken files zero last = last ≡ None
+IsLogBy Taken files (suc version) last =
+    (base : Option Table) × IsLogBy Taken files version base × (c : DeltaCommit) × SaysCommit files version c × (next : Table) × Taken c base next × (last ≡ Some next)
+
+-- what the versions before this one stand for
 abbrev pub IsLog : Files → ℕ → Option Table → Type 0
-IsLog files zero last = last ≡ None
-IsLog files (suc version) last =
-    (base : Option Table) × IsLog files version base × (c : DeltaCommit) × SaysCommit files version c × (next : Table) × IsStep c base next × (last ≡ Some next)
+IsLog files count last = IsLogBy IsStep files count last
+
+-- the same of a log that passes no number
+abbrev pub IsReadLog : Files → ℕ → Option Table → Type 0
+IsReadLog files count last = IsLogBy IsTaken files count last
 
 -- ---- the newest actions
 
@@ -58,7 +70,7 @@ IsNewestProtocol files count protocol = IsNewestPart (λ c. c.protocol) files co
 
 -- the table, and the newest metadata and protocol, of so many versions
 pub record IsLogOf (files : Files) (count : ℕ) (log : Log) : Type 0 where
-  pub table : IsLog files count (Some log.table)
+  pub table : IsReadLog files count (Some log.table)
   pub meta : IsNewestMeta files count log.meta
   pub protocol : IsNewestProtocol files count log.protocol
 

@@ -10,7 +10,7 @@ use Rattle.delta_log.specs.Readable.{IsFirstFault}
 use Rattle.delta_log.specs.declared.commit.DeltaCommit.{DeltaCommit}
 use Rattle.delta_log.specs.declared.error.DeltaError.{DeltaError}
 use Rattle.delta_log.specs.declared.error.DeltaError.TheVariants as delta
-use Rattle.delta_table.specs.Log.{IsLog, SaysCommit}
+use Rattle.delta_table.specs.Log.{IsReadLog, SaysCommit}
 use Rattle.delta_table.specs.Versions.{HasVersion, HoldsVersion, log_folder}
 use Rattle.delta_table.specs.declared.error.LogError.{LogError}
 use Rattle.delta_table.specs.declared.error.LogError.TheVariants as error
@@ -80,9 +80,9 @@ IsStepRefusal files version base (error.Missing v) = (v ≡ version) × ¬ HasVe
 IsStepRefusal files version base (error.Large v) = (v ≡ version) × IsLarge files version
 IsStepRefusal files version base (error.Refused v e) = (v ≡ version) × (IsUnreadable files version e ⊎ IsUnfit files version base e)
 
--- A version up to the newest is refused so, and those before it can be read.
+-- A version up to the newest is refused so, and those before it can be read and pass no number.
 abbrev pub StopsAt : Files → ℕ → LogError → Type 0
-StopsAt files newest e = (version : ℕ) × (base : Option Table) × (version ≤ newest) × IsLog files version base × IsStepRefusal files version base e
+StopsAt files newest e = (version : ℕ) × (base : Option Table) × (version ≤ newest) × IsReadLog files version base × IsStepRefusal files version base e
 
 -- The log up to the newest version is refused.
 abbrev pub IsLogRefusal : Files → ℕ → LogError → Type 0
@@ -93,3 +93,12 @@ IsLogRefusal files newest error.ManyCommits = MAX_COMMITS < newest + 1
 IsLogRefusal files newest (error.Missing v) = StopsAt files newest (error.Missing v)
 IsLogRefusal files newest (error.Large v) = StopsAt files newest (error.Large v)
 IsLogRefusal files newest (error.Refused v e) = StopsAt files newest (error.Refused v e)
+
+-- ---- which version is told
+
+-- If a version is told, it has this.
+abbrev pub TellsOf : (ℕ → Type 0) → LogError → Type 0
+TellsOf P (error.Missing v) = P v
+TellsOf P (error.Large v) = P v
+TellsOf P (error.Refused v e) = P v
+TellsOf P _ = Unit {0}

@@ -1,12 +1,12 @@
 //! What the versions of a log say, one after another.
 
 ghost use Rattle.std.specs.Prelude.{◌≡◌, ◌<◌, ◌≤◌, ◌+◌, ◌^◌, ◌⊎◌, ℕ, IfErr, IfOk, IsErrOf, OnOk, Some, None, unwrap_or};
-ghost use Rattle.lake_basics.specs.declared.limits.TheConstants.{MAX_DELTA_VERSION};
+ghost use Rattle.lake_basics.specs.declared.limits.TheConstants.{MAX_COMMITS, MAX_DELTA_VERSION};
 ghost use Rattle.lake_store.specs.Runs.{FailsBy, IsUncontestedBy, OnlyReads};
-ghost use Rattle.delta_log.specs.Change.{IsChangeRefusal};
+ghost use Rattle.delta_log.specs.Change.{IsChangeRefusal, IsTableOfLog};
 ghost use Rattle.delta_log.specs.Sound.{IsSound};
-ghost use Rattle.delta_table.specs.Log.{HasLiveRows, IsLogOf, IsStep, SaysCommit};
-ghost use Rattle.delta_table.specs.Refusals.{IsLogRefusal, IsStepRefusal, IsVersionRefusal, error_at};
+ghost use Rattle.delta_table.specs.Log.{HasLiveRows, IsLogOf, IsTaken, SaysCommit};
+ghost use Rattle.delta_table.specs.Refusals.{IsLogRefusal, IsStepRefusal, IsVersionRefusal, TellsOf, error_at};
 ghost use Rattle.delta_table.specs.declared.error.LogError.TheVariants.{StoreFault};
 
 use crate::error::{LogError, error_of_read};
@@ -34,6 +34,7 @@ pub fn read_version<S: Store>(
     requires { version ≤ MAX_DELTA_VERSION }
     ensures says { S.tells → IfOk result (SaysCommit (S.disk store.old).files version) }
     ensures sound { IfOk result IsSound }
+    ensures told { IfErr result (TellsOf (λ v. v ≡ version)) }
     ensures refused { S.tells → IfErr result (IsVersionRefusal (S.disk store.old).files version) }
     ensures only_reads { S.tells → OnlyReads ⟦<S as Store>⟧ store.old store.new }
     ensures cause { FailsBy ⟦<S as Store>⟧ store.old store.new (IsErrOf result StoreFault) }
@@ -64,7 +65,8 @@ fn error_at(version: u64, error: DeltaError) -> LogError
 /// What the first commit says.
 fn first_log(alloc: Global, commit: DeltaCommit) -> Result<Log, DeltaError>
     requires { IsSound commit }
-    ensures step { IfOk result (λ log. IsStep commit None log.table) }
+    ensures taken { IfOk result (λ log. IsTaken commit None log.table) }
+    ensures sound { IfOk result (λ log. IsTableOfLog log.table) }
     ensures meta { IfOk result (λ log. commit.meta ≡ Some log.meta) }
     ensures protocol { IfOk result (λ log. commit.protocol ≡ Some log.protocol) }
     ensures refused { IfErr result (IsChangeRefusal commit None) }
@@ -88,8 +90,10 @@ fn first_log(alloc: Global, commit: DeltaCommit) -> Result<Log, DeltaError>
 
 /// What one commit more says.
 fn next_log(alloc: Global, log: Log, commit: DeltaCommit) -> Result<Log, DeltaError>
-    requires { IsSound commit }
-    ensures step { IfOk result (λ next. IsStep commit (Some log.table) next.table) }
+    requires commit { IsSound commit }
+    requires table { IsTableOfLog log.table }
+    ensures taken { IfOk result (λ next. IsTaken commit (Some log.table) next.table) }
+    ensures sound { IfOk result (λ next. IsTableOfLog next.table) }
     ensures meta { IfOk result (λ next. next.meta ≡ unwrap_or commit.meta log.meta) }
     ensures protocol { IfOk result
         (λ next. next.protocol ≡ unwrap_or commit.protocol log.protocol) }
@@ -108,6 +112,8 @@ fn next_log(alloc: Global, log: Log, commit: DeltaCommit) -> Result<Log, DeltaEr
 
 fn read_first<S: Store>(alloc: Global, store: &mut S) -> Result<Log, LogError>
     ensures log { S.tells → IfOk result (IsLogOf (S.disk store.old).files 1) }
+    ensures sound { IfOk result (λ log. IsTableOfLog log.table) }
+    ensures told { IfErr result (TellsOf (λ v. v ≡ 0)) }
     ensures refused { S.tells → IfErr result (IsStepRefusal (S.disk store.old).files 0 None) }
     ensures only_reads { S.tells → OnlyReads ⟦<S as Store>⟧ store.old store.new }
     ensures cause { FailsBy ⟦<S as Store>⟧ store.old store.new (IsErrOf result StoreFault) }
@@ -127,9 +133,12 @@ fn read_next<S: Store>(
     log: Log,
     version: u64,
 ) -> Result<Log, LogError>
-    requires { version ≤ MAX_DELTA_VERSION }
+    requires version { version ≤ MAX_DELTA_VERSION }
+    requires table { IsTableOfLog log.table }
     ensures log { S.tells → IsLogOf (S.disk store.old).files version log
         → IfOk result (IsLogOf (S.disk store.old).files (version + 1)) }
+    ensures sound { IfOk result (λ next. IsTableOfLog next.table) }
+    ensures told { IfErr result (TellsOf (λ v. v ≡ version)) }
     ensures refused { S.tells
         → IfErr result (IsStepRefusal (S.disk store.old).files version (Some log.table)) }
     ensures only_reads { S.tells → OnlyReads ⟦<S as Store>⟧ store.old store.new }
@@ -150,6 +159,10 @@ pub fn read_log<S: Store>(alloc: Global, store: &mut S, newest: u64) -> Result<L
     ensures log { S.tells → IfOk result (IsLogOf (S.disk store.old).files (newest + 1)) }
     ensures live { S.tells → IfOk result
         (λ log. HasLiveRows (S.disk store.old).files (newest + 1) log.table) }
+    // What is read may be followed on and published, and passes no number.
+    ensures sound { IfOk result (λ log. IsTableOfLog log.table) }
+    ensures few { OnOk result (newest < MAX_COMMITS) }
+    ensures told { IfErr result (TellsOf (λ v. v ≤ newest)) }
     ensures refused { S.tells → IfErr result (IsLogRefusal (S.disk store.old).files newest) }
     ensures only_reads { S.tells → OnlyReads ⟦<S as Store>⟧ store.old store.new }
     ensures cause { FailsBy ⟦<S as Store>⟧ store.old store.new (IsErrOf result StoreFault) }

@@ -90,7 +90,7 @@ pub fn list_versions<S: Store>(alloc: Global, store: &mut S) -> Result<Option<Ve
         ((w : ℕ) → ¬ HasVersion (S.disk store.old).files w)
         (AreVersions (HasVersion (S.disk store.old).files))) }
     ensures within { IfOk result (λ found. MatchOption found (Unit {0})
-        (λ v. v.newest ≤ MAX_DELTA_VERSION)) }
+        (λ v. (v.newest ≤ MAX_DELTA_VERSION) × (v.first ≤ v.newest))) }
     ensures refused { S.tells → IfErr result (IsListRefusal (S.disk store.old).files) }
     ensures only_reads { S.tells → OnlyReads ⟦<S as Store>⟧ store.old store.new }
     ensures cause { FailsBy ⟦<S as Store>⟧ store.old store.new (IsErrOf result StoreFault) }

@@ -1,24 +1,32 @@
-use Rattle.std.proofs.Common.{◌≡◌, ◌≤◌, ◌+◌, Some, Result, sym, subst, arith}
+use Rattle.std.proofs.Common.{◌≡◌, ◌≤◌, ◌+◌, None, Some, Result, refl, sym, subst, arith}
 use Rattle.std.proofs.lemmas.Result.{err_from_is_err_and}
 use Rattle.std.specs.Prelude.{IfErr}
 use Rattle.lake_store.specs.Disk.{Disk}
 use Rattle.lake_store.proofs.RunLaws.{reading_further}
-use Rattle.delta_table.specs.Log.{IsLog, IsLogOf}
+use Rattle.delta_table.specs.Log.{IsLogOf, IsReadLog}
 use Rattle.delta_table.specs.Refusals.{IsLogRefusal, IsStepRefusal}
 use Rattle.delta_table.specs.declared.error.LogError.{LogError}
 use Rattle.delta_table.specs.declared.log.Log.{Log}
-use Rattle.delta_table.proofs.LogLaws.{live_rows, stops_at}
+use Rattle.delta_table.proofs.LogLaws.{live_rows, read_is_log, stops_at}
 use Rattle.delta_table.proofs.Runs.{fails_never, uncontested_further}
 use Rattle.delta_table.proofs.log.read_log.Goals as goal
 
 pub loop-version-init : goal.loop-version-init
 loop-version-init g c = record {
   within = omega arith;
+  sound = c.in_ok-log.ensures.sound;
   log = c.in_ok-log.ensures.log;
   reads = c.in_ok-log.ensures.only_reads;
   cause = record { later = c.in_ok-log.ensures.cause.later; still = c.in_ok-log.ensures.cause.still; rose = λ never. absurd never; allowed = λ never. absurd never };
   contest = c.in_ok-log.ensures.contest;
 }
+
+pub returns-in_err-log-clause-refused : goal.returns-in_err-log-clause-refused
+returns-in_err-log-clause-refused g c told =
+    let exit = err_from_is_err_and c.from_residual.result c.from_residual.ensures.1 in
+    let files = (g.S.Store.disk c.args.store.now).files in
+    subst (λ (r : Result Log LogError). IfErr r (IsLogRefusal files c.args.newest)) (sym exit.1)
+    (subst (IsLogRefusal files c.args.newest) (sym exit.2) (stops_at files c.args.newest 0 None c.in_err-log.field-0.0 (omega arith) refl (c.in_err-log.ensures.refused told)))
 
 pub returns-in_err-log-2-clause-refused : goal.returns-in_err-log-2-clause-refused
 returns-in_err-log-2-clause-refused g c told =
@@ -43,6 +51,7 @@ loop-version-preserved g c =
     let so_far = c.loop-version.invariant in
     record {
       within = omega (arith, c.loop-version-test.true);
+      sound = c.in_ok-log-2.ensures.sound;
       log = λ told.
           let same = (so_far.reads told).disk in
           subst (λ (d : Disk). IsLogOf d.files (c.loop-version.version + 1) c.in_ok-log-2.log) same
@@ -65,7 +74,7 @@ returns-clause-live g c told =
     let within = so_far.within in
     let all : c.loop-version.version ≡ c.args.newest + 1 = omega (arith, c.loop-version-test.false, within) in
     let files = (g.S.Store.disk c.args.store.now).files in
-    live_rows files (c.args.newest + 1) c.loop-version.log.table (subst (λ n. IsLog files n (Some c.loop-version.log.table)) all (so_far.log told).table)
+    live_rows files (c.args.newest + 1) c.loop-version.log.table (read_is_log files (c.args.newest + 1) (Some c.loop-version.log.table) (subst (λ n. IsReadLog files n (Some c.loop-version.log.table)) all (so_far.log told).table))
 
 pub returns-clause-only_reads : goal.returns-clause-only_reads
 returns-clause-only_reads g c = c.loop-version.invariant.reads

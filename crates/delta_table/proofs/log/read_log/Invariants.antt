@@ -1,4 +1,5 @@
 use Rattle.std.proofs.Common.{◌≤◌, ◌+◌}
+use Rattle.delta_log.specs.Change.{IsTableOfLog}
 use Rattle.lake_store.specs.Runs.{FailsBy, IsUncontestedBy, OnlyReads}
 use Rattle.delta_table.specs.Log.{IsLogOf}
 use Rattle.delta_table.proofs.log.read_log.Given as goal
@@ -8,6 +9,7 @@ invariant-loop-version g l =
     let store = g.S.Store in
     record {
       within : l.version ≤ l.newest + 1;
+      sound : IsTableOfLog l.log.table;
       log : store.tells → IsLogOf (store.disk l.fn.store).files l.version l.log;
       reads : store.tells → OnlyReads store l.fn.store l.store;
       cause : FailsBy store l.fn.store l.store ⊥;
