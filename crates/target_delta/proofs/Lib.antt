@@ -1,0 +1,14 @@
+pub mod NameLemmas
+pub mod LogLemmas
+pub mod ReadingLemmas
+pub mod FitLemmas
+pub mod KeptLemmas
+pub mod TextLemmas
+pub mod CountLemmas
+pub mod ColumnLemmas
+pub mod InspectLemmas
+pub mod AlikeLemmas
+pub mod PublishLemmas
+pub mod WrittenLemmas
+pub mod StepLemmas
+pub mod ActionLemmas

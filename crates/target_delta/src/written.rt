@@ -1,0 +1,66 @@
+//! The commit that is written for a change.
+
+ghost use Rattle.std.specs.Prelude.{◌≡◌, ◌∷◌, [], Contains, IfOk, OnOk, Ok, Some};
+ghost use Rattle.std.specs.List.{IsDistinct};
+ghost use Rattle.std.specs.Str.{bytes_eq};
+ghost use Rattle.serde_json.specs.Written.{compact_text};
+ghost use Rattle.table_history.specs.Row.{Row};
+ghost use Rattle.table_history.specs.Rows.{HasDistinctPaths};
+ghost use Rattle.table_history.specs.SchemaSize.{IsWithinLimits};
+ghost use Rattle.table_history.specs.Sound.{IsSound};
+ghost use Rattle.schema_map.specs.Delta.{delta_schema_of};
+ghost use Rattle.schema_map.specs.DeltaWriting.{delta_text};
+ghost use Rattle.target_core.specs.Mark.{IsMarkText, mark_data};
+ghost use Rattle.target_delta.specs.Reading.{mark_setting};
+ghost use Rattle.target_delta.specs.Writing.{AreActions, CanAdd, LeavesAdded, LosesRemoved, have_ntz, protocol_due};
+
+use crate::actions::actions_of;
+use crate::kept::DeltaKept;
+use crate::meta::meta_of;
+use crate::ntz::{protocol_due, schema_has_ntz};
+use delta_log::DeltaCommit;
+use std::alloc::{AllocError, Global};
+use table_history::Change;
+use target_core::Mark;
+
+/// The commit that is written for a change with this mark, where the table of `behind` is that
+/// behind the change and all else of it stands before.
+pub(crate) fn written_of(
+    alloc: Global,
+    behind: &DeltaKept,
+    change: &Change,
+    mark: &Mark,
+) -> Result<DeltaCommit, AllocError>
+    requires leaves { LeavesAdded change.now.added behind.now.table.rows }
+    requires loses { LosesRemoved change.now behind.now.table.rows }
+    requires distinct { HasDistinctPaths behind.now.table.rows }
+    requires removed { IsDistinct bytes_eq change.now.removed }
+    requires added { HasDistinctPaths change.now.added }
+    requires fit { (row : Row) → Contains change.now.added row
+        → CanAdd behind.now.table.partition row }
+    ensures protocol { IfOk result (λ c. c.protocol ≡ protocol_due behind.now.commits
+        behind.now.names_ntz (have_ntz behind.now.table.schema)) }
+    ensures meta { IfOk result (λ c. c.meta ≡ Some (record {
+      id = behind.now.id;
+      schema = delta_text behind.now.table.schema;
+      partition = behind.now.table.partition;
+      configuration = (mark_setting, compact_text (mark_data mark.now)) ∷ [];
+    })) }
+    ensures files { IfOk result (λ c. AreActions behind.now.table.partition change.now c.files) }
+    ensures reads_back { OnOk result (IsMarkText (compact_text (mark_data mark.now)) mark.now) }
+    ensures spells { OnOk result (IsSound behind.now.table.schema
+        → IsWithinLimits behind.now.table.schema
+        → delta_schema_of (delta_text behind.now.table.schema) ≡ Ok behind.now.table.schema) }
+{
+    let table = &behind.table;
+    let partition = table.partition.as_slice();
+    let has_ntz = schema_has_ntz(&table.schema);
+    let protocol = protocol_due(alloc, behind.commits, behind.names_ntz, has_ntz)?;
+    let meta = meta_of(alloc, &behind.id, &table.schema, partition, mark)?;
+    let files = actions_of(alloc, partition, change, &table.rows)?;
+    Ok(DeltaCommit {
+        protocol,
+        meta: Some(meta),
+        files,
+    })
+}
