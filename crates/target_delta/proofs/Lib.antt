@@ -12,3 +12,4 @@ pub mod PublishLemmas
 pub mod WrittenLemmas
 pub mod StepLemmas
 pub mod ActionLemmas
+pub mod OwnLemmas
