@@ -1,9 +1,9 @@
 -- Each refusal has its cause, and none that goes before it holds.
-use Rattle.std.proofs.Common.{◌≡◌, ◌⊎◌, ℕ, ◌+◌, ◌<◌, ◌≤◌, Bool, true, false, cond, List, [], ◌∷◌, length, map, Result, Ok, Err, Option, Some, None, Contains, refl, sym, ap, subst, ◌∙◌, inl, inr, ⊎_elim, arith}
-use Rattle.std.specs.List.{list_any, list_all, IsDistinct}
-use Rattle.std.specs.Option.{option_map, is_some}
+use Rattle.std.proofs.Common.{◌≡◌, ℕ, Bool, true, false, cond, List, [], ◌∷◌, map, Ok, Err, Option, Some, None, Contains, refl, sym, ap, subst, ◌∙◌, inl, inr, ⊎_elim}
+use Rattle.std.specs.List.{list_any, IsDistinct}
+use Rattle.std.specs.Option.{is_some}
 use Rattle.std.specs.Str.{bytes_eq}
-use Rattle.std.proofs.lemmas.Bool.{cases_Bool, false≢true}
+use Rattle.std.proofs.lemmas.Bool.{false≢true}
 use Rattle.lake_basics.specs.Outcome.{each, FailsUnlessMemory}
 use Rattle.table_history.specs.First.{IsFirst, NoneOf}
 use Rattle.table_history.specs.TypeTree.{ColumnTrees}
@@ -11,23 +11,21 @@ use Rattle.table_history.specs.declared.feature.Feature.{Feature}
 use Rattle.table_history.specs.declared.feature.Feature.TheVariants as feature
 use Rattle.table_history.specs.declared.row.FileRow.{FileRow}
 use Rattle.table_history.specs.declared.table.Table.{Table}
-use Rattle.table_history.proofs.RowListLemmas.{Contains-none, Contains-head, Contains-tail, Contains-cases}
-use Rattle.schema_map.specs.declared.fault.MapError.{MapError}
+use Rattle.table_history.proofs.RowListLemmas.{Contains-none, Contains-cases}
 use Rattle.schema_map.specs.declared.fault.MapError.TheVariants as map_errors
 use Rattle.partition_map.specs.declared.kind.PartKind.{PartKind}
 use Rattle.hudi_timeline.specs.declared.error.HudiError.{HudiError}
 use Rattle.hudi_timeline.specs.declared.error.HudiError.TheVariants as errors
-use Rattle.hudi_timeline.specs.declared.form.Form.{Form}
 use Rattle.hudi_timeline.specs.declared.instant.Stat.{Stat}
 use Rattle.hudi_timeline.specs.declared.table.HudiTable.{HudiTable}
-use Rattle.hudi_timeline.specs.Causes.{HasStat, path_of, IsInForce, AreKinds, IsMalformed, Shows, Passes, change_features, change_limits, IsRefusalOf}
+use Rattle.hudi_timeline.specs.Causes.{HasStat, path_of, IsInForce, AreKinds, IsMalformed, Shows, change_features, IsRefusalOf}
 use Rattle.hudi_timeline.specs.Errors.{malformed, is_memory}
-use Rattle.hudi_timeline.specs.Files.{suffix_of, without_end, has_sound_path, has_sound_numbers, bare_row, is_external, has_other_id, is_other_file, name_fault}
+use Rattle.hudi_timeline.specs.Files.{suffix_of, has_sound_path, has_sound_numbers, bare_row, is_external, has_other_id, is_other_file, name_fault}
 use Rattle.hudi_timeline.specs.Live.{Completed}
 use Rattle.partition_map.specs.Columns.{column_kind, LacksKinds, HasOtherKind}
 use Rattle.hudi_timeline.specs.Schemas.{stated_schema, schema_after, AreKindsOf}
 use Rattle.hudi_timeline.specs.Steps.{OnlyFeature, IsTextRefusal, IsKindFault, IsFolderFault, IsFileFault}
-use Rattle.hudi_timeline.specs.Values.{style_of, value_parts, is_in_folder, are_in_folders, PartsStand, HasValues, HaveValues, SpellsNoValues}
+use Rattle.hudi_timeline.specs.Values.{style_of, value_parts, is_in_folder, are_in_folders, PartsStand, HaveValues, SpellsNoValues}
 use Rattle.hudi_timeline.proofs.AnyLemmas.{any_from, any_to}
 use Rattle.hudi_timeline.proofs.LiveLemmas.{bare, bare_path}
 use Rattle.hudi_timeline.proofs.StatLemmas.{each_all, each_from, each_fault, all_at, not_all, row_of_file}

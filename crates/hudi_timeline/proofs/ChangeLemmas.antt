@@ -1,18 +1,17 @@
 -- The change of an instant that nothing speaks against, and the table after it.
-use Rattle.std.proofs.Common.{◌≡◌, ◌≢◌, ◌↔◌, ◌⊎◌, ℕ, ◌<◌, ◌≤◌, ◌&&◌, Bool, true, false, nat_lt, nat_le, List, [], ◌∷◌, length, map, filter, reverse, not, Result, Ok, Err, Option, Some, None, Contains, refl, sym, ap, subst, ◌∙◌, inl, inr, ⊎_elim, arith}
+use Rattle.std.proofs.Common.{◌≡◌, ℕ, ◌≤◌, ◌&&◌, Bool, true, false, nat_lt, nat_le, List, length, filter, reverse, not, Ok, Option, Some, None, Contains, refl, sym, ap, subst, ◌∙◌, ⊎_elim, arith}
 use Rattle.std.specs.List.{list_any, IsDistinct}
-use Rattle.std.specs.Option.{option_or, unwrap_or}
+use Rattle.std.specs.Option.{unwrap_or}
 use Rattle.std.specs.Str.{bytes_eq}
 use Rattle.std.proofs.lemmas.Bool.{cases_Bool, false≢true, ltb-false, le-leb}
 use Rattle.std.proofs.lemmas.List.Elements.{Contains-append_cases}
 use Rattle.lake_basics.specs.declared.limits.TheConstants.{MAX_COLUMNS, MAX_PARTITION_COLUMNS, MAX_PATH_BYTES, MAX_LIVE_FILES}
-use Rattle.table_history.specs.First.{NoneOf}
-use Rattle.table_history.specs.History.{FitColumns, IsSoundTable}
-use Rattle.table_history.specs.Path.{IsPath, is_path, is_path_of_any_length}
-use Rattle.table_history.specs.Rows.{HasDistinctPaths, HasPath}
+use Rattle.table_history.specs.History.{FitColumns}
+use Rattle.table_history.specs.Path.{IsPath, is_path_of_any_length}
+use Rattle.table_history.specs.Rows.{HasPath}
 use Rattle.table_history.specs.SchemaSize.{IsWithinLimits, column_count, column_levels, max_type_levels}
 use Rattle.table_history.specs.Sound.{IsSound}
-use Rattle.table_history.specs.Tables.{CanApply, IsAfter, IsDiff, IsRowAfter, empty_table}
+use Rattle.table_history.specs.Tables.{CanApply, IsAfter, IsRowAfter}
 use Rattle.table_history.specs.TypeTree.{ColumnTrees}
 use Rattle.table_history.specs.declared.row.FileRow.{FileRow}
 use Rattle.table_history.specs.declared.table.Change.{Change}
@@ -21,16 +20,15 @@ use Rattle.table_history.proofs.PathTests.{path_decided}
 use Rattle.table_history.proofs.RowListLemmas.{Contains-none, Contains-filter}
 use Rattle.table_history.proofs.TableLemmas.{diff_removed_distinct, diff_removed_there, diff_added_distinct, diff_added_new, diff_leads}
 use Rattle.partition_map.specs.declared.kind.PartKind.{PartKind}
-use Rattle.hudi_timeline.specs.declared.instant.Instant.{Instant}
 use Rattle.hudi_timeline.specs.declared.table.HudiTable.{HudiTable}
 use Rattle.hudi_timeline.specs.Causes.{table_before, rows_before}
 use Rattle.hudi_timeline.specs.Change.{IsTableOf, GoesOn}
-use Rattle.hudi_timeline.specs.GroupChange.{is_long, limit_passed, row_limit, rows_after, IsGroupChange}
+use Rattle.hudi_timeline.specs.GroupChange.{is_long, rows_after, IsGroupChange}
 use Rattle.hudi_timeline.specs.GroupSets.{newest_rows}
-use Rattle.hudi_timeline.specs.Live.{Completed, AreRowsOf, IsLiveAfter}
+use Rattle.hudi_timeline.specs.Live.{Completed, AreRowsOf}
 use Rattle.partition_map.specs.Columns.{column_kind, HasOtherKind}
 use Rattle.hudi_timeline.specs.Schemas.{schema_after, AreKindsOf}
-use Rattle.hudi_timeline.specs.Values.{style_of, PartsStand}
+use Rattle.hudi_timeline.specs.Values.{style_of}
 use Rattle.hudi_timeline.proofs.AnyLemmas.{any_from}
 use Rattle.hudi_timeline.proofs.CauseLemmas.{has_kind}
 use Rattle.hudi_timeline.proofs.CountLemmas.{fewer, AreFew, few_parts}

@@ -1,6 +1,6 @@
 -- How many rows there are, and which numbers an instant passes.
-use Rattle.std.proofs.Common.{◌≡◌, ◌↔◌, ◌⊎◌, ℕ, ◌+◌, ◌<◌, ◌≤◌, Bool, true, false, cond, nat_lt, List, [], ◌∷◌, ◌++◌, length, Option, Some, None, Contains, refl, sym, ap, subst, ◌∙◌, inl, inr, ⊎_elim, arith}
-use Rattle.std.specs.List.{list_any, IsDistinct, AllByRecursion}
+use Rattle.std.proofs.Common.{◌≡◌, ℕ, ◌<◌, ◌≤◌, Bool, true, false, cond, nat_lt, List, [], ◌∷◌, ◌++◌, length, Option, Some, None, Contains, refl, sym, ap, subst, ◌∙◌, inl, inr, ⊎_elim, arith}
+use Rattle.std.specs.List.{list_any}
 use Rattle.std.specs.Option.{option_or}
 use Rattle.std.specs.Str.{bytes_eq}
 use Rattle.std.proofs.lemmas.Bool.{false≢true, lt-ltb, ltb-true, ltb-false}
@@ -17,10 +17,9 @@ use Rattle.table_history.specs.declared.limit.LimitKind.TheVariants as limit
 use Rattle.table_history.specs.declared.row.FileRow.{FileRow}
 use Rattle.table_history.specs.declared.table.Table.{Table}
 use Rattle.table_history.proofs.RowListLemmas.{Contains-none, Contains-head, Contains-tail, Contains-cases, bytes_itself}
-use Rattle.schema_map.specs.Limits.{schema_limit}
 use Rattle.partition_map.specs.declared.kind.PartKind.{PartKind}
 use Rattle.hudi_timeline.specs.declared.table.HudiTable.{HudiTable}
-use Rattle.hudi_timeline.specs.Causes.{IsInForce, AreKinds, Passes, change_limits, path_of, rows_before}
+use Rattle.hudi_timeline.specs.Causes.{IsInForce, AreKinds, Passes, change_limits, rows_before}
 use Rattle.hudi_timeline.specs.Files.{suffix_of}
 use Rattle.hudi_timeline.specs.GroupChange.{is_long, limit_passed, row_limit, rows_after}
 use Rattle.hudi_timeline.specs.Live.{Completed, AreRowsOf, IsLiveAfter}

@@ -2,7 +2,6 @@ pub mod AnyLemmas
 pub mod CauseLemmas
 pub mod ChangeLemmas
 pub mod CountLemmas
-pub mod DateLemmas
 pub mod ErrorLemmas
 pub mod EscapeLemmas
 pub mod GrammarLemmas
@@ -13,8 +12,8 @@ pub mod KindLemmas
 pub mod LineLemmas
 pub mod LiveLemmas
 pub mod MadeLemmas
-pub mod NameLemmas
 pub mod NewestLemmas
+pub mod NextLemmas
 pub mod PairLemmas
 pub mod PathForms
 pub mod ReadLemmas
@@ -22,7 +21,6 @@ pub mod StatLemmas
 pub mod StepLemmas
 pub mod TableLemmas
 pub mod TextLemmas
-pub mod TimeLemmas
 pub mod TimelineLaws
 pub mod ValueLemmas
 pub mod WrittenLemmas

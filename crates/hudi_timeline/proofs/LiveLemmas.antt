@@ -1,9 +1,8 @@
 -- What one instant writes and replaces, and the live rows behind it.
-use Rattle.std.proofs.Common.{◌≡◌, ◌↔◌, ◌⊎◌, ℕ, Bool, true, false, not, cond, ◌||◌, ◌&&◌, List, [], ◌∷◌, ◌++◌, filter, reverse, Result, Ok, Err, Option, Some, None, Contains, refl, sym, ap, subst, ◌∙◌, inl, inr, ⊎_elim}
+use Rattle.std.proofs.Common.{◌≡◌, ◌↔◌, ℕ, Bool, true, false, not, cond, ◌||◌, ◌&&◌, List, [], ◌∷◌, filter, reverse, Result, Ok, Err, Contains, refl, sym, ap, subst, ◌∙◌, inl, inr, ⊎_elim}
 use Rattle.std.specs.List.{list_any}
-use Rattle.std.specs.List.Sorted.{IsPermutation}
 use Rattle.std.specs.Str.{bytes_eq}
-use Rattle.std.proofs.lemmas.Bool.{cases_Bool, cond-true, cond-false, false≢true, eqb-true}
+use Rattle.std.proofs.lemmas.Bool.{cases_Bool, false≢true, eqb-true}
 use Rattle.std.proofs.lemmas.List.Elements.{Contains-append_left, Contains-append_right, Contains-append_cases}
 use Rattle.std.proofs.lemmas.List.Sorted.{IsPermutation-reverse, IsPermutation-sym, Contains-permutation}
 use Rattle.std.proofs.lemmas.Slice.Eq.{bytes_eq-Decides}
@@ -13,7 +12,6 @@ use Rattle.table_history.specs.declared.row.FileRow.{FileRow}
 use Rattle.table_history.proofs.RowListLemmas.{Contains-none, Contains-head, Contains-tail, Contains-cases, Contains-filter, filter_contains}
 use Rattle.partition_map.specs.declared.kind.PartKind.{PartKind}
 use Rattle.partition_map.specs.declared.folder.FolderStyle.{FolderStyle}
-use Rattle.hudi_timeline.specs.declared.error.HudiError.{HudiError}
 use Rattle.hudi_timeline.specs.Errors.{malformed}
 use Rattle.hudi_timeline.specs.declared.form.Form.{Form}
 use Rattle.hudi_timeline.specs.declared.instant.Stat.{Stat}
@@ -23,7 +21,7 @@ use Rattle.hudi_timeline.specs.Files.{suffix_of, without_end, group_name, has_so
 use Rattle.hudi_timeline.specs.Values.{style_of, HaveValues}
 use Rattle.hudi_timeline.specs.GroupSets.{is_row_of_group, names_group, newest_rows}
 use Rattle.hudi_timeline.specs.GroupChange.{is_touched, rows_after}
-use Rattle.hudi_timeline.specs.Live.{Completed, AreRowsOf, IsNewestOfGroup, IsWrittenBy, Writes, Replaces, Touches, IsLiveAfter}
+use Rattle.hudi_timeline.specs.Live.{Completed, AreRowsOf, IsNewestOfGroup, Touches, IsLiveAfter}
 use Rattle.hudi_timeline.proofs.AnyLemmas.{any_from, any_to, any_none, or_true}
 use Rattle.hudi_timeline.proofs.GroupSetLemmas.{row_in_group, group_has_row}
 use Rattle.hudi_timeline.proofs.NewestLemmas.{newest_from, newest_to}

@@ -1,5 +1,5 @@
 -- The last step towards a change: what it refuses, and what it makes.
-use Rattle.std.proofs.Common.{◌≡◌, ◌↔◌, ℕ, true, List, map, Ok, Option, Some, None, refl}
+use Rattle.std.proofs.Common.{◌≡◌, true, List, Ok, Option, Some, None, refl}
 use Rattle.std.specs.List.{IsDistinct}
 use Rattle.std.specs.Str.{bytes_eq}
 use Rattle.lake_basics.specs.Outcome.{each}

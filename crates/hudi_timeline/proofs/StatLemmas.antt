@@ -1,6 +1,6 @@
 -- The write stats of an instant, against the files and the rows that they make.
-use Rattle.std.proofs.Common.{◌≡◌, ℕ, ◌<◌, ◌^◌, ◌&&◌, Bool, true, false, cond, nat_lt, List, [], ◌∷◌, ◌++◌, length, Result, Ok, Err, IfErr, Option, Some, None, Contains, refl, sym, ap, subst, ◌∙◌, inr, ⊎_elim, arith}
-use Rattle.std.specs.List.{list_any, list_all, ends_with}
+use Rattle.std.proofs.Common.{◌≡◌, ℕ, ◌<◌, ◌^◌, ◌&&◌, Bool, true, false, cond, nat_lt, List, [], ◌∷◌, Result, Ok, Err, IfErr, Option, None, Contains, refl, sym, ap, subst, ◌∙◌, inr, ⊎_elim}
+use Rattle.std.specs.List.{list_all, ends_with}
 use Rattle.std.proofs.lemmas.Bool.{cases_Bool, false≢true, ltb-true}
 use Rattle.lake_basics.specs.Outcome.{◌>>=◌, each}
 use Rattle.table_history.specs.Path.{is_path_of_any_length}

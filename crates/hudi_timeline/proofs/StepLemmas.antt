@@ -1,5 +1,5 @@
 -- The steps towards a change, over the parts of the instant that each is given.
-use Rattle.std.proofs.Common.{◌≡◌, ◌↔◌, ℕ, true, List, length, map, Ok, Option, Some, None, sym, ap, subst, ◌∙◌}
+use Rattle.std.proofs.Common.{◌≡◌, ℕ, true, List, length, Ok, Option, Some, None, sym, ap, subst, ◌∙◌}
 use Rattle.std.specs.List.{IsDistinct}
 use Rattle.std.specs.Str.{bytes_eq}
 use Rattle.std.proofs.lemmas.List.{length-map}
@@ -24,8 +24,8 @@ use Rattle.hudi_timeline.specs.Live.{Completed, completed}
 use Rattle.hudi_timeline.specs.Schemas.{stated_schema, schema_after, AreKindsOf}
 use Rattle.hudi_timeline.specs.Steps.{OnlyFeature, IsKindFault, IsFileFault}
 use Rattle.hudi_timeline.specs.Values.{style_of, are_in_folders, HaveValues}
-use Rattle.hudi_timeline.proofs.CauseLemmas.{no_schema, kind_refusal, file_refusal}
-use Rattle.hudi_timeline.proofs.MadeLemmas.{limit_refusal, made, is_change, made_goes_on}
+use Rattle.hudi_timeline.proofs.CauseLemmas.{kind_refusal, file_refusal}
+use Rattle.hudi_timeline.proofs.MadeLemmas.{limit_refusal, is_change, made_goes_on}
 
 module _ (form : Form) (instant : Instant) (table : HudiTable) (base : Option Table) (stats : List Stat) (stats_is : stats ≡ instant.stats)
     (files : List FileRow) (read : each (bare_row (suffix_of form)) stats ≡ Ok files) (stated : Option ColumnTrees) (states : stated_schema instant.schema ≡ Ok stated) where

@@ -1,5 +1,5 @@
 -- The table after a timeline has the rows that are live, over those that were there before it.
-use Rattle.std.proofs.Common.{◌≡◌, ◌↔◌, ◌⊎◌, ℕ, List, [], ◌∷◌, ◌++◌, map, Ok, Option, Some, None, Contains, refl, sym, ap, subst, ◌∙◌, inl, inr, ⊎_elim}
+use Rattle.std.proofs.Common.{◌≡◌, ◌↔◌, ◌⊎◌, ℕ, List, [], ◌∷◌, ◌++◌, Option, Some, Contains, refl, sym, ap, subst, ◌∙◌, inl, inr, ⊎_elim}
 use Rattle.std.proofs.lemmas.List.Elements.{Contains-append_left, Contains-append_right, Contains-push_cases}
 use Rattle.std.proofs.lemmas.List.{append_assoc}
 use Rattle.table_history.specs.Tables.{IsAfter, IsRowAfter}
@@ -11,10 +11,10 @@ use Rattle.table_history.proofs.RowListLemmas.{Contains-none, Contains-head, Con
 use Rattle.table_history.proofs.TableLemmas.{diff_leads}
 use Rattle.partition_map.specs.declared.kind.PartKind.{PartKind}
 use Rattle.hudi_timeline.specs.declared.table.HudiTable.{HudiTable}
-use Rattle.hudi_timeline.specs.Causes.{AreKinds, table_before, rows_before}
+use Rattle.hudi_timeline.specs.Causes.{table_before, rows_before}
 use Rattle.hudi_timeline.specs.Change.{IsChangeOf, LeadsThrough}
 use Rattle.hudi_timeline.specs.Live.{Completed, Timeline, IsWrittenBy, Touches, HudiLive, AreLive, IsLiveAfter, IsLiveOver}
-use Rattle.partition_map.specs.Columns.{column_kind, HasOtherKind}
+use Rattle.partition_map.specs.Columns.{column_kind}
 use Rattle.hudi_timeline.specs.Schemas.{schema_after, AreKindsOf}
 use Rattle.hudi_timeline.proofs.ChangeLemmas.{before_rows, schema_is}
 use Rattle.hudi_timeline.proofs.KindLemmas.{kinds_kept}

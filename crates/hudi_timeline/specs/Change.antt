@@ -14,13 +14,11 @@ use Rattle.table_history.specs.declared.table.Table.{Table}
 use Rattle.lake_basics.specs.declared.limits.TheConstants.{MAX_PARTITION_COLUMNS, MAX_LIVE_FILES}
 use Rattle.table_history.specs.SchemaSize.{IsWithinLimits}
 use Rattle.partition_map.specs.declared.kind.PartKind.{PartKind}
-use Rattle.hudi_timeline.specs.declared.form.Form.{Form}
-use Rattle.hudi_timeline.specs.declared.instant.Instant.{Instant}
 use Rattle.hudi_timeline.specs.declared.table.HudiTable.{HudiTable}
 use Rattle.hudi_timeline.specs.Causes.{IsMalformed, Shows, Passes, AreKinds, change_features, change_limits, table_before, rows_before}
 use Rattle.hudi_timeline.specs.Live.{Completed, Timeline, IsLiveAfter}
 use Rattle.partition_map.specs.Columns.{column_kind}
-use Rattle.hudi_timeline.specs.Schemas.{stated_schema, AreKindsOf}
+use Rattle.hudi_timeline.specs.Schemas.{stated_schema}
 
 -- Nothing speaks against the instant. The change has the schema that it states, and what differs between the rows before and those that are live after it.
 pub record IsChangeOf (u : Completed) (table : HudiTable) (base : Option Table) (change : Change) : Type 0 where

@@ -1,5 +1,5 @@
 -- The data files that write stats name, and their file groups (Hudi technical specification, file layout).
-use Rattle.std.specs.Prelude.{ℕ, ◌-◌, ◌^◌, ◌&&◌, nat_eq, nat_lt, not, List, [], ◌∷◌, ◌++◌, length, take, codes, Bool, false, Option, Some, None, Result, Ok, Err, if◌then◌else◌}
+use Rattle.std.specs.Prelude.{ℕ, ◌-◌, ◌^◌, ◌&&◌, nat_eq, nat_lt, not, List, [], ◌++◌, length, take, codes, Bool, false, Option, Some, None, Result, Ok, Err, if◌then◌else◌}
 use Rattle.std.specs.List.{ends_with, list_any}
 use Rattle.std.specs.Str.{bytes_eq}
 use Rattle.table_history.specs.Path.{is_path_of_any_length}

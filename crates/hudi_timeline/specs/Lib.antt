@@ -11,11 +11,10 @@ pub mod InstantText
 pub mod Instants
 pub mod Lines
 pub mod Live
-pub mod Name
+pub mod Next
 pub mod Pairs
 pub mod Schemas
 pub mod Steps
 pub mod TableProperties
-pub mod Time
 pub mod Values
 pub mod Written

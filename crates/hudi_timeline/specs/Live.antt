@@ -1,5 +1,5 @@
 -- The live rows of a table after the instants of its completed timeline (Hudi technical specification: file groups, write stats, replaced file ids).
-use Rattle.std.specs.Prelude.{◌≡◌, ◌↔◌, ◌⊎◌, ℕ, List, [], ◌∷◌, ◌++◌, Result, Ok, Contains}
+use Rattle.std.specs.Prelude.{◌≡◌, ◌↔◌, ◌⊎◌, ℕ, List, ◌∷◌, ◌++◌, Ok, Contains}
 use Rattle.lake_basics.specs.Outcome.{each}
 use Rattle.table_history.specs.Row.{Row}
 use Rattle.partition_map.specs.declared.kind.PartKind.{PartKind}

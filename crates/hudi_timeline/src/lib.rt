@@ -6,20 +6,19 @@ mod error;
 mod form;
 mod group;
 mod instant;
-mod name;
+mod next;
 mod properties;
 mod table;
-mod time;
 
 pub use change::change_of;
 pub use error::HudiError;
 pub use form::Form;
 pub use group::group_of;
+pub use hudi_names::{Action, State, instant_of_name, read_time};
 pub use instant::{Instant, Stat, instant_text, read_instant};
-pub use name::{Action, State, instant_of_name};
+pub use next::next_instant;
 pub use properties::{Pairs, properties_text, read_properties};
 pub use table::{HudiTable, check_properties};
-pub use time::{next_instant, read_time};
 
 #[cfg(test)]
 mod change_tests;

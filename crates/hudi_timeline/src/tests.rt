@@ -1,78 +1,12 @@
-//! Names, times, properties and completed instants, by vectors from outside.
+//! Instants, properties and completed instants, by vectors from outside.
 use crate::{
-    Action, HudiError, Instant, Stat, State, check_properties, group_of, instant_of_name,
-    instant_text, next_instant, properties_text, read_instant, read_properties, read_time,
+    HudiError, Instant, Stat, check_properties, group_of, instant_text, next_instant,
+    properties_text, read_instant, read_properties, read_time,
 };
 use lake_basics::{Blob, Items, Text};
 use std::alloc::{AllocError, Global};
 use std::test::Fail;
 use table_history::{Feature, LimitKind, path_form_of_any_length};
-
-const NAMES: &[(&str, Option<(usize, Action, State)>)] = &[
-    (
-        "20240105120000.inflight",
-        Some((14, Action::Commit, State::Inflight)),
-    ),
-    (
-        "20240105120000000.clean",
-        Some((17, Action::Ignored, State::Completed)),
-    ),
-    (
-        "20240105120000000.savepoint.inflight",
-        Some((17, Action::Ignored, State::Inflight)),
-    ),
-    (
-        "20240105120000000.rollback",
-        Some((17, Action::Ignored, State::Completed)),
-    ),
-    (
-        "20240105120000000.commit",
-        Some((17, Action::Commit, State::Completed)),
-    ),
-    (
-        "20240105120000000.commit.requested",
-        Some((17, Action::Commit, State::Requested)),
-    ),
-    (
-        "20240105120000000.replacecommit.inflight",
-        Some((17, Action::ReplaceCommit, State::Inflight)),
-    ),
-    (
-        "20240105120000000.deltacommit.requested",
-        Some((17, Action::MergeOnRead, State::Requested)),
-    ),
-    (
-        "20240105120000000.restore",
-        Some((17, Action::Restore, State::Completed)),
-    ),
-    (
-        "20240105120000000.schemacommit",
-        Some((17, Action::Unknown, State::Completed)),
-    ),
-    (
-        "20240105120000000.commit.inflight",
-        Some((17, Action::Unknown, State::Inflight)),
-    ),
-    ("hoodie.properties", None),
-    ("2024010512000000.commit", None),
-    ("20240105120000000", None),
-    ("", None),
-];
-
-/// The first name that says something else.
-fn other_name<'a>(rows: &[(&'a str, Option<(usize, Action, State)>)]) -> Option<&'a str> {
-    for (name, expected) in rows {
-        if instant_of_name(name.as_bytes()) != *expected {
-            return Some(*name);
-        }
-    }
-    None
-}
-
-#[test]
-fn names(rt: HostRuntime) {
-    assert_eq!(rt; other_name(NAMES), None);
-}
 
 fn shown(alloc: Global, bytes: &[u8]) -> Result<String, AllocError> {
     match read_properties(alloc, bytes) {
@@ -191,28 +125,6 @@ fn instants_rise_with_the_clock_or_by_a_millisecond(rt: HostRuntime) -> Result<(
     assert!(rt; next_instant(alloc, None, 253402300800000).is_err_and(|e| e == PAST_9999));
     assert!(rt; next_instant(alloc, None, u64::MAX).is_err_and(|e| e == PAST_9999));
     Ok(())
-}
-
-/// The first of the texts that spells a time.
-fn first_time<'a>(texts: &[&'a str]) -> Option<&'a str> {
-    for text in texts {
-        if read_time(text.as_bytes()).is_some() {
-            return Some(*text);
-        }
-    }
-    None
-}
-
-const NO_TIMES: &[&str] = &[
-    "20240230000000000",
-    "20240105240000000",
-    "2024010512000000",
-    "",
-];
-
-#[test]
-fn texts_that_spell_no_time(rt: HostRuntime) {
-    assert_eq!(rt; first_time(NO_TIMES), None);
 }
 
 const GROUPS: &[(&str, usize, usize)] = &[

@@ -9,7 +9,7 @@ use Rattle.std.proofs.lemmas.Bool.{eqb-true, false_from_ne_true}
 use Rattle.lake_store.specs.Disk.{Disk, Files, front_of, is_name, names_in}
 use Rattle.lake_store.proofs.DiskLaws.{is_path}
 use Rattle.lake_store.proofs.FolderLaws.{any-names_in}
-use Rattle.hudi_timeline.specs.Time.{IsDigits}
+use Rattle.hudi_names.specs.Time.{IsDigits}
 use Rattle.sync_driver.specs.Folders.{IsVacant}
 use Rattle.sync_driver.specs.HudiPaths.{properties_path, staged_path, claim_path, completed_path}
 use Rattle.sync_driver.specs.Steps.{IsFree}

@@ -1,7 +1,7 @@
 -- What a first sync does.
 use Rattle.std.specs.Prelude.{◌≡◌, ◌⊎◌, ℕ, List, Result, Ok, Err, IsErrOf, OnOk}
 use Rattle.lake_store.specs.declared.store.Store.{Ghosts}
-use Rattle.hudi_timeline.specs.Time.{IsSomeTime}
+use Rattle.hudi_names.specs.Time.{IsSomeTime}
 use Rattle.sync_driver.specs.Causes.{HasCause}
 use Rattle.sync_driver.specs.HudiTexts.{properties_of}
 use Rattle.sync_driver.specs.Steps.{GainsCommit}

@@ -1,6 +1,6 @@
 //! A first sync from Delta to Hudi, of a table of the first form.
 ghost use Rattle.std.specs.Prelude.{◌≡◌, ℕ, List, IfErr, IfOk, IsErrOf, OnOk};
-ghost use Rattle.hudi_timeline.specs.Time.{IsSomeTime};
+ghost use Rattle.hudi_names.specs.Time.{IsSomeTime};
 ghost use Rattle.sync_driver.specs.Causes.{HasCause};
 ghost use Rattle.sync_driver.specs.Folders.{IsVacant};
 ghost use Rattle.sync_driver.specs.HudiTexts.{properties_of};

@@ -4,7 +4,7 @@ ghost use Rattle.std.specs.FinMap as map;
 ghost use Rattle.lake_store.specs.Cause.{IsNotTooLong};
 ghost use Rattle.lake_store.specs.Runs.{FailsBy, IsContestedBy, IsUncontestedBy};
 ghost use Rattle.sync_driver.specs.HudiPaths.{completed_path};
-ghost use Rattle.hudi_timeline.specs.Time.{IsDigits};
+ghost use Rattle.hudi_names.specs.Time.{IsDigits};
 ghost use Rattle.sync_driver.specs.Steps.{IsStored, IsPublished, IsAnnounced, IsCommitted, GainsCommit, IsFree};
 
 use crate::paths::InstantPaths;

@@ -1,4 +1,4 @@
-use Rattle.std.proofs.Common.{◌≡◌, ◌-◌, ap, ◌∙◌, take, drop, arith}
+use Rattle.std.proofs.Common.{◌-◌, ap, ◌∙◌, take, drop, arith}
 use Rattle.hudi_timeline.specs.Group.{joined}
 use Rattle.hudi_timeline.proofs.GroupLemmas.{joined_whole}
 use Rattle.hudi_timeline.proofs.group.path_to_name.Goals as goal

@@ -1,6 +1,6 @@
 use Rattle.std.proofs.Common.{◌≡◌, List, ℕ, sym, ◌∙◌, subst}
 use Rattle.lake_store.specs.Disk.{Disk}
-use Rattle.hudi_timeline.specs.Time.{IsSomeTime}
+use Rattle.hudi_names.specs.Time.{IsSomeTime}
 use Rattle.sync_driver.specs.Folders.{IsVacant}
 use Rattle.sync_driver.specs.HudiTexts.{properties_of}
 use Rattle.sync_driver.specs.Steps.{IsFree, GainsCommit}

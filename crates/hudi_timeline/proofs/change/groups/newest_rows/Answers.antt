@@ -1,11 +1,11 @@
-use Rattle.std.proofs.Common.{◌≡◌, ℕ, Bool, List, [], ◌∷◌, ◌++◌, length, reverse, not, ◌||◌, sym, ap, ◌∙◌}
+use Rattle.std.proofs.Common.{◌≡◌, [], ◌∷◌, ◌++◌, reverse, not, ◌||◌, sym, ap, ◌∙◌}
 use Rattle.std.specs.List.{list_any}
 use Rattle.std.specs.Str.{bytes_eq}
 use Rattle.std.proofs.lemmas.Bool.{cond-true, cond-false}
 use Rattle.std.proofs.lemmas.List.{append_assoc}
 use Rattle.table_history.specs.declared.row.FileRow.{FileRow}
 use Rattle.hudi_timeline.specs.Files.{group_name}
-use Rattle.hudi_timeline.specs.GroupSets.{has_group, is_row_of_group, newest_rows}
+use Rattle.hudi_timeline.specs.GroupSets.{is_row_of_group, newest_rows}
 use Rattle.hudi_timeline.proofs.GroupSetLemmas.{has_group-insert, newest_step, empty_of}
 use Rattle.hudi_timeline.proofs.change.groups.newest_rows.Goals as goal
 

@@ -1,4 +1,4 @@
-use Rattle.std.proofs.Common.{◌≡◌, ◌||◌, take, sym, ap, ◌∙◌, arith}
+use Rattle.std.proofs.Common.{◌||◌, take, sym, ap, ◌∙◌, arith}
 use Rattle.std.specs.List.{list_any}
 use Rattle.std.proofs.lemmas.List.Folds.{list_any_more}
 use Rattle.hudi_timeline.specs.GroupSets.{has_group, names_group}

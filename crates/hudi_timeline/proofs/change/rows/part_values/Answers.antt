@@ -1,7 +1,7 @@
-use Rattle.std.proofs.Common.{◌≡◌, List, ℕ, map, ap, ◌∙◌, subst, sym, arith}
+use Rattle.std.proofs.Common.{List, map, subst, sym, arith}
 use Rattle.std.proofs.lemmas.Result.{err_from_is_err_and}
 use Rattle.table_history.specs.declared.row.PartValue.{PartValue}
-use Rattle.hudi_timeline.specs.Values.{PartStands, PartsStand}
+use Rattle.hudi_timeline.specs.Values.{PartsStand}
 use Rattle.hudi_timeline.proofs.ValueLemmas.{now_of, parts_more, no_values_at, shows_weaker}
 use Rattle.hudi_timeline.proofs.change.rows.part_values.Goals as goal
 

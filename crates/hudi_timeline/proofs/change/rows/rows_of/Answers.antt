@@ -1,4 +1,4 @@
-use Rattle.std.proofs.Common.{◌≡◌, IfErr, sym, ap, subst, ◌∙◌}
+use Rattle.std.proofs.Common.{IfErr, sym, ap, subst, ◌∙◌}
 use Rattle.hudi_timeline.specs.Files.{suffix_of, name_fault}
 use Rattle.hudi_timeline.specs.Steps.{OnlyFeature, IsFolderFault}
 use Rattle.hudi_timeline.specs.Values.{style_of}

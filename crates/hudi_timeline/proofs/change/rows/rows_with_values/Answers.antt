@@ -1,6 +1,5 @@
-use Rattle.std.proofs.Common.{◌≡◌, ◌∷◌, [], take, sym, subst, arith}
-use Rattle.std.proofs.lemmas.List.{take_more}
-use Rattle.hudi_timeline.specs.Values.{HaveValues, HasValues}
+use Rattle.std.proofs.Common.{sym, subst, arith}
+use Rattle.hudi_timeline.specs.Values.{HaveValues}
 use Rattle.hudi_timeline.proofs.ValueLemmas.{rows_more}
 use Rattle.hudi_timeline.proofs.change.rows.rows_with_values.Goals as goal
 

@@ -1,6 +1,5 @@
-use Rattle.std.proofs.Common.{◌≡◌, map, refl, sym, ◌∙◌, inl, inr}
+use Rattle.std.proofs.Common.{refl, ◌∙◌, inl, inr}
 use Rattle.std.specs.Option.{option_copied}
-use Rattle.partition_map.specs.Columns.{column_kind}
 use Rattle.hudi_timeline.proofs.CauseLemmas.{none_lacks}
 use Rattle.hudi_timeline.proofs.KindLemmas.{not_both, unknown, known, changed, unchanged}
 use Rattle.hudi_timeline.proofs.change.schemas.partition_kinds.Goals as goal

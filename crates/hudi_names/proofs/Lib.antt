@@ -1,0 +1,3 @@
+pub mod DateLemmas
+pub mod NameLemmas
+pub mod TimeLemmas
