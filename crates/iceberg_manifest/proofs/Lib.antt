@@ -4,4 +4,6 @@ pub mod FieldLemmas
 pub mod ListLemmas
 pub mod ListWrittenLemmas
 pub mod LiveLemmas
+pub mod ManifestWrittenLemmas
 pub mod LiveLaws
+pub mod StepLemmas

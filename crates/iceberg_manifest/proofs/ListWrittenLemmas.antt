@@ -1,8 +1,7 @@
 -- Manifest lists that are written, read back.
-use Rattle.std.proofs.Common.{◌≡◌, ℕ, suc, ◌+◌, ◌*◌, ◌<◌, ◌≤◌, ◌++◌, get_or, drop, append_assoc, add-one, drop-cons, ◌⊎◌, inl, inr, ℤ, pos, negsuc, List, [], ◌∷◌, length, map, true, false, Option, Some, None, Ok, refl, sym, ap, ◌∙◌, subst, arith, rules, FitsSigned, w32, leb}
+use Rattle.std.proofs.Common.{◌≡◌, ℕ, ◌+◌, ◌*◌, ◌≤◌, ◌⊎◌, inl, inr, ℤ, pos, negsuc, List, [], ◌∷◌, length, map, true, false, Option, Some, None, Ok, refl, sym, ap, ◌∙◌, subst, arith, rules, FitsSigned, w32, leb}
 use Rattle.std.proofs.lemmas.Bool.{le-leb}
 use Rattle.std.proofs.lemmas.Int.{ints}
-use Rattle.std.proofs.lemmas.List.{map-append}
 use Rattle.std.specs.List.{AllByRecursion}
 use Rattle.lake_basics.specs.Outcome.{with_fault}
 use Rattle.avro_schema.specs.Tree.{SchemaTree}
@@ -10,8 +9,7 @@ use Rattle.avro_schema.specs.Plain.{IsPlain}
 use Rattle.avro_schema.specs.Spelled.{IsSpelled}
 use Rattle.avro_value.specs.Layout.{layout_of}
 use Rattle.avro_value.specs.Fitting.{Fits}
-use Rattle.avro_value.specs.declared.value.Value.{Value}
-use Rattle.avro_value.specs.ValueTree.{ValueTree, value_tree, value_count, total}
+use Rattle.avro_value.specs.ValueTree.{ValueTree, value_count, total}
 use Rattle.avro_container.specs.Format.{Pairs}
 use Rattle.avro_container.specs.Writing.{IsFree, IsWritten}
 use Rattle.iceberg_manifest.specs.Containers.{StandsFor}
@@ -32,7 +30,7 @@ plan_is : list_plan list_type ≡ Ok plan_as_written
 unfolding list_plan count_places place_of required_place
 plan_is = refl
 
-int_fits : (n : ℤ) → FitsSigned w32 n → is_int n ≡ true
+pub int_fits : (n : ℤ) → FitsSigned w32 n → is_int n ≡ true
 int_fits (pos n) h = le-leb n 2147483647 (omega (arith, ints, h))
 int_fits (negsuc n) h = le-leb n 2147483647 (omega (arith, ints, h))
 
@@ -95,16 +93,3 @@ stands_by limit bytes meta m is writable ints spelled w = record {
   container = w.read_back spelled (rw (list_total is) writable.few);
   read = list_again is writable.places ints writable.contents;
 }
-
--- ---- the values one by one
-
-pub at_next : (is : List ManifestInfo) (k : ℕ) (i : ManifestInfo) → k < length is → i ≡ get_or is k i → drop k is ≡ i ∷ drop (k + 1) is
-at_next is k i h e = rw (add-one, drop-cons is k i) (ap (λ (x : ManifestInfo). x ∷ drop (suc k) is) (sym e))
-
-pub trees_more : (vs ws : List Value) (v : Value) (is : List ManifestInfo) (k : ℕ) (i : ManifestInfo) → ws ≡ vs ++ v ∷ [] → value_tree v ≡ info_tree i → drop k is ≡ i ∷ drop (k + 1) is → map value_tree vs ++ map info_tree (drop k is) ≡ map info_tree is → map value_tree ws ++ map info_tree (drop (k + 1) is) ≡ map info_tree is
-trees_more vs ws v is k i pushed tree next before =
-    let at_item : map value_tree vs ++ (info_tree i ∷ map info_tree (drop (k + 1) is)) ≡ map info_tree is = subst (λ (js : List ManifestInfo). map value_tree vs ++ map info_tree js ≡ map info_tree is) next before in
-    rw (pushed, map-append, tree, append_assoc) at_item
-
-pub ints_more : (is : List ManifestInfo) (k : ℕ) (i : ManifestInfo) → drop k is ≡ i ∷ drop (k + 1) is → HasInts i → (AllByRecursion HasInts (drop k is) → AllByRecursion HasInts is) → AllByRecursion HasInts (drop (k + 1) is) → AllByRecursion HasInts is
-ints_more is k i next ints before rest = before (subst (AllByRecursion HasInts) (sym next) (ints, rest))

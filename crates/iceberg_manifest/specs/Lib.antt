@@ -7,6 +7,7 @@ pub mod EntryReading
 pub mod ListReading
 pub mod WrittenTypes
 pub mod ListWriting
+pub mod ManifestWriting
 pub mod Containers
 pub mod Scans
 pub mod Lists

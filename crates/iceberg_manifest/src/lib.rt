@@ -1,8 +1,8 @@
 //! Iceberg's manifests and manifest lists (Apache Iceberg table specification, "Manifests" and
-//! "Manifest Lists"): both read, lists written, and the rows of the entries that are live ("Scan
-//! Planning").
+//! "Manifest Lists"), read and written, and the rows of the entries that are live ("Scan Planning").
 #![tactic(auto)]
 
+mod avro_name;
 mod data_file;
 mod entry;
 mod error;
@@ -11,6 +11,7 @@ mod info;
 mod list;
 mod list_writing;
 mod live;
+mod manifest_writing;
 mod partition;
 mod plan;
 mod reading;
@@ -23,9 +24,12 @@ pub use error::ManifestError;
 pub use info::{Infos, ManifestInfo};
 pub use list_writing::list_bytes;
 pub use live::{LiveRow, Rows, live_rows};
+pub use manifest_writing::manifest_bytes;
 pub use partition::PartColumn;
 pub use reading::{entries_of, read_list, read_manifest};
 
+#[cfg(test)]
+mod manifest_tests;
 #[cfg(test)]
 mod reading_tests;
 #[cfg(test)]

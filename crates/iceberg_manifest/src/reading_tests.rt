@@ -3,7 +3,7 @@ use super::{
     Entries, LiveRow, ManifestError, ManifestInfo, PartColumn, list_bytes, live_rows, read_list,
     read_manifest,
 };
-use lake_basics::Text;
+use lake_basics::{Blob, Text};
 use std::alloc::{AllocError, Global};
 use std::test::Fail;
 use table_history::LimitKind;
@@ -120,9 +120,12 @@ fn bytes_that_are_no_manifest_are_refused(rt: HostRuntime) -> Result<(), Fail> {
     Ok(())
 }
 
-#[test]
-fn a_manifest_list_is_written(rt: HostRuntime) -> Result<(), Fail> {
-    let alloc = rt.alloc();
+/// The list of that manifest as it is written for snapshot 30, whose parent is 20: its row as
+/// python3-avro 1.11 writes it, its schema in compact JSON.
+const WRITTEN_LIST: [u8; 968] =
+    *b"Obj\x01\x0c\x14avro.codec\x08null\x16avro.schema\xb2\x0c{\"fields\":[{\"field-id\":500,\"name\":\"manifest_path\",\"type\":\"string\"},{\"field-id\":501,\"name\":\"manifest_length\",\"type\":\"long\"},{\"field-id\":502,\"name\":\"partition_spec_id\",\"type\":\"int\"},{\"field-id\":517,\"name\":\"content\",\"type\":\"int\"},{\"field-id\":515,\"name\":\"sequence_number\",\"type\":\"long\"},{\"field-id\":516,\"name\":\"min_sequence_number\",\"type\":\"long\"},{\"field-id\":503,\"name\":\"added_snapshot_id\",\"type\":\"long\"},{\"field-id\":504,\"name\":\"added_files_count\",\"type\":\"int\"},{\"field-id\":505,\"name\":\"existing_files_count\",\"type\":\"int\"},{\"field-id\":506,\"name\":\"deleted_files_count\",\"type\":\"int\"},{\"field-id\":512,\"name\":\"added_rows_count\",\"type\":\"long\"},{\"field-id\":513,\"name\":\"existing_rows_count\",\"type\":\"long\"},{\"field-id\":514,\"name\":\"deleted_rows_count\",\"type\":\"long\"}],\"name\":\"manifest_file\",\"type\":\"record\"}\x1cformat-version\x022$parent-snapshot-id\x0420\x1esequence-number\x023\x16snapshot-id\x0430\x00lakebridge-sync!\x02B&/w/metadata/m1.avro\x8a\x0f\x00\x00\x06\x04<\x02\x02\x02\x08\x0a\x02lakebridge-sync!";
+
+fn written_list(alloc: Global) -> Result<Blob, ManifestError> {
     let infos = [ManifestInfo {
         manifest_path: Text::from_str(alloc, "/w/metadata/m1.avro")?,
         manifest_length: 965,
@@ -139,11 +142,12 @@ fn a_manifest_list_is_written(rt: HostRuntime) -> Result<(), Fail> {
         deleted_rows_count: 1,
         place: 0,
     }];
-    let bytes = list_bytes(alloc, &infos, 30, Some(20), 3)?;
-    let list = read_list(alloc, bytes.as_slice())?;
-    let Some(info) = list.get(0) else {
-        return Ok(());
-    };
-    assert_eq!(rt; info.min_sequence_number, 2);
+    list_bytes(alloc, &infos, 30, Some(20), 3)
+}
+
+#[test]
+fn a_manifest_list_is_written(rt: HostRuntime) -> Result<(), Fail> {
+    let bytes = written_list(rt.alloc())?;
+    assert_eq!(rt; bytes.as_slice(), WRITTEN_LIST.as_slice());
     Ok(())
 }
