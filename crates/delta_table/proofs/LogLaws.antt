@@ -19,7 +19,7 @@ use Rattle.delta_log.proofs.TableLemmas.{before_rows, before_schema, kinds_stay,
 use Rattle.delta_log.specs.declared.commit.DeltaCommit.{DeltaCommit}
 use Rattle.delta_log.specs.declared.commit.FileAction.{FileAction}
 use Rattle.delta_table.specs.declared.log.Log.{Log}
-use Rattle.delta_table.specs.Log.{HasLiveRows, IsLiveBefore, IsLog, IsLogBy, IsLogOf, IsNewestPart, IsReadLog, IsStep, IsTaken, SaysCommit}
+use Rattle.delta_table.specs.Log.{HasLiveRows, IsLiveBefore, IsLog, IsLogBy, IsLogOf, IsNewestMeta, IsNewestPart, IsReadLog, IsStep, IsTaken, SaysCommit, stated_at}
 use Rattle.delta_table.specs.Refusals.{IsLogRefusal, IsStepRefusal}
 use Rattle.delta_table.specs.declared.error.LogError.{LogError}
 use Rattle.delta_table.specs.declared.error.LogError.TheVariants as error
@@ -70,20 +70,36 @@ module _ {A : Type 0} (part : DeltaCommit → Option A) (files : Files) where
 
 -- ---- what a log says
 
-pub log_first : (files : Files) (c : DeltaCommit) (log : Log) → SaysCommit files 0 c → IsTaken c None log.table → c.meta ≡ Some log.meta → c.protocol ≡ Some log.protocol → IsLogOf files 1 log
-log_first files c log says step meta protocol = record {
+pub log_first : (files : Files) (c : DeltaCommit) (log : Log) → SaysCommit files 0 c → IsTaken c None log.table → c.meta ≡ Some log.meta → log.meta_version ≡ 0 → c.protocol ≡ Some log.protocol → IsLogOf files 1 log
+unfolding newest_here
+log_first files c log says step meta at protocol = record {
   table = longer IsTaken files 0 None c log.table refl says step;
   meta = newest_here (λ (d : DeltaCommit). d.meta) files 0 c log.meta says meta;
+  meta_version = at;
   protocol = newest_here (λ (d : DeltaCommit). d.protocol) files 0 c log.protocol says protocol;
 }
 
+-- the newest metadata with the version that it is from
+abbrev IsMetaAt : Files → ℕ → MetaData → ℕ → Type 0
+IsMetaAt files count meta at = (is : IsNewestMeta files count meta) × (at ≡ is.version)
+
+-- of one commit more
+meta_next : (files : Files) (version : ℕ) (c : DeltaCommit) (meta : MetaData) (at : ℕ) → SaysCommit files version c → (o : Option MetaData) → c.meta ≡ o → IsMetaAt files version meta at → IsMetaAt files (version + 1) (unwrap_or o meta) (stated_at o version at)
+unfolding newest_here newest_stays
+meta_next files version c meta at says None is was = (newest_stays (λ (d : DeltaCommit). d.meta) files version c meta says is was.0, was.1)
+meta_next files version c meta at says (Some m) is was = (newest_here (λ (d : DeltaCommit). d.meta) files version c m says is, refl)
+
 pub log_next : (files : Files) (version : ℕ) (c : DeltaCommit) (log next : Log) → IsLogOf files version log → SaysCommit files version c → IsTaken c (Some log.table) next.table
-    → next.meta ≡ unwrap_or c.meta log.meta → next.protocol ≡ unwrap_or c.protocol log.protocol → IsLogOf files (version + 1) next
-log_next files version c log next was says step meta protocol = record {
-  table = longer IsTaken files version (Some log.table) c next.table was.table says step;
-  meta = subst (IsNewestPart (λ (d : DeltaCommit). d.meta) files (version + 1)) (sym meta) (newest_next (λ (d : DeltaCommit). d.meta) files version c log.meta says c.meta refl was.meta);
-  protocol = subst (IsNewestPart (λ (d : DeltaCommit). d.protocol) files (version + 1)) (sym protocol) (newest_next (λ (d : DeltaCommit). d.protocol) files version c log.protocol says c.protocol refl was.protocol);
-}
+    → next.meta ≡ unwrap_or c.meta log.meta → next.meta_version ≡ stated_at c.meta version log.meta_version → next.protocol ≡ unwrap_or c.protocol log.protocol → IsLogOf files (version + 1) next
+log_next files version c log next was says step meta at protocol =
+    let behind = meta_next files version c log.meta log.meta_version says c.meta refl (was.meta, was.meta_version) in
+    let newest : IsMetaAt files (version + 1) next.meta next.meta_version = subst (λ (n : ℕ). IsMetaAt files (version + 1) next.meta n) (sym at) (subst (λ (m : MetaData). IsMetaAt files (version + 1) m (stated_at c.meta version log.meta_version)) (sym meta) behind) in
+    record {
+      table = longer IsTaken files version (Some log.table) c next.table was.table says step;
+      meta = newest.0;
+      meta_version = newest.1;
+      protocol = subst (IsNewestPart (λ (d : DeltaCommit). d.protocol) files (version + 1)) (sym protocol) (newest_next (λ (d : DeltaCommit). d.protocol) files version c log.protocol says c.protocol refl was.protocol);
+    }
 
 -- a version that is refused behind those that can be read
 pub stops_at : (files : Files) (newest version : ℕ) (base : Option Table) (e : LogError) → version ≤ newest → IsReadLog files version base → IsStepRefusal files version base e → IsLogRefusal files newest e

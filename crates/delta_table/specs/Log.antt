@@ -68,10 +68,16 @@ IsNewestMeta files count meta = IsNewestPart (λ c. c.meta) files count meta
 abbrev pub IsNewestProtocol : Files → ℕ → Protocol → Type 0
 IsNewestProtocol files count protocol = IsNewestPart (λ c. c.protocol) files count protocol
 
--- the table, and the newest metadata and protocol, of so many versions
+-- which version the newest metadata is from: this one, where its commit has metadata, or else the one so far
+abbrev pub stated_at : Option MetaData → ℕ → ℕ → ℕ
+stated_at None version so_far = so_far
+stated_at (Some m) version so_far = version
+
+-- the table, the newest metadata with the version that it is from, and the newest protocol, of so many versions
 pub record IsLogOf (files : Files) (count : ℕ) (log : Log) : Type 0 where
   pub table : IsReadLog files count (Some log.table)
   pub meta : IsNewestMeta files count log.meta
+  pub meta_version : log.meta_version ≡ meta.version
   pub protocol : IsNewestProtocol files count log.protocol
 
 -- ---- live files

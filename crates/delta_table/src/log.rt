@@ -5,7 +5,7 @@ ghost use Rattle.lake_basics.specs.declared.limits.TheConstants.{MAX_COMMITS, MA
 ghost use Rattle.lake_store.specs.Runs.{FailsBy, IsUncontestedBy, OnlyReads};
 ghost use Rattle.delta_log.specs.Change.{IsChangeRefusal, IsTableOfLog};
 ghost use Rattle.delta_log.specs.Sound.{IsSound};
-ghost use Rattle.delta_table.specs.Log.{HasLiveRows, IsLogOf, IsTaken, SaysCommit};
+ghost use Rattle.delta_table.specs.Log.{HasLiveRows, IsLogOf, IsTaken, SaysCommit, stated_at};
 ghost use Rattle.delta_table.specs.Refusals.{IsLogRefusal, IsStepRefusal, IsVersionRefusal, TellsOf, error_at};
 ghost use Rattle.delta_table.specs.declared.error.LogError.TheVariants.{StoreFault};
 
@@ -17,11 +17,13 @@ use lake_store::Store;
 use std::alloc::Global;
 use table_history::Table;
 
-/// What a log's versions have said so far: the table, and the newest metadata and protocol.
+/// What a log's versions have said so far: the table, the newest metadata with the version that it
+/// is from, and the newest protocol.
 #[derive(Drop)]
 pub struct Log {
     pub table: Table,
     pub meta: MetaData,
+    pub meta_version: u64,
     pub protocol: Protocol,
 }
 
@@ -68,6 +70,7 @@ fn first_log(alloc: Global, commit: DeltaCommit) -> Result<Log, DeltaError>
     ensures taken { IfOk result (λ log. IsTaken commit None log.table) }
     ensures sound { IfOk result (λ log. IsTableOfLog log.table) }
     ensures meta { IfOk result (λ log. commit.meta ≡ Some log.meta) }
+    ensures meta_version { IfOk result (λ log. log.meta_version ≡ 0) }
     ensures protocol { IfOk result (λ log. commit.protocol ≡ Some log.protocol) }
     ensures refused { IfErr result (IsChangeRefusal commit None) }
 {
@@ -84,17 +87,20 @@ fn first_log(alloc: Global, commit: DeltaCommit) -> Result<Log, DeltaError>
     Ok(Log {
         table,
         meta,
+        meta_version: 0,
         protocol,
     })
 }
 
-/// What one commit more says.
-fn next_log(alloc: Global, log: Log, commit: DeltaCommit) -> Result<Log, DeltaError>
+/// What the commit of one version more says.
+fn next_log(alloc: Global, log: Log, version: u64, commit: DeltaCommit) -> Result<Log, DeltaError>
     requires commit { IsSound commit }
     requires table { IsTableOfLog log.table }
     ensures taken { IfOk result (λ next. IsTaken commit (Some log.table) next.table) }
     ensures sound { IfOk result (λ next. IsTableOfLog next.table) }
     ensures meta { IfOk result (λ next. next.meta ≡ unwrap_or commit.meta log.meta) }
+    ensures meta_version { IfOk result (λ next. next.meta_version
+        ≡ stated_at commit.meta version log.meta_version) }
     ensures protocol { IfOk result
         (λ next. next.protocol ≡ unwrap_or commit.protocol log.protocol) }
     ensures refused { IfErr result (IsChangeRefusal commit (Some log.table)) }
@@ -103,9 +109,15 @@ fn next_log(alloc: Global, log: Log, commit: DeltaCommit) -> Result<Log, DeltaEr
     let DeltaCommit { protocol, meta, .. } = commit;
     let mut table = log.table;
     table.apply(alloc, &change)?;
+    let meta_version = if meta.is_some() {
+        version
+    } else {
+        log.meta_version
+    };
     Ok(Log {
         table,
         meta: meta.unwrap_or(log.meta),
+        meta_version,
         protocol: protocol.unwrap_or(log.protocol),
     })
 }
@@ -146,7 +158,7 @@ fn read_next<S: Store>(
     ensures contest { IsUncontestedBy ⟦<S as Store>⟧ store.old store.new ⊥ }
 {
     let commit = read_version(alloc, store, version)?;
-    match next_log(alloc, log, commit) {
+    match next_log(alloc, log, version, commit) {
         Ok(log) => Ok(log),
         Err(error) => Err(error_at(version, error)),
     }

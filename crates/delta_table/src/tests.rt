@@ -41,14 +41,16 @@ fn read(alloc: Global, versions: &[(u32, &str)], newest: u32) -> Result<String, 
     }
 }
 
-/// The first row of a log, its table's id, and the version that writers must follow.
+/// The first row of a log, its table's id with the version that states it, and the version that
+/// writers must follow.
 fn said(alloc: Global, log: &Log) -> Result<String, AllocError> {
     match log.table.rows.at(0) {
         Some(row) => format!(in alloc;
-            "{} {} of {}, {}",
+            "{} {} of {} by {}, {}",
             row.path.as_str(),
             row.size,
             log.meta.id.as_str(),
+            log.meta_version,
             log.protocol.writer
         ),
         None => format!(in alloc; "no row"),
@@ -75,11 +77,11 @@ fn versions_make_a_table_one_after_another(rt: HostRuntime) -> Result<(), Fail> 
     let alloc = rt.alloc();
     assert_eq!(rt;
         read(alloc, &[(0, FIRST)], 0)?.as_str(),
-        "p1.parquet 100 of a1, 2"
+        "p1.parquet 100 of a1 by 0, 2"
     );
     assert_eq!(rt;
         read(alloc, &[(0, FIRST), (1, SECOND)], 1)?.as_str(),
-        "p2.parquet 140 of a1, 2"
+        "p2.parquet 140 of a1 by 0, 2"
     );
     Ok(())
 }
