@@ -1,5 +1,5 @@
 -- What is written is read again.
-use Rattle.std.proofs.Common.{◌≡◌, ℕ, zero, suc, ◌+◌, ◌<◌, ◌≤◌, ◌^◌, ℤ, pos, negsuc, List, [], ◌∷◌, ◌++◌, length, map, Option, Some, None, option_map, Bool, true, false, cond, Result, Ok, Err, refl, sym, ap, subst, ◌∙◌, append_assoc, length-append, nat_lt, arith, rules, codes, All, IfSome}
+use Rattle.std.proofs.Common.{◌≡◌, ℕ, ◌+◌, ◌<◌, ◌≤◌, ◌^◌, ℤ, pos, negsuc, List, [], ◌∷◌, ◌++◌, length, map, Option, Some, None, option_map, Bool, true, false, cond, Ok, refl, sym, ap, subst, ◌∙◌, append_assoc, length-append, nat_lt, arith, All, IfSome}
 use Rattle.std.proofs.lemmas.Grind.{common_steps, flat_map-append}
 use Rattle.std.proofs.lemmas.Int.{ints}
 use Rattle.std.proofs.lemmas.List.{append-nil, map-append, length-map}
@@ -8,17 +8,16 @@ use Rattle.std.proofs.lemmas.List.Elements.{All-nil, All-cons, All-head, All-tai
 use Rattle.std.proofs.lemmas.List.Sorted.{IsPermutation-map}
 use Rattle.std.proofs.lemmas.Map.Keys.{IsDistinct-IsPermutation}
 use Rattle.std.proofs.lemmas.List.Splits.{slice_split-cons_no}
-use Rattle.std.specs.Prelude.{◌||◌, ◌&&◌, ◌==◌, flat_map, option_to_list, FitsSigned, nat_le, IsSome}
+use Rattle.std.specs.Prelude.{◌&&◌, ◌==◌, flat_map, option_to_list, FitsSigned, nat_le, IsSome}
 use Rattle.std.specs.Int.{w64}
 use Rattle.std.specs.List.{list_any, slice_split, onto_first, AllByRecursion, IsDistinct}
-use Rattle.std.specs.List.Sorted.{IsPermutation}
 use Rattle.std.specs.Str.{bytes_eq, is_utf8}
-use Rattle.serde_json.specs.Data.{Data, null, boolean, number, unsigned, string, array, object, Members, no_members}
+use Rattle.serde_json.specs.Data.{Data, string, object, Members, no_members}
 use Rattle.serde_json.specs.Find.{as_i64, of_integer}
 use Rattle.serde_json.specs.Read.{read}
 use Rattle.serde_json.specs.Written.{compact_text}
 use Rattle.lake_basics.specs.declared.limits.TheConstants.{MAX_ACTIONS}
-use Rattle.lake_basics.specs.Outcome.{◌>>=◌, each}
+use Rattle.lake_basics.specs.Outcome.{each}
 use Rattle.json_reading.specs.Json.{json, text, text_or_null_data, texts_data, members_with, items, pairs, IsReadAgain}
 use Rattle.partition_map.specs.UriPath.{inside_table, uri_path}
 use Rattle.partition_map.specs.Uri.{escaped_path}
@@ -29,7 +28,6 @@ use Rattle.delta_log.specs.declared.commit.FileAction.{FileAction}
 use Rattle.delta_log.specs.declared.commit.FileAction.TheVariants as file
 use Rattle.delta_log.specs.declared.commit.MetaData.{MetaData}
 use Rattle.delta_log.specs.declared.commit.Protocol.{Protocol}
-use Rattle.delta_log.specs.declared.error.LineFault.{LineFault}
 use Rattle.delta_log.specs.declared.error.LineFault.TheVariants.{Malformed}
 use Rattle.delta_log.specs.Commit.{file_path, file_paths}
 use Rattle.delta_log.specs.Grammar.{text_or_null, setting, partition_value, lists_features, protocol, meta_data, add, remove, object_action, line_action, record_count, stated_count}

@@ -1,9 +1,6 @@
 -- The change of a commit, put together from that of its columns and that of its rows.
-use Rattle.std.proofs.Common.{◌≡◌, ◌⊎◌, ℕ, ◌<◌, ◌≤◌, nat_lt, Bool, true, false, not, cond, List, [], ◌∷◌, ◌++◌, length, filter, Option, Some, None, Result, Ok, Err, All, Contains, unwrap_or, IfOk, IfErr, OnOk, IfSome, refl, sym, ap, subst, ◌∙◌, inl, inr, ⊎_elim, arith}
-use Rattle.std.specs.List.{IsDistinct}
-use Rattle.std.specs.Str.{bytes_eq}
+use Rattle.std.proofs.Common.{◌≡◌, ℕ, ◌<◌, ◌≤◌, true, not, List, length, filter, Option, Some, None, Result, Ok, Err, Contains, unwrap_or, IfOk, IfErr, OnOk, IfSome, refl, sym, ap, subst, ◌∙◌, inl, inr, ⊎_elim, arith}
 use Rattle.std.proofs.lemmas.Bool.{cases_Bool, false≢true}
-use Rattle.std.proofs.lemmas.Grind.{common_steps}
 use Rattle.std.proofs.lemmas.List.Elements.{Contains-append_left, Contains-append_right, Contains-append_cases, All-contains}
 use Rattle.lake_basics.specs.declared.limits.TheConstants.{MAX_LIVE_FILES, MAX_PARTITION_COLUMNS}
 use Rattle.table_history.specs.First.{IsFirst, NoneOf}
@@ -20,49 +17,24 @@ use Rattle.table_history.specs.declared.table.Table.{Table}
 use Rattle.table_history.proofs.Laws.{change_fits, change_leads, same_rows_length}
 use Rattle.table_history.proofs.RowListLemmas.{Contains-filter, filter_contains}
 use Rattle.partition_map.specs.declared.kind.PartKind.{PartKind}
-use Rattle.schema_map.specs.Delta.{delta_schema_of}
 use Rattle.schema_map.specs.declared.fault.MapError.TheVariants as map_errors
 use Rattle.delta_log.specs.declared.commit.DeltaCommit.{DeltaCommit}
 use Rattle.delta_log.specs.declared.commit.FileAction.{FileAction}
 use Rattle.delta_log.specs.declared.commit.MetaData.{MetaData}
 use Rattle.delta_log.specs.declared.error.DeltaError.{DeltaError}
 use Rattle.delta_log.specs.declared.error.DeltaError.TheVariants as errors
-use Rattle.delta_log.specs.Change.{IsOutsideGrammar, HasOtherValue, HasLargeSchema, HasManyFiles, SpellsNoValue, Shows, Passes, commit_features, commit_limits, AreRowsBehind, CanFollow, IsChangeOf, IsSoundRow, IsTableSchema, GoesOn, IsChangeRefusal}
-use Rattle.delta_log.specs.ChangeSteps.{column_features, Tells, is_kept, rows_behind, limit_passed, AreColumnsBehind, AreRowsOf, IsChangeOver, IsRefusalOver}
-use Rattle.delta_log.specs.Commit.{file_paths}
+use Rattle.delta_log.specs.Change.{IsOutsideGrammar, HasOtherValue, HasLargeSchema, HasManyFiles, SpellsNoValue, Shows, Passes, commit_features, commit_limits, AreRowsBehind, CanFollow, IsChangeOf, IsSoundRow, IsStatedBy, IsTableSchema, GoesOn, IsChangeRefusal}
+use Rattle.delta_log.specs.ChangeSteps.{Tells, is_kept, rows_behind, AreColumnsBehind, AreRowsOf, HaveValues, PassesOver, IsChangeOver, IsRefusalOver}
 use Rattle.delta_log.specs.Judging.{acts_on}
-use Rattle.delta_log.specs.Live.{PartColumns, AddsRow, ActsOn, IsRowBehind}
-use Rattle.delta_log.specs.Sound.{IsSound, IsSoundFile}
+use Rattle.delta_log.specs.Live.{PartColumns, IsRowBehind}
+use Rattle.delta_log.specs.Sound.{IsSound, IsSoundFile, HaveDistinctNames}
 use Rattle.delta_log.specs.TableBehind.{rows_before, schema_before, partition_behind, table_before, Spells, StatesSchema, IsSchemaBehind, ArePartColumns}
 use Rattle.delta_log.proofs.BehindLemmas.{on_path, path_on, behind_distinct}
 use Rattle.delta_log.proofs.KindLemmas.{KeepKinds, same_columns}
 use Rattle.delta_log.proofs.ReadableLemmas.{none_first}
-use Rattle.delta_log.proofs.TableLemmas.{before_rows, stated_sound, goes_on}
+use Rattle.delta_log.proofs.TableLemmas.{before_rows, stated_sound, stated_spells, names_distinct, goes_on}
+use Rattle.delta_log.proofs.TextLemmas.{columns_distinct}
 use Rattle.delta_log.proofs.ValueLemmas.{row_from, row_to, rows_paths, has_values, sound_row, columns_length}
-
--- ---- the numbers
-
-within_limits : (columns live : ℕ) → limit_passed columns live ≡ None → (columns ≤ MAX_PARTITION_COLUMNS) × (live ≤ MAX_LIVE_FILES)
-within_limits columns live h = by (nat_lt MAX_PARTITION_COLUMNS columns) (nat_lt MAX_LIVE_FILES live) refl refl h
-  where
-    by : (a b : Bool) → nat_lt MAX_PARTITION_COLUMNS columns ≡ a → nat_lt MAX_LIVE_FILES live ≡ b → cond a (Some limit.PartitionColumns) (cond b (Some limit.LiveFiles) None) ≡ None → (columns ≤ MAX_PARTITION_COLUMNS) × (live ≤ MAX_LIVE_FILES)
-    by true b ea eb e = absurd cc
-    by false true ea eb e = absurd cc
-    by false false ea eb e = (grind (arith, common_steps), grind (arith, common_steps))
-
--- which number is passed, and that none before it is
-Passed : ℕ → ℕ → LimitKind → Type 0
-Passed columns live which = ((which ≡ limit.PartitionColumns) × (MAX_PARTITION_COLUMNS < columns)) ⊎ ((which ≡ limit.LiveFiles) × (columns ≤ MAX_PARTITION_COLUMNS) × (MAX_LIVE_FILES < live))
-
-passed_limit : (columns live : ℕ) (which : LimitKind) → limit_passed columns live ≡ Some which → Passed columns live which
-unfolding Passed
-passed_limit columns live which h = by (nat_lt MAX_PARTITION_COLUMNS columns) (nat_lt MAX_LIVE_FILES live) refl refl h
-  where
-    by : (a b : Bool) → nat_lt MAX_PARTITION_COLUMNS columns ≡ a → nat_lt MAX_LIVE_FILES live ≡ b → cond a (Some limit.PartitionColumns) (cond b (Some limit.LiveFiles) None) ≡ Some which
-        → ((which ≡ limit.PartitionColumns) × (MAX_PARTITION_COLUMNS < columns)) ⊎ ((which ≡ limit.LiveFiles) × (columns ≤ MAX_PARTITION_COLUMNS) × (MAX_LIVE_FILES < live))
-    by true b ea eb e = inl (cc, grind (arith, common_steps))
-    by false true ea eb e = inr (cc, grind (arith, common_steps), grind (arith, common_steps))
-    by false false ea eb e = absurd cc
 
 -- ---- the rows behind
 
@@ -97,17 +69,20 @@ one_kind : (schema : ColumnTrees) (names : List (List ℕ)) → KeepKinds schema
 one_kind schema names name there o k was is = cc (sym was ∙ is)
 
 module _ (c : DeltaCommit) (base : Option Table) (stated : Option ColumnTrees) (columns : PartColumns) (sound : IsSound c) (cols : AreColumnsBehind c base stated columns) where
-  no_value : (rows : List FileRow) → AreRowsOf columns c.files rows → HasOtherValue c base → ⊥
-  no_value rows added h =
+  no_value : HaveValues columns c.files → HasOtherValue c base → ⊥
+  no_value have h =
       let schema = unwrap_or stated (schema_before base) in
       let one_schema : h.0 ≡ schema = one_behind base c.meta h.0 schema h.2 cols.behind in
       let one_columns : h.1 ≡ columns = same_columns h.0 schema (partition_behind c.meta base) h.1 columns h.3 cols.kinds (subst (λ s. KeepKinds s schema (partition_behind c.meta base)) (sym one_schema) (one_kind schema (partition_behind c.meta base))) in
-      has_values columns c.files rows h.4 h.5 added h.6 (subst (λ cs. Contains cs h.5) one_columns h.7) h.8
+      have h.4 h.5 h.6 (subst (λ cs. Contains cs h.5) one_columns h.7) h.8
 
-  shows_none : (rows : List FileRow) → AreRowsOf columns c.files rows → NoneOf (Shows c base) commit_features
-  shows_none rows added =
+  shows_none : HaveValues columns c.files → NoneOf (Shows c base) commit_features
+  shows_none have =
       let s = cols.supported in
-      (s.0, (s.1.0, (s.1.1.0, (s.1.1.1.0, (s.1.1.1.1.0, (s.1.1.1.1.1.0, (no_value rows added, tt)))))))
+      (s.0, (s.1.0, (s.1.1.0, (s.1.1.1.0, (s.1.1.1.1.0, (s.1.1.1.1.1.0, (no_value have, tt)))))))
+
+  rows_have : (rows : List FileRow) → AreRowsOf columns c.files rows → HaveValues columns c.files
+  rows_have rows added f column there named none = has_values columns c.files rows f column added there named none
 
   names_few : (n : ℕ) → length columns ≤ n → length (partition_behind c.meta base) ≤ n
   names_few n h = subst (λ k. k ≤ n) (columns_length _ (partition_behind c.meta base) columns cols.kinds) h
@@ -136,12 +111,12 @@ module _ (c : DeltaCommit) (base : Option Table) (stated : Option ColumnTrees) (
       rows = the_rows;
       diff = over.diff;
       leads = change_leads (rows_before base) (behind_of over.rows) change.removed change.added over.diff over.distinct the_rows.distinct;
-      few = (within_limits (length columns) (length (behind_of over.rows)) over.within).1;
-      few_columns = names_few MAX_PARTITION_COLUMNS (within_limits (length columns) (length (behind_of over.rows)) over.within).0;
+      few = over.few_rows;
+      few_columns = names_few MAX_PARTITION_COLUMNS over.few_columns;
     }
 
     pub change_supported : NoneOf (Shows c base) commit_features
-    change_supported = shows_none over.rows over.added
+    change_supported = shows_none (rows_have over.rows over.added)
 
     pub change_applies : CanApply (table_before c base) change
     change_applies = change_fits (table_before c base) (behind_of over.rows) change (subst (λ l. IsDiff l (behind_of over.rows) change.removed change.added) (sym (before_rows c base)) over.diff)
@@ -168,7 +143,7 @@ module _ (c : DeltaCommit) (base : Option Table) (stated : Option ColumnTrees) (
         let behind : AreRowsBehind columns (rows_before base) c h.2 = subst (λ cs. AreRowsBehind cs (rows_before base) c h.2) one_columns h.5 in
         let same : length h.2 ≡ length (behind_of over.rows) =
         same_rows_length h.2 (behind_of over.rows) behind.distinct the_rows.distinct (λ row. (λ there. (the_rows.rows row).1 ((behind.rows row).0 there), λ there. (behind.rows row).1 ((the_rows.rows row).0 there))) in
-        let few : length (behind_of over.rows) ≤ MAX_LIVE_FILES = (within_limits (length columns) (length (behind_of over.rows)) over.within).1 in
+        let few : length (behind_of over.rows) ≤ MAX_LIVE_FILES = over.few_rows in
         let many : MAX_LIVE_FILES < length h.2 = h.6 in
         omega (arith, same, few, many)
 
@@ -191,16 +166,16 @@ module _ (c : DeltaCommit) (base : Option Table) (stated : Option ColumnTrees) (
   many_columns : MAX_PARTITION_COLUMNS < length columns → MAX_PARTITION_COLUMNS < length (partition_behind c.meta base)
   many_columns h = subst (λ k. MAX_PARTITION_COLUMNS < k) (columns_length _ (partition_behind c.meta base) columns cols.kinds) h
 
-  first_passed : (rows : List FileRow) (which : LimitKind) → AreRowsOf columns c.files rows → HasDistinctPaths (rows_before base) → Passed (length columns) (length (behind_of rows)) which → IsFirst (Passes c base) commit_limits which
-  unfolding Passed
-  first_passed rows which added distinct h =
-      ⊎_elim
-      (λ names. inl (names.0, many_columns names.1))
-      (λ files.
-      let few = names_few MAX_PARTITION_COLUMNS files.1 in
-      let many : HasManyFiles c base = (unwrap_or stated (schema_before base), columns, behind_of rows, cols.behind, cols.kinds, are_behind columns (rows_before base) c rows distinct sound added, files.2) in
-      inr ((λ over. omega (arith, over, few)), inl (files.0, many)))
-      h
+  many_files : (rows : List FileRow) → AreRowsOf columns c.files rows → HasDistinctPaths (rows_before base) → MAX_LIVE_FILES < length (behind_of rows) → HasManyFiles c base
+  many_files rows added distinct many = (unwrap_or stated (schema_before base), columns, behind_of rows, cols.behind, cols.kinds, are_behind columns (rows_before base) c rows distinct sound added, many)
+
+  limit_refusal : (which : LimitKind) → PassesOver columns (rows_before base) c.files which → IsChangeRefusal c base (errors.Limit which)
+  limit_refusal limit.PartitionColumns h = (cols.grammar, shows_none h.1, inr (no_large_schema, inl (refl, many_columns h.0)))
+  limit_refusal limit.LiveFiles h =
+      let few = names_few MAX_PARTITION_COLUMNS h.3 in
+      let first : IsFirst (Passes c base) commit_limits limit.LiveFiles = inr ((λ over. omega (arith, over, few)), inl (refl, many_files h.0 h.1 h.2 h.4)) in
+      (cols.grammar, shows_none (rows_have h.0 h.1), inr (no_large_schema, first))
+  limit_refusal _ h = absurd h
 
   pub over_refusal : (e : DeltaError) → IsRefusalOver columns (rows_before base) c.files e → IsChangeRefusal c base e
   over_refusal errors.Memory h = tt
@@ -208,8 +183,7 @@ module _ (c : DeltaCommit) (base : Option Table) (stated : Option ColumnTrees) (
   over_refusal (errors.DoublePath line) h = absurd h
   over_refusal (errors.Unsupported feature line) h =
       subst (λ (p : Feature × ℕ). IsChangeRefusal c base (errors.Unsupported p.0 p.1)) (λ i. (sym h.0 i, sym h.1 i)) (value_refusal h.2 h.3 h.4 h.5 h.6)
-  over_refusal (errors.Limit which) h =
-      (cols.grammar, shows_none h.0 h.1, inr (no_large_schema, first_passed h.0 which h.1 h.2 (passed_limit (length columns) (length (behind_of h.0)) which h.3)))
+  over_refusal (errors.Limit which) h = limit_refusal which h
 
 -- ---- without a cause there is no refusal but for memory
 
@@ -235,6 +209,11 @@ pub told_these : (r : Result Change DeltaError) (cs columns : PartColumns) (rows
 told_these r cs columns rows before fs files ec er ef h = subst (λ (p : PartColumns × (List FileRow × List FileAction)). IfErr r (IsRefusalOver p.0 p.1.0 p.1.1)) (λ i. (ec i, (er i, ef i))) h
 
 module _ (c : DeltaCommit) (base : Option Table) (stated : Option ColumnTrees) (columns : PartColumns) (sound : IsSound c) (cols : AreColumnsBehind c base stated columns) where
+  pub distinct_columns : HaveDistinctNames columns
+  distinct_columns =
+      let names = partition_behind c.meta base in
+      columns_distinct (unwrap_or stated (schema_before base)) names columns cols.kinds (names_distinct c base stated cols.stated cols.supported.1.1.1.1.0)
+
   pub found_by : (r : Result Change DeltaError) → IfOk r (IsChangeOver columns (rows_before base) c.files stated) → IfOk r (IsChangeOf c base)
   found_by (Ok change) over = change_is c base stated columns sound cols change over
   found_by (Err e) over = tt
@@ -260,6 +239,10 @@ module _ (c : DeltaCommit) (base : Option Table) (stated : Option ColumnTrees) (
   schema_by (Ok change) over = stated_sound c.meta change.schema (change_is c base stated columns sound cols change over).stated
   schema_by (Err e) over = tt
 
+  pub spells_by : (r : Result Change DeltaError) → IfOk r (IsChangeOver columns (rows_before base) c.files stated) → IfOk r (λ change. IfSome change.schema (IsStatedBy c))
+  spells_by (Ok change) over = stated_spells c c.meta change.schema refl (change_is c base stated columns sound cols change over).stated
+  spells_by (Err e) over = tt
+
   pub goes_on_by : (r : Result Change DeltaError) → IfOk r (IsChangeOver columns (rows_before base) c.files stated) → IfOk r (GoesOn c base)
   goes_on_by (Ok change) over =
       goes_on c base change (change_is c base stated columns sound cols change over) (change_supported c base stated columns sound cols change over)
@@ -284,17 +267,14 @@ over_value columns before files (errors.DoublePath line) h = absurd h
 over_value columns before files (errors.Unsupported feature line) h = (h.0, h.1, h.2.0, h.2.1, h.2.2, h.2.3, h.2.4)
 over_value columns before files (errors.Limit which) h = absurd h
 
-pub over_limit : (columns : PartColumns) (before rows : List FileRow) (files : List FileAction) (count live : ℕ) (which : LimitKind) → AreRowsOf columns files rows → HasDistinctPaths before → count ≡ length columns
-    → live ≡ length (rows_behind before files rows) → limit_passed count live ≡ Some which → IsRefusalOver columns before files (errors.Limit which)
-over_limit columns before rows files count live which added distinct names all passed = (rows, added, distinct, sym (λ i. limit_passed (names i) (all i)) ∙ passed)
-
-pub over_change : (columns : PartColumns) (before rows : List FileRow) (files : List FileAction) (count live : ℕ) (stated : Option ColumnTrees) (change : Change) → AreRowsOf columns files rows → HasDistinctPaths before → count ≡ length columns
-    → live ≡ length (rows_behind before files rows) → limit_passed count live ≡ None → change.schema ≡ stated → IsDiff before (rows_behind before files rows) change.removed change.added → IsChangeOver columns before files stated change
-over_change columns before rows files count live stated change added distinct names all within schema diff = record {
+pub over_few : (columns : PartColumns) (before rows : List FileRow) (files : List FileAction) (stated : Option ColumnTrees) (change : Change) → AreRowsOf columns files rows → HasDistinctPaths before → length columns ≤ MAX_PARTITION_COLUMNS
+    → length (rows_behind before files rows) ≤ MAX_LIVE_FILES → change.schema ≡ stated → IsDiff before (rows_behind before files rows) change.removed change.added → IsChangeOver columns before files stated change
+over_few columns before rows files stated change added distinct few live schema diff = record {
   stated = schema;
   rows = rows;
   added = added;
   distinct = distinct;
   diff = diff;
-  within = sym (λ i. limit_passed (names i) (all i)) ∙ within;
+  few_columns = few;
+  few_rows = live;
 }

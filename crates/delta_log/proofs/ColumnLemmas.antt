@@ -1,5 +1,5 @@
 -- What a commit says of the table's columns: the steps of the work, as facts of the commit.
-use Rattle.std.proofs.Common.{◌≡◌, ◌⊎◌, ℕ, ℤ, pos, negsuc, ◌+◌, ◌<◌, Bool, true, false, not, cond, nat_lt, ◌||◌, ◌&&◌, List, [], ◌∷◌, ◌++◌, length, Option, Some, None, is_some, is_none, Result, Ok, Err, Contains, unwrap_or, codes, refl, sym, ap, subst, ◌∙◌, inl, inr, ⊎_elim, arith}
+use Rattle.std.proofs.Common.{◌≡◌, ◌⊎◌, ℕ, ℤ, pos, negsuc, Bool, true, false, not, cond, ◌||◌, ◌&&◌, List, [], ◌∷◌, Option, Some, None, is_some, is_none, Result, Ok, Err, Contains, codes, refl, sym, ap, subst, ◌∙◌, inl, inr, ⊎_elim}
 use Rattle.std.specs.Prelude.{◌==◌}
 use Rattle.std.specs.Cmp.Lexicographic.{pointwise}
 use Rattle.std.specs.List.{list_any, list_all, IsDistinct}
@@ -14,7 +14,7 @@ use Rattle.table_history.specs.First.{IsFirst, NoneOf}
 use Rattle.table_history.specs.History.{column_type}
 use Rattle.table_history.specs.TypeTree.{TypeTree, ColumnTrees}
 use Rattle.table_history.specs.declared.feature.Feature.{Feature}
-use Rattle.table_history.specs.declared.feature.Feature.TheVariants.{ReaderVersion, ReaderFeature, ColumnMapping, SchemaType, PartitionType, PartitionChange, PartitionValue}
+use Rattle.table_history.specs.declared.feature.Feature.TheVariants.{ReaderVersion, ReaderFeature, ColumnMapping, SchemaType, PartitionType, PartitionChange}
 use Rattle.table_history.specs.declared.limit.LimitKind.{LimitKind}
 use Rattle.table_history.specs.declared.table.Table.{Table}
 use Rattle.table_history.proofs.RowListLemmas.{Contains-none, Contains-head, Contains-tail, Contains-cases}
@@ -22,6 +22,8 @@ use Rattle.partition_map.specs.Columns.{column_kind, LacksKinds, HasOtherKind, h
 use Rattle.partition_map.specs.declared.kind.PartKind.{PartKind}
 use Rattle.partition_map.proofs.ColumnLemmas.{distinct_exactly, has_other_exactly}
 use Rattle.schema_map.specs.Delta.{delta_schema_of}
+use Rattle.schema_map.specs.DeltaRefusal.{IsDeltaRefused}
+use Rattle.schema_map.proofs.DeltaRefused.{given_refused}
 use Rattle.schema_map.specs.declared.fault.MapError.{MapError}
 use Rattle.schema_map.specs.declared.fault.MapError.TheVariants as map_errors
 use Rattle.delta_log.specs.declared.commit.DeltaCommit.{DeltaCommit}
@@ -29,12 +31,12 @@ use Rattle.delta_log.specs.declared.commit.MetaData.{MetaData}
 use Rattle.delta_log.specs.declared.commit.Protocol.{Protocol}
 use Rattle.delta_log.specs.declared.error.DeltaError.{DeltaError}
 use Rattle.delta_log.specs.declared.error.DeltaError.TheVariants as errors
-use Rattle.delta_log.specs.Change.{LacksFirstActions, IsOutsideGrammar, HasStrayColumn, HasOtherReader, known_features, NeedsOtherFeature, MapsColumns, TellsOfType, HasOtherType, HasOtherPartition, ChangesPartition, HasLargeSchema, Shows, commit_features, IsChangeRefusal}
-use Rattle.delta_log.specs.ChangeSteps.{is_reader, has_other_reader, is_known, is_unknown, lists_unknown, needs_other_feature, is_mapping, maps_columns, first_feature, unshown_by, unshown, is_column, with_columns, judged, judged_schema, kind_named, part_column, judged_columns, changes_partition, changes_base, unchanged, ColumnsBehind, stated_columns, kept_columns, lacks_first_actions, columns_by, columns_of, column_features, AreColumnsBehind}
+use Rattle.delta_log.specs.Change.{LacksFirstActions, IsOutsideGrammar, HasStrayColumn, HasOtherReader, known_features, NeedsOtherFeature, MapsColumns, HasOtherType, HasOtherPartition, ChangesPartition, HasLargeSchema, Shows, commit_features, IsChangeRefusal}
+use Rattle.delta_log.specs.ChangeSteps.{is_reader, has_other_reader, is_known, is_unknown, lists_unknown, needs_other_feature, is_mapping, maps_columns, first_feature, unshown_by, unshown, is_column, judged, judged_schema, part_column, judged_columns, changes_partition, changes_base, unchanged, ColumnsBehind, stated_columns, kept_columns, lacks_first_actions, columns_by, columns_of, AreColumnsBehind}
 use Rattle.delta_log.specs.Grammar.{lists_features}
 use Rattle.delta_log.specs.Judging.{is_memory}
 use Rattle.delta_log.specs.Live.{PartColumns}
-use Rattle.delta_log.specs.TableBehind.{schema_before, partition_behind, Spells, StatesSchema, IsSchemaBehind, ArePartColumns}
+use Rattle.delta_log.specs.TableBehind.{partition_behind, Spells, StatesSchema, IsSchemaBehind, ArePartColumns}
 use Rattle.delta_log.proofs.AnyLemmas.{any_from, any_to}
 
 abbrev early_features : List Feature
@@ -290,7 +292,9 @@ module _ (c : DeltaCommit) (m : MetaData) (base : Option Table) (is : c.meta ≡
       bad
 
   no_type : (schema : ColumnTrees) → Spells m schema → HasOtherType c → ⊥
-  no_type schema spells h = no_fault m schema h.1 spells (subst (λ n. delta_schema_of n.schema ≡ Err h.1) (same_meta h.0 h.2) h.3)
+  no_type schema spells h =
+      let fault : MapError = map_errors.SchemaType h.1 in
+      no_fault m schema fault spells (subst (λ n. delta_schema_of n.schema ≡ Err fault) (same_meta h.0 h.2) h.3)
 
   no_large : (schema : ColumnTrees) (which : LimitKind) → Spells m schema → HasLargeSchema c which → ⊥
   no_large schema which spells h = no_fault m schema (map_errors.Limit which) spells (subst (λ n. delta_schema_of n.schema ≡ Err (map_errors.Limit which)) (same_meta h.0 h.1) h.2)
@@ -385,8 +389,8 @@ module _ (c : DeltaCommit) (m : MetaData) (base : Option Table) (is : c.meta ≡
     not_spelled : (n : MetaData) (schema : ColumnTrees) → c.meta ≡ Some n → Spells n schema → ⊥
     not_spelled n schema h spells = no_fault m schema e (subst (λ k. Spells k schema) (same_meta n h) spells) fault
 
-    type_refusal : TellsOfType e → IsChangeRefusal c base (errors.Unsupported SchemaType 0)
-    type_refusal type = (refl, inside_refused e fault other, inr (early.0, inr (early.1.0, inr (early.1.1.0, inl (refl, (m, e, is, fault, type))))))
+    type_refusal : HasOtherType c → IsChangeRefusal c base (errors.Unsupported SchemaType 0)
+    type_refusal type = (refl, inside_refused e fault other, inr (early.0, inr (early.1.0, inr (early.1.1.0, inl (refl, type)))))
 
     none_shown : (HasOtherType c → ⊥) → NoneOf (Shows c base) commit_features
     none_shown no_other =
@@ -395,11 +399,11 @@ module _ (c : DeltaCommit) (m : MetaData) (base : Option Table) (is : c.meta ≡
     same_fault : (n : MetaData) (f : MapError) → c.meta ≡ Some n → delta_schema_of n.schema ≡ Err f → e ≡ f
     same_fault n f h told = let same : Err e ≡ Err f = sym fault ∙ subst (λ k. delta_schema_of k.schema ≡ Err f) (same_meta n h) told in cc
 
-    limit_refusal : (which : LimitKind) → e ≡ map_errors.Limit which → IsChangeRefusal c base (errors.Limit which)
-    limit_refusal which same = (
+    limit_refusal : (which : LimitKind) → e ≡ map_errors.Limit which → IsDeltaRefused m.schema (map_errors.Limit which) → IsChangeRefusal c base (errors.Limit which)
+    limit_refusal which same cause = (
       inside_refused e fault other,
-      none_shown (λ h. subst TellsOfType (sym (same_fault h.0 h.1 h.2 h.3) ∙ same) h.4),
-      inl (m, is, fault ∙ ap Err same),
+      none_shown (λ h. let wrong : map_errors.Limit which ≡ map_errors.SchemaType h.1 = sym same ∙ same_fault h.0 (map_errors.SchemaType h.1) h.2 h.3 in absurd cc),
+      inl (m, is, fault ∙ ap Err same, cause),
     )
 
 -- ---- a commit with metadata, as a function of it
@@ -425,16 +429,17 @@ module _ (c : DeltaCommit) (m : MetaData) (base : Option Table) (is : c.meta ≡
   unfolding ReadAs
   read_as (Ok schema) h = read_columns schema h (list_all (is_column schema) m.partition) refl
   read_as (Err map_errors.Memory) h = tt
-  read_as (Err map_errors.BadSchema) h = (refl, inr (inl (m, is, h)))
+  read_as (Err map_errors.BadSchema) h = (refl, inr (inl (m, is, h, given_refused m.schema (Err map_errors.BadSchema) h)))
   read_as (Err (map_errors.SchemaType column)) h =
       let other : (map_errors.SchemaType column ≡ map_errors.BadSchema) → ⊥ = λ e. absurd cc in
-      (inside_refused c m base is first (map_errors.SchemaType column) h other, λ early. type_refusal c m base is first (map_errors.SchemaType column) h other early tt)
-  read_as (Err (map_errors.AvroName column)) h =
-      let other : (map_errors.AvroName column ≡ map_errors.BadSchema) → ⊥ = λ e. absurd cc in
-      (inside_refused c m base is first (map_errors.AvroName column) h other, λ early. type_refusal c m base is first (map_errors.AvroName column) h other early tt)
+      let type : HasOtherType c = (m, column, is, h, given_refused m.schema (Err (map_errors.SchemaType column)) h) in
+      (inside_refused c m base is first (map_errors.SchemaType column) h other, λ early. type_refusal c m base is first (map_errors.SchemaType column) h other early type)
+  read_as (Err (map_errors.AvroName column)) h = tt
   read_as (Err (map_errors.Limit which)) h =
-      let other : (map_errors.Limit which ≡ map_errors.BadSchema) → ⊥ = λ e. absurd cc in
-      (inside_refused c m base is first (map_errors.Limit which) h other, λ early. limit_refusal c m base is first (map_errors.Limit which) h other early which refl)
+      let other : (map_errors.Limit which ≡ map_errors.BadSchema) → ⊥ = λ e. absurd cc in (
+        inside_refused c m base is first (map_errors.Limit which) h other,
+        λ early. limit_refusal c m base is first (map_errors.Limit which) h other early which refl (given_refused m.schema (Err (map_errors.Limit which)) h),
+      )
 
   module _ (schema : ColumnTrees) (spells : Spells m schema) (none : HasStray schema m.partition → ⊥) (early : NoneOf (Shows c None) early_features) where
     last_step : (columns : PartColumns) → IsDistinct bytes_eq m.partition → ArePartColumns schema m.partition columns → (b : Bool) → changes_base base m schema ≡ b

@@ -1,5 +1,5 @@
 -- The names of columns, as a set that is filled column by column.
-use Rattle.std.proofs.Common.{◌≡◌, ℕ, ◌+◌, ◌<◌, ◌≤◌, Bool, true, false, cond, ◌||◌, ◌&&◌, List, [], ◌∷◌, ◌++◌, length, get_or, drop, map, Option, Some, None, is_some, Bor, refl, sym, ap, ◌∙◌, rules}
+use Rattle.std.proofs.Common.{◌≡◌, ℕ, ◌+◌, ◌<◌, ◌≤◌, Bool, true, false, cond, ◌||◌, ◌&&◌, List, [], ◌∷◌, ◌++◌, length, get_or, drop, map, Option, Some, is_some, Bor, refl, sym, ap, ◌∙◌, rules}
 use Rattle.std.specs.List.{list_any, list_all}
 use Rattle.std.specs.Str.{bytes_eq}
 use Rattle.std.proofs.lemmas.Cmp.{nat_list_eq_equiv}

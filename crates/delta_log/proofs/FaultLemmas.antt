@@ -1,9 +1,9 @@
 -- Why an action can't stand behind others.
-use Rattle.std.proofs.Common.{◌≡◌, ◌⊎◌, inl, inr, ⊎_elim, ℕ, ◌+◌, ◌<◌, ◌≤◌, List, [], ◌∷◌, ◌++◌, length, Option, Some, None, Bool, true, false, cond, Result, Ok, Err, refl, sym, ap, subst, ◌∙◌, length-append, arith, All}
+use Rattle.std.proofs.Common.{◌≡◌, inl, inr, ⊎_elim, ℕ, ◌+◌, ◌<◌, ◌≤◌, List, [], ◌∷◌, ◌++◌, length, Option, Some, None, Bool, true, false, cond, Result, Ok, Err, refl, sym, ap, subst, ◌∙◌, arith}
 use Rattle.std.proofs.lemmas.Cmp.{nat_list_eq_equiv}
 use Rattle.std.proofs.lemmas.Grind.{common_steps, flat_map-append}
 use Rattle.std.proofs.lemmas.List.{append-nil}
-use Rattle.std.proofs.lemmas.Map.Keys.{IsDistinct-head, IsDistinct-tail, IsDistinct-cons}
+use Rattle.std.proofs.lemmas.Map.Keys.{IsDistinct-head, IsDistinct-tail}
 use Rattle.std.specs.Prelude.{is_some, option_to_list, flat_map, nat_le, ◌||◌}
 use Rattle.std.specs.List.{AllByRecursion, IsDistinct, list_any}
 use Rattle.std.specs.Str.{bytes_eq}
@@ -23,11 +23,11 @@ use Rattle.delta_log.specs.declared.error.Fault.{Fault}
 use Rattle.delta_log.specs.declared.error.Fault.TheVariants.{Malformed, Unsupported, Limit, DoublePath}
 use Rattle.delta_log.specs.declared.error.LineFault.{LineFault}
 use Rattle.delta_log.specs.declared.error.LineFault.TheVariants as line_faults
-use Rattle.delta_log.specs.Commit.{file_path, file_paths}
+use Rattle.delta_log.specs.Commit.{file_paths}
 use Rattle.delta_log.specs.Grammar.{line_action}
 use Rattle.delta_log.specs.Judging.{acts_on, with_new_file, with_action, with_line, judged, error_at}
 use Rattle.table_history.specs.First.{IsFirst, NoneOf}
-use Rattle.delta_log.specs.Readable.{States, protocol_in, meta_in, uri_in, path_in, file_in, protocols, metas, paths, files, NamesNoPath, ShowsOnLine, line_features, HasLongPath, PassesOnLine, line_limits, IsSecond, IsMisplaced, IsPlaced, ActsAgain, IsAtFault}
+use Rattle.delta_log.specs.Readable.{States, protocol_in, meta_in, path_in, protocols, metas, paths, files, NamesNoPath, ShowsOnLine, line_features, HasLongPath, IsMisplaced, ActsAgain, IsAtFault}
 use Rattle.delta_log.proofs.StepLemmas.{names_other, inside_not_none, inside_not_outside, inside_not_long, no_uri, decoded}
 
 -- ---- lists

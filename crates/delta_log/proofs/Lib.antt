@@ -15,6 +15,7 @@ pub mod BehindLemmas
 pub mod OrderedLemmas
 pub mod AnyLemmas
 pub mod ValueLemmas
+pub mod TextLemmas
 pub mod ColumnLemmas
 pub mod ChangeLemmas
 pub mod ColumnNameLemmas

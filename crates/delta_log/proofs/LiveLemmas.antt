@@ -3,7 +3,7 @@ use Rattle.std.proofs.Common.{◌≡◌, ◌↔◌, ◌⊎◌, inl, inr, ⊎_eli
 use Rattle.std.proofs.lemmas.List.Elements.{All-nil, All-cons, All-push, All-head, All-tail}
 use Rattle.table_history.specs.Row.{Row}
 use Rattle.delta_log.specs.declared.commit.DeltaCommit.{DeltaCommit}
-use Rattle.delta_log.specs.Live.{PartColumns, AddsRow, ActsOn, IsLive, IsLiveOver, IsRowBehind}
+use Rattle.delta_log.specs.Live.{PartColumns, ActsOn, IsLive, IsLiveOver, IsRowBehind}
 
 -- A list with one more at its end, cut at an item: the item is that one, or it stands before it.
 CutLast : {X : Type 0} → List X → X → List X → List X → X → Type 0

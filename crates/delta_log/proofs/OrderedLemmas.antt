@@ -1,5 +1,5 @@
 -- Sorted rows and texts that are distinct rise.
-use Rattle.std.proofs.Common.{◌≡◌, ℕ, ◌+◌, ◌<◌, Bool, false, List, [], length, get_or, Ordering, Less, Equal, Greater, is_lt, is_eq, nat_cmp, Contains, refl, sym, ap, subst, ◌∙◌, arith}
+use Rattle.std.proofs.Common.{◌≡◌, ℕ, ◌+◌, Bool, false, List, [], get_or, Ordering, Less, Equal, Greater, is_lt, is_eq, nat_cmp, Contains, refl, sym, ap, ◌∙◌, arith}
 use Rattle.std.specs.Cmp.{IsStrictWeakOrder}
 use Rattle.std.specs.Cmp.Lexicographic.{slice_cmp, texts_ties}
 use Rattle.std.specs.List.{IsDistinct}

@@ -1,7 +1,7 @@
 -- Reading line by line gives the commit that the lines together are, or the first line at fault.
-use Rattle.std.proofs.Common.{◌≡◌, ◌⊎◌, inl, inr, ⊎_elim, ℕ, ◌+◌, ◌<◌, ◌≤◌, List, [], ◌∷◌, ◌++◌, length, Option, Some, None, Bool, true, false, Result, Ok, Err, refl, sym, ap, subst, ◌∙◌, append_assoc, length-append, arith, All}
+use Rattle.std.proofs.Common.{◌≡◌, ⊎_elim, ℕ, ◌+◌, ◌<◌, ◌≤◌, List, [], ◌∷◌, ◌++◌, length, Option, Some, None, false, Result, Ok, Err, refl, sym, ap, subst, ◌∙◌, append_assoc, length-append, arith, All}
 use Rattle.std.proofs.lemmas.Cmp.{nat_list_eq_equiv}
-use Rattle.std.proofs.lemmas.Grind.{common_steps, flat_map-append}
+use Rattle.std.proofs.lemmas.Grind.{flat_map-append}
 use Rattle.std.proofs.lemmas.List.{append-nil, map-append}
 use Rattle.std.proofs.lemmas.List.Elements.{All-push, All-nil, All-head, All-tail}
 use Rattle.std.proofs.lemmas.Map.Keys.{IsDistinct-push, IsDistinct-head, IsDistinct-tail, IsDistinct-cons, IsDistinct-from_apart}
@@ -20,7 +20,6 @@ use Rattle.delta_log.specs.declared.error.DeltaError.{DeltaError}
 use Rattle.delta_log.specs.declared.error.DeltaError.TheVariants as errors
 use Rattle.delta_log.specs.declared.error.Fault.{Fault}
 use Rattle.delta_log.specs.declared.error.LineFault.{LineFault}
-use Rattle.delta_log.specs.declared.error.LineFault.TheVariants.{Malformed}
 use Rattle.delta_log.specs.Commit.{file_path, file_paths}
 use Rattle.delta_log.specs.Grammar.{line_action}
 use Rattle.delta_log.specs.Judging.{acts_on, with_action, with_line, with_lines, judged, at_line, error_at, no_lines, lines_of, commit_of, Answers}

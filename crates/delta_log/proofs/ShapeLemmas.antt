@@ -1,16 +1,15 @@
 -- The JSON of a line holds no float and is shallow.
-use Rattle.std.proofs.Common.{◌≡◌, ℕ, ◌+◌, ◌≤◌, List, [], ◌∷◌, map, Option, Some, None, Bool, true, false, ℤ, pos, negsuc, refl, sym, ap, ◌∙◌, arith, max}
-use Rattle.std.specs.Prelude.{◌||◌}
-use Rattle.serde_json.specs.Data.{Data, number, string, Items, Members, no_members, depth, items_depth, members_depth}
+use Rattle.std.proofs.Common.{◌≡◌, ℕ, ◌≤◌, List, [], ◌∷◌, Option, Some, None, false, ℤ, pos, negsuc, refl, arith}
+use Rattle.serde_json.specs.Data.{string, no_members, depth, items_depth}
 use Rattle.serde_json.specs.Find.{of_integer, is_float}
 use Rattle.serde_json.specs.Read.{max_depth}
-use Rattle.serde_json.specs.Written.{has_float, items_have_float, members_have_float}
+use Rattle.serde_json.specs.Written.{has_float, items_have_float}
 use Rattle.delta_log.specs.declared.commit.FileAction.{FileAction}
 use Rattle.delta_log.specs.declared.commit.FileAction.TheVariants as file
 use Rattle.delta_log.specs.declared.commit.MetaData.{MetaData}
 use Rattle.delta_log.specs.declared.commit.Protocol.{Protocol}
-use Rattle.json_reading.specs.Json.{text_or_null_data, texts_data, members_with}
-use Rattle.delta_log.specs.Writing.{put_texts, versions, protocol_data, meta_data_data, file_data}
+use Rattle.json_reading.specs.Json.{text_or_null_data, texts_data}
+use Rattle.delta_log.specs.Writing.{protocol_data, meta_data_data, file_data}
 use Rattle.delta_log.proofs.WrittenLemmas.{AreFlat, IsFlat, members_with_flat}
 
 integer_flat : (z : ℤ) → is_float (of_integer z) ≡ false

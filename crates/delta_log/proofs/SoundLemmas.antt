@@ -1,5 +1,5 @@
 -- Commits stay sound as they grow.
-use Rattle.std.proofs.Common.{◌≡◌, ℕ, ◌+◌, ◌<◌, ◌≤◌, List, [], ◌∷◌, ◌++◌, length, Option, Some, None, Bool, true, false, Result, Ok, Err, refl, sym, ap, subst, ◌∙◌, length-append, nat_le, arith, All, IfOk}
+use Rattle.std.proofs.Common.{◌≡◌, ◌<◌, List, [], ◌∷◌, length, None, false, Result, Ok, Err, sym, subst, length-append, nat_le, arith, IfOk}
 use Rattle.std.proofs.lemmas.Cmp.{nat_list_eq_equiv}
 use Rattle.std.proofs.lemmas.Grind.{common_steps}
 use Rattle.std.proofs.lemmas.List.{map-append}
@@ -15,7 +15,7 @@ use Rattle.delta_log.specs.declared.commit.FileAction.{FileAction}
 use Rattle.delta_log.specs.declared.error.Fault.{Fault}
 use Rattle.delta_log.specs.Commit.{file_path, file_paths}
 use Rattle.delta_log.specs.Judging.{acts_on, with_new_file, no_lines}
-use Rattle.delta_log.specs.Sound.{IsSoundFile, IsSound, IsWritable}
+use Rattle.delta_log.specs.Sound.{IsSoundFile, IsWritable}
 
 sound_no_lines : IsWritable no_lines
 unfolding IsDistinct

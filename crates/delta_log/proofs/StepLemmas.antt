@@ -1,11 +1,10 @@
 -- What one action more makes of a commit.
-use Rattle.std.proofs.Common.{◌≡◌, ℕ, ◌+◌, ◌<◌, ◌≤◌, List, [], ◌∷◌, ◌++◌, length, Option, Some, None, Bool, true, false, cond, Result, Ok, Err, refl, sym, ap, subst, ◌∙◌, length-append, arith, All}
+use Rattle.std.proofs.Common.{◌≡◌, ℕ, ◌<◌, ◌≤◌, List, ◌++◌, length, Option, Some, None, Bool, true, false, cond, Ok, Err, refl, sym, ap, subst, ◌∙◌, length-append, arith}
 use Rattle.std.proofs.lemmas.Grind.{common_steps}
 use Rattle.std.proofs.lemmas.List.{append-nil}
 use Rattle.std.specs.Prelude.{is_some, option_to_list, nat_le}
 use Rattle.percent_encoding.specs.Percent.{percent_decode}
 use Rattle.lake_basics.specs.declared.limits.TheConstants.{MAX_ACTIONS}
-use Rattle.lake_basics.specs.Outcome.{◌>>=◌}
 use Rattle.table_history.specs.declared.feature.Feature.TheVariants.{FileFormat}
 use Rattle.table_history.specs.declared.limit.LimitKind.TheVariants.{Actions}
 use Rattle.partition_map.specs.UriPath.{UriPath, inside_table, too_long, outside_table, no_path, uri_path}
@@ -17,12 +16,11 @@ use Rattle.delta_log.specs.declared.commit.FileAction.{FileAction}
 use Rattle.delta_log.specs.declared.commit.FileAction.TheVariants as file
 use Rattle.delta_log.specs.declared.commit.MetaData.{MetaData}
 use Rattle.delta_log.specs.declared.commit.Protocol.{Protocol}
-use Rattle.delta_log.specs.declared.error.Fault.{Fault}
 use Rattle.delta_log.specs.declared.error.Fault.TheVariants.{Malformed, Unsupported, Limit, DoublePath}
 use Rattle.delta_log.specs.Commit.{file_path, file_paths}
-use Rattle.delta_log.specs.Judging.{place, acts_on, with_new_file, with_action}
+use Rattle.delta_log.specs.Judging.{acts_on, with_new_file, with_action}
 use Rattle.table_history.specs.First.{NoneOf}
-use Rattle.delta_log.specs.Readable.{protocol_in, meta_in, uri_in, path_in, file_in, NamesNoPath, HasDeletionVector, LacksCount, IsNotParquet, LiesOutside, HasLongPath, ShowsOnLine, line_features}
+use Rattle.delta_log.specs.Readable.{protocol_in, meta_in, uri_in, path_in, file_in, NamesNoPath, HasDeletionVector, LacksCount, IsNotParquet, HasLongPath, ShowsOnLine, line_features}
 
 -- ---- places
 

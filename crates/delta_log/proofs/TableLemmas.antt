@@ -1,5 +1,5 @@
 -- The table after a commit is one that commits may leave, where the one before it is.
-use Rattle.std.proofs.Common.{◌≡◌, ◌↔◌, ℕ, ◌≤◌, List, [], ◌∷◌, length, Option, Some, None, Ok, Contains, unwrap_or, IfOk, IfSome, Result, refl, sym, ap, subst, ◌∙◌, inl, inr, ⊎_elim, arith}
+use Rattle.std.proofs.Common.{◌≡◌, ℕ, ◌≤◌, List, length, Option, Some, None, Ok, Contains, unwrap_or, IfSome, refl, sym, ap, subst, ◌∙◌, inl, inr, ⊎_elim, arith}
 use Rattle.std.specs.Cmp.Lexicographic.{pointwise}
 use Rattle.std.specs.List.{IsDistinct}
 use Rattle.std.specs.Str.{bytes_eq}
@@ -10,8 +10,6 @@ use Rattle.table_history.specs.First.{NoneOf}
 use Rattle.table_history.specs.History.{FitColumns}
 use Rattle.table_history.specs.Path.{IsPath}
 use Rattle.table_history.specs.Rows.{SameRows}
-use Rattle.table_history.specs.SchemaSize.{IsWithinLimits}
-use Rattle.table_history.specs.Sound.{IsSound}
 use Rattle.table_history.specs.Tables.{CanApply, IsAfter, IsRowAfter}
 use Rattle.table_history.specs.TypeTree.{ColumnTrees}
 use Rattle.table_history.specs.declared.row.FileRow.{FileRow}
@@ -24,7 +22,7 @@ use Rattle.partition_map.proofs.ColumnLemmas.{distinct_exactly}
 use Rattle.schema_map.proofs.DeltaSchema.{given_found}
 use Rattle.delta_log.specs.declared.commit.DeltaCommit.{DeltaCommit}
 use Rattle.delta_log.specs.declared.commit.MetaData.{MetaData}
-use Rattle.delta_log.specs.Change.{HasOtherPartition, ChangesPartition, Shows, commit_features, IsChangeOf, IsSoundRow, IsTableSchema, IsTableOfLog, GoesOn}
+use Rattle.delta_log.specs.Change.{HasOtherPartition, ChangesPartition, Shows, commit_features, IsChangeOf, IsSoundRow, IsStatedBy, IsTableSchema, IsTableOfLog, GoesOn}
 use Rattle.delta_log.specs.Live.{PartColumns}
 use Rattle.delta_log.specs.TableBehind.{rows_before, schema_before, partition_behind, table_before, StatesSchema, IsSchemaBehind, ArePartColumns}
 use Rattle.delta_log.proofs.ColumnLemmas.{names_same, has_kind}
@@ -47,6 +45,12 @@ stated_sound None None states = tt
 stated_sound None (Some s) states = absurd cc
 stated_sound (Some m) None states = tt
 stated_sound (Some m) (Some s) states = let found = given_found m.schema (Ok s) states in (found.1, found.2)
+
+pub stated_spells : (c : DeltaCommit) (o : Option MetaData) (stated : Option ColumnTrees) → c.meta ≡ o → StatesSchema o stated → IfSome stated (IsStatedBy c)
+stated_spells c None None is states = tt
+stated_spells c None (Some s) is states = absurd cc
+stated_spells c (Some m) None is states = tt
+stated_spells c (Some m) (Some s) is states = let found = given_found m.schema (Ok s) states in (m, is, found.0, found.2)
 
 pub stated_behind : (o : Option MetaData) (base : Option Table) (stated : Option ColumnTrees) → StatesSchema o stated → IsSchemaBehind o base (unwrap_or stated (schema_before base))
 stated_behind None base None states = refl
@@ -86,7 +90,7 @@ kinds_stay c t stated states none = by c.meta stated refl states
     by (Some m) None is h = absurd h
     by (Some m) (Some s) is h = kinds_kept t.schema s m.partition (λ other. none (t, m, s, refl, is, h, inr other))
 
-names_distinct : (c : DeltaCommit) (base : Option Table) (stated : Option ColumnTrees) → StatesSchema c.meta stated → (HasOtherPartition c base → ⊥) → IsDistinct bytes_eq (partition_behind c.meta base)
+pub names_distinct : (c : DeltaCommit) (base : Option Table) (stated : Option ColumnTrees) → StatesSchema c.meta stated → (HasOtherPartition c base → ⊥) → IsDistinct bytes_eq (partition_behind c.meta base)
 names_distinct c base stated states none =
     let names = partition_behind c.meta base in
     ⊎_elim

@@ -1,10 +1,8 @@
 -- The values of added files, and the rows that they make.
-use Rattle.std.proofs.Common.{◌≡◌, ◌⊎◌, ℕ, zero, suc, ◌+◌, ◌<◌, ◌^◌, List, [], ◌∷◌, ◌++◌, length, get_or, take, drop, map, cond, true, false, Option, Some, None, All, Contains, refl, sym, ap, subst, ◌∙◌, inl, inr, ⊎_elim, arith}
+use Rattle.std.proofs.Common.{◌≡◌, ℕ, suc, ◌+◌, ◌<◌, ◌^◌, List, [], ◌∷◌, ◌++◌, length, get_or, take, drop, cond, true, false, Option, Some, None, Contains, refl, sym, ap, subst, ◌∙◌, ⊎_elim}
 use Rattle.std.specs.Prelude.{option_to_list}
 use Rattle.std.specs.Str.{bytes_eq}
-use Rattle.std.proofs.lemmas.Bool.{cases_Bool}
-use Rattle.std.proofs.lemmas.List.{take_more, drop_more, drop_all, append-nil}
-use Rattle.std.proofs.lemmas.List.Elements.{All-contains, All-head, All-tail}
+use Rattle.std.proofs.lemmas.List.{take_more, drop_more, append-nil}
 use Rattle.table_history.specs.History.{column_type, FitsColumn, FitColumns}
 use Rattle.table_history.specs.Path.{IsPath}
 use Rattle.table_history.specs.Rows.{paths_of}
@@ -13,7 +11,6 @@ use Rattle.table_history.specs.declared.row.FileRow.{FileRow}
 use Rattle.table_history.specs.declared.row.PartValue.{PartValue}
 use Rattle.table_history.specs.declared.feature.Feature.{Feature}
 use Rattle.table_history.proofs.RowListLemmas.{Contains-none, Contains-head, Contains-tail, Contains-cases}
-use Rattle.partition_map.specs.Columns.{column_kind}
 use Rattle.partition_map.specs.Kind.{part_kind_of, IsOfKind}
 use Rattle.partition_map.specs.Stands.{DeltaStands}
 use Rattle.partition_map.specs.declared.kind.PartKind.{PartKind}

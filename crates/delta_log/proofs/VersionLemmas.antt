@@ -10,7 +10,7 @@ use Rattle.std.proofs.lemmas.Fmt.{decimal_is_IsNumeral, length-decimal-le}
 use Rattle.std.proofs.lemmas.List.{append-nil, take-append-drop, take-append-le, drop-append-le}
 use Rattle.std.proofs.lemmas.Str.Parse.{digit_at}
 use Rattle.lake_basics.specs.declared.limits.TheConstants.{MAX_DELTA_VERSION}
-use Rattle.delta_log.specs.VersionName.{IsVersionDigits, IsPaddedName, IsVersionName}
+use Rattle.delta_log.specs.VersionName.{IsVersionDigits, IsVersionName}
 
 AllDigits-zeros : (k : ℕ) (ds : List ℕ) → AllDigits 10 ds → AllDigits 10 (replicate k 48 ++ ds)
 AllDigits-zeros zero ds h = h

@@ -1,5 +1,5 @@
 -- The change that a commit makes of a table, and why a commit can't be taken over a table.
-use Rattle.std.specs.Prelude.{◌≡◌, ◌≢◌, ◌⊎◌, ℕ, ◌<◌, ◌≤◌, ◌^◌, pos, List, [], ◌∷◌, length, codes, Contains, Option, Some, None, unwrap_or, IfSome, Err}
+use Rattle.std.specs.Prelude.{◌≡◌, ◌≢◌, ◌⊎◌, ℕ, ◌<◌, ◌≤◌, ◌^◌, pos, List, [], ◌∷◌, length, codes, Contains, Option, Some, None, unwrap_or, Err}
 use Rattle.std.specs.List.{IsDistinct}
 use Rattle.std.specs.Str.{bytes_eq}
 use Rattle.lake_basics.specs.declared.limits.TheConstants.{MAX_LIVE_FILES, MAX_PARTITION_COLUMNS}
@@ -23,7 +23,8 @@ use Rattle.partition_map.specs.Stands.{DeltaStands}
 use Rattle.partition_map.specs.declared.kind.PartKind.{PartKind}
 use Rattle.table_history.specs.declared.row.PartValue.{PartValue}
 use Rattle.schema_map.specs.Delta.{delta_schema_of}
-use Rattle.schema_map.specs.declared.fault.MapError.{MapError}
+use Rattle.schema_map.specs.DeltaRefusal.{IsDeltaRefused}
+use Rattle.schema_map.specs.DeltaSpelling.{IsDeltaText}
 use Rattle.schema_map.specs.declared.fault.MapError.TheVariants as map_errors
 use Rattle.delta_log.specs.declared.commit.DeltaCommit.{DeltaCommit}
 use Rattle.delta_log.specs.declared.commit.FileAction.{FileAction}
@@ -41,9 +42,9 @@ use Rattle.delta_log.specs.TableBehind.{rows_before, schema_before, partition_be
 abbrev pub LacksFirstActions : DeltaCommit → Option Table → Type 0
 LacksFirstActions c base = (base ≡ None) × ((c.protocol ≡ None) ⊎ (c.meta ≡ None))
 
--- The text of the schema isn't in the grammar.
+-- The text of the schema isn't in the grammar, and shows this before any other fault.
 abbrev pub HasBadSchema : DeltaCommit → Type 0
-HasBadSchema c = (m : MetaData) × (c.meta ≡ Some m) × (delta_schema_of m.schema ≡ Err map_errors.BadSchema)
+HasBadSchema c = (m : MetaData) × (c.meta ≡ Some m) × (delta_schema_of m.schema ≡ Err map_errors.BadSchema) × IsDeltaRefused m.schema map_errors.BadSchema
 
 -- A partition column isn't a top-level column of the schema beside it.
 abbrev pub HasStrayColumn : DeltaCommit → Type 0
@@ -69,15 +70,10 @@ NeedsOtherFeature c = (p : Protocol) × (names : List (List ℕ)) × (name : Lis
 abbrev pub MapsColumns : DeltaCommit → Type 0
 MapsColumns c = (m : MetaData) × (mode : List ℕ) × (c.meta ≡ Some m) × Contains m.configuration (codes "delta.columnMapping.mode", mode) × (mode ≢ codes "none")
 
--- The reading of a schema tells of a type, or of a name, that can't be taken over.
-abbrev pub TellsOfType : MapError → Type 0
-TellsOfType (map_errors.SchemaType column) = Unit {0}
-TellsOfType (map_errors.AvroName column) = Unit {0}
-TellsOfType _ = ⊥
-
--- A column has a type that isn't in the table of types.
+-- The top-level column of this name has a place of a type that isn't in the table of types, and the schema shows no other fault before it.
 abbrev pub HasOtherType : DeltaCommit → Type 0
-HasOtherType c = (m : MetaData) × (e : MapError) × (c.meta ≡ Some m) × (delta_schema_of m.schema ≡ Err e) × TellsOfType e
+HasOtherType c =
+    (m : MetaData) × (name : List ℕ) × (c.meta ≡ Some m) × (delta_schema_of m.schema ≡ Err (map_errors.SchemaType name)) × IsDeltaRefused m.schema (map_errors.SchemaType name)
 
 -- A partition column is named twice, or has no kind.
 abbrev pub HasOtherPartition : DeltaCommit → Option Table → Type 0
@@ -123,9 +119,10 @@ pub record AreRowsBehind (columns : PartColumns) (before : List Row) (c : DeltaC
 
 -- ---- limits
 
--- The schema has too many columns or levels, whichever is told while it is read.
+-- The schema has too many columns or levels, and shows no other fault before it.
 abbrev pub HasLargeSchema : DeltaCommit → LimitKind → Type 0
-HasLargeSchema c which = (m : MetaData) × (c.meta ≡ Some m) × (delta_schema_of m.schema ≡ Err (map_errors.Limit which))
+HasLargeSchema c which =
+    (m : MetaData) × (c.meta ≡ Some m) × (delta_schema_of m.schema ≡ Err (map_errors.Limit which)) × IsDeltaRefused m.schema (map_errors.Limit which)
 
 abbrev pub HasManyFiles : DeltaCommit → Option Table → Type 0
 HasManyFiles c base =
@@ -175,6 +172,10 @@ pub record IsSoundRow (schema : ColumnTrees) (partition : List (List ℕ)) (row 
 -- a schema that a table may have: its names and types are sound, and it passes no number
 abbrev pub IsTableSchema : ColumnTrees → Type 0
 IsTableSchema schema = IsSound schema × IsWithinLimits schema
+
+-- The commit's metadata has a text that spells the schema, which is within the limits.
+abbrev pub IsStatedBy : DeltaCommit → ColumnTrees → Type 0
+IsStatedBy c schema = (m : MetaData) × (c.meta ≡ Some m) × IsDeltaText schema m.schema × IsWithinLimits schema
 
 -- A table that commits may leave: its rows have distinct paths, each of them a path, and values of the kinds of the partition columns, and it passes no number.
 pub record IsTableOfLog (t : Table) : Type 0 where

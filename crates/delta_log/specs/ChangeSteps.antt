@@ -1,10 +1,12 @@
 -- The steps of a change: what each part of the work gives, and what its refusal says.
-use Rattle.std.specs.Prelude.{◌≡◌, ℕ, ℤ, pos, negsuc, ◌==◌, nat_lt, ◌&&◌, ◌||◌, not, List, [], ◌∷◌, ◌++◌, filter, flat_map, Bool, true, false, Option, Some, None, is_some, is_none, unwrap_or, Result, Ok, Err, Contains, codes, length, if◌then◌else◌}
+use Rattle.std.specs.Prelude.{◌≡◌, ℕ, ℤ, pos, negsuc, ◌==◌, ◌<◌, ◌≤◌, ◌&&◌, ◌||◌, not, List, [], ◌∷◌, ◌++◌, filter, flat_map, Bool, false, Option, Some, None, is_some, is_none, unwrap_or, Result, Ok, Err, All, Contains, codes, length, if◌then◌else◌}
 use Rattle.std.specs.Cmp.Lexicographic.{pointwise}
 use Rattle.std.specs.Borrow.{Bor}
+use Rattle.std.specs.Option.{option_or}
 use Rattle.std.specs.HashSet.{HashSet, contains_by}
 use Rattle.std.specs.List.{list_any, list_all}
 use Rattle.std.specs.Str.{bytes_eq}
+use Rattle.indexmap.specs.IndexMap.{IndexMap, get_by}
 use Rattle.avro_schema.specs.Names.{are_distinct}
 use Rattle.lake_basics.specs.Outcome.{◌>>=◌, required, each}
 use Rattle.lake_basics.specs.declared.limits.TheConstants.{MAX_LIVE_FILES, MAX_PARTITION_COLUMNS}
@@ -18,9 +20,11 @@ use Rattle.table_history.specs.declared.limit.LimitKind.{LimitKind}
 use Rattle.table_history.specs.declared.limit.LimitKind.TheVariants.{LiveFiles, PartitionColumns}
 use Rattle.table_history.specs.declared.table.Change.{Change}
 use Rattle.table_history.specs.declared.table.Table.{Table}
+use Rattle.table_history.specs.declared.row.PartValue.{PartValue}
 use Rattle.table_history.specs.declared.feature.Feature.{Feature}
 use Rattle.table_history.specs.declared.feature.Feature.TheVariants.{ReaderVersion, ReaderFeature, ColumnMapping, SchemaType, PartitionType, PartitionChange, PartitionValue}
 use Rattle.partition_map.specs.Columns.{column_kind, has_other_kind}
+use Rattle.partition_map.specs.Stands.{DeltaStands}
 use Rattle.partition_map.specs.declared.kind.PartKind.{PartKind}
 use Rattle.schema_map.specs.Delta.{delta_schema_of}
 use Rattle.schema_map.specs.declared.fault.MapError.{MapError}
@@ -99,11 +103,10 @@ with_columns m schema = if list_all (is_column schema) m.partition then Ok schem
 -- what a reading of the schema's text comes to: a schema, or what is told later
 abbrev pub judged : MetaData → Result ColumnTrees MapError → Result (Result ColumnTrees DeltaError) DeltaError
 judged m (Ok schema) = with_columns m schema >>= λ s. Ok (Ok s)
-judged m (Err map_errors.Memory) = Err errors.Memory
 judged m (Err map_errors.BadSchema) = Err (errors.Malformed 0)
 judged m (Err (map_errors.SchemaType column)) = Ok (Err (errors.Unsupported SchemaType 0))
-judged m (Err (map_errors.AvroName column)) = Ok (Err (errors.Unsupported SchemaType 0))
 judged m (Err (map_errors.Limit which)) = Ok (Err (errors.Limit which))
+judged m (Err _) = Err errors.Memory
 
 abbrev pub judged_schema : MetaData → Result (Result ColumnTrees DeltaError) DeltaError
 judged_schema m = judged m (delta_schema_of m.schema)
@@ -231,11 +234,53 @@ is_kept files row = not (acts_on row.path files)
 abbrev pub rows_behind : List Row → List FileAction → List Row → List Row
 rows_behind before files rows = filter (is_kept files) before ++ rows
 
--- ---- the change
+-- ---- texts by the names of columns
 
--- the first number that is passed by so many partition columns and live files
-abbrev pub limit_passed : ℕ → ℕ → Option LimitKind
-limit_passed columns live = if nat_lt MAX_PARTITION_COLUMNS columns then Some PartitionColumns else (if nat_lt MAX_LIVE_FILES live then Some LiveFiles else None)
+-- the kind that a map has at this name
+abbrev pub kind_in : {S : Type 0} → IndexMap (Bor (List ℕ)) PartKind S → List ℕ → Option PartKind
+kind_in kinds name = get_by (λ key. bytes_eq name key.now) kinds
+
+-- the kind of the column of this name; of several the last counts
+abbrev pub kind_of : PartColumns → List ℕ → Option PartKind
+kind_of [] name = None
+kind_of (c ∷ cs) name = option_or (kind_of cs name) (if bytes_eq c.0 name then Some c.1 else None)
+
+abbrev pub StandsForSome : PartKind → Option (List ℕ) → Type 0
+StandsForSome kind text = (v : PartValue) × DeltaStands kind text v
+
+abbrev pub StandsForNone : PartKind → Option (List ℕ) → Type 0
+StandsForNone kind text = (v : PartValue) → ¬ DeltaStands kind text v
+
+-- Where there is a kind, the text stands for a value of it.
+abbrev pub StandsOf : Option PartKind → Option (List ℕ) → Type 0
+StandsOf None text = Unit {0}
+StandsOf (Some kind) text = StandsForSome kind text
+
+-- There is a kind, and the text stands for no value of it.
+abbrev pub FailsOf : Option PartKind → Option (List ℕ) → Type 0
+FailsOf None text = ⊥
+FailsOf (Some kind) text = StandsForNone kind text
+
+-- the same of a pair, by the kind of its name
+abbrev pub PairStands : (List ℕ → Option PartKind) → List ℕ × Option (List ℕ) → Type 0
+PairStands kind pair = StandsOf (kind pair.0) pair.1
+
+abbrev pub PairFails : (List ℕ → Option PartKind) → List ℕ × Option (List ℕ) → Type 0
+PairFails kind pair = FailsOf (kind pair.0) pair.1
+
+abbrev pub FileStands : (List ℕ → Option PartKind) → FileAction → Type 0
+FileStands kind (file.Add path values size count) = All (PairStands kind) values
+FileStands kind (file.Remove path) = Unit {0}
+
+abbrev pub FileFails : (List ℕ → Option PartKind) → FileAction → Type 0
+FileFails kind (file.Add path values size count) = (pair : List ℕ × Option (List ℕ)) × Contains values pair × PairFails kind pair
+FileFails kind (file.Remove path) = ⊥
+
+-- No action's text stands for no value of a column.
+abbrev pub HaveValues : PartColumns → List FileAction → Type 0
+HaveValues columns files = (f : FileAction) (column : List ℕ × PartKind) → Contains files f → Contains columns column → ¬ SpellsNoValue column f
+
+-- ---- the change
 
 -- the change that the actions make of these rows
 pub record IsChangeOver (columns : PartColumns) (before : List Row) (files : List FileAction) (schema : Option ColumnTrees) (change : Change) : Type 0 where
@@ -244,13 +289,20 @@ pub record IsChangeOver (columns : PartColumns) (before : List Row) (files : Lis
   pub added : AreRowsOf columns files rows
   pub distinct : HasDistinctPaths before
   pub diff : IsDiff before (rows_behind before files rows) change.removed change.added
-  pub within : limit_passed (length columns) (length (rows_behind before files rows)) ≡ None
+  pub few_columns : length columns ≤ MAX_PARTITION_COLUMNS
+  pub few_rows : length (rows_behind before files rows) ≤ MAX_LIVE_FILES
+
+-- The actions pass this number, and none that is told before it.
+abbrev pub PassesOver : PartColumns → List Row → List FileAction → LimitKind → Type 0
+PassesOver columns before files PartitionColumns = (MAX_PARTITION_COLUMNS < length columns) × HaveValues columns files
+PassesOver columns before files LiveFiles =
+    (rows : List Row) × AreRowsOf columns files rows × HasDistinctPaths before × (length columns ≤ MAX_PARTITION_COLUMNS) × (MAX_LIVE_FILES < length (rows_behind before files rows))
+PassesOver columns before files _ = ⊥
 
 -- why the actions make none
 abbrev pub IsRefusalOver : PartColumns → List Row → List FileAction → DeltaError → Type 0
 IsRefusalOver columns before files errors.Memory = Unit {0}
 IsRefusalOver columns before files (errors.Unsupported feature line) =
     (feature ≡ PartitionValue) × (line ≡ 0) × (f : FileAction) × (column : List ℕ × PartKind) × Contains files f × Contains columns column × SpellsNoValue column f
-IsRefusalOver columns before files (errors.Limit which) =
-    (rows : List Row) × AreRowsOf columns files rows × HasDistinctPaths before × (limit_passed (length columns) (length (rows_behind before files rows)) ≡ Some which)
+IsRefusalOver columns before files (errors.Limit which) = PassesOver columns before files which
 IsRefusalOver columns before files _ = ⊥

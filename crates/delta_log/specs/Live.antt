@@ -1,5 +1,5 @@
 -- Which files are live after commits (Delta protocol, "Action Reconciliation"), and the rows that one commit makes of those before it.
-use Rattle.std.specs.Prelude.{◌≡◌, ◌⊎◌, ℕ, List, [], ◌∷◌, ◌++◌, All, Contains, Option, Some, None, if◌then◌else◌}
+use Rattle.std.specs.Prelude.{◌≡◌, ◌⊎◌, ℕ, List, [], ◌∷◌, ◌++◌, All, Contains, Option, None, if◌then◌else◌}
 use Rattle.std.specs.Str.{bytes_eq}
 use Rattle.table_history.specs.Row.{Row}
 use Rattle.table_history.specs.declared.row.PartValue.{PartValue}

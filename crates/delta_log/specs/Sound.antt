@@ -1,5 +1,5 @@
 -- What is true of each commit that was read.
-use Rattle.std.specs.Prelude.{◌≡◌, ℕ, ◌<◌, ◌≤◌, ◌^◌, List, map, length, All, Option, IfSome, IsSome, true}
+use Rattle.std.specs.Prelude.{◌≡◌, ℕ, ◌<◌, ◌≤◌, ◌^◌, List, map, length, All, IfSome, IsSome, true}
 use Rattle.std.specs.List.{IsDistinct}
 use Rattle.std.specs.Str.{bytes_eq}
 use Rattle.lake_basics.specs.declared.limits.TheConstants.{MAX_ACTIONS}

@@ -1,5 +1,5 @@
 -- What a commit says of a table's columns: the schema and the partition columns before it and behind it.
-use Rattle.std.specs.Prelude.{◌≡◌, ℕ, List, [], ◌∷◌, Option, Some, None, Result, Ok}
+use Rattle.std.specs.Prelude.{◌≡◌, ℕ, List, [], ◌∷◌, Option, Some, None, Ok}
 use Rattle.table_history.specs.Row.{Row}
 use Rattle.table_history.specs.Tables.{empty_table}
 use Rattle.table_history.specs.TypeTree.{ColumnTrees, no_columns}

@@ -4,6 +4,7 @@ mod between;
 mod columns;
 mod features;
 mod rows;
+mod texts;
 
 ghost use Rattle.std.specs.Prelude.{◌≡◌, [], IfOk, IfErr, IfSome, OnOk, All, Contains, length, unwrap_or};
 ghost use Rattle.std.specs.List.{IsDistinct};
@@ -13,11 +14,11 @@ ghost use Rattle.table_history.specs.First.{NoneOf};
 ghost use Rattle.table_history.specs.Row.{Row};
 ghost use Rattle.table_history.specs.Rows.{HasDistinctPaths};
 ghost use Rattle.table_history.specs.Tables.{CanApply};
-ghost use Rattle.delta_log.specs.Sound.{IsSound, IsSoundFile};
+ghost use Rattle.delta_log.specs.Sound.{IsSound, IsSoundFile, HaveDistinctNames};
 ghost use Rattle.delta_log.specs.Commit.{file_paths};
 ghost use Rattle.delta_log.specs.TableBehind.{rows_before, schema_before, partition_behind, table_before};
-ghost use Rattle.delta_log.specs.Change.{IsOutsideGrammar, Shows, commit_features, CanFollow, IsChangeOf, IsSoundRow, IsTableSchema, GoesOn, IsChangeRefusal};
-ghost use Rattle.delta_log.specs.ChangeSteps.{rows_behind, IsChangeOver, IsRefusalOver, limit_passed};
+ghost use Rattle.delta_log.specs.Change.{IsOutsideGrammar, Shows, commit_features, CanFollow, IsChangeOf, IsSoundRow, IsStatedBy, IsTableSchema, GoesOn, IsChangeRefusal};
+ghost use Rattle.delta_log.specs.ChangeSteps.{rows_behind, IsChangeOver, IsRefusalOver};
 ghost use Rattle.delta_log.specs.declared.error.DeltaError.TheVariants as errors;
 
 use crate::commit::{DeltaCommit, FileAction};
@@ -30,6 +31,15 @@ use partition_map::PartKind;
 use rows::rows_of;
 use std::alloc::Global;
 use table_history::{Change, FileRow, FileRows, LimitKind, Schema, Table};
+use texts::judged_values;
+
+const MANY_COLUMNS: DeltaError = DeltaError::Limit {
+    which: LimitKind::PartitionColumns,
+};
+
+const MANY_FILES: DeltaError = DeltaError::Limit {
+    which: LimitKind::LiveFiles,
+};
 
 /// The change that a commit makes of the table `base` (Delta protocol, "Action Reconciliation"). None
 /// is the state before the first commit. The line in a refusal is 0. What the grammar asks of a commit
@@ -55,7 +65,9 @@ pub fn change_of(
     ensures rows { IfOk result (λ change. (row : Row) → Contains change.added row
         → IsSoundRow (unwrap_or change.schema (schema_before (option_copied base.entry)))
         (partition_behind commit.now.meta (option_copied base.entry)) row) }
-    // The schema that it states is one that a table may have.
+    // The schema that it states is what its metadata's text spells.
+    ensures spells { IfOk result (λ change. IfSome change.schema (IsStatedBy commit.now)) }
+    // That is one that a table may have.
     ensures schema { IfOk result (λ change. IfSome change.schema IsTableSchema) }
     // The table after it may be followed on and published, where the table before may.
     ensures goes_on { IfOk result (GoesOn commit.now (option_copied base.entry)) }
@@ -97,19 +109,7 @@ fn live_count(before: &FileRows, files: &[FileAction], rows: &[FileRow]) -> u128
     all - u128::from(held_count(before, files))
 }
 
-fn limit_passed(columns: usize, live: u128) -> Option<LimitKind>
-    ensures { result ≡ limit_passed columns live }
-{
-    if columns as u64 > MAX_PARTITION_COLUMNS {
-        Some(LimitKind::PartitionColumns)
-    } else if live > u128::from(MAX_LIVE_FILES) {
-        Some(LimitKind::LiveFiles)
-    } else {
-        None
-    }
-}
-
-/// The change that the actions make of the rows before.
+/// The change that the actions make of the rows before. With too many columns no row is made.
 fn change_over(
     alloc: Global,
     stated: Option<Schema>,
@@ -117,15 +117,19 @@ fn change_over(
     before: &FileRows,
     files: &[FileAction],
 ) -> Result<Change, DeltaError>
+    requires names { HaveDistinctNames columns.now }
     requires sound { All IsSoundFile files.now }
     requires distinct { IsDistinct bytes_eq (file_paths files.now) }
     ensures ok { IfOk result (IsChangeOver columns.now before.now files.now stated) }
     ensures refused { IfErr result (IsRefusalOver columns.now before.now files.now) }
 {
+    if columns.len() as u64 > MAX_PARTITION_COLUMNS {
+        judged_values(alloc, columns, files)?;
+        return Err(MANY_COLUMNS);
+    }
     let rows = rows_of(alloc, columns, files)?;
-    let live = live_count(before, files, rows.as_slice());
-    if let Some(which) = limit_passed(columns.len(), live) {
-        return Err(DeltaError::Limit { which });
+    if live_count(before, files, rows.as_slice()) > u128::from(MAX_LIVE_FILES) {
+        return Err(MANY_FILES);
     }
     Ok(change_between(alloc, stated, before, files, rows)?)
 }

@@ -45,12 +45,13 @@ fn text_or_null_in(alloc: Global, value: &Value) -> Result<Option<Text>, ReadErr
 
 fn values_in(
     alloc: Global,
+    room: usize,
     members: &Map<String, Value>,
 ) -> Result<Items<(Text, Option<Text>)>, ReadError<LineFault>>
     ensures { Gives (λ vs. vs) result
         (each partition_value (pairs (members_view members.now.entries))) }
 {
-    let mut values = Items::new(alloc);
+    let mut values = Items::from_vec(Vec::with_capacity(alloc, room)?);
     for (name, value) in members {
         let name = Text::from_str(alloc, name.as_str())?;
         values.push((name, text_or_null_in(alloc, value)?))?;
@@ -66,9 +67,7 @@ fn values_of(
         (each partition_value (pairs (members_view members.now.entries))) }
     ensures names { IfOk result (λ vs. HaveDistinctNames vs) }
 {
-    // A map says with its length that its names are in order.
-    let _ = members.len();
-    values_in(alloc, members)
+    values_in(alloc, members.len(), members)
 }
 
 fn settings_in(
@@ -95,7 +94,7 @@ fn settings_of(
     ensures names { IfOk result (λ vs. HaveDistinctNames vs) }
 {
     // A map says with its length that its names are in order.
-    let _ = members.len();
+    drop(members.len());
     settings_in(alloc, members)
 }
 

@@ -28,6 +28,7 @@ pub(crate) fn place_of(alloc: Global, uri: &str) -> Result<Place, ReadError<Faul
         Err(PartError::TooLong) => Ok(Place::TooLong),
         Err(PartError::OutsideTable) => Ok(Place::Outside),
         Err(PartError::BadPath) => Err(MALFORMED),
-        Err(_) => Err(ReadError::Memory),
+        Err(PartError::Memory) => Err(ReadError::Memory),
+        Err(PartError::BadValue | PartError::ValueForm) => unreachable!(),
     }
 }

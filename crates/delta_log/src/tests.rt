@@ -7,9 +7,13 @@ use std::process::Abort;
 use std::test::Fail;
 use table_history::Table;
 
-const FIRST_COMMIT: &str = r#"{"protocol":{"minReaderVersion":1,"minWriterVersion":2}}
+/// The protocol and the metadata of a first commit.
+const FIRST_LINES: &str = r#"{"protocol":{"minReaderVersion":1,"minWriterVersion":2}}
 {"metaData":{"id":"a1","format":{"provider":"parquet","options":{}},"schemaString":"{\"type\":\"struct\",\"fields\":[{\"name\":\"id\",\"type\":\"long\",\"nullable\":true,\"metadata\":{}}]}","partitionColumns":[],"configuration":{}}}
-{"add":{"path":"p1.parquet","partitionValues":{},"size":100,"modificationTime":1,"dataChange":true,"stats":"{\"numRecords\":5}"}}
+"#;
+
+const FIRST_ADD: &str =
+    r#"{"add":{"path":"p1.parquet","partitionValues":{},"size":100,"modificationTime":1,"dataChange":true,"stats":"{\"numRecords\":5}"}}
 "#;
 
 // ---- tables: blank lines part the cases, each the lines of a commit and, below them, the answer
@@ -38,6 +42,27 @@ read 0 files
 {"remove":{"path":"a%2562"}}
 {"remove":{"path":"ab"}}
 read 2 files"#;
+
+/// Adds of a first commit, behind its protocol and its metadata, that a hostile writer made.
+const HOSTILE_ADDS: &str =
+    r#"{"add":{"path":"p1.parquet","partitionValues":{},"size":1.0,"modificationTime":1,"dataChange":true,"stats":"{\"numRecords\":5}"}}
+Malformed { line: 3 }
+
+{"add":{"path":"p1.parquet","partitionValues":{},"size":-1,"modificationTime":1,"dataChange":true,"stats":"{\"numRecords\":5}"}}
+Malformed { line: 3 }
+
+{"add":{"path":"p1.parquet","partitionValues":{},"size":9223372036854775808,"modificationTime":1,"dataChange":true,"stats":"{\"numRecords\":5}"}}
+Malformed { line: 3 }
+
+{"add":{"path":"a%62.parquet","partitionValues":{},"size":100,"stats":"{\"numRecords\":5}"}}
+{"add":{"path":"ab.parquet","partitionValues":{},"size":100,"stats":"{\"numRecords\":5}"}}
+DoublePath { line: 4 }
+
+{"add":{"path":"../x.parquet","partitionValues":{},"size":100,"stats":"{\"numRecords\":5}"}}
+Malformed { line: 3 }
+
+{"add":{"path":"s3://b/x","partitionValues":{},"size":100,"stats":"{\"numRecords\":5}"}}
+Unsupported { feature: OutsideTable, line: 3 }"#;
 
 /// Lines that aren't in the grammar, or not behind the others.
 const HOSTILE_LINES: &str = r#"[]
@@ -73,16 +98,7 @@ Malformed { line: 1 }
 {"metaData":{"id":"b","format":{"provider":"orc"},"schemaString":"","partitionColumns":[]}}
 Malformed { line: 2 }
 
-{"add":{"path":"p","partitionValues":{},"size":1.0,"stats":"{\"numRecords\":5}"}}
-Malformed { line: 1 }
-
 {"add":{"path":"p","partitionValues":{},"size":1e3,"stats":"{\"numRecords\":5}"}}
-Malformed { line: 1 }
-
-{"add":{"path":"p","partitionValues":{},"size":-1,"stats":"{\"numRecords\":5}"}}
-Malformed { line: 1 }
-
-{"add":{"path":"p","partitionValues":{},"size":9223372036854775808,"stats":"{\"numRecords\":5}"}}
 Malformed { line: 1 }
 
 {"add":{"path":"p","partitionValues":{},"size":1,"stats":"{\"numRecords\":-1}"}}
@@ -91,18 +107,11 @@ Malformed { line: 1 }
 {"add":{"path":"p","partitionValues":{},"size":1,"stats":"[]"}}
 Malformed { line: 1 }
 
-{"add":{"path":"a%62.parquet","partitionValues":{},"size":1,"stats":"{\"numRecords\":5}"}}
-{"add":{"path":"ab.parquet","partitionValues":{},"size":1,"stats":"{\"numRecords\":5}"}}
-DoublePath { line: 2 }
-
 {"add":{"path":"../x.parquet","partitionValues":{},"size":1,"deletionVector":{}}}
 Malformed { line: 1 }
 
 {"add":{"path":"a%2","partitionValues":{},"size":1,"stats":"{\"numRecords\":5}"}}
 Malformed { line: 1 }
-
-{"add":{"path":"s3://b/x","partitionValues":{},"size":1,"stats":"{\"numRecords\":5}"}}
-Unsupported { feature: OutsideTable, line: 1 }
 
 {"add":{"path":"/x?y","partitionValues":{},"size":1}}
 Unsupported { feature: OutsideTable, line: 1 }
@@ -194,10 +203,18 @@ fn answer(alloc: Global, text: &str) -> Result<String, AllocError> {
     }
 }
 
-fn check_read(rt: &(impl Abort + AllocGlobal), cases: &str) -> Result<(), AllocError> {
+/// Each case is read behind the lines `before`.
+fn check_read(
+    rt: &(impl Abort + AllocGlobal),
+    before: &str,
+    cases: &str,
+) -> Result<(), AllocError> {
     for case in cases.split("\n\n") {
         let (text, expected) = case_of(case);
-        let found = answer(rt.alloc(), text)?;
+        let found = answer(
+            rt.alloc(),
+            format!(in rt.alloc(); "{before}{text}")?.as_str(),
+        )?;
         assert_eq!(rt; found.as_str(), expected, "{text}");
     }
     Ok(())
@@ -206,9 +223,8 @@ fn check_read(rt: &(impl Abort + AllocGlobal), cases: &str) -> Result<(), AllocE
 #[test]
 fn a_first_commit_is_read(rt: HostRuntime) -> Result<(), Fail> {
     let alloc = rt.alloc();
-    let commit = read_commit(alloc, FIRST_COMMIT.as_bytes())
-        .ok()
-        .ok_or("a commit")?;
+    let text = format!(in alloc; "{FIRST_LINES}{FIRST_ADD}")?;
+    let commit = read_commit(alloc, text.as_bytes()).ok().ok_or("a commit")?;
     let DeltaCommit {
         protocol,
         meta,
@@ -242,8 +258,14 @@ fn lines_are_read_or_refused(rt: HostRuntime) -> Result<(), Fail> {
         answer(alloc, "{\"txn\":{}}\r\n\n{}")?.as_str(),
         "read 0 files"
     );
-    check_read(&rt, WRITTEN_BY_ENGINES)?;
-    check_read(&rt, HOSTILE_LINES)?;
+    check_read(&rt, "", WRITTEN_BY_ENGINES)?;
+    check_read(&rt, "", HOSTILE_LINES)?;
+    Ok(())
+}
+
+#[test]
+fn hostile_first_commits_are_refused(rt: HostRuntime) -> Result<(), Fail> {
+    check_read(&rt, FIRST_LINES, HOSTILE_ADDS)?;
     Ok(())
 }
 
@@ -344,7 +366,8 @@ fn followed(
 #[test]
 fn a_first_commit_shows_its_causes_in_order(rt: HostRuntime) -> Result<(), Fail> {
     let alloc = rt.alloc();
-    assert_eq!(rt; first_change(alloc, FIRST_COMMIT)?.as_str(), "1 added");
+    let text = format!(in alloc; "{FIRST_LINES}{FIRST_ADD}")?;
+    assert_eq!(rt; first_change(alloc, text.as_str())?.as_str(), "1 added");
     for case in NOT_FOLLOWED.split("\n\n") {
         let (text, expected) = case_of(case);
         let found = first_change(alloc, text)?;
@@ -362,5 +385,43 @@ fn the_newest_action_on_a_path_decides(rt: HostRuntime) -> Result<(), Fail> {
         let found = followed(&rt, &mut table, text)?;
         assert_eq!(rt; found.as_str(), expected, "{text}");
     }
+    Ok(())
+}
+
+/// A first commit with so many partition columns, and with a file that has this text for the first.
+fn partitioned(alloc: Global, columns: u32, text: &str) -> Result<String, AllocError> {
+    let mut fields = String::new(alloc);
+    let mut names = String::new(alloc);
+    for number in 0..columns {
+        let comma = if number == 0 { "" } else { "," };
+        let field = format!(in alloc;
+            r#"{comma}{{\"name\":\"c{number}\",\"type\":\"integer\",\"nullable\":true}}"#
+        )?;
+        fields.push_str(field.as_str())?;
+        names.push_str(format!(in alloc; r#"{comma}"c{number}""#)?.as_str())?;
+    }
+    format!(in alloc;
+        r#"{{"protocol":{{"minReaderVersion":1,"minWriterVersion":2}}}}
+{{"metaData":{{"id":"a","format":{{"provider":"parquet"}},"schemaString":"{{\"type\":\"struct\",\"fields\":[{fields}]}}","partitionColumns":[{names}]}}}}
+{{"add":{{"path":"p","partitionValues":{{"c0":"{text}"}},"size":1,"stats":"{{\"numRecords\":1}}"}}}}"#
+    )
+}
+
+fn partitioned_change(alloc: Global, columns: u32, text: &str) -> Result<String, AllocError> {
+    first_change(alloc, partitioned(alloc, columns, text)?.as_str())
+}
+
+#[test]
+fn a_table_has_16_partition_columns_at_most(rt: HostRuntime) -> Result<(), Fail> {
+    let alloc = rt.alloc();
+    assert_eq!(rt; partitioned_change(alloc, 16, "1")?.as_str(), "1 added");
+    assert_eq!(rt;
+        partitioned_change(alloc, 17, "1")?.as_str(),
+        "Limit { which: PartitionColumns }"
+    );
+    assert_eq!(rt;
+        partitioned_change(alloc, 17, "one")?.as_str(),
+        "Unsupported { feature: PartitionValue, line: 0 }"
+    );
     Ok(())
 }

@@ -332,7 +332,7 @@ module _ (end : LogEnd) (origin : Origin) (commit : Commit) (written d : DeltaCo
   pub step : IsStep d base next
   step = record {
     grammar = in_grammar;
-    supported = (no_other_reader, (no_other_feature, (no_mapping, ((λ type. no_err type.0 type.1 type.2 type.3), (no_other_partition, (no_change, (no_other_value found.0 found.1, tt)))))));
+    supported = (no_other_reader, (no_other_feature, (no_mapping, ((λ type. no_err type.0 _ type.2 type.3), (no_other_partition, (no_change, (no_other_value found.0 found.1, tt)))))));
     schema = schema_is;
     partition = sym partition_is;
     columns = found.0;

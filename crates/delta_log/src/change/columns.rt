@@ -155,8 +155,8 @@ fn judged_schema(alloc: Global, meta: &MetaData) -> Result<Result<Schema, DeltaE
         Err(MapError::Memory) => Err(DeltaError::Memory),
         Err(MapError::BadSchema) => Err(MALFORMED),
         Err(MapError::SchemaType { .. }) => Ok(Err(SCHEMA_TYPE)),
-        Err(MapError::AvroName { .. }) => Ok(Err(SCHEMA_TYPE)),
         Err(MapError::Limit { which }) => Ok(Err(DeltaError::Limit { which })),
+        Err(MapError::AvroName { .. }) => unreachable!(),
     }
 }
 

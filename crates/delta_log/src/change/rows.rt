@@ -19,7 +19,7 @@ use partition_map::{PartError, PartKind, from_delta_text};
 use std::alloc::{AllocError, Global};
 use table_history::{Feature, FileRow, PartValue, Values};
 
-const PARTITION_VALUE: DeltaError = DeltaError::Unsupported {
+pub(super) const PARTITION_VALUE: DeltaError = DeltaError::Unsupported {
     feature: Feature::PartitionValue,
     line: 0,
 };
@@ -36,7 +36,7 @@ fn text_of<'a>(texts: &'a [(Text, Option<Text>)], name: &str) -> Option<&'a str>
     None
 }
 
-fn str_of(text: &Option<Text>) -> Option<&str>
+pub(super) fn str_of(text: &Option<Text>) -> Option<&str>
     ensures { option_copied result ≡ text.now }
 {
     match text {
@@ -57,7 +57,8 @@ fn value_of(
     match from_delta_text(alloc, column.1, text_of(texts, column.0.as_str())) {
         Ok(value) => Ok(value),
         Err(PartError::BadValue) => Err(PARTITION_VALUE),
-        Err(_) => Err(DeltaError::Memory),
+        Err(PartError::Memory) => Err(DeltaError::Memory),
+        Err(_) => unreachable!(),
     }
 }
 

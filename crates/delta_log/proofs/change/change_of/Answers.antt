@@ -1,9 +1,20 @@
+use Rattle.std.proofs.Common.{subst, sym}
 use Rattle.std.specs.Option.{option_copied}
 use Rattle.std.proofs.lemmas.Result.{err_from_is_err_and}
+use Rattle.delta_log.specs.Live.{PartColumns}
+use Rattle.delta_log.specs.Sound.{HaveDistinctNames}
 use Rattle.delta_log.specs.TableBehind.{rows_before}
 use Rattle.delta_log.proofs.ColumnLemmas.{columns_given, columns_told}
-use Rattle.delta_log.proofs.ChangeLemmas.{over_these, told_these, found_by, supported_by, grammar_by, fits_by, rows_by, schema_by, goes_on_by, follows_by, refused_by, no_refusal, complete_by}
+use Rattle.delta_log.proofs.ChangeLemmas.{over_these, told_these, distinct_columns, found_by, supported_by, grammar_by, fits_by, rows_by, spells_by, schema_by, goes_on_by, follows_by, refused_by, no_refusal, complete_by}
 use Rattle.delta_log.proofs.change.change_of.Goals as goal
+
+pub change_over-requires-clause-names : goal.change_over-requires-clause-names
+change_over-requires-clause-names c =
+    let commit = c.args.commit.now in
+    let base = option_copied c.args.base in
+    let stated = c.in_ok-columns.columns.stated in
+    let columns = c.in_ok-columns.columns.columns in
+    subst (λ (cs : PartColumns). HaveDistinctNames cs) (sym c.as_slice.ensures) (distinct_columns commit base stated columns c.requires (columns_given commit base stated columns c.in_ok-columns.ensures))
 
 pub returns : goal.returns
 returns c =
@@ -22,6 +33,7 @@ returns c =
       supported = supported_by commit base stated columns c.requires cols r over;
       fits = fits_by commit base stated columns c.requires cols r over;
       rows = rows_by commit base stated columns c.requires cols r over;
+      spells = spells_by commit base stated columns c.requires cols r over;
       schema = schema_by commit base stated columns c.requires cols r over;
       goes_on = goes_on_by commit base stated columns c.requires cols r over;
       follows = follows_by commit base stated columns c.requires cols r over;

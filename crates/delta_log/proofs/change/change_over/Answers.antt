@@ -1,9 +1,6 @@
-use Rattle.std.proofs.Common.{◌≡◌, List, Contains, length, sym, ap, ◌∙◌, subst}
 use Rattle.std.proofs.lemmas.Result.{err_from_is_err_and}
-use Rattle.table_history.specs.Rows.{HasDistinctPaths}
-use Rattle.delta_log.specs.ChangeSteps.{rows_behind, limit_passed}
 use Rattle.delta_log.proofs.ValueLemmas.{rows_paths}
-use Rattle.delta_log.proofs.ChangeLemmas.{over_value, over_limit, over_change}
+use Rattle.delta_log.proofs.ChangeLemmas.{over_value}
 use Rattle.delta_log.proofs.change.change_over.Goals as goal
 
 pub change_between-requires-clause-added : goal.change_between-requires-clause-added
@@ -11,5 +8,5 @@ change_between-requires-clause-added c = rows_paths c.args.columns.now c.args.fi
 
 pub returns-in_err-rows-clause-refused : goal.returns-in_err-rows-clause-refused
 returns-in_err-rows-clause-refused c =
-    let p = err_from_is_err_and c.from_residual.result c.from_residual.ensures.1 in
+    let p = err_from_is_err_and c.from_residual-in_err-rows.result c.from_residual-in_err-rows.ensures.1 in
     rw (p.1, p.2) (over_value c.args.columns.now c.args.before.now c.args.files.now _ c.in_err-rows.ensures.refused)

@@ -1,7 +1,4 @@
-use Rattle.std.proofs.Common.{◌≡◌, ◌+◌, ◌-◌, length, sym, ap, arith}
-use Rattle.std.specs.List.{count_by}
-use Rattle.delta_log.specs.Commit.{file_path}
-use Rattle.delta_log.specs.ChangeSteps.{has_path, rows_behind}
+use Rattle.std.proofs.Common.{arith}
 use Rattle.delta_log.proofs.BehindLemmas.{behind_count}
 use Rattle.delta_log.proofs.change.live_count.Goals as goal
 

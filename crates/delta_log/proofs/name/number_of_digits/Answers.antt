@@ -1,4 +1,4 @@
-use Rattle.std.proofs.Common.{◌≡◌, ◌^◌, ◌<◌, ℕ, Option, MatchOption, subst, sym, ap, get_or, ◌∙◌}
+use Rattle.std.proofs.Common.{◌^◌, ◌<◌, ℕ, Option, MatchOption, subst, sym, ap, get_or, ◌∙◌}
 use Rattle.delta_log.specs.VersionName.{IsVersionDigits}
 use Rattle.delta_log.proofs.VersionLemmas.{parsed}
 use Rattle.delta_log.proofs.name.number_of_digits.Goals as goal

@@ -1,4 +1,4 @@
-use Rattle.std.proofs.Common.{◌≡◌, ℕ, ◌+◌, ◌≤◌, List, length, Option, Some, None, option_map, Bor}
+use Rattle.std.proofs.Common.{◌≡◌, ℕ, ◌+◌, ◌≤◌, List, length, option_map, Bor}
 use Rattle.delta_log.specs.Judging.{with_lines, lines_in, commit_of}
 use Rattle.delta_log.specs.Sound.{IsWritable}
 use Rattle.delta_log.proofs.LineLemmas.{left}

@@ -1,10 +1,8 @@
-use Rattle.std.proofs.Common.{◌≡◌, ℕ, List, Contains, ap, subst, sym, ◌∙◌}
+use Rattle.std.proofs.Common.{◌≡◌, Contains, ap, subst, sym, ◌∙◌}
 use Rattle.std.specs.List.{IsDistinct}
 use Rattle.std.specs.Str.{bytes_eq}
-use Rattle.table_history.specs.Tables.{IsDiff}
-use Rattle.table_history.specs.Rows.{HasDistinctPaths, IsInByteOrder, IsInPathOrder}
-use Rattle.table_history.specs.declared.row.FileRow.{FileRow}
-use Rattle.delta_log.specs.ChangeSteps.{lost_paths, rows_behind}
+use Rattle.table_history.specs.Rows.{IsInByteOrder, IsInPathOrder}
+use Rattle.delta_log.specs.ChangeSteps.{lost_paths}
 use Rattle.delta_log.proofs.BehindLemmas.{rows_distinct, lost_distinct, diff_behind}
 use Rattle.delta_log.proofs.change.between.change_between.Goals as goal
 use Rattle.delta_log.proofs.change.between.change_between.Goals.{In_ok-added-2}

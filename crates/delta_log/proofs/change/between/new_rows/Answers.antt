@@ -1,6 +1,5 @@
-use Rattle.std.proofs.Common.{◌≡◌, ◌∷◌, [], ◌++◌, List, length, true, false, not, sym, ap, ◌∙◌}
+use Rattle.std.proofs.Common.{◌≡◌, ◌∷◌, [], ◌++◌, true, false, not, sym, ap, ◌∙◌}
 use Rattle.std.proofs.lemmas.List.{append_assoc}
-use Rattle.table_history.specs.declared.row.FileRow.{FileRow}
 use Rattle.table_history.proofs.RowListLemmas.{lacks, lacks-answer}
 use Rattle.delta_log.proofs.BehindLemmas.{fresh_step, all_looked, fresh_rows, fresh_distinct}
 use Rattle.delta_log.proofs.change.between.new_rows.Goals as goal

@@ -1,4 +1,4 @@
-use Rattle.std.proofs.Common.{◌≡◌, ℕ, ◌+◌, List, Contains, take, sym, subst, arith}
+use Rattle.std.proofs.Common.{ℕ, ◌+◌, List, Contains, take, sym, subst, arith}
 use Rattle.std.proofs.lemmas.Result.{err_from_is_err_and}
 use Rattle.table_history.specs.declared.feature.Feature.TheVariants.{PartitionValue}
 use Rattle.table_history.specs.declared.row.PartValue.{PartValue}
