@@ -1,0 +1,9 @@
+pub mod AloneLaws
+pub mod CommitLaws
+pub mod KeepLaws
+pub mod NameLaws
+pub mod OrderlyLaws
+pub mod PublishLaws
+pub mod RecoveryLaws
+pub mod StagingLaws
+pub mod StepLaws

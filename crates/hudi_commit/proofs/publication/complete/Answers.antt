@@ -1,0 +1,115 @@
+use Rattle.std.proofs.Common.{List, ℕ, inl, inr, ap, sym, ◌∙◌, subst, ⊎_elim}
+use Rattle.std.specs.Prelude.{Some, None, is_some}
+use Rattle.std.specs.FinMap as map
+use Rattle.std.proofs.lemmas.Result.{on_ok_weaker}
+use Rattle.lake_store.specs.Disk.{Moves, with_file}
+use Rattle.lake_store.proofs.RunLaws.{alone_further, alone_of_fewer}
+use Rattle.hudi_commit.specs.Names.{claim_path, completed_path}
+use Rattle.hudi_commit.specs.Runs.{IsKept, IsNoLeftover, IsPublished}
+use Rattle.hudi_commit.specs.Settled.{Stands}
+use Rattle.hudi_commit.proofs.AloneLaws.{alone_publish}
+use Rattle.hudi_commit.proofs.KeepLaws.{keeps_then}
+use Rattle.hudi_commit.proofs.NameLaws.{claim_leftover}
+use Rattle.hudi_commit.proofs.StagingLaws.{announced_clean, claim_here, claimed_announceable, commit_published, commit_stands, gains_on, has_moved_at, not_yet, still_free, uncontested_at}
+use Rattle.hudi_commit.proofs.publication.complete.Goals as goal
+
+pub returns-in_err-claim-clause-gains : goal.returns-in_err-claim-clause-gains
+returns-in_err-claim-clause-gains g c told free base stands next =
+    not_yet g.S.Store told base c.args.paths.now c.args.bytes.now c.args.store.now c.claim.new.store (c.claim.ensures.keeps told base stands next.unannounced)
+
+pub returns-in_err-announce-clause-gains : goal.returns-in_err-announce-clause-gains
+returns-in_err-announce-clause-gains g c told free base stands next =
+    let store = g.S.Store in
+    let s₀ = c.args.store.now in
+    let s₁ = c.claim.new.store in
+    let s₂ = c.announce.new.store in
+    let k₁ = c.claim.ensures.keeps told base stands next.unannounced in
+    let is_next = claimed_announceable c.args.paths.now c.args.bytes.now c.requires.real (store.disk s₀) (store.disk s₁) (c.in_ok-claim.ensures.claimed told) next.properties in
+    not_yet store told base c.args.paths.now c.args.bytes.now s₀ s₂ (keeps_then store told base s₀ s₁ s₂ k₁ (c.announce.ensures.keeps told base k₁.disk is_next))
+
+pub publish-requires-clause-there : goal.publish-requires-clause-there
+publish-requires-clause-there g c = λ told.
+    let disk = g.S.Store.disk in
+    ap is_some (ap (map.get (disk c.announce.new.store).files) c.claim-2.ensures
+    ∙ claim_here c.args.paths.now c.args.bytes.now c.requires.real (disk c.args.store.now) (disk c.claim.new.store) (disk c.announce.new.store) (c.in_ok-claim.ensures.claimed told) (c.in_ok-announce.ensures.announced told))
+
+pub publish-requires-clause-durable : goal.publish-requires-clause-durable
+publish-requires-clause-durable g c = λ told.
+    let disk = g.S.Store.disk in
+    announced_clean c.args.paths.now c.args.bytes.now c.requires.real (disk c.args.store.now) (disk c.claim.new.store) (disk c.announce.new.store) (c.in_ok-claim.ensures.claimed told) (c.in_ok-announce.ensures.announced told) c.claim-2.result.now
+
+pub publish-requires-clause-free : goal.publish-requires-clause-free
+publish-requires-clause-free g c = λ told.
+    let disk = g.S.Store.disk in
+    ap (map.get (disk c.announce.new.store).files) c.completed.ensures
+    ∙ still_free c.args.paths.now c.args.bytes.now c.requires.real (disk c.args.store.now) (disk c.claim.new.store) (disk c.announce.new.store) (c.in_ok-claim.ensures.claimed told) (c.in_ok-announce.ensures.announced told) (c.requires.free told)
+
+pub returns-clause-gains : goal.returns-clause-gains
+returns-clause-gains g c told free base stands next =
+    let store = g.S.Store in
+    let disk = store.disk in
+    let t = c.args.paths.now in
+    let b = c.args.bytes.now in
+    let is = c.requires.real in
+    let s₀ = c.args.store.now in
+    let s₁ = c.claim.new.store in
+    let s₂ = c.announce.new.store in
+    let s₃ = c.publish.new.self in
+    let ok₁ = c.in_ok-claim.ensures.claimed told in
+    let ok₂ = c.in_ok-announce.ensures.announced told in
+    let k₁ = c.claim.ensures.keeps told base stands next.unannounced in
+    let is_next = claimed_announceable t b is (disk s₀) (disk s₁) ok₁ next.properties in
+    let k₂ = keeps_then store told base s₀ s₁ s₂ k₁ (c.announce.ensures.keeps told base k₁.disk is_next) in
+    gains_on store told base t b s₀ s₂ s₃ (not_yet store told base t b s₀ s₂ k₂) (c.publish.ensures.elapses told)
+    (⊎_elim
+    (λ same. inl (subst (Stands base) (sym same) k₂.disk))
+    (λ gone. inr (subst (Stands (with_file base (completed_path t) (Some b))) (sym gone) (commit_stands t b is (disk s₀) (disk s₁) (disk s₂) ok₁ ok₂ base next.properties k₂.disk)))
+    (uncontested_at c.publish.result (disk s₂) (disk s₃) c.claim-2.result.now c.completed.result.now (claim_path t) (completed_path t) b c.claim-2.ensures c.completed.ensures free
+    (claim_here t b is (disk s₀) (disk s₁) (disk s₂) ok₁ ok₂) (c.publish.ensures.ok told) (c.publish.ensures.taken told) (c.publish.ensures.err told)))
+
+pub returns-clause-published : goal.returns-clause-published
+returns-clause-published g c told base stands next =
+    let store = g.S.Store in
+    let disk = store.disk in
+    let t = c.args.paths.now in
+    let b = c.args.bytes.now in
+    let is = c.requires.real in
+    let s₀ = c.args.store.now in
+    let s₁ = c.claim.new.store in
+    let s₂ = c.announce.new.store in
+    let s₃ = c.publish.new.self in
+    let ok₁ = c.in_ok-claim.ensures.claimed told in
+    let ok₂ = c.in_ok-announce.ensures.announced told in
+    let k₁ = c.claim.ensures.keeps told base stands next.unannounced in
+    let is_next = claimed_announceable t b is (disk s₀) (disk s₁) ok₁ next.properties in
+    let k₂ = keeps_then store told base s₀ s₁ s₂ k₁ (c.announce.ensures.keeps told base k₁.disk is_next) in
+    on_ok_weaker c.publish.result
+    (λ (moves : Moves c.claim-2.result.now c.completed.result.now (disk s₂) (disk s₃)).
+    subst (IsPublished base t b (disk s₀))
+    (sym (has_moved_at (disk s₂) (disk s₃) c.claim-2.result.now c.completed.result.now (claim_path t) (completed_path t) b c.claim-2.ensures c.completed.ensures (claim_here t b is (disk s₀) (disk s₁) (disk s₂) ok₁ ok₂) moves))
+    (commit_published t b is (disk s₀) (disk s₁) (disk s₂) ok₁ ok₂ base next.properties k₂.disk))
+    (c.publish.ensures.ok told)
+
+fewer : (t path : List ℕ) → IsKept None t path → IsNoLeftover path
+fewer t path kept = kept.leftover
+
+pub returns-in_err-claim-clause-alone : goal.returns-in_err-claim-clause-alone
+returns-in_err-claim-clause-alone g c told =
+    alone_of_fewer g.S.Store IsNoLeftover (IsKept None c.args.paths.now) c.args.store.now c.claim.new.store (fewer c.args.paths.now) (c.claim.ensures.alone told)
+
+pub returns-in_err-announce-clause-alone : goal.returns-in_err-announce-clause-alone
+returns-in_err-announce-clause-alone g c told =
+    alone_of_fewer g.S.Store IsNoLeftover (IsKept None c.args.paths.now) c.args.store.now c.announce.new.store (fewer c.args.paths.now)
+    (alone_further g.S.Store IsNoLeftover c.args.store.now c.claim.new.store c.announce.new.store c.claim.ensures.alone c.announce.ensures.alone told)
+
+pub returns-clause-alone : goal.returns-clause-alone
+returns-clause-alone g c told =
+    let store = g.S.Store in
+    let t = c.args.paths.now in
+    let s₀ = c.args.store.now in
+    let s₂ = c.announce.new.store in
+    let a₂ = alone_of_fewer store IsNoLeftover (IsKept None t) s₀ s₂ (fewer t) (alone_further store IsNoLeftover s₀ c.claim.new.store s₂ c.claim.ensures.alone c.announce.ensures.alone told) in
+    alone_publish store told g.met.S.Store.only_now (IsKept None t) s₀ s₂ c.publish.new.self a₂ c.publish.ensures.elapses c.publish.result c.claim-2.result.now c.completed.result.now
+    (λ kept. (subst (IsKept None t) c.claim-2.ensures kept).leftover (claim_leftover t c.requires.real.1.digits))
+    (λ kept. kept.completed c.completed.ensures)
+    c.publish.ensures.ok c.publish.ensures.taken c.publish.ensures.err

@@ -1,0 +1,171 @@
+-- What a run of store calls makes of a timeline.
+use Rattle.std.specs.Prelude.{◌≡◌, ◌≢◌, ◌⊎◌, ℕ, List, [], Option, None, Some, Result, Ok, Err}
+use Rattle.std.specs.FinMap as map
+use Rattle.lake_store.specs.Disk.{Disk, Files, IsClean, IsName, removed, synced, with_file, written}
+use Rattle.lake_store.specs.Runs.{IsEachMoment}
+use Rattle.lake_store.specs.declared.store.Store.{Ghosts}
+use Rattle.lake_store.specs.declared.store.StoreError.{StoreError}
+use Rattle.lake_store.specs.declared.store.StoreError.TheVariants.{Taken}
+use Rattle.hudi_names.specs.Time.{IsDigits, IsSomeTime}
+use Rattle.hudi_names.specs.declared.name.State.{State}
+use Rattle.hudi_names.specs.declared.name.State.TheVariants.{Completed}
+use Rattle.hudi_commit.specs.Names.{IsInstantIn, IsLeftover, IsThere, Stage, Requested, Inflight, claim_path, completed_path, pending_path, properties_path, staged_properties_path, timeline_path}
+use Rattle.hudi_commit.specs.Settled.{IsSettled, IsUnannounced, Stands, StandsAt}
+
+-- no other writer was in the way
+abbrev pub IsUncontested : {T : Type 0} → Result T StoreError → Type 0
+IsUncontested (Ok x) = Unit {0}
+IsUncontested (Err e) = e ≡ Taken → ⊥
+
+-- ---- the commit as a whole
+
+-- Properties are given before the first commit, where no completed instant is there. Without any the table's properties are there.
+abbrev pub IsReady : Option (List ℕ) → Files → Type 0
+IsReady None files = IsThere files properties_path
+IsReady (Some properties) files = (name : List ℕ) → IsName name → IsInstantIn Completed name → IsThere files (timeline_path name) → ⊥
+
+-- these files before the commit: as they are, without properties, or with the new ones
+abbrev pub IsBase : Option (List ℕ) → Files → Files → Type 0
+IsBase None entry base = base ≡ entry
+IsBase (Some properties) entry base = (base ≡ entry) ⊎ (base ≡ with_file entry properties_path None) ⊎ (base ≡ with_file entry properties_path (Some properties))
+
+-- the files with the properties that are given
+abbrev pub prepared : Option (List ℕ) → Files → Files
+prepared None entry = entry
+prepared (Some properties) entry = with_file entry properties_path (Some properties)
+
+-- and with the instant's completed file
+abbrev pub with_commit : Option (List ℕ) → Files → List ℕ → List ℕ → Files
+with_commit properties entry instant text = with_file (prepared properties entry) (completed_path instant) (Some text)
+
+-- The files are orderly, and read as before the commit.
+pub record IsBefore (properties : Option (List ℕ)) (entry image : Files) : Type 0 where
+  pub base : Files
+  pub is_base : IsBase properties entry base
+  pub stands : StandsAt base image
+
+-- The files are orderly, and read as before the commit or as after it.
+abbrev pub IsBeforeOrAfter : Option (List ℕ) → Files → List ℕ → List ℕ → Files → Type 0
+IsBeforeOrAfter properties entry instant text image = IsBefore properties entry image ⊎ StandsAt (with_commit properties entry instant text) image
+
+-- So it is at return and after a crash at any moment, and the disk is settled at return.
+pub record IsOneStep {S : Type 0} (store : Ghosts S) (properties : Option (List ℕ)) (instant text : List ℕ) (old new : S) : Type 0 where
+  pub settled : IsSettled (store.disk new)
+  pub disk : IsBeforeOrAfter properties (store.disk old).files instant text (store.disk new).files
+  pub moments : IsEachMoment store old new (IsBeforeOrAfter properties (store.disk old).files instant text)
+
+-- The instant is completed with this text, and the timeline reads so. Its pending names are empty files and its claim is gone.
+-- Nothing is dirty, and no claim of another instant is left but of completed ones.
+pub record IsCommitted (properties : Option (List ℕ)) (instant text : List ℕ) (old new : Disk) : Type 0 where
+  pub stands : Stands (with_commit properties old.files instant text) new
+  pub clean : (path : List ℕ) → IsClean new path
+  pub pending : (stage : Stage) → map.get new.files (pending_path stage instant) ≡ Some []
+  pub claim : map.get new.files (claim_path instant) ≡ None
+  pub recovered : (other : List ℕ) → IsSomeTime other → IsThere new.files (claim_path other) → IsThere new.files (completed_path other)
+
+abbrev pub NotGiven : Option (List ℕ) → List ℕ → Type 0
+NotGiven None path = Unit {0}
+NotGiven (Some properties) path = path ≢ properties_path
+
+-- a path that the commit leaves alone: no leftover, and neither the new completed file nor properties that are given
+pub record IsKept (properties : Option (List ℕ)) (instant path : List ℕ) : Type 0 where
+  pub leftover : IsLeftover path → ⊥
+  pub completed : path ≢ completed_path instant
+  pub given : NotGiven properties path
+
+-- ---- its parts
+
+abbrev pub IsNoLeftover : List ℕ → Type 0
+IsNoLeftover path = IsLeftover path → ⊥
+
+-- The timeline reads as these files do, at return and after a crash at any moment.
+pub record StaysAlike {S : Type 0} (store : Ghosts S) (base : Files) (old new : S) : Type 0 where
+  pub disk : Stands base (store.disk new)
+  pub moments : IsEachMoment store old new (StandsAt base)
+
+-- the disk without an instant's leftovers
+abbrev pub cleared : List ℕ → Disk → Disk
+cleared instant disk = removed (removed (removed disk (pending_path Inflight instant)) (pending_path Requested instant)) (claim_path instant)
+
+-- the disk with a claim
+abbrev pub claimed : List ℕ → List ℕ → Disk → Disk
+claimed instant bytes disk = synced (written disk (claim_path instant) bytes)
+
+-- the disk with an instant's pending names
+abbrev pub announced : List ℕ → Disk → Disk
+announced instant disk = synced (written (written disk (pending_path Requested instant) []) (pending_path Inflight instant) [])
+
+abbrev pub IsAllClean : Disk → Type 0
+IsAllClean disk = (path : List ℕ) → IsClean disk path
+
+-- leftovers alone are gone
+pub record IsTidied (old new : Disk) : Type 0 where
+  pub fewer : (path : List ℕ) → IsThere new.files path → IsThere old.files path
+  pub others : (path : List ℕ) → IsNoLeftover path → map.get new.files path ≡ map.get old.files path
+  pub clean : (path : List ℕ) → IsClean old path → IsClean new path
+
+-- a claim of this name is one of a completed instant
+abbrev pub IsRecoveredAt : Disk → List ℕ → Type 0
+IsRecoveredAt disk name = IsSomeTime name → IsThere disk.files (claim_path name) → IsThere disk.files (completed_path name)
+
+-- there is no claim but of completed instants
+abbrev pub IsRecovered : Disk → Type 0
+IsRecovered disk = (name : List ℕ) → IsRecoveredAt disk name
+
+-- no instant's name is there, and no pending name is dirty
+pub record IsQuiet (disk : Disk) : Type 0 where
+  pub bare : (state : State) (name : List ℕ) → IsName name → IsInstantIn state name → IsThere disk.files (timeline_path name) → ⊥
+  pub clean : (stage : Stage) (instant : List ℕ) → IsDigits instant → IsClean disk (pending_path stage instant)
+
+-- Nothing is dirty, and nothing is pending but completed instants.
+pub record IsIdle (disk : Disk) : Type 0 where
+  pub clean : IsAllClean disk
+  pub done : (stage : Stage) (instant : List ℕ) → IsDigits instant → IsThere disk.files (pending_path stage instant) → IsThere disk.files (completed_path instant)
+
+-- The properties have come from the staged ones, durably, and all else is as before.
+pub record HasProperties (properties : List ℕ) (old new : Disk) : Type 0 where
+  pub here : map.get new.files properties_path ≡ Some properties
+  pub others : (path : List ℕ) → path ≢ staged_properties_path → path ≢ properties_path → map.get new.files path ≡ map.get old.files path
+  pub clean : IsAllClean new
+
+-- The disk is settled at return, and the timeline reads as before the commit, then and after a crash at any moment.
+pub record StaysBefore {S : Type 0} (store : Ghosts S) (properties : Option (List ℕ)) (entry : Files) (old new : S) : Type 0 where
+  pub settled : IsSettled (store.disk new)
+  pub disk : IsBefore properties entry (store.disk new).files
+  pub moments : IsEachMoment store old new (IsBefore properties entry)
+
+-- Nothing of the instant is pending, and the properties are there.
+pub record IsNext (instant : List ℕ) (disk : Disk) : Type 0 where
+  pub unannounced : IsUnannounced disk instant
+  pub properties : IsThere disk.files properties_path
+
+-- as these files do, or with the completed file too
+pub record StaysOrGains {S : Type 0} (store : Ghosts S) (base : Files) (instant text : List ℕ) (old new : S) : Type 0 where
+  pub disk : Stands base (store.disk new) ⊎ Stands (with_file base (completed_path instant) (Some text)) (store.disk new)
+  pub moments : IsEachMoment store old new (λ image. StandsAt base image ⊎ StandsAt (with_file base (completed_path instant) (Some text)) image)
+
+-- neither a leftover nor the properties
+pub record IsNoLeftoverNorProperties (path : List ℕ) : Type 0 where
+  pub leftover : IsNoLeftover path
+  pub properties : path ≢ properties_path
+
+-- neither a leftover nor properties that are given
+pub record IsKeptBut (properties : Option (List ℕ)) (path : List ℕ) : Type 0 where
+  pub leftover : IsNoLeftover path
+  pub given : NotGiven properties path
+
+-- The given properties are there. Nothing is dirty, and nothing is pending but completed instants.
+pub record IsPrepared (properties : Option (List ℕ)) (base : Files) (old new : Disk) : Type 0 where
+  pub stands : Stands (prepared properties base) new
+  pub idle : IsIdle new
+  pub there : IsThere new.files properties_path
+  pub completed : (instant : List ℕ) → IsDigits instant → map.get new.files (completed_path instant) ≡ map.get old.files (completed_path instant)
+  pub recovered : IsRecovered old → IsRecovered new
+
+-- The instant's file has these bytes, its pending names are empty files and its claim is gone.
+pub record IsPublished (base : Files) (instant bytes : List ℕ) (old new : Disk) : Type 0 where
+  pub stands : Stands (with_file base (completed_path instant) (Some bytes)) new
+  pub clean : IsAllClean new
+  pub pending : (stage : Stage) → map.get new.files (pending_path stage instant) ≡ Some []
+  pub claim : map.get new.files (claim_path instant) ≡ None
+  pub recovered : IsRecovered old → IsRecovered new

@@ -1,0 +1,87 @@
+//! One commit, with the recovery before it.
+ghost use Rattle.std.specs.Prelude.{◌≡◌, ◌<◌, ℕ, List, IsErrOf, None, OnOk, codes, length};
+ghost use Rattle.std.specs.Option.{option_copied};
+ghost use Rattle.std.specs.FinMap as map;
+ghost use Rattle.lake_basics.specs.declared.limits.TheConstants.{MAX_NAMES};
+ghost use Rattle.lake_store.specs.Cause.{IsNotTooLong};
+ghost use Rattle.lake_store.specs.Disk.{Files, names_in};
+ghost use Rattle.lake_store.specs.Runs.{ChangesOnlyIn, FailsBy, IsContestedBy, LeavesAlone};
+ghost use Rattle.hudi_names.specs.Time.{IsSomeTime};
+ghost use Rattle.hudi_commit.specs.Names.{claims_folder, completed_path, timeline_folder};
+ghost use Rattle.hudi_commit.specs.Orderly.{IsOrderly};
+ghost use Rattle.hudi_commit.specs.Runs.{IsCommitted, IsIdle, IsKept, IsKeptBut, IsOneStep, IsPrepared, IsReady, IsUncontested, StaysBefore};
+ghost use Rattle.hudi_commit.specs.Settled.{IsSettled, Stands};
+
+use crate::paths::InstantPaths;
+use crate::properties::publish_properties;
+use crate::publication::complete;
+use crate::recovery::clear_claims;
+use lake_store::{Store, StoreError};
+use std::alloc::Global;
+
+/// Publishes the properties that are given before the first commit.
+fn prepare<S: Store>(store: &mut S, properties: Option<&[u8]>) -> Result<(), StoreError>
+    ensures keeps { S.tells → IsUncontested result → (base : Files)
+        → Stands base (S.disk store.old) → IsIdle (S.disk store.old)
+        → IsReady (option_copied properties.entry) (S.disk store.old).files
+        → StaysBefore ⟦<S as Store>⟧ (option_copied properties.entry) base store.old store.new }
+    ensures prepared { S.tells → (base : Files)
+        → Stands base (S.disk store.old) → IsIdle (S.disk store.old)
+        → IsReady (option_copied properties.entry) (S.disk store.old).files
+        → OnOk result (IsPrepared (option_copied properties.entry) base (S.disk store.old) (S.disk store.new)) }
+    ensures alone { S.tells → LeavesAlone ⟦<S as Store>⟧ (IsKeptBut (option_copied properties.entry))
+        store.old store.new }
+    ensures cause { FailsBy ⟦<S as Store>⟧ store.old store.new (IsErrOf result StoreError.Failed) }
+    ensures contest { IsContestedBy ⟦<S as Store>⟧ store.old store.new
+        (IsErrOf result StoreError.Taken) }
+    ensures not_too_long { IsNotTooLong result }
+{
+    match properties {
+        Some(properties) => publish_properties(store, properties),
+        None => Ok(()),
+    }
+}
+
+/// Publishes a replacecommit of this text under an instant that isn't completed, 17 digits that
+/// spell a day and a time in UTC, after undoing what stopped commits left. The text of the table's
+/// properties is given before its first commit. A crash at any moment leaves the timeline as before
+/// or as after (Hudi technical specification, timeline).
+pub fn publish_commit<S: Store>(
+    alloc: Global,
+    store: &mut S,
+    properties: Option<&[u8]>,
+    instant: &str,
+    text: &[u8],
+) -> Result<(), StoreError>
+    requires real { IsSomeTime instant.now }
+    requires free { S.tells → map.get (S.disk store.old).files (completed_path instant.now) ≡ None }
+
+    // What stands at `Ok`, settled before or not.
+    ensures committed { S.tells → IsOrderly (S.disk store.old).files
+        → IsReady (option_copied properties.entry) (S.disk store.old).files
+        → OnOk result (IsCommitted (option_copied properties.entry) instant.now text.now
+        (S.disk store.old) (S.disk store.new)) }
+
+    // At any moment the timeline reads as before or as after, and it stays settled.
+    ensures one_step { S.tells → IsUncontested result → IsOrderly (S.disk store.old).files
+        → IsSettled (S.disk store.old)
+        → IsReady (option_copied properties.entry) (S.disk store.old).files
+        → IsOneStep ⟦<S as Store>⟧ (option_copied properties.entry) instant.now text.now
+        store.old store.new }
+
+    // Whatever the answer, all that was completed stays byte for byte at any moment.
+    ensures kept { S.tells → LeavesAlone ⟦<S as Store>⟧
+        (IsKept (option_copied properties.entry) instant.now) store.old store.new }
+    ensures folder { S.tells → ChangesOnlyIn ⟦<S as Store>⟧ timeline_folder store.old store.new }
+    ensures cause { FailsBy ⟦<S as Store>⟧ store.old store.new (IsErrOf result StoreError.Failed) }
+    ensures contest { IsContestedBy ⟦<S as Store>⟧ store.old store.new
+        (IsErrOf result StoreError.Taken) }
+    ensures too_long { (n : ℕ) → IsErrOf result (StoreError.TooLong n) → (MAX_NAMES < n)
+        × (S.tells → n ≡ length (names_in (S.disk store.old).files claims_folder)) }
+{
+    let paths = InstantPaths::new(alloc, instant)?;
+    store.sync()?;
+    clear_claims(alloc, store)?;
+    prepare(store, properties)?;
+    complete(store, &paths, text)
+}
