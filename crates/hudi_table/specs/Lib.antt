@@ -1,0 +1,4 @@
+pub mod Instants
+pub mod Files
+pub mod Reading
+pub mod Refusals
