@@ -1,4 +1,7 @@
 pub mod Searches
+pub mod TimeOrder
+pub mod UpLists
+pub mod FolderLaws
 pub mod Gathered
 pub mod ReadingLaws
 pub mod FileLaws

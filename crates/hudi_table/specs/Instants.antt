@@ -1,5 +1,5 @@
 -- Which instants the files in a timeline's folder name, in byte order (Hudi technical specification, "Timeline").
-use Rattle.std.specs.Prelude.{◌≡◌, ◌==◌, ℕ, ◌-◌, ◌&&◌, Bool, true, false, not, List, ◌++◌, codes, find, length, slice_get, take, Option, Some, None, option_map, if◌then◌else◌}
+use Rattle.std.specs.Prelude.{◌≡◌, ◌==◌, ℕ, ◌-◌, ◌&&◌, Bool, true, false, not, Contains, List, ◌++◌, codes, find, length, slice_get, take, Option, Some, None, option_map, if◌then◌else◌}
 use Rattle.std.specs.List.Sorted.{IsStrictlySortedBy}
 use Rattle.std.specs.List.{before_first, filter_map, list_any, prefix_len}
 use Rattle.std.specs.Ordering.{is_lt, nat_cmp}
@@ -115,6 +115,10 @@ up_to_head timeline = take timeline.before_pending timeline.completed
 
 abbrev pub head_of : Timeline → Option (List ℕ)
 head_of timeline = option_map (λ c. c.time) (slice_get (up_to_head timeline) (length (up_to_head timeline) - 1))
+
+-- one of the instants is of this time
+abbrev pub HasTime : List CompletedInstant → List ℕ → Type 0
+HasTime instants time = (c : CompletedInstant) × Contains instants c × (c.time ≡ time)
 
 -- Some names in byte order say so of a timeline.
 pub record IsOfNames (timeline : Timeline) : Type 0 where

@@ -1,4 +1,5 @@
 pub mod Instants
+pub mod Folder
 pub mod Files
 pub mod Reading
 pub mod Refusals

@@ -1,13 +1,14 @@
 //! The timeline that the names in its folder tell.
 
-ghost use Rattle.std.specs.Prelude.{◌≡◌, List, ℕ, take, IfErr, IfOk, IsErrOf};
+ghost use Rattle.std.specs.Prelude.{◌≡◌, ◌↔◌, List, ℕ, IfErr, IfOk, IsErrOf, MatchOption};
 ghost use Rattle.std.specs.Option.{option_copied};
 ghost use Rattle.std.specs.List.Sorted.{IsStrictlySortedBy};
 ghost use Rattle.std.specs.Ordering.{nat_cmp};
 ghost use Rattle.std.specs.Cmp.Lexicographic.{slice_cmp};
 ghost use Rattle.lake_store.specs.Disk.{names_in};
 ghost use Rattle.lake_store.specs.Runs.{FailsBy, IsUncontestedBy, OnlyReads};
-ghost use Rattle.hudi_table.specs.Instants.{IsOfNames, head_of, timeline_folder, timeline_of, up_to_head};
+ghost use Rattle.hudi_table.specs.Folder.{IsFirstPending, IsHead, IsPendingAt, IsReached};
+ghost use Rattle.hudi_table.specs.Instants.{HasTime, IsOfNames, head_of, timeline_folder, timeline_of, up_to_head};
 ghost use Rattle.hudi_table.specs.Refusals.{IsListRefusal};
 ghost use Rattle.hudi_table.specs.declared.error.TimelineError.TheVariants.{StoreFault};
 
@@ -76,6 +77,15 @@ pub fn timeline_of(alloc: Global, names: &[Text]) -> Result<Timeline, AllocError
 pub fn list_timeline<S: Store>(alloc: Global, store: &mut S) -> Result<Timeline, TimelineError>
     ensures found { S.tells → IfOk result
         (λ timeline. timeline ≡ timeline_of (names_in (S.disk store.old).files timeline_folder)) }
+    // What it says of the files.
+    ensures pending { S.tells → IfOk result (λ timeline. MatchOption timeline.pending
+        ((time : List ℕ) → ¬ IsPendingAt (S.disk store.old).files time)
+        (IsFirstPending (S.disk store.old).files)) }
+    ensures head { S.tells → IfOk result (λ timeline. MatchOption (head_of timeline)
+        ((time : List ℕ) → ¬ IsReached (S.disk store.old).files time)
+        (IsHead (S.disk store.old).files)) }
+    ensures reached { S.tells → IfOk result (λ timeline. (time : List ℕ)
+        → HasTime (up_to_head timeline) time ↔ IsReached (S.disk store.old).files time) }
     ensures of_names { IfOk result IsOfNames }
     ensures refused { S.tells → IfErr result (IsListRefusal (S.disk store.old).files) }
     ensures only_reads { S.tells → OnlyReads ⟦<S as Store>⟧ store.old store.new }
