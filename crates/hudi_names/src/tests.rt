@@ -37,6 +37,10 @@ const NAMES: &[(&str, Option<(usize, Action, State)>)] = &[
         Some((17, Action::MergeOnRead, State::Requested)),
     ),
     (
+        "20240105120000000.deltacommit",
+        Some((17, Action::MergeOnRead, State::Completed)),
+    ),
+    (
         "20240105120000000.restore",
         Some((17, Action::Restore, State::Completed)),
     ),

@@ -464,6 +464,33 @@ fn passed_by_path(alloc: Global, bytes: usize) -> Result<Option<LimitKind>, Fail
     )
 }
 
+/// The number that an instant passes which writes so many files, each of a group of its own.
+fn passed_by_files(alloc: Global, files: u32) -> Result<Option<LimitKind>, Fail> {
+    let mut first = instant(alloc, SCHEMA, &[], &[])?;
+    for number in 0..files {
+        let name = format!(in alloc; "{number}.parquet")?;
+        first.stats.push(Stat {
+            file_id: Text::from_str(alloc, name.as_str())?,
+            partition_path: Text::from_str(alloc, "")?,
+            path: Text::from_string(name),
+            writes: 1,
+            size: 1,
+        })?;
+    }
+    number_passed(alloc, &[], &first)
+}
+
+#[test]
+fn live_files(rt: HostRuntime) -> Result<(), Fail> {
+    let alloc = rt.alloc();
+    assert_eq!(rt; passed_by_files(alloc, 200_000)?, None);
+    assert_eq!(rt;
+        passed_by_files(alloc, 200_001)?,
+        Some(LimitKind::LiveFiles)
+    );
+    Ok(())
+}
+
 /// The number that an instant passes whose schema has so many columns.
 fn passed_by_columns(alloc: Global, columns: u32) -> Result<Option<LimitKind>, Fail> {
     let mut schema = String::from_str(alloc, r#"{"type":"record","name":"r","fields":["#)?;

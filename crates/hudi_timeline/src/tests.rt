@@ -303,64 +303,78 @@ fn an_instant_is_written_in_compact_json(rt: HostRuntime) -> Result<(), Fail> {
     Ok(())
 }
 
-fn counts(alloc: Global, bytes: &[u8]) -> Option<(usize, usize)> {
+/// How many write stats and replaced ids the bytes say, or why they aren't read.
+fn said(alloc: Global, bytes: &[u8]) -> Result<String, AllocError> {
     match read_instant(alloc, bytes) {
-        Ok(instant) => Some((instant.stats.len(), instant.replaced.len())),
-        Err(_) => None,
+        Ok(instant) => {
+            format!(in alloc;
+                "{} stats, {} ids",
+                instant.stats.len(),
+                instant.replaced.len()
+            )
+        }
+        Err(error) => format!(in alloc; "{error:?}"),
     }
 }
 
-const INSTANTS: &[(&[u8], Option<(usize, usize)>)] = &[
+const INSTANTS: &[(&[u8], &str)] = &[
     (
         br#"{"partitionToWriteStats":{"":[{"fileId":"f","path":"f.parquet","partitionPath":"","numWrites":3,"cdcStats":null,"prevCommit":"x"},{"fileId":"f","path":"f2.parquet","partitionPath":"","numWrites":3,"fileSizeInBytes":4}]},"extraMetadata":null,"operationType":"UPSERT","writeStats":[1.5]}"#,
-        Some((2, 0)),
+        "2 stats, 0 ids",
     ),
     (
         br#"{"partitionToWriteStats":{"a":[{"path":null},{}]},"partitionToReplaceFileIds":{"a":["x","y"],"b":[]},"extraMetadata":{"schema":null}}"#,
-        Some((0, 2)),
+        "0 stats, 2 ids",
     ),
     (
         br#"{"partitionToWriteStats":{},"partitionToReplaceFileIds":null}"#,
-        Some((0, 0)),
+        "0 stats, 0 ids",
     ),
-    (br#"{"partitionToReplaceFileIds":{}}"#, None),
-    (br#"{"partitionToWriteStats":{"":[1]}}"#, None),
+    (
+        br#"{"partitionToReplaceFileIds":{}}"#,
+        "Malformed { line: 0 }",
+    ),
+    (
+        br#"{"partitionToWriteStats":{"":[1]}}"#,
+        "Malformed { line: 0 }",
+    ),
     (
         br#"{"partitionToWriteStats":{"":[{"fileId":"f","path":"f","partitionPath":"","numWrites":-1}]}}"#,
-        None,
+        "Malformed { line: 0 }",
     ),
     (
         br#"{"partitionToWriteStats":{"":[{"fileId":"f","path":"f","partitionPath":"","numWrites":9223372036854775808}]}}"#,
-        None,
+        "Malformed { line: 0 }",
     ),
     (
         br#"{"partitionToWriteStats":{"":[{"fileId":"f","path":"a//f","partitionPath":"a","numWrites":1}]}}"#,
-        None,
+        "Malformed { line: 0 }",
     ),
     (
         br#"{"partitionToWriteStats":{},"extraMetadata":{"schema":7}}"#,
-        None,
+        "Malformed { line: 0 }",
     ),
     (
         br#"{"partitionToWriteStats":{"":[{"fileId":"y","path":"x/../y.parquet","partitionPath":"x","numWrites":1}]}}"#,
-        None,
+        "Malformed { line: 0 }",
     ),
 ];
 
-/// The first text that is read otherwise: so many write stats and replaced ids, or not at all.
+/// What the first text was to say that says something else.
 fn other_instant<'a>(
     alloc: Global,
-    rows: &[(&'a [u8], Option<(usize, usize)>)],
-) -> Option<&'a [u8]> {
+    rows: &[(&[u8], &'a str)],
+) -> Result<Option<&'a str>, AllocError> {
     for (bytes, expected) in rows {
-        if counts(alloc, bytes) != *expected {
-            return Some(*bytes);
+        if said(alloc, bytes)?.as_str() != *expected {
+            return Ok(Some(*expected));
         }
     }
-    None
+    Ok(None)
 }
 
 #[test]
-fn what_hudi_writes_is_read(rt: HostRuntime) {
-    assert_eq!(rt; other_instant(rt.alloc(), INSTANTS), None);
+fn what_hudi_writes_is_read(rt: HostRuntime) -> Result<(), Fail> {
+    assert_eq!(rt; other_instant(rt.alloc(), INSTANTS)?, None);
+    Ok(())
 }

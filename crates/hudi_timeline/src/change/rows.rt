@@ -84,7 +84,7 @@ fn text_of(alloc: Global, path: &[u8]) -> Result<Text, HudiError>
     match Text::from_bytes(alloc, path) {
         Ok(text) => Ok(text),
         Err(TextError::Memory) => Err(HudiError::Memory),
-        Err(TextError::BadText) => Err(MALFORMED),
+        Err(TextError::BadText) => unreachable!(),
     }
 }
 
@@ -237,7 +237,8 @@ fn part_value(
     match from_hive(alloc, kind, text.as_str()) {
         Ok(value) => Ok(value),
         Err(PartError::BadValue) => Err(PARTITION_VALUE),
-        Err(_) => Err(HudiError::Memory),
+        Err(PartError::Memory) => Err(HudiError::Memory),
+        Err(_) => unreachable!(),
     }
 }
 

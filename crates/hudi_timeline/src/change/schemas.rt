@@ -57,9 +57,8 @@ fn read_schema(alloc: Global, text: &[u8]) -> Result<Schema, HudiError>
         Ok(schema) => Ok(schema),
         Err(MapError::BadSchema) => Err(MALFORMED),
         Err(MapError::SchemaType { .. }) => Err(SCHEMA_TYPE),
-        Err(MapError::Memory | MapError::AvroName { .. } | MapError::Limit { .. }) => {
-            Err(HudiError::Memory)
-        }
+        Err(MapError::Memory) => Err(HudiError::Memory),
+        Err(MapError::AvroName { .. } | MapError::Limit { .. }) => unreachable!(),
     }
 }
 
