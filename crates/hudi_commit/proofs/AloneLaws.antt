@@ -1,5 +1,5 @@
 -- How a run goes on that leaves paths alone, a line for each call.
-use Rattle.std.proofs.Common.{◌≡◌, ◌⊎◌, ℕ, List, sym, subst}
+use Rattle.std.proofs.Common.{◌≡◌, ◌⊎◌, ℕ, List}
 use Rattle.std.specs.Prelude.{Result, IsErrOf, OnErr, OnOk}
 use Rattle.lake_store.specs.Disk.{Disk, Files, IsPartlySynced, Moves, SameElsewhere, removed, stored, synced, written}
 use Rattle.lake_store.specs.Moments.{Elapses}
@@ -7,8 +7,6 @@ use Rattle.lake_store.specs.Runs.{Keeps, KeepsImage, LeavesAlone}
 use Rattle.lake_store.specs.declared.store.Store.{Ghosts}
 use Rattle.lake_store.specs.declared.store.StoreError.{StoreError}
 use Rattle.lake_store.specs.declared.store.StoreError.TheVariants.{Taken}
-use Rattle.hudi_commit.specs.Names.{IsLeftover}
-use Rattle.hudi_commit.specs.Runs.{IsNoLeftover}
 use Rattle.lake_store.proofs.RunLaws.{IsRun, NowOnly, alone_by_run, begins, keeps_crash, keeps_elsewhere, keeps_first, keeps_moved, keeps_removed, keeps_stored, keeps_sync, publishes, reads, removes, syncs, writes}
 
 module _ {S : Type 0} (store : Ghosts S) (told : store.tells) (only_now : NowOnly store) (Kept : List ℕ → Type 0) where
@@ -42,7 +40,3 @@ module _ {S : Type 0} (store : Ghosts S) (told : store.tells) (only_now : NowOnl
           → (store.tells → OnErr r ((IsErrOf r Taken → ⊥) → (store.disk new ≡ store.disk mid) ⊎ Moves from to (store.disk mid) (store.disk new))) → LeavesAlone store Kept old new
       alone_publish from to own_from own_to ok taken err = alone_by_run store Kept old new (publishes store only_now I P (keeps_crash Kept (store.disk old)) old mid new run call r from to ok taken err
           (λ t i b is. keeps_moved Kept (store.disk old) from to b own_from own_to (store.disk mid) i) (λ t i b contest. keeps_stored Kept (store.disk old) to b own_to (store.disk mid) i) told)
-
--- a leftover is none of the paths that stay
-pub own_leftover : (p q : List ℕ) → p ≡ q → IsLeftover q → IsNoLeftover p → ⊥
-own_leftover p q at leftover free = free (subst IsLeftover (sym at) leftover)

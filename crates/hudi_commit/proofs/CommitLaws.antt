@@ -11,11 +11,12 @@ use Rattle.lake_store.proofs.MomentLaws.{goes_further, weaker}
 use Rattle.hudi_names.specs.Time.{IsDigits}
 use Rattle.hudi_names.specs.declared.name.State.{State}
 use Rattle.hudi_names.specs.declared.name.State.TheVariants as state
-use Rattle.hudi_commit.specs.Names.{IsInstantIn, IsThere, Stage, claim_path, completed_name, completed_path, pending_path, properties_path, timeline_folder, timeline_path}
+use Rattle.hudi_commit.specs.Names.{IsInstantIn, IsThere, claim_path, completed_name, completed_path, pending_path, properties_path, timeline_folder, timeline_path}
 use Rattle.hudi_commit.specs.Orderly.{IsOrderly}
-use Rattle.hudi_commit.specs.Runs.{HasProperties, IsAllClean, IsBase, IsBefore, IsBeforeOrAfter, IsCommitted, IsIdle, IsKept, IsKeptBut, IsNext, IsNoLeftover, IsOneStep, IsPrepared, IsPublished, IsQuiet, IsReady, IsRecovered, IsTidied, IsUncontested, NotGiven, StaysBefore, StaysOrGains, prepared, with_commit}
+use Rattle.hudi_commit.specs.Runs.{HasProperties, IsAllClean, IsBase, IsBefore, IsBeforeOrAfter, IsCommitted, IsIdle, IsKept, IsKeptBut, IsNext, IsNoFileOf, IsOneStep, IsPrepared, IsPublished, IsQuiet, IsReady, IsRecovered, IsTidied, IsUncontested, NotGiven, StaysBefore, StaysOrGains, prepared, with_commit}
 use Rattle.hudi_commit.specs.Settled.{IsSettled, Stands, StandsAt}
 use Rattle.hudi_commit.proofs.NameLaws.{claim_not_properties, claim_not_staged, completed_instant, completed_is_name, completed_not_properties, completed_stays, not_staged, properties_stay}
+use Rattle.hudi_commit.proofs.OpenLaws.{not_of, open_inside}
 use Rattle.hudi_commit.proofs.OrderlyLaws.{orderly_real, there, there_none}
 use Rattle.hudi_commit.proofs.PublishLaws.{absent, has_quiet, has_stands, quiet_unannounced}
 use Rattle.hudi_commit.proofs.StepLaws.{clean_settled, in_timeline}
@@ -143,27 +144,20 @@ module _ {S : Type 0} (store : Ghosts S) (told : store.tells) (properties : Opti
       }
 
 -- ---- what is left alone
-pub kept_no_leftover : (properties : Option (List ℕ)) (t path : List ℕ) → IsKept properties t path → IsNoLeftover path
-kept_no_leftover properties t path kept = kept.leftover
+pub kept_but : (properties : Option (List ℕ)) (t : List ℕ) (entry : Files) (path : List ℕ) → IsKept properties t entry path → IsKeptBut properties path
+kept_but properties t entry path kept = record { staged = λ e. kept.leftover (inl e); given = kept.given }
 
-pub kept_but : (properties : Option (List ℕ)) (t path : List ℕ) → IsKept properties t path → IsKeptBut properties path
-kept_but properties t path kept = record { leftover = kept.leftover; given = kept.given }
-
-pub kept_from : (properties : Option (List ℕ)) (t path : List ℕ) → IsKept properties t path → IsKept None t path
-kept_from properties t path kept = record { leftover = kept.leftover; completed = kept.completed; given = tt }
+pub kept_from : (properties : Option (List ℕ)) (t : List ℕ) (entry : Files) → IsDigits t → map.get entry (completed_path t) ≡ None → (path : List ℕ) → IsKept properties t entry path → IsNoFileOf t path
+kept_from properties t entry is none path kept = record { leftover = not_of entry path t is none kept.leftover; completed = kept.completed }
 
 pub completed_kept_but : (properties : Option (List ℕ)) (t : List ℕ) → IsDigits t → IsKeptBut properties (completed_path t)
-completed_kept_but None t is = record { leftover = completed_stays t is; given = tt }
-completed_kept_but (Some p) t is = record { leftover = completed_stays t is; given = completed_not_properties t is }
+completed_kept_but None t is = record { staged = not_staged (completed_path t) (completed_stays t is); given = tt }
+completed_kept_but (Some p) t is = record { staged = not_staged (completed_path t) (completed_stays t is); given = completed_not_properties t is }
 
 -- all paths that change lie in the timeline's folder
-pub outside_kept : (properties : Option (List ℕ)) (t path : List ℕ) → IsOutside timeline_folder path → IsKept properties t path
-outside_kept properties t path outside = record {
-  leftover = ⊎_elim
-      (λ e. outside (subst (IsIn timeline_folder) (sym e) (in_timeline _)))
-      (⊎_elim
-      (λ (c : (u : List ℕ) × IsDigits u × (path ≡ claim_path u)). outside (subst (IsIn timeline_folder) (sym c.2) (in_timeline _)))
-      (λ (p : (s : Stage) × (u : List ℕ) × IsDigits u × (path ≡ pending_path s u)). outside (subst (IsIn timeline_folder) (sym p.3) (in_timeline _))));
+pub outside_kept : (properties : Option (List ℕ)) (t : List ℕ) (entry : Files) (path : List ℕ) → IsOutside timeline_folder path → IsKept properties t entry path
+outside_kept properties t entry path outside = record {
+  leftover = λ leftover. outside (open_inside entry path leftover);
   completed = λ e. outside (subst (IsIn timeline_folder) (sym e) (in_timeline _));
   given = not_given properties;
 }

@@ -2,6 +2,7 @@ pub mod AloneLaws
 pub mod CommitLaws
 pub mod KeepLaws
 pub mod NameLaws
+pub mod OpenLaws
 pub mod OrderlyLaws
 pub mod PublishLaws
 pub mod RecoveryLaws

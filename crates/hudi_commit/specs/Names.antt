@@ -55,6 +55,16 @@ IsLeftover path =
     ⊎ ((instant : List ℕ) × IsDigits instant × (path ≡ claim_path instant))
     ⊎ ((stage : Stage) × (instant : List ℕ) × IsDigits instant × (path ≡ pending_path stage instant))
 
+-- the instant's claim, or one of its pending names
+abbrev pub IsOf : List ℕ → List ℕ → Type 0
+IsOf instant path = (path ≡ claim_path instant) ⊎ ((stage : Stage) × (path ≡ pending_path stage instant))
+
+-- A leftover that a commit may write over or remove: the staged properties, or that of 17 digits that aren't completed.
+abbrev pub IsOpenLeftover : Files → List ℕ → Type 0
+IsOpenLeftover files path =
+    (path ≡ staged_properties_path)
+    ⊎ ((instant : List ℕ) × IsDigits instant × (IsSome (map.get files (completed_path instant)) → ⊥) × IsOf instant path)
+
 -- the name is that of an instant in this state
 abbrev pub IsInstantIn : State → List ℕ → Type 0
 IsInstantIn state name = (digits : ℕ) × (action : Action) × (instant_of name ≡ Some (digits, action, state))

@@ -9,7 +9,7 @@ use Rattle.lake_store.specs.declared.store.StoreError.TheVariants.{Taken}
 use Rattle.hudi_names.specs.Time.{IsDigits, IsSomeTime}
 use Rattle.hudi_names.specs.declared.name.State.{State}
 use Rattle.hudi_names.specs.declared.name.State.TheVariants.{Completed}
-use Rattle.hudi_commit.specs.Names.{IsInstantIn, IsLeftover, IsThere, Stage, Requested, Inflight, claim_path, completed_path, pending_path, properties_path, staged_properties_path, timeline_path}
+use Rattle.hudi_commit.specs.Names.{IsInstantIn, IsLeftover, IsOf, IsOpenLeftover, IsThere, Stage, Requested, Inflight, claim_path, completed_path, pending_path, properties_path, staged_properties_path, timeline_path}
 use Rattle.hudi_commit.specs.Settled.{IsSettled, IsUnannounced, Stands, StandsAt}
 
 -- no other writer was in the way
@@ -67,9 +67,9 @@ abbrev pub NotGiven : Option (List ℕ) → List ℕ → Type 0
 NotGiven None path = Unit {0}
 NotGiven (Some properties) path = path ≢ properties_path
 
--- a path that the commit leaves alone: no leftover, and neither the new completed file nor properties that are given
-pub record IsKept (properties : Option (List ℕ)) (instant path : List ℕ) : Type 0 where
-  pub leftover : IsLeftover path → ⊥
+-- A path that the commit leaves alone: no leftover but those of completed instants, and neither the new completed file nor properties that are given.
+pub record IsKept (properties : Option (List ℕ)) (instant : List ℕ) (entry : Files) (path : List ℕ) : Type 0 where
+  pub leftover : IsOpenLeftover entry path → ⊥
   pub completed : path ≢ completed_path instant
   pub given : NotGiven properties path
 
@@ -77,6 +77,12 @@ pub record IsKept (properties : Option (List ℕ)) (instant path : List ℕ) : T
 
 abbrev pub IsNoLeftover : List ℕ → Type 0
 IsNoLeftover path = IsLeftover path → ⊥
+
+abbrev pub IsNotOf : List ℕ → List ℕ → Type 0
+IsNotOf instant path = IsOf instant path → ⊥
+
+abbrev pub IsNotOpen : Files → List ℕ → Type 0
+IsNotOpen files path = IsOpenLeftover files path → ⊥
 
 -- The timeline reads as these files do, at return and after a crash at any moment.
 pub record StaysAlike {S : Type 0} (store : Ghosts S) (base : Files) (old new : S) : Type 0 where
@@ -144,15 +150,20 @@ pub record StaysOrGains {S : Type 0} (store : Ghosts S) (base : Files) (instant 
   pub disk : Stands base (store.disk new) ⊎ Stands (with_file base (completed_path instant) (Some text)) (store.disk new)
   pub moments : IsEachMoment store old new (λ image. StandsAt base image ⊎ StandsAt (with_file base (completed_path instant) (Some text)) image)
 
--- neither a leftover nor the properties
-pub record IsNoLeftoverNorProperties (path : List ℕ) : Type 0 where
-  pub leftover : IsNoLeftover path
+-- neither the properties nor the staged ones
+pub record IsNoProperties (path : List ℕ) : Type 0 where
+  pub staged : path ≢ staged_properties_path
   pub properties : path ≢ properties_path
 
--- neither a leftover nor properties that are given
+-- neither properties that are given nor staged ones
 pub record IsKeptBut (properties : Option (List ℕ)) (path : List ℕ) : Type 0 where
-  pub leftover : IsNoLeftover path
+  pub staged : path ≢ staged_properties_path
   pub given : NotGiven properties path
+
+-- neither the instant's completed file nor a leftover of it
+pub record IsNoFileOf (instant path : List ℕ) : Type 0 where
+  pub leftover : IsNotOf instant path
+  pub completed : path ≢ completed_path instant
 
 -- The given properties are there. Nothing is dirty, and nothing is pending but completed instants.
 pub record IsPrepared (properties : Option (List ℕ)) (base : Files) (old new : Disk) : Type 0 where

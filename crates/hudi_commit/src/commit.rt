@@ -69,9 +69,10 @@ pub fn publish_commit<S: Store>(
         → IsOneStep ⟦<S as Store>⟧ (option_copied properties.entry) instant.now text.now
         store.old store.new }
 
-    // Whatever the answer, all that was completed stays byte for byte at any moment.
+    // Whatever the answer, completed instants stay byte for byte at any moment, and all else but
+    // what stopped commits left.
     ensures kept { S.tells → LeavesAlone ⟦<S as Store>⟧
-        (IsKept (option_copied properties.entry) instant.now) store.old store.new }
+        (IsKept (option_copied properties.entry) instant.now (S.disk store.old).files) store.old store.new }
     ensures folder { S.tells → ChangesOnlyIn ⟦<S as Store>⟧ timeline_folder store.old store.new }
     ensures cause { FailsBy ⟦<S as Store>⟧ store.old store.new (IsErrOf result StoreError.Failed) }
     ensures contest { IsContestedBy ⟦<S as Store>⟧ store.old store.new

@@ -6,7 +6,7 @@ ghost use Rattle.lake_store.specs.Disk.{Files, with_file};
 ghost use Rattle.lake_store.specs.Runs.{FailsBy, IsContestedBy, IsUncontestedBy, LeavesAlone};
 ghost use Rattle.hudi_names.specs.Time.{IsSomeTime};
 ghost use Rattle.hudi_commit.specs.Names.{completed_path};
-ghost use Rattle.hudi_commit.specs.Runs.{IsKept, IsNext, IsNoLeftover, IsPublished, IsUncontested, StaysAlike, StaysOrGains, announced, claimed};
+ghost use Rattle.hudi_commit.specs.Runs.{IsNext, IsNoFileOf, IsNotOf, IsPublished, IsUncontested, StaysAlike, StaysOrGains, announced, claimed};
 ghost use Rattle.hudi_commit.specs.Settled.{IsAnnounceable, IsUnannounced, Stands};
 
 use crate::paths::InstantPaths;
@@ -20,7 +20,7 @@ fn claim<S: Store>(store: &mut S, paths: &InstantPaths, bytes: &[u8]) -> Result<
         → StaysAlike ⟦<S as Store>⟧ base store.old store.new }
     ensures claimed { S.tells
         → OnOk result (S.disk store.new ≡ claimed paths.now bytes.now (S.disk store.old)) }
-    ensures alone { S.tells → LeavesAlone ⟦<S as Store>⟧ IsNoLeftover store.old store.new }
+    ensures alone { S.tells → LeavesAlone ⟦<S as Store>⟧ (IsNotOf paths.now) store.old store.new }
     ensures cause { FailsBy ⟦<S as Store>⟧ store.old store.new (IsErrOf result StoreError.Failed) }
     ensures contest { IsUncontestedBy ⟦<S as Store>⟧ store.old store.new
         (IsErrOf result StoreError.Taken) }
@@ -38,7 +38,7 @@ fn announce<S: Store>(store: &mut S, paths: &InstantPaths) -> Result<(), StoreEr
         → StaysAlike ⟦<S as Store>⟧ base store.old store.new }
     ensures announced { S.tells
         → OnOk result (S.disk store.new ≡ announced paths.now (S.disk store.old)) }
-    ensures alone { S.tells → LeavesAlone ⟦<S as Store>⟧ IsNoLeftover store.old store.new }
+    ensures alone { S.tells → LeavesAlone ⟦<S as Store>⟧ (IsNotOf paths.now) store.old store.new }
     ensures cause { FailsBy ⟦<S as Store>⟧ store.old store.new (IsErrOf result StoreError.Failed) }
     ensures contest { IsUncontestedBy ⟦<S as Store>⟧ store.old store.new
         (IsErrOf result StoreError.Taken) }
@@ -63,7 +63,7 @@ pub fn complete<S: Store>(
     ensures published { S.tells → (base : Files)
         → Stands base (S.disk store.old) → IsNext paths.now (S.disk store.old)
         → OnOk result (IsPublished base paths.now bytes.now (S.disk store.old) (S.disk store.new)) }
-    ensures alone { S.tells → LeavesAlone ⟦<S as Store>⟧ (IsKept None paths.now)
+    ensures alone { S.tells → LeavesAlone ⟦<S as Store>⟧ (IsNoFileOf paths.now)
         store.old store.new }
     ensures cause { FailsBy ⟦<S as Store>⟧ store.old store.new (IsErrOf result StoreError.Failed) }
     ensures contest { IsContestedBy ⟦<S as Store>⟧ store.old store.new

@@ -6,7 +6,7 @@ ghost use Rattle.lake_store.specs.Disk.{Files, names_in};
 ghost use Rattle.lake_store.specs.Runs.{FailsBy, IsUncontestedBy, LeavesAlone};
 ghost use Rattle.hudi_names.specs.Time.{IsSomeTime};
 ghost use Rattle.hudi_commit.specs.Names.{claims_folder};
-ghost use Rattle.hudi_commit.specs.Runs.{IsNoLeftover, IsRecovered, IsRecoveredAt, IsTidied, StaysAlike, cleared};
+ghost use Rattle.hudi_commit.specs.Runs.{IsNotOf, IsNotOpen, IsRecovered, IsRecoveredAt, IsTidied, StaysAlike, cleared};
 ghost use Rattle.hudi_commit.specs.Settled.{Stands};
 
 use crate::paths::InstantPaths;
@@ -20,7 +20,7 @@ fn clear_claim<S: Store>(store: &mut S, paths: &InstantPaths) -> Result<(), Stor
     ensures keeps { S.tells → (base : Files) → Stands base (S.disk store.old)
         → StaysAlike ⟦<S as Store>⟧ base store.old store.new }
     ensures cleared { S.tells → OnOk result (S.disk store.new ≡ cleared paths.now (S.disk store.old)) }
-    ensures alone { S.tells → LeavesAlone ⟦<S as Store>⟧ IsNoLeftover store.old store.new }
+    ensures alone { S.tells → LeavesAlone ⟦<S as Store>⟧ (IsNotOf paths.now) store.old store.new }
     ensures cause { FailsBy ⟦<S as Store>⟧ store.old store.new (IsErrOf result StoreError.Failed) }
     ensures contest { IsUncontestedBy ⟦<S as Store>⟧ store.old store.new
         (IsErrOf result StoreError.Taken) }
@@ -37,7 +37,8 @@ fn recover_claim<S: Store>(alloc: Global, store: &mut S, name: &str) -> Result<(
         → StaysAlike ⟦<S as Store>⟧ base store.old store.new }
     ensures tidied { S.tells → OnOk result (IsTidied (S.disk store.old) (S.disk store.new)) }
     ensures recovered { S.tells → OnOk result (IsRecoveredAt (S.disk store.new) name.now) }
-    ensures alone { S.tells → LeavesAlone ⟦<S as Store>⟧ IsNoLeftover store.old store.new }
+    ensures alone { S.tells → LeavesAlone ⟦<S as Store>⟧ (IsNotOpen (S.disk store.old).files)
+        store.old store.new }
     ensures cause { FailsBy ⟦<S as Store>⟧ store.old store.new (IsErrOf result StoreError.Failed) }
     ensures contest { IsUncontestedBy ⟦<S as Store>⟧ store.old store.new
         (IsErrOf result StoreError.Taken) }
@@ -60,7 +61,8 @@ pub fn clear_claims<S: Store>(alloc: Global, store: &mut S) -> Result<(), StoreE
         → StaysAlike ⟦<S as Store>⟧ base store.old store.new }
     ensures tidied { S.tells → OnOk result (IsTidied (S.disk store.old) (S.disk store.new)) }
     ensures recovered { S.tells → OnOk result (IsRecovered (S.disk store.new)) }
-    ensures alone { S.tells → LeavesAlone ⟦<S as Store>⟧ IsNoLeftover store.old store.new }
+    ensures alone { S.tells → LeavesAlone ⟦<S as Store>⟧ (IsNotOpen (S.disk store.old).files)
+        store.old store.new }
     ensures cause { FailsBy ⟦<S as Store>⟧ store.old store.new (IsErrOf result StoreError.Failed) }
     ensures contest { IsUncontestedBy ⟦<S as Store>⟧ store.old store.new
         (IsErrOf result StoreError.Taken) }

@@ -3,7 +3,7 @@ use Rattle.std.specs.Prelude.{Option, Some, OnOk}
 use Rattle.std.specs.Option.{option_copied}
 use Rattle.std.proofs.lemmas.Result.{on_ok_weaker}
 use Rattle.lake_store.proofs.RunLaws.{alone_of_fewer}
-use Rattle.hudi_commit.specs.Runs.{IsKeptBut, IsNoLeftoverNorProperties, IsPrepared, IsReady, StaysBefore}
+use Rattle.hudi_commit.specs.Runs.{IsKeptBut, IsNoProperties, IsPrepared, IsReady, StaysBefore}
 use Rattle.hudi_commit.proofs.AloneLaws.{alone_begun}
 use Rattle.hudi_commit.proofs.CommitLaws.{nothing_prepared, ready_quiet, with_properties_prepared}
 use Rattle.hudi_commit.proofs.StagingLaws.{before_begun, first_base}
@@ -27,13 +27,13 @@ returns-in-Some-clause-prepared g c told base stands idle ready =
     subst (λ (o : Option (List ℕ)). OnOk c.publish_properties.result (IsPrepared o base (disk c.args.store.now) (disk c.publish_properties.new.store))) (sym at)
     (on_ok_weaker c.publish_properties.result (with_properties_prepared base p (disk c.args.store.now) (disk c.publish_properties.new.store) stands idle is_ready) (c.publish_properties.ensures.published told))
 
-kept_given : (o : Option (List ℕ)) (p : List ℕ) → o ≡ Some p → (path : List ℕ) → IsKeptBut o path → IsNoLeftoverNorProperties path
-kept_given o p at path kept = let is = subst (λ x. IsKeptBut x path) at kept in record { leftover = is.leftover; properties = is.given }
+kept_given : (o : Option (List ℕ)) (p : List ℕ) → o ≡ Some p → (path : List ℕ) → IsKeptBut o path → IsNoProperties path
+kept_given o p at path kept = let is = subst (λ x. IsKeptBut x path) at kept in record { staged = is.staged; properties = is.given }
 
 pub returns-in-Some-clause-alone : goal.returns-in-Some-clause-alone
 returns-in-Some-clause-alone g c told =
     let at = ap (λ o. option_copied o) c.in-Some.is in
-    alone_of_fewer g.S.Store IsNoLeftoverNorProperties (IsKeptBut (option_copied c.args.properties)) c.args.store.now c.publish_properties.new.store
+    alone_of_fewer g.S.Store IsNoProperties (IsKeptBut (option_copied c.args.properties)) c.args.store.now c.publish_properties.new.store
     (kept_given (option_copied c.args.properties) c.in-Some.properties.now at) (c.publish_properties.ensures.alone told)
 
 pub returns-in-None-clause-keeps : goal.returns-in-None-clause-keeps

@@ -1,5 +1,4 @@
 use Rattle.std.proofs.Common.{ap, sym, ◌∙◌, subst}
-use Rattle.std.specs.Prelude.{None}
 use Rattle.std.specs.Option.{option_copied}
 use Rattle.std.specs.FinMap as map
 use Rattle.std.proofs.lemmas.Result.{err_from_is_err_and, on_ok_weaker}
@@ -8,11 +7,11 @@ use Rattle.lake_store.specs.Runs.{IsOutside}
 use Rattle.lake_store.proofs.RunLaws.{alone_further, alone_of_fewer}
 use Rattle.hudi_names.specs.Time.{IsSomeTime}
 use Rattle.hudi_commit.specs.Names.{completed_path, timeline_folder}
-use Rattle.hudi_commit.specs.Runs.{IsCommitted, IsKept, IsKeptBut, IsNext, IsNoLeftover, IsOneStep, IsPublished, prepared}
+use Rattle.hudi_commit.specs.Runs.{IsCommitted, IsKept, IsKeptBut, IsNext, IsNoFileOf, IsNotOpen, IsOneStep, IsPublished, prepared}
 use Rattle.hudi_commit.proofs.AloneLaws.{alone_begun, alone_sync}
-use Rattle.hudi_commit.proofs.CommitLaws.{before_step, committed, completed_kept_but, entry_stands, kept_but, kept_from, kept_no_leftover, outside_kept, prepared_next, recovered_idle, step_then, synced_clean, synced_stands, tidied_ready}
+use Rattle.hudi_commit.proofs.CommitLaws.{before_step, committed, completed_kept_but, entry_stands, kept_but, kept_from, outside_kept, prepared_next, recovered_idle, step_then, synced_clean, synced_stands, tidied_ready}
 use Rattle.hudi_commit.proofs.KeepLaws.{begun, keeps_then, sync_keeps}
-use Rattle.hudi_commit.proofs.NameLaws.{completed_stays}
+use Rattle.hudi_commit.proofs.OpenLaws.{completed_not_open, open_same}
 use Rattle.hudi_commit.proofs.StagingLaws.{alike_before, before_then}
 use Rattle.hudi_commit.proofs.commit.publish_commit.Goals as goal
 
@@ -101,7 +100,7 @@ complete-requires-clause-free g c told =
     let s2 = c.clear_claims.new.store in
     let s3 = c.prepare.new.store in
     let ok1 = c.in_ok-sync.ensures.ok told in
-    let free2 = (c.clear_claims.ensures.alone told).disk.files (completed_path t) (completed_stays t is) ∙ ap (λ (d : Disk). map.get d.files (completed_path t)) ok1 ∙ c.requires.free told in
+    let free2 = (c.clear_claims.ensures.alone told).disk.files (completed_path t) (completed_not_open (disk s1).files t is) ∙ ap (λ (d : Disk). map.get d.files (completed_path t)) ok1 ∙ c.requires.free told in
     let free3 = (c.prepare.ensures.alone told).disk.files (completed_path t) (completed_kept_but props t is) ∙ free2 in
     let at = c.in_ok-paths.ensures in
     ap (λ x. map.get (disk s3).files (completed_path x)) at ∙ free3
@@ -130,7 +129,7 @@ returns-clause-one_step g c told free orderly settled ready =
     let is_ready = tidied_ready props (disk s0) (disk s1) (disk s2) ok1 tidied ready in
     let idle = recovered_idle entry (disk s1) (disk s2) (synced_clean (disk s0) (disk s1) ok1) tidied recovered k2.disk in
     let b2 = alike_before store told props entry s0 s2 k2 in
-    let free2 = (c.clear_claims.ensures.alone told).disk.files (completed_path t) (completed_stays t is) ∙ ap (λ (d : Disk). map.get d.files (completed_path t)) ok1 ∙ c.requires.free told in
+    let free2 = (c.clear_claims.ensures.alone told).disk.files (completed_path t) (completed_not_open (disk s1).files t is) ∙ ap (λ (d : Disk). map.get d.files (completed_path t)) ok1 ∙ c.requires.free told in
     let free3 = (c.prepare.ensures.alone told).disk.files (completed_path t) (completed_kept_but props t is) ∙ free2 in
     let prep = c.in_ok-prepare.ensures.prepared told entry k2.disk idle is_ready in
     let next = prepared_next props entry (disk s2) (disk s3) t is prep free3 in
@@ -160,7 +159,7 @@ returns-clause-committed g c told orderly ready =
     let recovered = c.in_ok-clear_claims.ensures.recovered told in
     let is_ready = tidied_ready props (disk s0) (disk s1) (disk s2) ok1 tidied ready in
     let idle = recovered_idle entry (disk s1) (disk s2) (synced_clean (disk s0) (disk s1) ok1) tidied recovered run2.disk in
-    let free2 = (c.clear_claims.ensures.alone told).disk.files (completed_path t) (completed_stays t is) ∙ ap (λ (d : Disk). map.get d.files (completed_path t)) ok1 ∙ c.requires.free told in
+    let free2 = (c.clear_claims.ensures.alone told).disk.files (completed_path t) (completed_not_open (disk s1).files t is) ∙ ap (λ (d : Disk). map.get d.files (completed_path t)) ok1 ∙ c.requires.free told in
     let free3 = (c.prepare.ensures.alone told).disk.files (completed_path t) (completed_kept_but props t is) ∙ free2 in
     let prep = c.in_ok-prepare.ensures.prepared told entry run2.disk idle is_ready in
     let next = prepared_next props entry (disk s2) (disk s3) t is prep free3 in
@@ -172,108 +171,121 @@ returns-clause-committed g c told orderly ready =
 pub returns-in_err-paths-clause-kept : goal.returns-in_err-paths-clause-kept
 returns-in_err-paths-clause-kept g c told =
     let store = g.S.Store in
+    let disk = g.S.Store.disk in
     let props = option_copied c.args.properties in
     let t = c.args.instant.now in
     let s0 = c.args.store.now in
-    let a0 = alone_begun store told g.met.S.Store.only_now (IsKept props t) s0 in
+    let a0 = alone_begun store told g.met.S.Store.only_now (IsKept props t (disk s0).files) s0 in
     a0
 
 pub returns-in_err-paths-clause-folder : goal.returns-in_err-paths-clause-folder
 returns-in_err-paths-clause-folder g c told =
     let store = g.S.Store in
+    let disk = g.S.Store.disk in
     let props = option_copied c.args.properties in
     let t = c.args.instant.now in
     let s0 = c.args.store.now in
-    let a0 = alone_begun store told g.met.S.Store.only_now (IsKept props t) s0 in
-    alone_of_fewer store (IsKept props t) (IsOutside timeline_folder) s0 s0 (outside_kept props t) a0
+    let a0 = alone_begun store told g.met.S.Store.only_now (IsKept props t (disk s0).files) s0 in
+    alone_of_fewer store (IsKept props t (disk s0).files) (IsOutside timeline_folder) s0 s0 (outside_kept props t (disk s0).files) a0
 
 pub returns-in_err-sync-clause-kept : goal.returns-in_err-sync-clause-kept
 returns-in_err-sync-clause-kept g c told =
     let store = g.S.Store in
+    let disk = g.S.Store.disk in
     let props = option_copied c.args.properties in
     let t = c.args.instant.now in
     let s0 = c.args.store.now in
     let s1 = c.sync.new.self in
-    let a0 = alone_begun store told g.met.S.Store.only_now (IsKept props t) s0 in
-    let a1 = alone_sync store told g.met.S.Store.only_now (IsKept props t) s0 s0 s1 a0 c.sync.ensures.elapses c.sync.result c.sync.ensures.ok c.sync.ensures.err in
+    let a0 = alone_begun store told g.met.S.Store.only_now (IsKept props t (disk s0).files) s0 in
+    let a1 = alone_sync store told g.met.S.Store.only_now (IsKept props t (disk s0).files) s0 s0 s1 a0 c.sync.ensures.elapses c.sync.result c.sync.ensures.ok c.sync.ensures.err in
     a1
 
 pub returns-in_err-sync-clause-folder : goal.returns-in_err-sync-clause-folder
 returns-in_err-sync-clause-folder g c told =
     let store = g.S.Store in
+    let disk = g.S.Store.disk in
     let props = option_copied c.args.properties in
     let t = c.args.instant.now in
     let s0 = c.args.store.now in
     let s1 = c.sync.new.self in
-    let a0 = alone_begun store told g.met.S.Store.only_now (IsKept props t) s0 in
-    let a1 = alone_sync store told g.met.S.Store.only_now (IsKept props t) s0 s0 s1 a0 c.sync.ensures.elapses c.sync.result c.sync.ensures.ok c.sync.ensures.err in
-    alone_of_fewer store (IsKept props t) (IsOutside timeline_folder) s0 s1 (outside_kept props t) a1
+    let a0 = alone_begun store told g.met.S.Store.only_now (IsKept props t (disk s0).files) s0 in
+    let a1 = alone_sync store told g.met.S.Store.only_now (IsKept props t (disk s0).files) s0 s0 s1 a0 c.sync.ensures.elapses c.sync.result c.sync.ensures.ok c.sync.ensures.err in
+    alone_of_fewer store (IsKept props t (disk s0).files) (IsOutside timeline_folder) s0 s1 (outside_kept props t (disk s0).files) a1
 
 pub returns-in_err-clear_claims-clause-kept : goal.returns-in_err-clear_claims-clause-kept
 returns-in_err-clear_claims-clause-kept g c told =
     let store = g.S.Store in
+    let disk = g.S.Store.disk in
     let props = option_copied c.args.properties in
     let t = c.args.instant.now in
     let s0 = c.args.store.now in
     let s1 = c.sync.new.self in
     let s2 = c.clear_claims.new.store in
-    let a0 = alone_begun store told g.met.S.Store.only_now (IsKept props t) s0 in
-    let a1 = alone_sync store told g.met.S.Store.only_now (IsKept props t) s0 s0 s1 a0 c.sync.ensures.elapses c.sync.result c.sync.ensures.ok c.sync.ensures.err in
-    let f2 = alone_of_fewer store IsNoLeftover (IsKept props t) s1 s2 (kept_no_leftover props t) (c.clear_claims.ensures.alone told) in
-    let a2 = alone_further store (IsKept props t) s0 s1 s2 (λ _. a1) (λ _. f2) told in
+    let ok1 = c.in_ok-sync.ensures.ok told in
+    let a0 = alone_begun store told g.met.S.Store.only_now (IsKept props t (disk s0).files) s0 in
+    let a1 = alone_sync store told g.met.S.Store.only_now (IsKept props t (disk s0).files) s0 s0 s1 a0 c.sync.ensures.elapses c.sync.result c.sync.ensures.ok c.sync.ensures.err in
+    let f2 = alone_of_fewer store (IsNotOpen (disk s1).files) (IsKept props t (disk s0).files) s1 s2 (λ q kept. open_same (disk s0).files q (disk s1).files (λ u is_u. ap (λ (d : Disk). map.get d.files (completed_path u)) ok1) kept.leftover) (c.clear_claims.ensures.alone told) in
+    let a2 = alone_further store (IsKept props t (disk s0).files) s0 s1 s2 (λ _. a1) (λ _. f2) told in
     a2
 
 pub returns-in_err-clear_claims-clause-folder : goal.returns-in_err-clear_claims-clause-folder
 returns-in_err-clear_claims-clause-folder g c told =
     let store = g.S.Store in
+    let disk = g.S.Store.disk in
     let props = option_copied c.args.properties in
     let t = c.args.instant.now in
     let s0 = c.args.store.now in
     let s1 = c.sync.new.self in
     let s2 = c.clear_claims.new.store in
-    let a0 = alone_begun store told g.met.S.Store.only_now (IsKept props t) s0 in
-    let a1 = alone_sync store told g.met.S.Store.only_now (IsKept props t) s0 s0 s1 a0 c.sync.ensures.elapses c.sync.result c.sync.ensures.ok c.sync.ensures.err in
-    let f2 = alone_of_fewer store IsNoLeftover (IsKept props t) s1 s2 (kept_no_leftover props t) (c.clear_claims.ensures.alone told) in
-    let a2 = alone_further store (IsKept props t) s0 s1 s2 (λ _. a1) (λ _. f2) told in
-    alone_of_fewer store (IsKept props t) (IsOutside timeline_folder) s0 s2 (outside_kept props t) a2
+    let ok1 = c.in_ok-sync.ensures.ok told in
+    let a0 = alone_begun store told g.met.S.Store.only_now (IsKept props t (disk s0).files) s0 in
+    let a1 = alone_sync store told g.met.S.Store.only_now (IsKept props t (disk s0).files) s0 s0 s1 a0 c.sync.ensures.elapses c.sync.result c.sync.ensures.ok c.sync.ensures.err in
+    let f2 = alone_of_fewer store (IsNotOpen (disk s1).files) (IsKept props t (disk s0).files) s1 s2 (λ q kept. open_same (disk s0).files q (disk s1).files (λ u is_u. ap (λ (d : Disk). map.get d.files (completed_path u)) ok1) kept.leftover) (c.clear_claims.ensures.alone told) in
+    let a2 = alone_further store (IsKept props t (disk s0).files) s0 s1 s2 (λ _. a1) (λ _. f2) told in
+    alone_of_fewer store (IsKept props t (disk s0).files) (IsOutside timeline_folder) s0 s2 (outside_kept props t (disk s0).files) a2
 
 pub returns-in_err-prepare-clause-kept : goal.returns-in_err-prepare-clause-kept
 returns-in_err-prepare-clause-kept g c told =
     let store = g.S.Store in
+    let disk = g.S.Store.disk in
     let props = option_copied c.args.properties in
     let t = c.args.instant.now in
     let s0 = c.args.store.now in
     let s1 = c.sync.new.self in
     let s2 = c.clear_claims.new.store in
     let s3 = c.prepare.new.store in
-    let a0 = alone_begun store told g.met.S.Store.only_now (IsKept props t) s0 in
-    let a1 = alone_sync store told g.met.S.Store.only_now (IsKept props t) s0 s0 s1 a0 c.sync.ensures.elapses c.sync.result c.sync.ensures.ok c.sync.ensures.err in
-    let f2 = alone_of_fewer store IsNoLeftover (IsKept props t) s1 s2 (kept_no_leftover props t) (c.clear_claims.ensures.alone told) in
-    let a2 = alone_further store (IsKept props t) s0 s1 s2 (λ _. a1) (λ _. f2) told in
-    let f3 = alone_of_fewer store (IsKeptBut props) (IsKept props t) s2 s3 (kept_but props t) (c.prepare.ensures.alone told) in
-    let a3 = alone_further store (IsKept props t) s0 s2 s3 (λ _. a2) (λ _. f3) told in
+    let ok1 = c.in_ok-sync.ensures.ok told in
+    let a0 = alone_begun store told g.met.S.Store.only_now (IsKept props t (disk s0).files) s0 in
+    let a1 = alone_sync store told g.met.S.Store.only_now (IsKept props t (disk s0).files) s0 s0 s1 a0 c.sync.ensures.elapses c.sync.result c.sync.ensures.ok c.sync.ensures.err in
+    let f2 = alone_of_fewer store (IsNotOpen (disk s1).files) (IsKept props t (disk s0).files) s1 s2 (λ q kept. open_same (disk s0).files q (disk s1).files (λ u is_u. ap (λ (d : Disk). map.get d.files (completed_path u)) ok1) kept.leftover) (c.clear_claims.ensures.alone told) in
+    let a2 = alone_further store (IsKept props t (disk s0).files) s0 s1 s2 (λ _. a1) (λ _. f2) told in
+    let f3 = alone_of_fewer store (IsKeptBut props) (IsKept props t (disk s0).files) s2 s3 (kept_but props t (disk s0).files) (c.prepare.ensures.alone told) in
+    let a3 = alone_further store (IsKept props t (disk s0).files) s0 s2 s3 (λ _. a2) (λ _. f3) told in
     a3
 
 pub returns-in_err-prepare-clause-folder : goal.returns-in_err-prepare-clause-folder
 returns-in_err-prepare-clause-folder g c told =
     let store = g.S.Store in
+    let disk = g.S.Store.disk in
     let props = option_copied c.args.properties in
     let t = c.args.instant.now in
     let s0 = c.args.store.now in
     let s1 = c.sync.new.self in
     let s2 = c.clear_claims.new.store in
     let s3 = c.prepare.new.store in
-    let a0 = alone_begun store told g.met.S.Store.only_now (IsKept props t) s0 in
-    let a1 = alone_sync store told g.met.S.Store.only_now (IsKept props t) s0 s0 s1 a0 c.sync.ensures.elapses c.sync.result c.sync.ensures.ok c.sync.ensures.err in
-    let f2 = alone_of_fewer store IsNoLeftover (IsKept props t) s1 s2 (kept_no_leftover props t) (c.clear_claims.ensures.alone told) in
-    let a2 = alone_further store (IsKept props t) s0 s1 s2 (λ _. a1) (λ _. f2) told in
-    let f3 = alone_of_fewer store (IsKeptBut props) (IsKept props t) s2 s3 (kept_but props t) (c.prepare.ensures.alone told) in
-    let a3 = alone_further store (IsKept props t) s0 s2 s3 (λ _. a2) (λ _. f3) told in
-    alone_of_fewer store (IsKept props t) (IsOutside timeline_folder) s0 s3 (outside_kept props t) a3
+    let ok1 = c.in_ok-sync.ensures.ok told in
+    let a0 = alone_begun store told g.met.S.Store.only_now (IsKept props t (disk s0).files) s0 in
+    let a1 = alone_sync store told g.met.S.Store.only_now (IsKept props t (disk s0).files) s0 s0 s1 a0 c.sync.ensures.elapses c.sync.result c.sync.ensures.ok c.sync.ensures.err in
+    let f2 = alone_of_fewer store (IsNotOpen (disk s1).files) (IsKept props t (disk s0).files) s1 s2 (λ q kept. open_same (disk s0).files q (disk s1).files (λ u is_u. ap (λ (d : Disk). map.get d.files (completed_path u)) ok1) kept.leftover) (c.clear_claims.ensures.alone told) in
+    let a2 = alone_further store (IsKept props t (disk s0).files) s0 s1 s2 (λ _. a1) (λ _. f2) told in
+    let f3 = alone_of_fewer store (IsKeptBut props) (IsKept props t (disk s0).files) s2 s3 (kept_but props t (disk s0).files) (c.prepare.ensures.alone told) in
+    let a3 = alone_further store (IsKept props t (disk s0).files) s0 s2 s3 (λ _. a2) (λ _. f3) told in
+    alone_of_fewer store (IsKept props t (disk s0).files) (IsOutside timeline_folder) s0 s3 (outside_kept props t (disk s0).files) a3
 
 pub returns-clause-kept : goal.returns-clause-kept
 returns-clause-kept g c told =
     let store = g.S.Store in
+    let disk = g.S.Store.disk in
     let props = option_copied c.args.properties in
     let t = c.args.instant.now in
     let s0 = c.args.store.now in
@@ -281,20 +293,23 @@ returns-clause-kept g c told =
     let s2 = c.clear_claims.new.store in
     let s3 = c.prepare.new.store in
     let s4 = c.complete.new.store in
+    let is = c.requires.real.1.digits in
+    let ok1 = c.in_ok-sync.ensures.ok told in
     let at = c.in_ok-paths.ensures in
-    let a0 = alone_begun store told g.met.S.Store.only_now (IsKept props t) s0 in
-    let a1 = alone_sync store told g.met.S.Store.only_now (IsKept props t) s0 s0 s1 a0 c.sync.ensures.elapses c.sync.result c.sync.ensures.ok c.sync.ensures.err in
-    let f2 = alone_of_fewer store IsNoLeftover (IsKept props t) s1 s2 (kept_no_leftover props t) (c.clear_claims.ensures.alone told) in
-    let a2 = alone_further store (IsKept props t) s0 s1 s2 (λ _. a1) (λ _. f2) told in
-    let f3 = alone_of_fewer store (IsKeptBut props) (IsKept props t) s2 s3 (kept_but props t) (c.prepare.ensures.alone told) in
-    let a3 = alone_further store (IsKept props t) s0 s2 s3 (λ _. a2) (λ _. f3) told in
-    let f4 = alone_of_fewer store (IsKept None c.in_ok-paths.paths) (IsKept props t) s3 s4 (λ q kept. subst (λ x. IsKept None x q) (sym at) (kept_from props t q kept)) (c.complete.ensures.alone told) in
-    let a4 = alone_further store (IsKept props t) s0 s3 s4 (λ _. a3) (λ _. f4) told in
+    let a0 = alone_begun store told g.met.S.Store.only_now (IsKept props t (disk s0).files) s0 in
+    let a1 = alone_sync store told g.met.S.Store.only_now (IsKept props t (disk s0).files) s0 s0 s1 a0 c.sync.ensures.elapses c.sync.result c.sync.ensures.ok c.sync.ensures.err in
+    let f2 = alone_of_fewer store (IsNotOpen (disk s1).files) (IsKept props t (disk s0).files) s1 s2 (λ q kept. open_same (disk s0).files q (disk s1).files (λ u is_u. ap (λ (d : Disk). map.get d.files (completed_path u)) ok1) kept.leftover) (c.clear_claims.ensures.alone told) in
+    let a2 = alone_further store (IsKept props t (disk s0).files) s0 s1 s2 (λ _. a1) (λ _. f2) told in
+    let f3 = alone_of_fewer store (IsKeptBut props) (IsKept props t (disk s0).files) s2 s3 (kept_but props t (disk s0).files) (c.prepare.ensures.alone told) in
+    let a3 = alone_further store (IsKept props t (disk s0).files) s0 s2 s3 (λ _. a2) (λ _. f3) told in
+    let f4 = alone_of_fewer store (IsNoFileOf c.in_ok-paths.paths) (IsKept props t (disk s0).files) s3 s4 (λ q kept. subst (λ x. IsNoFileOf x q) (sym at) (kept_from props t (disk s0).files is (c.requires.free told) q kept)) (c.complete.ensures.alone told) in
+    let a4 = alone_further store (IsKept props t (disk s0).files) s0 s3 s4 (λ _. a3) (λ _. f4) told in
     a4
 
 pub returns-clause-folder : goal.returns-clause-folder
 returns-clause-folder g c told =
     let store = g.S.Store in
+    let disk = g.S.Store.disk in
     let props = option_copied c.args.properties in
     let t = c.args.instant.now in
     let s0 = c.args.store.now in
@@ -302,13 +317,15 @@ returns-clause-folder g c told =
     let s2 = c.clear_claims.new.store in
     let s3 = c.prepare.new.store in
     let s4 = c.complete.new.store in
+    let is = c.requires.real.1.digits in
+    let ok1 = c.in_ok-sync.ensures.ok told in
     let at = c.in_ok-paths.ensures in
-    let a0 = alone_begun store told g.met.S.Store.only_now (IsKept props t) s0 in
-    let a1 = alone_sync store told g.met.S.Store.only_now (IsKept props t) s0 s0 s1 a0 c.sync.ensures.elapses c.sync.result c.sync.ensures.ok c.sync.ensures.err in
-    let f2 = alone_of_fewer store IsNoLeftover (IsKept props t) s1 s2 (kept_no_leftover props t) (c.clear_claims.ensures.alone told) in
-    let a2 = alone_further store (IsKept props t) s0 s1 s2 (λ _. a1) (λ _. f2) told in
-    let f3 = alone_of_fewer store (IsKeptBut props) (IsKept props t) s2 s3 (kept_but props t) (c.prepare.ensures.alone told) in
-    let a3 = alone_further store (IsKept props t) s0 s2 s3 (λ _. a2) (λ _. f3) told in
-    let f4 = alone_of_fewer store (IsKept None c.in_ok-paths.paths) (IsKept props t) s3 s4 (λ q kept. subst (λ x. IsKept None x q) (sym at) (kept_from props t q kept)) (c.complete.ensures.alone told) in
-    let a4 = alone_further store (IsKept props t) s0 s3 s4 (λ _. a3) (λ _. f4) told in
-    alone_of_fewer store (IsKept props t) (IsOutside timeline_folder) s0 s4 (outside_kept props t) a4
+    let a0 = alone_begun store told g.met.S.Store.only_now (IsKept props t (disk s0).files) s0 in
+    let a1 = alone_sync store told g.met.S.Store.only_now (IsKept props t (disk s0).files) s0 s0 s1 a0 c.sync.ensures.elapses c.sync.result c.sync.ensures.ok c.sync.ensures.err in
+    let f2 = alone_of_fewer store (IsNotOpen (disk s1).files) (IsKept props t (disk s0).files) s1 s2 (λ q kept. open_same (disk s0).files q (disk s1).files (λ u is_u. ap (λ (d : Disk). map.get d.files (completed_path u)) ok1) kept.leftover) (c.clear_claims.ensures.alone told) in
+    let a2 = alone_further store (IsKept props t (disk s0).files) s0 s1 s2 (λ _. a1) (λ _. f2) told in
+    let f3 = alone_of_fewer store (IsKeptBut props) (IsKept props t (disk s0).files) s2 s3 (kept_but props t (disk s0).files) (c.prepare.ensures.alone told) in
+    let a3 = alone_further store (IsKept props t (disk s0).files) s0 s2 s3 (λ _. a2) (λ _. f3) told in
+    let f4 = alone_of_fewer store (IsNoFileOf c.in_ok-paths.paths) (IsKept props t (disk s0).files) s3 s4 (λ q kept. subst (λ x. IsNoFileOf x q) (sym at) (kept_from props t (disk s0).files is (c.requires.free told) q kept)) (c.complete.ensures.alone told) in
+    let a4 = alone_further store (IsKept props t (disk s0).files) s0 s3 s4 (λ _. a3) (λ _. f4) told in
+    alone_of_fewer store (IsKept props t (disk s0).files) (IsOutside timeline_folder) s0 s4 (outside_kept props t (disk s0).files) a4

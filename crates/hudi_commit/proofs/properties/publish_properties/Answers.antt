@@ -4,19 +4,18 @@ use Rattle.std.proofs.lemmas.Result.{on_ok_weaker}
 use Rattle.lake_store.specs.Disk.{Disk, Files, IsPartlySynced, SameElsewhere, removed}
 use Rattle.lake_store.proofs.DiskLaws.{remove_leaves, sync_leaves, write_leaves}
 use Rattle.hudi_commit.specs.Names.{properties_path, staged_properties_path}
-use Rattle.hudi_commit.specs.Runs.{IsNoLeftoverNorProperties, IsQuiet}
+use Rattle.hudi_commit.specs.Runs.{IsNoProperties, IsQuiet}
 use Rattle.hudi_commit.specs.Settled.{Stands}
 use Rattle.hudi_commit.proofs.AloneLaws.{alone_begun, alone_publish, alone_remove, alone_sync, alone_write}
 use Rattle.hudi_commit.proofs.PublishLaws.{bare_stands, full_base, bare_base, has_properties, has_stands, moved_has, properties_free, staged_clean, staged_here, staged_stands, written_stands}
-use Rattle.hudi_commit.proofs.NameLaws.{staged_leftover}
 use Rattle.hudi_commit.proofs.StagingLaws.{Standing, before_begun, before_on, uncontested}
 use Rattle.hudi_commit.proofs.properties.publish_properties.Goals as goal
 
-own_properties : IsNoLeftoverNorProperties properties_path → ⊥
+own_properties : IsNoProperties properties_path → ⊥
 own_properties kept = kept.properties refl
 
-own_staged : IsNoLeftoverNorProperties staged_properties_path → ⊥
-own_staged kept = kept.leftover staged_leftover
+own_staged : IsNoProperties staged_properties_path → ⊥
+own_staged kept = kept.staged refl
 
 self_part : (d : Disk) → IsPartlySynced d d
 self_part d = record { files = refl; clean = λ q c. c }
@@ -41,10 +40,10 @@ pub returns-in_err-remove-clause-alone : goal.returns-in_err-remove-clause-alone
 returns-in_err-remove-clause-alone g c told =
     let store = g.S.Store in
     let p = c.args.properties.now in
-    let a0 = alone_begun store told g.met.S.Store.only_now IsNoLeftoverNorProperties c.args.store.now in
+    let a0 = alone_begun store told g.met.S.Store.only_now IsNoProperties c.args.store.now in
     let s0 = c.args.store.now in
     let s1 = c.remove.new.self in
-    alone_remove store told g.met.S.Store.only_now IsNoLeftoverNorProperties s0 s0 s1 a0 c.remove.ensures.elapses c.remove.result properties_path own_properties c.remove.ensures.ok c.remove.ensures.err
+    alone_remove store told g.met.S.Store.only_now IsNoProperties s0 s0 s1 a0 c.remove.ensures.elapses c.remove.result properties_path own_properties c.remove.ensures.ok c.remove.ensures.err
 
 pub returns-in_err-write-clause-keeps : goal.returns-in_err-write-clause-keeps
 returns-in_err-write-clause-keeps g c told free base stands quiet =
@@ -61,12 +60,12 @@ pub returns-in_err-write-clause-alone : goal.returns-in_err-write-clause-alone
 returns-in_err-write-clause-alone g c told =
     let store = g.S.Store in
     let p = c.args.properties.now in
-    let a0 = alone_begun store told g.met.S.Store.only_now IsNoLeftoverNorProperties c.args.store.now in
+    let a0 = alone_begun store told g.met.S.Store.only_now IsNoProperties c.args.store.now in
     let s0 = c.args.store.now in
     let s1 = c.remove.new.self in
     let s2 = c.write.new.self in
-    let k1 = alone_remove store told g.met.S.Store.only_now IsNoLeftoverNorProperties s0 s0 s1 a0 c.remove.ensures.elapses c.remove.result properties_path own_properties c.remove.ensures.ok c.remove.ensures.err in
-    alone_write store told g.met.S.Store.only_now IsNoLeftoverNorProperties s0 s1 s2 k1 c.write.ensures.elapses c.write.result staged_properties_path p own_staged c.write.ensures.ok c.write.ensures.err
+    let k1 = alone_remove store told g.met.S.Store.only_now IsNoProperties s0 s0 s1 a0 c.remove.ensures.elapses c.remove.result properties_path own_properties c.remove.ensures.ok c.remove.ensures.err in
+    alone_write store told g.met.S.Store.only_now IsNoProperties s0 s1 s2 k1 c.write.ensures.elapses c.write.result staged_properties_path p own_staged c.write.ensures.ok c.write.ensures.err
 
 pub returns-in_err-sync-clause-keeps : goal.returns-in_err-sync-clause-keeps
 returns-in_err-sync-clause-keeps g c told free base stands quiet =
@@ -85,14 +84,14 @@ pub returns-in_err-sync-clause-alone : goal.returns-in_err-sync-clause-alone
 returns-in_err-sync-clause-alone g c told =
     let store = g.S.Store in
     let p = c.args.properties.now in
-    let a0 = alone_begun store told g.met.S.Store.only_now IsNoLeftoverNorProperties c.args.store.now in
+    let a0 = alone_begun store told g.met.S.Store.only_now IsNoProperties c.args.store.now in
     let s0 = c.args.store.now in
     let s1 = c.remove.new.self in
     let s2 = c.write.new.self in
     let s3 = c.sync.new.self in
-    let k1 = alone_remove store told g.met.S.Store.only_now IsNoLeftoverNorProperties s0 s0 s1 a0 c.remove.ensures.elapses c.remove.result properties_path own_properties c.remove.ensures.ok c.remove.ensures.err in
-    let k2 = alone_write store told g.met.S.Store.only_now IsNoLeftoverNorProperties s0 s1 s2 k1 c.write.ensures.elapses c.write.result staged_properties_path p own_staged c.write.ensures.ok c.write.ensures.err in
-    alone_sync store told g.met.S.Store.only_now IsNoLeftoverNorProperties s0 s2 s3 k2 c.sync.ensures.elapses c.sync.result c.sync.ensures.ok c.sync.ensures.err
+    let k1 = alone_remove store told g.met.S.Store.only_now IsNoProperties s0 s0 s1 a0 c.remove.ensures.elapses c.remove.result properties_path own_properties c.remove.ensures.ok c.remove.ensures.err in
+    let k2 = alone_write store told g.met.S.Store.only_now IsNoProperties s0 s1 s2 k1 c.write.ensures.elapses c.write.result staged_properties_path p own_staged c.write.ensures.ok c.write.ensures.err in
+    alone_sync store told g.met.S.Store.only_now IsNoProperties s0 s2 s3 k2 c.sync.ensures.elapses c.sync.result c.sync.ensures.ok c.sync.ensures.err
 
 pub returns-clause-keeps : goal.returns-clause-keeps
 returns-clause-keeps g c told free base stands quiet =
@@ -113,16 +112,16 @@ pub returns-clause-alone : goal.returns-clause-alone
 returns-clause-alone g c told =
     let store = g.S.Store in
     let p = c.args.properties.now in
-    let a0 = alone_begun store told g.met.S.Store.only_now IsNoLeftoverNorProperties c.args.store.now in
+    let a0 = alone_begun store told g.met.S.Store.only_now IsNoProperties c.args.store.now in
     let s0 = c.args.store.now in
     let s1 = c.remove.new.self in
     let s2 = c.write.new.self in
     let s3 = c.sync.new.self in
     let s4 = c.publish.new.self in
-    let k1 = alone_remove store told g.met.S.Store.only_now IsNoLeftoverNorProperties s0 s0 s1 a0 c.remove.ensures.elapses c.remove.result properties_path own_properties c.remove.ensures.ok c.remove.ensures.err in
-    let k2 = alone_write store told g.met.S.Store.only_now IsNoLeftoverNorProperties s0 s1 s2 k1 c.write.ensures.elapses c.write.result staged_properties_path p own_staged c.write.ensures.ok c.write.ensures.err in
-    let k3 = alone_sync store told g.met.S.Store.only_now IsNoLeftoverNorProperties s0 s2 s3 k2 c.sync.ensures.elapses c.sync.result c.sync.ensures.ok c.sync.ensures.err in
-    alone_publish store told g.met.S.Store.only_now IsNoLeftoverNorProperties s0 s3 s4 k3 c.publish.ensures.elapses c.publish.result staged_properties_path properties_path own_staged own_properties c.publish.ensures.ok c.publish.ensures.taken c.publish.ensures.err
+    let k1 = alone_remove store told g.met.S.Store.only_now IsNoProperties s0 s0 s1 a0 c.remove.ensures.elapses c.remove.result properties_path own_properties c.remove.ensures.ok c.remove.ensures.err in
+    let k2 = alone_write store told g.met.S.Store.only_now IsNoProperties s0 s1 s2 k1 c.write.ensures.elapses c.write.result staged_properties_path p own_staged c.write.ensures.ok c.write.ensures.err in
+    let k3 = alone_sync store told g.met.S.Store.only_now IsNoProperties s0 s2 s3 k2 c.sync.ensures.elapses c.sync.result c.sync.ensures.ok c.sync.ensures.err in
+    alone_publish store told g.met.S.Store.only_now IsNoProperties s0 s3 s4 k3 c.publish.ensures.elapses c.publish.result staged_properties_path properties_path own_staged own_properties c.publish.ensures.ok c.publish.ensures.taken c.publish.ensures.err
 
 pub publish-requires-clause-there : goal.publish-requires-clause-there
 publish-requires-clause-there g c = λ told. let p = c.args.properties.now in ap is_some (staged_here p (g.S.Store.disk c.args.store.now) (g.S.Store.disk c.remove.new.self) (g.S.Store.disk c.write.new.self) (g.S.Store.disk c.sync.new.self) (c.in_ok-remove.ensures.ok told) (c.in_ok-write.ensures.ok told) (c.in_ok-sync.ensures.ok told))

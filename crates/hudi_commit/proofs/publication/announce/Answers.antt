@@ -1,9 +1,9 @@
 use Rattle.std.proofs.Common.{[]}
 use Rattle.hudi_commit.specs.Names.{Requested, Inflight, pending_path}
-use Rattle.hudi_commit.specs.Runs.{IsNoLeftover}
-use Rattle.hudi_commit.proofs.AloneLaws.{alone_begun, alone_sync, alone_write, own_leftover}
+use Rattle.std.proofs.Common.{inr}
+use Rattle.hudi_commit.specs.Runs.{IsNotOf}
+use Rattle.hudi_commit.proofs.AloneLaws.{alone_begun, alone_sync, alone_write}
 use Rattle.hudi_commit.proofs.KeepLaws.{begun, sync_keeps, write_keeps_at, wrote}
-use Rattle.hudi_commit.proofs.NameLaws.{pending_leftover}
 use Rattle.hudi_commit.proofs.StepLaws.{announceable_after, pending_stands}
 use Rattle.hudi_commit.proofs.publication.announce.Goals as goal
 
@@ -22,10 +22,10 @@ returns-in_err-write-clause-alone g c told =
     let store = g.S.Store in
     let t = c.args.paths.now in
     let is = c.requires.1.digits in
-    let a0 = alone_begun store told g.met.S.Store.only_now IsNoLeftover c.args.store.now in
+    let a0 = alone_begun store told g.met.S.Store.only_now (IsNotOf t) c.args.store.now in
     let s0 = c.args.store.now in
     let s1 = c.write.new.self in
-    alone_write store told g.met.S.Store.only_now IsNoLeftover s0 s0 s1 a0 c.write.ensures.elapses c.write.result c.requested.result.now [] (own_leftover c.requested.result.now (pending_path Requested t) c.requested.ensures (pending_leftover Requested t is)) c.write.ensures.ok c.write.ensures.err
+    alone_write store told g.met.S.Store.only_now (IsNotOf t) s0 s0 s1 a0 c.write.ensures.elapses c.write.result c.requested.result.now [] (λ kept. kept (inr (Requested, c.requested.ensures))) c.write.ensures.ok c.write.ensures.err
 
 pub returns-in_err-write-2-clause-keeps : goal.returns-in_err-write-2-clause-keeps
 returns-in_err-write-2-clause-keeps g c told base stands next =
@@ -44,12 +44,12 @@ returns-in_err-write-2-clause-alone g c told =
     let store = g.S.Store in
     let t = c.args.paths.now in
     let is = c.requires.1.digits in
-    let a0 = alone_begun store told g.met.S.Store.only_now IsNoLeftover c.args.store.now in
+    let a0 = alone_begun store told g.met.S.Store.only_now (IsNotOf t) c.args.store.now in
     let s0 = c.args.store.now in
     let s1 = c.write.new.self in
     let s2 = c.write-2.new.self in
-    let k1 = alone_write store told g.met.S.Store.only_now IsNoLeftover s0 s0 s1 a0 c.write.ensures.elapses c.write.result c.requested.result.now [] (own_leftover c.requested.result.now (pending_path Requested t) c.requested.ensures (pending_leftover Requested t is)) c.write.ensures.ok c.write.ensures.err in
-    alone_write store told g.met.S.Store.only_now IsNoLeftover s0 s1 s2 k1 c.write-2.ensures.elapses c.write-2.result c.inflight.result.now [] (own_leftover c.inflight.result.now (pending_path Inflight t) c.inflight.ensures (pending_leftover Inflight t is)) c.write-2.ensures.ok c.write-2.ensures.err
+    let k1 = alone_write store told g.met.S.Store.only_now (IsNotOf t) s0 s0 s1 a0 c.write.ensures.elapses c.write.result c.requested.result.now [] (λ kept. kept (inr (Requested, c.requested.ensures))) c.write.ensures.ok c.write.ensures.err in
+    alone_write store told g.met.S.Store.only_now (IsNotOf t) s0 s1 s2 k1 c.write-2.ensures.elapses c.write-2.result c.inflight.result.now [] (λ kept. kept (inr (Inflight, c.inflight.ensures))) c.write-2.ensures.ok c.write-2.ensures.err
 
 pub returns-clause-keeps : goal.returns-clause-keeps
 returns-clause-keeps g c told base stands next =
@@ -70,11 +70,11 @@ returns-clause-alone g c told =
     let store = g.S.Store in
     let t = c.args.paths.now in
     let is = c.requires.1.digits in
-    let a0 = alone_begun store told g.met.S.Store.only_now IsNoLeftover c.args.store.now in
+    let a0 = alone_begun store told g.met.S.Store.only_now (IsNotOf t) c.args.store.now in
     let s0 = c.args.store.now in
     let s1 = c.write.new.self in
     let s2 = c.write-2.new.self in
     let s3 = c.sync.new.self in
-    let k1 = alone_write store told g.met.S.Store.only_now IsNoLeftover s0 s0 s1 a0 c.write.ensures.elapses c.write.result c.requested.result.now [] (own_leftover c.requested.result.now (pending_path Requested t) c.requested.ensures (pending_leftover Requested t is)) c.write.ensures.ok c.write.ensures.err in
-    let k2 = alone_write store told g.met.S.Store.only_now IsNoLeftover s0 s1 s2 k1 c.write-2.ensures.elapses c.write-2.result c.inflight.result.now [] (own_leftover c.inflight.result.now (pending_path Inflight t) c.inflight.ensures (pending_leftover Inflight t is)) c.write-2.ensures.ok c.write-2.ensures.err in
-    alone_sync store told g.met.S.Store.only_now IsNoLeftover s0 s2 s3 k2 c.sync.ensures.elapses c.sync.result c.sync.ensures.ok c.sync.ensures.err
+    let k1 = alone_write store told g.met.S.Store.only_now (IsNotOf t) s0 s0 s1 a0 c.write.ensures.elapses c.write.result c.requested.result.now [] (λ kept. kept (inr (Requested, c.requested.ensures))) c.write.ensures.ok c.write.ensures.err in
+    let k2 = alone_write store told g.met.S.Store.only_now (IsNotOf t) s0 s1 s2 k1 c.write-2.ensures.elapses c.write-2.result c.inflight.result.now [] (λ kept. kept (inr (Inflight, c.inflight.ensures))) c.write-2.ensures.ok c.write-2.ensures.err in
+    alone_sync store told g.met.S.Store.only_now (IsNotOf t) s0 s2 s3 k2 c.sync.ensures.elapses c.sync.result c.sync.ensures.ok c.sync.ensures.err

@@ -1,8 +1,8 @@
 use Rattle.hudi_commit.specs.Names.{claim_path}
-use Rattle.hudi_commit.specs.Runs.{IsNoLeftover}
-use Rattle.hudi_commit.proofs.AloneLaws.{alone_begun, alone_sync, alone_write, own_leftover}
+use Rattle.std.proofs.Common.{inl}
+use Rattle.hudi_commit.specs.Runs.{IsNotOf}
+use Rattle.hudi_commit.proofs.AloneLaws.{alone_begun, alone_sync, alone_write}
 use Rattle.hudi_commit.proofs.KeepLaws.{begun, sync_keeps, write_keeps_at}
-use Rattle.hudi_commit.proofs.NameLaws.{claim_leftover}
 use Rattle.hudi_commit.proofs.StepLaws.{claim_stands}
 use Rattle.hudi_commit.proofs.publication.claim.Goals as goal
 
@@ -21,10 +21,10 @@ returns-in_err-write-clause-alone g c told =
     let store = g.S.Store in
     let t = c.args.paths.now in
     let is = c.requires.1.digits in
-    let a0 = alone_begun store told g.met.S.Store.only_now IsNoLeftover c.args.store.now in
+    let a0 = alone_begun store told g.met.S.Store.only_now (IsNotOf t) c.args.store.now in
     let s0 = c.args.store.now in
     let s1 = c.write.new.self in
-    alone_write store told g.met.S.Store.only_now IsNoLeftover s0 s0 s1 a0 c.write.ensures.elapses c.write.result c.claim.result.now c.args.bytes.now (own_leftover c.claim.result.now (claim_path t) c.claim.ensures (claim_leftover t is)) c.write.ensures.ok c.write.ensures.err
+    alone_write store told g.met.S.Store.only_now (IsNotOf t) s0 s0 s1 a0 c.write.ensures.elapses c.write.result c.claim.result.now c.args.bytes.now (λ kept. kept (inl c.claim.ensures)) c.write.ensures.ok c.write.ensures.err
 
 pub returns-clause-keeps : goal.returns-clause-keeps
 returns-clause-keeps g c told base stands free =
@@ -43,9 +43,9 @@ returns-clause-alone g c told =
     let store = g.S.Store in
     let t = c.args.paths.now in
     let is = c.requires.1.digits in
-    let a0 = alone_begun store told g.met.S.Store.only_now IsNoLeftover c.args.store.now in
+    let a0 = alone_begun store told g.met.S.Store.only_now (IsNotOf t) c.args.store.now in
     let s0 = c.args.store.now in
     let s1 = c.write.new.self in
     let s2 = c.sync.new.self in
-    let k1 = alone_write store told g.met.S.Store.only_now IsNoLeftover s0 s0 s1 a0 c.write.ensures.elapses c.write.result c.claim.result.now c.args.bytes.now (own_leftover c.claim.result.now (claim_path t) c.claim.ensures (claim_leftover t is)) c.write.ensures.ok c.write.ensures.err in
-    alone_sync store told g.met.S.Store.only_now IsNoLeftover s0 s1 s2 k1 c.sync.ensures.elapses c.sync.result c.sync.ensures.ok c.sync.ensures.err
+    let k1 = alone_write store told g.met.S.Store.only_now (IsNotOf t) s0 s0 s1 a0 c.write.ensures.elapses c.write.result c.claim.result.now c.args.bytes.now (λ kept. kept (inl c.claim.ensures)) c.write.ensures.ok c.write.ensures.err in
+    alone_sync store told g.met.S.Store.only_now (IsNotOf t) s0 s1 s2 k1 c.sync.ensures.elapses c.sync.result c.sync.ensures.ok c.sync.ensures.err

@@ -1,15 +1,14 @@
 use Rattle.std.proofs.Common.{List, ℕ, inl, inr, ap, sym, ◌∙◌, subst, ⊎_elim}
-use Rattle.std.specs.Prelude.{Some, None, is_some}
+use Rattle.std.specs.Prelude.{Some, is_some}
 use Rattle.std.specs.FinMap as map
 use Rattle.std.proofs.lemmas.Result.{on_ok_weaker}
 use Rattle.lake_store.specs.Disk.{Moves, with_file}
 use Rattle.lake_store.proofs.RunLaws.{alone_further, alone_of_fewer}
 use Rattle.hudi_commit.specs.Names.{claim_path, completed_path}
-use Rattle.hudi_commit.specs.Runs.{IsKept, IsNoLeftover, IsPublished}
+use Rattle.hudi_commit.specs.Runs.{IsNoFileOf, IsNotOf, IsPublished}
 use Rattle.hudi_commit.specs.Settled.{Stands}
 use Rattle.hudi_commit.proofs.AloneLaws.{alone_publish}
 use Rattle.hudi_commit.proofs.KeepLaws.{keeps_then}
-use Rattle.hudi_commit.proofs.NameLaws.{claim_leftover}
 use Rattle.hudi_commit.proofs.StagingLaws.{announced_clean, claim_here, claimed_announceable, commit_published, commit_stands, gains_on, has_moved_at, not_yet, still_free, uncontested_at}
 use Rattle.hudi_commit.proofs.publication.complete.Goals as goal
 
@@ -90,17 +89,19 @@ returns-clause-published g c told base stands next =
     (commit_published t b is (disk s₀) (disk s₁) (disk s₂) ok₁ ok₂ base next.properties k₂.disk))
     (c.publish.ensures.ok told)
 
-fewer : (t path : List ℕ) → IsKept None t path → IsNoLeftover path
+fewer : (t path : List ℕ) → IsNoFileOf t path → IsNotOf t path
 fewer t path kept = kept.leftover
 
 pub returns-in_err-claim-clause-alone : goal.returns-in_err-claim-clause-alone
 returns-in_err-claim-clause-alone g c told =
-    alone_of_fewer g.S.Store IsNoLeftover (IsKept None c.args.paths.now) c.args.store.now c.claim.new.store (fewer c.args.paths.now) (c.claim.ensures.alone told)
+    let t = c.args.paths.now in
+    alone_of_fewer g.S.Store (IsNotOf t) (IsNoFileOf t) c.args.store.now c.claim.new.store (fewer t) (c.claim.ensures.alone told)
 
 pub returns-in_err-announce-clause-alone : goal.returns-in_err-announce-clause-alone
 returns-in_err-announce-clause-alone g c told =
-    alone_of_fewer g.S.Store IsNoLeftover (IsKept None c.args.paths.now) c.args.store.now c.announce.new.store (fewer c.args.paths.now)
-    (alone_further g.S.Store IsNoLeftover c.args.store.now c.claim.new.store c.announce.new.store c.claim.ensures.alone c.announce.ensures.alone told)
+    let t = c.args.paths.now in
+    alone_of_fewer g.S.Store (IsNotOf t) (IsNoFileOf t) c.args.store.now c.announce.new.store (fewer t)
+    (alone_further g.S.Store (IsNotOf t) c.args.store.now c.claim.new.store c.announce.new.store c.claim.ensures.alone c.announce.ensures.alone told)
 
 pub returns-clause-alone : goal.returns-clause-alone
 returns-clause-alone g c told =
@@ -108,8 +109,8 @@ returns-clause-alone g c told =
     let t = c.args.paths.now in
     let s₀ = c.args.store.now in
     let s₂ = c.announce.new.store in
-    let a₂ = alone_of_fewer store IsNoLeftover (IsKept None t) s₀ s₂ (fewer t) (alone_further store IsNoLeftover s₀ c.claim.new.store s₂ c.claim.ensures.alone c.announce.ensures.alone told) in
-    alone_publish store told g.met.S.Store.only_now (IsKept None t) s₀ s₂ c.publish.new.self a₂ c.publish.ensures.elapses c.publish.result c.claim-2.result.now c.completed.result.now
-    (λ kept. (subst (IsKept None t) c.claim-2.ensures kept).leftover (claim_leftover t c.requires.real.1.digits))
+    let a₂ = alone_of_fewer store (IsNotOf t) (IsNoFileOf t) s₀ s₂ (fewer t) (alone_further store (IsNotOf t) s₀ c.claim.new.store s₂ c.claim.ensures.alone c.announce.ensures.alone told) in
+    alone_publish store told g.met.S.Store.only_now (IsNoFileOf t) s₀ s₂ c.publish.new.self a₂ c.publish.ensures.elapses c.publish.result c.claim-2.result.now c.completed.result.now
+    (λ kept. kept.leftover (inl c.claim-2.ensures))
     (λ kept. kept.completed c.completed.ensures)
     c.publish.ensures.ok c.publish.ensures.taken c.publish.ensures.err

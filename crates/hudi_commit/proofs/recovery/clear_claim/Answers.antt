@@ -1,8 +1,8 @@
-use Rattle.hudi_commit.specs.Names.{Requested, Inflight, claim_path, pending_path}
-use Rattle.hudi_commit.specs.Runs.{IsNoLeftover}
-use Rattle.hudi_commit.proofs.AloneLaws.{alone_begun, alone_remove, own_leftover}
+use Rattle.hudi_commit.specs.Names.{Requested, Inflight}
+use Rattle.std.proofs.Common.{inl, inr}
+use Rattle.hudi_commit.specs.Runs.{IsNotOf}
+use Rattle.hudi_commit.proofs.AloneLaws.{alone_begun, alone_remove}
 use Rattle.hudi_commit.proofs.KeepLaws.{begun, remove_keeps}
-use Rattle.hudi_commit.proofs.NameLaws.{claim_leftover, pending_leftover}
 use Rattle.hudi_commit.proofs.StepLaws.{claim_removed_at, pending_removed_at}
 use Rattle.hudi_commit.proofs.recovery.clear_claim.Goals as goal
 
@@ -21,10 +21,10 @@ returns-in_err-remove-clause-alone g c told =
     let store = g.S.Store in
     let t = c.args.paths.now in
     let is = c.requires.1.digits in
-    let a0 = alone_begun store told g.met.S.Store.only_now IsNoLeftover c.args.store.now in
+    let a0 = alone_begun store told g.met.S.Store.only_now (IsNotOf t) c.args.store.now in
     let s0 = c.args.store.now in
     let s1 = c.remove.new.self in
-    alone_remove store told g.met.S.Store.only_now IsNoLeftover s0 s0 s1 a0 c.remove.ensures.elapses c.remove.result c.inflight.result.now (own_leftover c.inflight.result.now (pending_path Inflight t) c.inflight.ensures (pending_leftover Inflight t is)) c.remove.ensures.ok c.remove.ensures.err
+    alone_remove store told g.met.S.Store.only_now (IsNotOf t) s0 s0 s1 a0 c.remove.ensures.elapses c.remove.result c.inflight.result.now (λ kept. kept (inr (Inflight, c.inflight.ensures))) c.remove.ensures.ok c.remove.ensures.err
 
 pub returns-in_err-remove-2-clause-keeps : goal.returns-in_err-remove-2-clause-keeps
 returns-in_err-remove-2-clause-keeps g c told base stands =
@@ -43,12 +43,12 @@ returns-in_err-remove-2-clause-alone g c told =
     let store = g.S.Store in
     let t = c.args.paths.now in
     let is = c.requires.1.digits in
-    let a0 = alone_begun store told g.met.S.Store.only_now IsNoLeftover c.args.store.now in
+    let a0 = alone_begun store told g.met.S.Store.only_now (IsNotOf t) c.args.store.now in
     let s0 = c.args.store.now in
     let s1 = c.remove.new.self in
     let s2 = c.remove-2.new.self in
-    let k1 = alone_remove store told g.met.S.Store.only_now IsNoLeftover s0 s0 s1 a0 c.remove.ensures.elapses c.remove.result c.inflight.result.now (own_leftover c.inflight.result.now (pending_path Inflight t) c.inflight.ensures (pending_leftover Inflight t is)) c.remove.ensures.ok c.remove.ensures.err in
-    alone_remove store told g.met.S.Store.only_now IsNoLeftover s0 s1 s2 k1 c.remove-2.ensures.elapses c.remove-2.result c.requested.result.now (own_leftover c.requested.result.now (pending_path Requested t) c.requested.ensures (pending_leftover Requested t is)) c.remove-2.ensures.ok c.remove-2.ensures.err
+    let k1 = alone_remove store told g.met.S.Store.only_now (IsNotOf t) s0 s0 s1 a0 c.remove.ensures.elapses c.remove.result c.inflight.result.now (λ kept. kept (inr (Inflight, c.inflight.ensures))) c.remove.ensures.ok c.remove.ensures.err in
+    alone_remove store told g.met.S.Store.only_now (IsNotOf t) s0 s1 s2 k1 c.remove-2.ensures.elapses c.remove-2.result c.requested.result.now (λ kept. kept (inr (Requested, c.requested.ensures))) c.remove-2.ensures.ok c.remove-2.ensures.err
 
 pub returns-clause-keeps : goal.returns-clause-keeps
 returns-clause-keeps g c told base stands =
@@ -69,11 +69,11 @@ returns-clause-alone g c told =
     let store = g.S.Store in
     let t = c.args.paths.now in
     let is = c.requires.1.digits in
-    let a0 = alone_begun store told g.met.S.Store.only_now IsNoLeftover c.args.store.now in
+    let a0 = alone_begun store told g.met.S.Store.only_now (IsNotOf t) c.args.store.now in
     let s0 = c.args.store.now in
     let s1 = c.remove.new.self in
     let s2 = c.remove-2.new.self in
     let s3 = c.remove-3.new.self in
-    let k1 = alone_remove store told g.met.S.Store.only_now IsNoLeftover s0 s0 s1 a0 c.remove.ensures.elapses c.remove.result c.inflight.result.now (own_leftover c.inflight.result.now (pending_path Inflight t) c.inflight.ensures (pending_leftover Inflight t is)) c.remove.ensures.ok c.remove.ensures.err in
-    let k2 = alone_remove store told g.met.S.Store.only_now IsNoLeftover s0 s1 s2 k1 c.remove-2.ensures.elapses c.remove-2.result c.requested.result.now (own_leftover c.requested.result.now (pending_path Requested t) c.requested.ensures (pending_leftover Requested t is)) c.remove-2.ensures.ok c.remove-2.ensures.err in
-    alone_remove store told g.met.S.Store.only_now IsNoLeftover s0 s2 s3 k2 c.remove-3.ensures.elapses c.remove-3.result c.claim.result.now (own_leftover c.claim.result.now (claim_path t) c.claim.ensures (claim_leftover t is)) c.remove-3.ensures.ok c.remove-3.ensures.err
+    let k1 = alone_remove store told g.met.S.Store.only_now (IsNotOf t) s0 s0 s1 a0 c.remove.ensures.elapses c.remove.result c.inflight.result.now (λ kept. kept (inr (Inflight, c.inflight.ensures))) c.remove.ensures.ok c.remove.ensures.err in
+    let k2 = alone_remove store told g.met.S.Store.only_now (IsNotOf t) s0 s1 s2 k1 c.remove-2.ensures.elapses c.remove-2.result c.requested.result.now (λ kept. kept (inr (Requested, c.requested.ensures))) c.remove-2.ensures.ok c.remove-2.ensures.err in
+    alone_remove store told g.met.S.Store.only_now (IsNotOf t) s0 s2 s3 k2 c.remove-3.ensures.elapses c.remove-3.result c.claim.result.now (λ kept. kept (inl c.claim.ensures)) c.remove-3.ensures.ok c.remove-3.ensures.err

@@ -1,12 +1,22 @@
+use Rattle.lake_store.specs.Runs.{LeavesAlone}
+use Rattle.lake_store.specs.declared.store.Store.{Ghosts}
+use Rattle.hudi_commit.specs.Names.{completed_path}
+use Rattle.hudi_commit.proofs.NameLaws.{completed_stays}
+use Rattle.hudi_commit.proofs.OpenLaws.{open_same}
 use Rattle.std.proofs.Common.{◌∙◌, subst, arith, length, List, ℕ, ◌≡◌, ◌<◌, take, true}
 use Rattle.std.specs.List.{list_any}
 use Rattle.lake_store.proofs.DiskLaws.{is_path}
-use Rattle.lake_store.proofs.RunLaws.{alone_further}
-use Rattle.hudi_commit.specs.Runs.{IsNoLeftover, IsRecoveredAt}
+use Rattle.lake_store.proofs.RunLaws.{alone_further, alone_of_fewer}
+use Rattle.hudi_commit.specs.Runs.{IsNotOpen, IsTidied, IsRecoveredAt}
 use Rattle.hudi_commit.proofs.AloneLaws.{alone_begun, alone_read}
 use Rattle.hudi_commit.proofs.KeepLaws.{begun, keeps_then, read_keeps}
 use Rattle.hudi_commit.proofs.RecoveryLaws.{all_recovered, recovered_more, tidied_same, tidied_then}
 use Rattle.hudi_commit.proofs.recovery.clear_claims.Goals as goal
+
+-- what one claim leaves alone, where the same instants are completed
+more_alone : {S : Type 0} (store : Ghosts S) (first mid new : S) → IsTidied (store.disk first) (store.disk mid) → LeavesAlone store (IsNotOpen (store.disk mid).files) mid new → LeavesAlone store (IsNotOpen (store.disk first).files) mid new
+more_alone store first mid new tidied alone = alone_of_fewer store (IsNotOpen (store.disk mid).files) (IsNotOpen (store.disk first).files) mid new
+    (λ q. open_same (store.disk first).files q (store.disk mid).files (λ t is. tidied.others (completed_path t) (completed_stays t is))) alone
 
 pub returns-in_err-names-clause-keeps : goal.returns-in_err-names-clause-keeps
 returns-in_err-names-clause-keeps g c told base stands =
@@ -16,7 +26,7 @@ returns-in_err-names-clause-keeps g c told base stands =
 pub returns-in_err-names-clause-alone : goal.returns-in_err-names-clause-alone
 returns-in_err-names-clause-alone g c told =
     let store = g.S.Store in
-    alone_read store told g.met.S.Store.only_now IsNoLeftover c.args.store.now c.args.store.now c.list.new.self (alone_begun store told g.met.S.Store.only_now IsNoLeftover c.args.store.now) c.list.ensures.elapses c.list.ensures.same
+    alone_read store told g.met.S.Store.only_now (IsNotOpen (g.S.Store.disk c.args.store.now).files) c.args.store.now c.args.store.now c.list.new.self (alone_begun store told g.met.S.Store.only_now (IsNotOpen (g.S.Store.disk c.args.store.now).files) c.args.store.now) c.list.ensures.elapses c.list.ensures.same
 
 pub loop-name-init : goal.loop-name-init
 loop-name-init g c = record {
@@ -24,7 +34,7 @@ loop-name-init g c = record {
       (c.list.ensures.same told) (c.list.ensures.elapses told);
   tidied = λ told. tidied_same (g.S.Store.disk c.args.store.now) (g.S.Store.disk c.list.new.self) (c.list.ensures.same told);
   recovered = λ told name none. absurd (cc none);
-  alone = λ told. alone_read g.S.Store told g.met.S.Store.only_now IsNoLeftover c.args.store.now c.args.store.now c.list.new.self (alone_begun g.S.Store told g.met.S.Store.only_now IsNoLeftover c.args.store.now) c.list.ensures.elapses c.list.ensures.same;
+  alone = λ told. alone_read g.S.Store told g.met.S.Store.only_now (IsNotOpen (g.S.Store.disk c.args.store.now).files) c.args.store.now c.args.store.now c.list.new.self (alone_begun g.S.Store told g.met.S.Store.only_now (IsNotOpen (g.S.Store.disk c.args.store.now).files) c.args.store.now) c.list.ensures.elapses c.list.ensures.same;
   faults = c.list.ensures.cause.later;
   may_fail = c.list.ensures.cause.still;
   contests = c.list.ensures.contest.same;
@@ -43,7 +53,7 @@ loop-name-preserved g c =
       recovered = λ told. recovered_more c.as_slice-claims.result.now c.loop-name.name-index c.name-item.result (g.S.Store.disk c.loop-name.store) (g.S.Store.disk c.recover_claim.new.store) lt
           (c.in_ok-recover_claim.ensures.tidied told) (so_far.recovered told)
           (subst (IsRecoveredAt (g.S.Store.disk c.recover_claim.new.store)) (c.as_str.ensures.value ∙ c.name-item.is) (c.in_ok-recover_claim.ensures.recovered told));
-      alone = alone_further g.S.Store IsNoLeftover c.args.store.now c.loop-name.store c.recover_claim.new.store so_far.alone c.recover_claim.ensures.alone;
+      alone = λ told. alone_further g.S.Store (IsNotOpen (g.S.Store.disk c.args.store.now).files) c.args.store.now c.loop-name.store c.recover_claim.new.store so_far.alone (λ told. more_alone g.S.Store c.args.store.now c.loop-name.store c.recover_claim.new.store (so_far.tidied told) (c.recover_claim.ensures.alone told)) told;
       faults = omega (arith, so_far.faults, c.recover_claim.ensures.cause.later);
       may_fail = λ may. so_far.may_fail (c.recover_claim.ensures.cause.still may);
       contests = c.recover_claim.ensures.contest.same ∙ so_far.contests;
@@ -60,4 +70,5 @@ returns-in_err-recover_claim-clause-keeps g c told base stands =
     keeps_then g.S.Store told base c.args.store.now c.loop-name.store c.recover_claim.new.store before (c.recover_claim.ensures.keeps told base before.disk)
 
 pub returns-in_err-recover_claim-clause-alone : goal.returns-in_err-recover_claim-clause-alone
-returns-in_err-recover_claim-clause-alone g c = alone_further g.S.Store IsNoLeftover c.args.store.now c.loop-name.store c.recover_claim.new.store c.loop-name.invariant.alone c.recover_claim.ensures.alone
+returns-in_err-recover_claim-clause-alone g c told =
+    alone_further g.S.Store (IsNotOpen (g.S.Store.disk c.args.store.now).files) c.args.store.now c.loop-name.store c.recover_claim.new.store c.loop-name.invariant.alone (λ told. more_alone g.S.Store c.args.store.now c.loop-name.store c.recover_claim.new.store (c.loop-name.invariant.tidied told) (c.recover_claim.ensures.alone told)) told

@@ -3,7 +3,7 @@ use Rattle.std.specs.List.{list_any}
 use Rattle.lake_store.specs.Disk.{Files}
 use Rattle.lake_store.specs.Runs.{LeavesAlone}
 use Rattle.lake_store.proofs.DiskLaws.{is_path}
-use Rattle.hudi_commit.specs.Runs.{IsNoLeftover, IsRecoveredAt, IsTidied, StaysAlike}
+use Rattle.hudi_commit.specs.Runs.{IsNotOpen, IsRecoveredAt, IsTidied, StaysAlike}
 use Rattle.hudi_commit.specs.Settled.{Stands}
 use Rattle.hudi_commit.proofs.recovery.clear_claims.Given as goal
 
@@ -12,7 +12,7 @@ invariant-loop-name g l = record {
   keeps : g.S.Store.tells → (base : Files) → Stands base (g.S.Store.disk l.fn.store) → StaysAlike g.S.Store base l.fn.store l.store;
   tidied : g.S.Store.tells → IsTidied (g.S.Store.disk l.fn.store) (g.S.Store.disk l.store);
   recovered : g.S.Store.tells → (name : List ℕ) → list_any (is_path name) (take l.name-index l.claims) ≡ true → IsRecoveredAt (g.S.Store.disk l.store) name;
-  alone : g.S.Store.tells → LeavesAlone g.S.Store IsNoLeftover l.fn.store l.store;
+  alone : g.S.Store.tells → LeavesAlone g.S.Store (IsNotOpen (g.S.Store.disk l.fn.store).files) l.fn.store l.store;
   faults : g.S.Store.faults l.fn.store ≤ g.S.Store.faults l.store;
   may_fail : g.S.Store.may_fail l.store → g.S.Store.may_fail l.fn.store;
   contests : g.S.Store.contests l.store ≡ g.S.Store.contests l.fn.store;

@@ -1,6 +1,12 @@
 use Rattle.lake_store.specs.Runs.{LeavesAlone}
-use Rattle.lake_store.proofs.RunLaws.{alone_further}
-use Rattle.hudi_commit.specs.Runs.{IsNoLeftover}
+use Rattle.std.proofs.Common.{◌≡◌, sym, ◌∙◌, ap, subst}
+use Rattle.std.specs.Prelude.{None}
+use Rattle.std.specs.FinMap as map
+use Rattle.hudi_names.specs.Time.{IsDigits}
+use Rattle.hudi_commit.specs.Names.{completed_path}
+use Rattle.hudi_commit.proofs.OpenLaws.{not_of, read_none}
+use Rattle.lake_store.proofs.RunLaws.{alone_further, alone_of_fewer}
+use Rattle.hudi_commit.specs.Runs.{IsNotOf, IsNotOpen}
 use Rattle.hudi_commit.proofs.AloneLaws.{alone_begun, alone_read}
 use Rattle.hudi_commit.proofs.KeepLaws.{begun, keeps_then, read_keeps}
 use Rattle.hudi_commit.proofs.RecoveryLaws.{clearing_recovers, clearing_tidies, no_name, real_name}
@@ -29,7 +35,8 @@ returns-in-Some-clause-keeps g c told base stands =
 pub returns-in-Some-clause-alone : goal.returns-in-Some-clause-alone
 returns-in-Some-clause-alone g c told =
     let store = g.S.Store in
-    alone_read store told g.met.S.Store.only_now IsNoLeftover c.args.store.now c.args.store.now c.read_part.new.self (alone_begun store told g.met.S.Store.only_now IsNoLeftover c.args.store.now) c.read_part.ensures.elapses c.read_part.ensures.same
+    let K = IsNotOpen (store.disk c.args.store.now).files in
+    alone_read store told g.met.S.Store.only_now K c.args.store.now c.args.store.now c.read_part.new.self (alone_begun store told g.met.S.Store.only_now K c.args.store.now) c.read_part.ensures.elapses c.read_part.ensures.same
 
 pub returns-clause-keeps : goal.returns-clause-keeps
 returns-clause-keeps g c told base stands =
@@ -52,5 +59,13 @@ returns-clause-recovered g c told =
 pub returns-clause-alone : goal.returns-clause-alone
 returns-clause-alone g c told =
     let store = g.S.Store in
-    let read : store.tells → LeavesAlone store IsNoLeftover c.args.store.now c.read_part.new.self = λ t. alone_read store t g.met.S.Store.only_now IsNoLeftover c.args.store.now c.args.store.now c.read_part.new.self (alone_begun store t g.met.S.Store.only_now IsNoLeftover c.args.store.now) c.read_part.ensures.elapses c.read_part.ensures.same in
-    alone_further store IsNoLeftover c.args.store.now c.read_part.new.self c.clear_claim.new.store read c.clear_claim.ensures.alone told
+    let files = (store.disk c.args.store.now).files in
+    let t = c.in_ok-paths.paths in
+    let time = real_name c.as_bytes.result.now c.args.name.now c.as_bytes.ensures.value c.is_none.result c.read_time.result c.read_time.ensures c.is_none.ensures c.if-is_none.false in
+    let is : IsDigits t = subst IsDigits (sym c.in_ok-paths.ensures) time.1.digits in
+    let none : map.get files (completed_path t) ≡ None = ap (map.get files) (sym c.completed.ensures) ∙ read_none _ _ _ (c.in_ok-completed.ensures.bytes told) c.in-None.is in
+    let read : store.tells → LeavesAlone store (IsNotOpen files) c.args.store.now c.read_part.new.self = λ told. alone_read store told g.met.S.Store.only_now (IsNotOpen files) c.args.store.now c.args.store.now c.read_part.new.self
+    (alone_begun store told g.met.S.Store.only_now (IsNotOpen files) c.args.store.now) c.read_part.ensures.elapses c.read_part.ensures.same in
+    let cleared : store.tells → LeavesAlone store (IsNotOpen files) c.read_part.new.self c.clear_claim.new.store = λ told.
+    alone_of_fewer store (IsNotOf t) (IsNotOpen files) c.read_part.new.self c.clear_claim.new.store (λ q. not_of files q t is none) (c.clear_claim.ensures.alone told) in
+    alone_further store (IsNotOpen files) c.args.store.now c.read_part.new.self c.clear_claim.new.store read cleared told
