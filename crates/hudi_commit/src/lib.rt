@@ -10,3 +10,6 @@ mod recovery;
 
 pub use commit::publish_commit;
 pub use laws::timeline_laws;
+
+#[cfg(test)]
+mod tests;
