@@ -12,11 +12,11 @@ use Rattle.std.proofs.lemmas.Bool.{cases_Bool, false≢true}
 use Rattle.std.proofs.lemmas.Slice.Eq.{bytes_eq-Decides}
 use Rattle.lake_store.specs.Disk.{Files, names_in}
 use Rattle.lake_store.proofs.OrderLaws.{names_in_sorted}
-use Rattle.hudi_timeline.specs.Name.{instant_of}
-use Rattle.hudi_timeline.specs.declared.name.Action.{Action}
-use Rattle.hudi_timeline.specs.declared.name.Action.TheVariants as action
-use Rattle.hudi_timeline.specs.declared.name.State.{State}
-use Rattle.hudi_timeline.specs.declared.name.State.TheVariants as state
+use Rattle.hudi_names.specs.Name.{instant_of}
+use Rattle.hudi_names.specs.declared.name.Action.{Action}
+use Rattle.hudi_names.specs.declared.name.Action.TheVariants as action
+use Rattle.hudi_names.specs.declared.name.State.{State}
+use Rattle.hudi_names.specs.declared.name.State.TheVariants as state
 use Rattle.hudi_timeline.proofs.AnyLemmas.{any_from, any_none}
 use Rattle.hudi_table.specs.Instants.{HasTime, completed_in, completed_name, completed_of, first_pending, has_name, head_of, instant_named, instant_with, instants_in, is_before, is_commit, is_done, is_missing, is_second, time_of, timeline_folder, timeline_of, up_to_head}
 use Rattle.hudi_table.specs.Folder.{HasInstant, IsCompletedAt, IsEarlier, IsFirstPending, IsHead, IsInFolder, IsPendingAt, IsReached, IsUpTo, LacksCompleted}

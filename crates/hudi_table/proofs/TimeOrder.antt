@@ -10,11 +10,11 @@ use Rattle.std.specs.declared.cmp.Ordering.TheVariants.{Less, Equal, Greater}
 use Rattle.std.proofs.lemmas.Bool.{cases_Bool, false≢true}
 use Rattle.std.proofs.lemmas.Bool.Decides.{nat_tests}
 use Rattle.std.proofs.lemmas.Cmp.{nat_list_cmp_total, tied_itself}
-use Rattle.hudi_timeline.specs.Name.{IsSplit, instant_of}
-use Rattle.hudi_timeline.specs.declared.name.Action.{Action}
-use Rattle.hudi_timeline.specs.declared.name.Action.TheVariants as action
-use Rattle.hudi_timeline.specs.declared.name.State.{State}
-use Rattle.hudi_timeline.proofs.NameLemmas.{named_exactly}
+use Rattle.hudi_names.specs.Name.{IsSplit, instant_of}
+use Rattle.hudi_names.specs.declared.name.Action.{Action}
+use Rattle.hudi_names.specs.declared.name.Action.TheVariants as action
+use Rattle.hudi_names.specs.declared.name.State.{State}
+use Rattle.hudi_names.proofs.NameLemmas.{named_exactly}
 use Rattle.hudi_table.specs.Instants.{is_commit, time_of}
 use Rattle.hudi_table.specs.Folder.{IsEarlier, IsUpTo}
 

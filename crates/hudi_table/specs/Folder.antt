@@ -4,10 +4,10 @@ use Rattle.std.specs.Cmp.Lexicographic.{slice_cmp}
 use Rattle.std.specs.Ordering.{nat_cmp}
 use Rattle.std.specs.declared.cmp.Ordering.TheVariants.{Greater, Less}
 use Rattle.lake_store.specs.Disk.{Files, names_in}
-use Rattle.hudi_timeline.specs.Name.{instant_of}
-use Rattle.hudi_timeline.specs.declared.name.Action.{Action}
-use Rattle.hudi_timeline.specs.declared.name.State.{State}
-use Rattle.hudi_timeline.specs.declared.name.State.TheVariants.{Completed}
+use Rattle.hudi_names.specs.Name.{instant_of}
+use Rattle.hudi_names.specs.declared.name.Action.{Action}
+use Rattle.hudi_names.specs.declared.name.State.{State}
+use Rattle.hudi_names.specs.declared.name.State.TheVariants.{Completed}
 use Rattle.hudi_table.specs.Instants.{completed_name, is_commit, time_of, timeline_folder}
 
 -- ---- the order of times, which is that of their bytes

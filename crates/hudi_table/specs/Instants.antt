@@ -5,11 +5,11 @@ use Rattle.std.specs.List.{before_first, filter_map, list_any, prefix_len}
 use Rattle.std.specs.Ordering.{is_lt, nat_cmp}
 use Rattle.std.specs.Cmp.Lexicographic.{slice_cmp}
 use Rattle.std.specs.Str.{bytes_eq}
-use Rattle.hudi_timeline.specs.Name.{instant_of}
-use Rattle.hudi_timeline.specs.declared.name.Action.{Action}
-use Rattle.hudi_timeline.specs.declared.name.Action.TheVariants.{Commit, ReplaceCommit, Ignored, MergeOnRead, Restore, Unknown}
-use Rattle.hudi_timeline.specs.declared.name.State.{State}
-use Rattle.hudi_timeline.specs.declared.name.State.TheVariants.{Requested, Inflight, Completed}
+use Rattle.hudi_names.specs.Name.{instant_of}
+use Rattle.hudi_names.specs.declared.name.Action.{Action}
+use Rattle.hudi_names.specs.declared.name.Action.TheVariants.{Commit, ReplaceCommit, Ignored, MergeOnRead, Restore, Unknown}
+use Rattle.hudi_names.specs.declared.name.State.{State}
+use Rattle.hudi_names.specs.declared.name.State.TheVariants.{Requested, Inflight, Completed}
 use Rattle.hudi_table.specs.declared.instants.InstantName.{InstantName}
 use Rattle.hudi_table.specs.declared.instants.CompletedInstant.{CompletedInstant}
 use Rattle.hudi_table.specs.declared.timeline.Timeline.{Timeline}

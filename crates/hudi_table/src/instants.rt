@@ -7,7 +7,7 @@ ghost use Rattle.std.specs.Ordering.{nat_cmp};
 ghost use Rattle.std.specs.Cmp.Lexicographic.{slice_cmp};
 ghost use Rattle.hudi_table.specs.Instants.{completed_in, completed_name, completed_of, first_pending, has_name, instant_named, instant_with, instants_in, is_before, is_commit, is_done, is_missing, is_replacecommit, is_second, time_of};
 
-use hudi_timeline::{Action, State, instant_of_name};
+use hudi_names::{Action, State, instant_of_name};
 use lake_basics::{Items, Text};
 use std::alloc::{AllocError, Global};
 

@@ -1,5 +1,5 @@
 use Rattle.std.proofs.Common.{◌≡◌, ℕ, List, Some, ap, subst, sym}
-use Rattle.hudi_timeline.specs.declared.name.Action.{Action}
+use Rattle.hudi_names.specs.declared.name.Action.{Action}
 use Rattle.hudi_table.specs.Instants.{completed_name}
 use Rattle.hudi_table.proofs.instants.completed_name.Goals as goal
 
