@@ -1,14 +1,12 @@
 -- What the timeline that a folder's names tell says of its files.
-use Rattle.std.proofs.Common.{◌≡◌, ◌↔◌, ◌⊎◌, ℕ, ◌+◌, ◌-◌, ◌&&◌, List, [], cond, length, Bool, true, false, not, Contains, MatchOption, Option, Some, None, refl, sym, ap, subst, ◌∙◌, inl, inr, ⊎_elim}
+use Rattle.std.proofs.Common.{◌≡◌, ◌↔◌, ℕ, ◌-◌, ◌&&◌, List, [], ◌∷◌, cond, length, Bool, true, false, not, Contains, MatchOption, Option, Some, None, refl, sym, ap, subst, ◌∙◌, ⊎_elim}
 use Rattle.std.specs.Prelude.{find, option_map, slice_get}
-use Rattle.std.specs.List.{filter_map, list_any, prefix_len}
-use Rattle.std.specs.List.Sorted.{IsStrictlySortedBy}
 use Rattle.std.specs.Ordering.{is_lt, nat_cmp}
 use Rattle.std.specs.Cmp.Lexicographic.{slice_cmp}
 use Rattle.std.specs.Str.{bytes_eq}
 use Rattle.std.specs.declared.cmp.Ordering.{Ordering}
 use Rattle.std.specs.declared.cmp.Ordering.TheVariants.{Less, Equal, Greater}
-use Rattle.std.proofs.lemmas.Bool.{cases_Bool, false≢true}
+use Rattle.std.proofs.lemmas.Bool.{false≢true}
 use Rattle.std.proofs.lemmas.Slice.Eq.{bytes_eq-Decides}
 use Rattle.lake_store.specs.Disk.{Files, names_in}
 use Rattle.lake_store.proofs.OrderLaws.{names_in_sorted}
@@ -19,7 +17,7 @@ use Rattle.hudi_names.specs.declared.name.State.{State}
 use Rattle.hudi_names.specs.declared.name.State.TheVariants as state
 use Rattle.hudi_timeline.proofs.AnyLemmas.{any_from, any_none}
 use Rattle.hudi_table.specs.Instants.{HasTime, completed_in, completed_name, completed_of, first_pending, has_name, head_of, instant_named, instant_with, instants_in, is_before, is_commit, is_done, is_missing, is_second, time_of, timeline_folder, timeline_of, up_to_head}
-use Rattle.hudi_table.specs.Folder.{HasInstant, IsCompletedAt, IsEarlier, IsFirstPending, IsHead, IsInFolder, IsPendingAt, IsReached, IsUpTo, LacksCompleted}
+use Rattle.hudi_table.specs.Folder.{AreInOrder, IsCompletedAt, IsEarlier, IsFirstPending, IsHead, IsPendingAt, IsReached, IsUpTo}
 use Rattle.hudi_table.specs.declared.instants.InstantName.{InstantName}
 use Rattle.hudi_table.specs.declared.instants.CompletedInstant.{CompletedInstant}
 use Rattle.hudi_table.proofs.TimeOrder.{earlier_still, earlier_than, times_rise, up_to_itself}
@@ -141,6 +139,13 @@ module _ (files : Files) where
 
   up_completed : Up UpTimes completed
   up_completed = up_picked (completed_of names) UpWhereCommits UpTimes completed_rise instants up_instants
+
+  in_order : (cs : List CompletedInstant) → Up UpTimes cs → AreInOrder cs
+  in_order [] up = tt
+  in_order (c ∷ cs) up = (up.0, in_order cs up.1)
+
+  pub order_of_folder : AreInOrder completed
+  order_of_folder = in_order completed up_completed
 
   -- ---- what is pending
 

@@ -1,5 +1,6 @@
 -- Which instants a timeline's folder holds, and which of them is the head (Hudi technical specification, "Timeline").
-use Rattle.std.specs.Prelude.{◌≡◌, ◌≢◌, ℕ, true, List, Contains, Some}
+use Rattle.std.specs.Prelude.{◌≡◌, ◌≢◌, ℕ, true, List, [], ◌∷◌, Contains, Some}
+use Rattle.std.specs.List.{AllByRecursion}
 use Rattle.std.specs.Cmp.Lexicographic.{slice_cmp}
 use Rattle.std.specs.Ordering.{nat_cmp}
 use Rattle.std.specs.declared.cmp.Ordering.TheVariants.{Greater, Less}
@@ -8,6 +9,7 @@ use Rattle.hudi_names.specs.Name.{instant_of}
 use Rattle.hudi_names.specs.declared.name.Action.{Action}
 use Rattle.hudi_names.specs.declared.name.State.{State}
 use Rattle.hudi_names.specs.declared.name.State.TheVariants.{Completed}
+use Rattle.hudi_table.specs.declared.instants.CompletedInstant.{CompletedInstant}
 use Rattle.hudi_table.specs.Instants.{completed_name, is_commit, time_of, timeline_folder}
 
 -- ---- the order of times, which is that of their bytes
@@ -17,6 +19,11 @@ IsEarlier a b = slice_cmp nat_cmp a b ≡ Less
 
 abbrev pub IsUpTo : List ℕ → List ℕ → Type 0
 IsUpTo a b = slice_cmp nat_cmp a b ≢ Greater
+
+-- each instant is up to all later ones
+abbrev pub AreInOrder : List CompletedInstant → Type 0
+AreInOrder [] = Unit {0}
+AreInOrder (c ∷ cs) = AllByRecursion (λ d. IsUpTo c.time d.time) cs × AreInOrder cs
 
 -- ---- instants
 

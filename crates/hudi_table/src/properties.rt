@@ -1,8 +1,8 @@
 //! The properties of a table.
 
-ghost use Rattle.std.specs.Prelude.{◌≡◌, ◌⊎◌, IfErr, IfOk, IsErrOf, Ok, codes};
+ghost use Rattle.std.specs.Prelude.{◌≡◌, ◌⊎◌, IfErr, IfOk, IsErrOf, Ok, codes, option_map};
 ghost use Rattle.lake_store.specs.Runs.{FailsBy, IsUncontestedBy, OnlyReads};
-ghost use Rattle.hudi_timeline.specs.TableProperties.{checked_table};
+ghost use Rattle.hudi_timeline.specs.TableProperties.{checked_table, property};
 ghost use Rattle.hudi_table.specs.Files.{HasFault, ReadsAs, SaysProperties};
 ghost use Rattle.hudi_table.specs.Instants.{path_of};
 ghost use Rattle.hudi_table.specs.Refusals.{IsFileRefusal, IsPropertyFault, TellsOf};
@@ -11,6 +11,7 @@ ghost use Rattle.hudi_table.specs.declared.error.TimelineError.TheVariants.{Stor
 use crate::error::TimelineError;
 use crate::file::{read_file, refusal};
 use hudi_timeline::{HudiError, HudiTable, Pairs, check_properties, read_properties};
+use lake_basics::Text;
 use lake_store::Store;
 use std::alloc::Global;
 
@@ -22,6 +23,21 @@ const PROPERTIES_NAME: &str = "hoodie.properties";
 pub struct Properties {
     pub pairs: Pairs,
     pub table: HudiTable,
+}
+
+impl Properties {
+    /// The table's name, which tells it from others.
+    pub fn name(&self) -> Option<&Text>
+        ensures { option_map (λ name. name.now) result
+            ≡ property (codes "hoodie.table.name") self.now.pairs }
+    {
+        let pairs = self.pairs.as_slice();
+        let (_, name) = pairs
+            .iter()
+            .rev()
+            .find(|pair| pair.0.as_str() == "hoodie.table.name")?;
+        Some(name)
+    }
 }
 
 /// The properties that bytes are.

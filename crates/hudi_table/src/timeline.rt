@@ -7,7 +7,7 @@ ghost use Rattle.std.specs.Ordering.{nat_cmp};
 ghost use Rattle.std.specs.Cmp.Lexicographic.{slice_cmp};
 ghost use Rattle.lake_store.specs.Disk.{names_in};
 ghost use Rattle.lake_store.specs.Runs.{FailsBy, IsUncontestedBy, OnlyReads};
-ghost use Rattle.hudi_table.specs.Folder.{IsFirstPending, IsHead, IsPendingAt, IsReached};
+ghost use Rattle.hudi_table.specs.Folder.{AreInOrder, IsFirstPending, IsHead, IsPendingAt, IsReached};
 ghost use Rattle.hudi_table.specs.Instants.{HasTime, IsOfNames, head_of, timeline_folder, timeline_of, up_to_head};
 ghost use Rattle.hudi_table.specs.Refusals.{IsListRefusal};
 ghost use Rattle.hudi_table.specs.declared.error.TimelineError.TheVariants.{StoreFault};
@@ -86,6 +86,7 @@ pub fn list_timeline<S: Store>(alloc: Global, store: &mut S) -> Result<Timeline,
         (IsHead (S.disk store.old).files)) }
     ensures reached { S.tells → IfOk result (λ timeline. (time : List ℕ)
         → HasTime (up_to_head timeline) time ↔ IsReached (S.disk store.old).files time) }
+    ensures in_order { S.tells → IfOk result (λ timeline. AreInOrder timeline.completed) }
     ensures of_names { IfOk result IsOfNames }
     ensures refused { S.tells → IfErr result (IsListRefusal (S.disk store.old).files) }
     ensures only_reads { S.tells → OnlyReads ⟦<S as Store>⟧ store.old store.new }
