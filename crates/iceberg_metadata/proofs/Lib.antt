@@ -1,3 +1,4 @@
+pub mod AgainLemmas
 pub mod AncestryLemmas
 pub mod ConsistentLemmas
 pub mod ContentLemmas
@@ -13,3 +14,6 @@ pub mod ReadLemmas
 pub mod SchemaListLemmas
 pub mod StepLemmas
 pub mod ToldLemmas
+pub mod LoopLemmas
+pub mod ShapeLemmas
+pub mod WrittenLemmas

@@ -12,3 +12,4 @@ pub mod Reading
 pub mod SchemaLists
 pub mod Schemas
 pub mod VersionName
+pub mod Writing

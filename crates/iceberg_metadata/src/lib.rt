@@ -1,5 +1,5 @@
 //! The metadata of an Iceberg table (Apache Iceberg specification, format version 2, "Table Metadata
-//! and Snapshots"): the names of its versions, what its text says, and the ancestors of a snapshot.
+//! and Snapshots"): the names of its versions, its text read and written, and the ancestors of a snapshot.
 #![tactic(auto)]
 
 mod ancestors;
@@ -13,14 +13,18 @@ mod partition;
 mod paths;
 mod reading;
 mod schemas;
+mod writing;
 
 pub use ancestors::ancestry;
 pub use error::MetadataError;
 pub use metadata::{Metadata, Snapshot, Snapshots, Spec, SpecField};
 pub use name::version_of_name;
 pub use reading::read_metadata;
+pub use writing::metadata_text;
 
 #[cfg(test)]
 mod read_tests;
 #[cfg(test)]
 mod tests;
+#[cfg(test)]
+mod writing_tests;

@@ -1,6 +1,6 @@
 //! The members of table metadata by their kinds.
 
-ghost use Rattle.std.specs.Prelude.{◌≡◌, codes, Some};
+ghost use Rattle.std.specs.Prelude.{◌≡◌, codes, Some, IfOk};
 ghost use Rattle.serde_json.specs.Find.{get};
 ghost use Rattle.serde_json.specs.View.{view, items_view, members_view};
 ghost use Rattle.lake_basics.specs.Outcome.{each};
@@ -8,6 +8,7 @@ ghost use Rattle.json_reading.specs.Json.{items, pairs, text};
 ghost use Rattle.iceberg_metadata.specs.declared.error.MetadataError.TheVariants.{Malformed};
 ghost use Rattle.iceberg_metadata.specs.Errors.{Gives, GivesBy};
 ghost use Rattle.iceberg_metadata.specs.Members as read;
+ghost use Rattle.iceberg_metadata.specs.Writing.{HaveOwnNames};
 
 use crate::error::{MALFORMED, MetadataError};
 use crate::metadata::{Snapshot, Snapshots, Spec, SpecField};
@@ -223,9 +224,10 @@ fn properties_in(
     alloc: Global,
     members: &Map<String, Value>,
 ) -> Result<Items<(Text, Text)>, MetadataError>
-    ensures { Gives result (each read.property (pairs (members_view members.now.entries))) }
+    ensures read { Gives result (each read.property (pairs (members_view members.now.entries))) }
+    ensures own { IfOk result HaveOwnNames }
 {
-    let mut properties = Items::new(alloc);
+    let mut properties = Items::from_vec(Vec::with_capacity(alloc, members.len())?);
     for (name, value) in members {
         let name = Text::from_str(alloc, name.as_str())?;
         properties.push((name, text_from(alloc, value)?))?;
@@ -233,11 +235,13 @@ fn properties_in(
     Ok(properties)
 }
 
+#[tactic(auto, using(crate::proofs::AgainLemmas::no_names))]
 pub(crate) fn properties_of(
     alloc: Global,
     value: &Value,
 ) -> Result<Items<(Text, Text)>, MetadataError>
-    ensures { Gives result (read.properties (get (codes "properties") (view value.now))) }
+    ensures read { Gives result (read.properties (get (codes "properties") (view value.now))) }
+    ensures own { IfOk result HaveOwnNames }
 {
     match value.get("properties") {
         None => Ok(Items::new(alloc)),

@@ -8,6 +8,7 @@ ghost use Rattle.table_history.specs.First.{IsFirst, NoneOf};
 ghost use Rattle.iceberg_metadata.specs.Errors.{Gives, GivesBy};
 ghost use Rattle.iceberg_metadata.specs.Judging.{members, unkept, consistent, version_two, contents, limit_passed, judged, metadata_of};
 ghost use Rattle.iceberg_metadata.specs.Reading.{HasCause, causes, IsRead};
+ghost use Rattle.iceberg_metadata.specs.Writing.{HaveOwnNames, IsWritable};
 ghost use Rattle.iceberg_metadata.specs.declared.error.MetadataError.TheVariants as errors;
 
 use crate::consistent::is_consistent;
@@ -56,7 +57,8 @@ fn members_of(
     value: &Value,
     schemas: Items<(i32, Schema, Ids)>,
 ) -> Result<Metadata, MetadataError>
-    ensures { Gives result (members (view value.now) schemas) }
+    ensures read { Gives result (members (view value.now) schemas) }
+    ensures own { IfOk result (λ m. HaveOwnNames m.properties) }
 {
     let uuid = required_text(alloc, value, "table-uuid")?;
     let location = required_text(alloc, value, "location")?;
@@ -118,7 +120,8 @@ fn contents_of(
     alloc: Global,
     value: &Value,
 ) -> Result<(Metadata, Items<MetadataError>), MetadataError>
-    ensures { Gives result (contents (view value.now)) }
+    ensures read { Gives result (contents (view value.now)) }
+    ensures own { IfOk result (λ p. HaveOwnNames p.0.properties) }
 {
     version_two(value)?;
     let listed = required_list(value, "schemas")?;
@@ -172,7 +175,8 @@ fn limit_passed(fields: &[SpecField], refusals: &[MetadataError]) -> Option<Limi
 
 #[tactic(auto, unfolding(crate::specs::Judging::metadata_of))]
 fn metadata_of(alloc: Global, bytes: &[u8]) -> Result<Metadata, MetadataError>
-    ensures { Gives result (metadata_of bytes.now) }
+    ensures read { Gives result (metadata_of bytes.now) }
+    ensures own { IfOk result (λ m. HaveOwnNames m.properties) }
 {
     let value = json_of(alloc, bytes)?;
     let (metadata, refusals) = contents_of(alloc, &value)?;
@@ -195,6 +199,8 @@ pub fn read_metadata(alloc: Global, bytes: &[u8]) -> Result<Metadata, MetadataEr
     // Without a cause the text is read, unless memory runs out.
     ensures complete { NoneOf (HasCause bytes.now) causes
         → IfErr result (λ e. e ≡ errors.Memory) }
+    // What was read can be written.
+    ensures writable { IfOk result IsWritable }
     // The same as a function.
     ensures exact { Gives result (metadata_of bytes.now) }
 {
