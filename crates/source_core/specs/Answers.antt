@@ -1,5 +1,5 @@
 -- What a source answers, by what its files show.
-use Rattle.std.specs.Prelude.{ℕ, Result, Ok, Err}
+use Rattle.std.specs.Prelude.{Result, Ok, Err}
 use Rattle.source_core.specs.declared.error.SourceError.{SourceError}
 use Rattle.source_core.specs.declared.error.SourceError.TheVariants.{Memory, Absent, Malformed, Unsupported, Limit, StoreFault}
 use Rattle.source_core.specs.declared.head.Head.{Head}
@@ -26,3 +26,9 @@ IsReadRefusal shows (Malformed path) = shows (Malformed path)
 IsReadRefusal shows (Unsupported feature path) = shows (Unsupported feature path)
 IsReadRefusal shows (Limit which number) = shows (Limit which number)
 IsReadRefusal shows StoreFault = Unit {0}
+
+-- A table is there, and neither what tells its head nor what gives its table shows a cause of a refusal.
+pub record IsReadable (absent : Type 0) (at_head from_scratch : SourceError → Type 0) : Type 0 where
+  pub there : ¬ absent
+  pub head : (e : SourceError) → ¬ at_head e
+  pub table : (e : SourceError) → ¬ from_scratch e

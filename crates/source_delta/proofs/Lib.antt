@@ -1,0 +1,3 @@
+pub mod Publishable
+pub mod Refusals
+pub mod Runs

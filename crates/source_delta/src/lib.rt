@@ -1,13 +1,11 @@
-// A library with one function.
+//! A Delta table as a source: its head, and its table read from scratch.
 #![tactic(auto)]
 
-ghost use Rattle.std.specs.Prelude.{◌≡◌};
-ghost use Rattle.source_delta.specs.Echo.{echo_of};
+mod position;
+mod source;
+mod told;
 
-// The `ensures` clause is the contract: what `echo` returns is `echo_of` of its argument, a definition
-// in `specs/Echo.antt`, which a caller's clause can cite too.
-pub fn echo(x: usize) -> usize
-    ensures { result ≡ echo_of x }
-{
-    x
-}
+pub use source::DeltaSource;
+
+#[cfg(test)]
+mod tests;

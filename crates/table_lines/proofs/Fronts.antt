@@ -34,10 +34,10 @@ module _ {A : Type 0} (f : A → List ℕ) (xs : List A) (i : ℕ) (x : A) (with
       let first = front_behind out before (f x) n in
       let second = front_within out (before ++ f x) rest first.0 in
       let whole : concat (map f xs) ≡ (before ++ f x) ++ rest =
-          ap (λ (l : List A). concat (map f l)) (sym (take-append-drop (i + 1) xs))
-          ∙ ap concat (map-append f (take (i + 1) xs) (drop (i + 1) xs))
-          ∙ concat-append (map f (take (i + 1) xs)) (map f (drop (i + 1) xs))
-          ∙ ap (λ (l : List ℕ). l ++ rest) one_more in
+      ap (λ (l : List A). concat (map f l)) (sym (take-append-drop (i + 1) xs))
+      ∙ ap concat (map-append f (take (i + 1) xs) (drop (i + 1) xs))
+      ∙ concat-append (map f (take (i + 1) xs)) (map f (drop (i + 1) xs))
+      ∙ ap (λ (l : List ℕ). l ++ rest) one_more in
       (second.0, first.1 ∙ second.1 ∙ ap (λ (l : List ℕ). out ++ take second.0 l) (sym whole))
 
 -- behind a line, the rest or a front of it
@@ -47,8 +47,7 @@ module _ (new mid out l line rest all : List ℕ) where
 
   pub line_and_front : mid ≡ out ++ l → l ≡ line → rest ≡ all → (n : ℕ) × (new ≡ mid ++ take n rest) → (m : ℕ) × (new ≡ out ++ take m (line ++ all))
   line_and_front so_far is whole front =
-      let both = front_behind out l rest front.0 in
-      (
+      let both = front_behind out l rest front.0 in (
         both.0,
         front.1 ∙ ap (λ (m : List ℕ). m ++ take front.0 rest) so_far ∙ both.1 ∙ ap (λ (m : List ℕ). out ++ take both.0 (m ++ rest)) is ∙ ap (λ (m : List ℕ). out ++ take both.0 (line ++ m)) whole,
       )

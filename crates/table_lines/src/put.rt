@@ -25,10 +25,7 @@ fn row_list<'a>(alloc: Global, rows: &'a FileRows) -> Result<Vec<&'a FileRow>, A
 }
 
 /// The rows in byte order of their paths.
-pub fn rows_in_order<'a>(
-    alloc: Global,
-    rows: &'a FileRows,
-) -> Result<Vec<&'a FileRow>, AllocError>
+pub fn rows_in_order<'a>(alloc: Global, rows: &'a FileRows) -> Result<Vec<&'a FileRow>, AllocError>
     ensures order { IfOk result (λ list. IsInPathOrder (map (λ row. row.now) list.items)) }
     ensures same { IfOk result (λ list. SameRows (map (λ row. row.now) list.items) rows.now) }
 {

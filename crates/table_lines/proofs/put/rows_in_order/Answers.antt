@@ -12,8 +12,7 @@ returns-clause-order c =
 pub returns-clause-same : goal.returns-clause-same
 returns-clause-same c = λ row.
     let same = Contains-sorted c.in_ok-list.list.items c.sort_by.new.self.items c.in_ok-sort_by.ensures.permutation row in
-    let is = c.in_ok-list.ensures.rows in
-    (
+    let is = c.in_ok-list.ensures.rows in (
       λ h. subst (λ (l : List FileRow). Contains l row) is (same.0 h),
       λ h. same.1 (subst (λ (l : List FileRow). Contains l row) (sym is) h),
     )

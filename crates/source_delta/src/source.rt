@@ -1,0 +1,221 @@
+//! The Delta source.
+
+ghost use Rattle.std.specs.Prelude.{◌≡◌, ◌≢◌, ◌≤◌, ◌+◌, ℕ, IfErr, IfOk, IsErrOf, MatchOption, None};
+ghost use Rattle.std.specs.Fmt.{decimal};
+ghost use Rattle.lake_basics.specs.declared.limits.TheConstants.{MAX_DELTA_VERSION};
+ghost use Rattle.lake_store.specs.Runs.{FailsBy, IsUncontestedBy, OnlyReads};
+ghost use Rattle.table_history.specs.declared.kind.Kind.TheVariants.{Delta};
+ghost use Rattle.target_core.specs.Conditions.{IsPublishable};
+ghost use Rattle.delta_table.specs.Refusals.{TellsOf};
+ghost use Rattle.delta_table.specs.declared.error.LogError.TheVariants as log;
+ghost use Rattle.source_core.specs.Answers.{IsHeadAnswer, IsHeadRefusal, IsReadRefusal};
+ghost use Rattle.source_core.specs.declared.error.SourceError.TheVariants.{StoreFault};
+ghost use Rattle.source_delta.specs.Heads.{IsAbsent, IsDeltaHead, IsNewest, IsTableAtHead, IsTableId};
+ghost use Rattle.source_delta.specs.Reading.{HasEach, HasManyNames, IsLastMissing, IsRefusedLog, ShowsAtHead, ShowsFromScratch, Tells};
+
+use crate::position::version_at;
+use crate::told::{list_error, source_error, unsupported};
+use delta_log::MetaData;
+use delta_table::{LOG_FOLDER, Log, LogError, list_versions, read_log};
+use lake_basics::Text;
+use lake_store::Store;
+use source_core::{Head, SourceError, position_of};
+use std::alloc::{AllocError, Global};
+use table_history::{Feature, Kind, Table};
+
+/// A Delta table as a source.
+#[derive(Clone, Copy, Debug, PartialEq, Eq)]
+pub struct DeltaSource {}
+
+/// The newest version of a log.
+fn newest_version<S: Store>(alloc: Global, store: &mut S) -> Result<u64, SourceError>
+    ensures newest { S.tells → IfOk result (IsNewest (S.disk store.old).files) }
+    ensures within { IfOk result (λ newest. newest ≤ MAX_DELTA_VERSION) }
+    ensures refused { S.tells → IfErr result
+        (IsHeadRefusal (IsAbsent (S.disk store.old).files)
+        (HasManyNames (S.disk store.old).files)) }
+    ensures only_reads { S.tells → OnlyReads ⟦<S as Store>⟧ store.old store.new }
+    ensures cause { FailsBy ⟦<S as Store>⟧ store.old store.new (IsErrOf result StoreFault) }
+    ensures contest { IsUncontestedBy ⟦<S as Store>⟧ store.old store.new ⊥ }
+{
+    match list_versions(alloc, store) {
+        Ok(Some(versions)) => Ok(versions.newest),
+        Ok(None) => Err(SourceError::Absent),
+        Err(error) => Err(list_error(error)),
+    }
+}
+
+fn id_of(log: Log) -> Text
+    ensures { result ≡ log.meta.id }
+{
+    let Log { meta, .. } = log;
+    let MetaData { id, .. } = meta;
+    id
+}
+
+/// What is told where version 0 wasn't read: no id, where it isn't there.
+fn without_id(alloc: Global, error: LogError) -> Result<Option<Text>, SourceError>
+    requires { TellsOf (λ version. version ≤ MAX_DELTA_VERSION) error }
+    ensures missing { IfOk result
+        (λ id. (id ≡ None) × ((version : ℕ) × (error ≡ log.Missing version))) }
+    ensures refused { IfErr result (λ e. IsReadRefusal (Tells error) e
+        × ((version : ℕ) → error ≢ log.Missing version)) }
+    ensures fault { IfErr result (λ e. e ≡ StoreFault → error ≡ log.StoreFault) }
+{
+    match error {
+        LogError::Missing { .. } => Ok(None),
+        error => Err(source_error(alloc, error)),
+    }
+}
+
+/// The id that version 0 states for the table, where that version is there. The whole version is
+/// judged.
+fn table_id<S: Store>(alloc: Global, store: &mut S) -> Result<Option<Text>, SourceError>
+    ensures id { S.tells → IfOk result (IsTableId (S.disk store.old).files) }
+    ensures refused { S.tells
+        → IfErr result (IsReadRefusal (ShowsAtHead (S.disk store.old).files)) }
+    ensures only_reads { S.tells → OnlyReads ⟦<S as Store>⟧ store.old store.new }
+    ensures cause { FailsBy ⟦<S as Store>⟧ store.old store.new (IsErrOf result StoreFault) }
+    ensures contest { IsUncontestedBy ⟦<S as Store>⟧ store.old store.new ⊥ }
+{
+    match read_log(alloc, store, 0) {
+        Ok(log) => Ok(Some(id_of(log))),
+        Err(error) => without_id(alloc, error),
+    }
+}
+
+/// The version before this one, if there is one.
+fn version_before(version: u64) -> Option<u64>
+    ensures { MatchOption result (version ≡ 0) (λ before. before + 1 ≡ version) }
+{
+    version.checked_sub(1)
+}
+
+/// The greatest version up to the newest that isn't there. None where none is missing.
+fn missing_version<S: Store>(
+    alloc: Global,
+    store: &mut S,
+    newest: u64,
+) -> Result<Option<u64>, SourceError>
+    requires { newest ≤ MAX_DELTA_VERSION }
+    ensures missing { S.tells → IsNewest (S.disk store.old).files newest → IfOk result (λ found. MatchOption found
+        (HasEach (S.disk store.old).files newest) (IsLastMissing (S.disk store.old).files newest)) }
+    ensures within { IfOk result (λ found. MatchOption found (Unit {0}) (λ version. version ≤ MAX_DELTA_VERSION)) }
+    ensures refused { S.tells → IsNewest (S.disk store.old).files newest → IfErr result (IsReadRefusal (HasManyNames (S.disk store.old).files)) }
+    ensures only_reads { S.tells → OnlyReads ⟦<S as Store>⟧ store.old store.new }
+    ensures cause { FailsBy ⟦<S as Store>⟧ store.old store.new (IsErrOf result StoreFault) }
+    ensures contest { IsUncontestedBy ⟦<S as Store>⟧ store.old store.new ⊥ }
+{
+    match list_versions(alloc, store) {
+        Ok(Some(versions)) => Ok(version_before(versions.first)),
+        Ok(None) => Ok(Some(newest)),
+        Err(error) => Err(list_error(error)),
+    }
+}
+
+/// The table that the versions from 0 to this one make.
+fn table_up_to<S: Store>(alloc: Global, store: &mut S, newest: u64) -> Result<Table, SourceError>
+    requires { newest ≤ MAX_DELTA_VERSION }
+    ensures table { S.tells → IsNewest (S.disk store.old).files newest → IfOk result (IsTableAtHead (S.disk store.old).files) }
+    ensures sound { IfOk result IsPublishable }
+    ensures refused { S.tells → IfErr result (IsReadRefusal (IsRefusedLog (S.disk store.old).files newest)) }
+    ensures only_reads { S.tells → OnlyReads ⟦<S as Store>⟧ store.old store.new }
+    ensures cause { FailsBy ⟦<S as Store>⟧ store.old store.new (IsErrOf result StoreFault) }
+    ensures contest { IsUncontestedBy ⟦<S as Store>⟧ store.old store.new ⊥ }
+{
+    match read_log(alloc, store, newest) {
+        Ok(log) => Ok(log.table),
+        Err(error) => Err(source_error(alloc, error)),
+    }
+}
+
+/// The same, where none of the versions is missing.
+fn whole_table<S: Store>(alloc: Global, store: &mut S, newest: u64) -> Result<Table, SourceError>
+    requires { newest ≤ MAX_DELTA_VERSION }
+    ensures table { S.tells → IsNewest (S.disk store.old).files newest → IfOk result (IsTableAtHead (S.disk store.old).files) }
+    ensures sound { IfOk result IsPublishable }
+    ensures refused { S.tells → IsNewest (S.disk store.old).files newest → IfErr result (IsReadRefusal (ShowsFromScratch (S.disk store.old).files)) }
+    ensures only_reads { S.tells → OnlyReads ⟦<S as Store>⟧ store.old store.new }
+    ensures cause { FailsBy ⟦<S as Store>⟧ store.old store.new (IsErrOf result StoreFault) }
+    ensures contest { IsUncontestedBy ⟦<S as Store>⟧ store.old store.new ⊥ }
+{
+    match missing_version(alloc, store, newest) {
+        Ok(Some(version)) => Err(unsupported(alloc, Feature::NeedsCheckpoint, version)),
+        Ok(None) => table_up_to(alloc, store, newest),
+        Err(error) => Err(error),
+    }
+}
+
+/// The position of a version.
+fn position(alloc: Global, version: u64) -> Result<Text, AllocError>
+    requires { version ≤ MAX_DELTA_VERSION }
+    ensures { IfOk result (λ position. position ≡ decimal version) }
+{
+    position_of(alloc, Kind::Delta, version as i64)
+}
+
+/// What is told where the position that was asked for is that of no version.
+fn no_version(alloc: Global) -> SourceError
+    ensures { result ≢ StoreFault }
+{
+    match Text::from_str(alloc, LOG_FOLDER) {
+        Ok(path) => SourceError::Malformed { path },
+        Err(_) => SourceError::Memory,
+    }
+}
+
+impl DeltaSource {
+    pub fn new() -> DeltaSource {
+        DeltaSource {}
+    }
+
+    /// The source's format.
+    pub fn kind(&self) -> Kind
+        ensures { result ≡ Delta }
+    {
+        Kind::Delta
+    }
+
+    /// The newest version in the log, and the table's id, which version 0 states. It is absent exactly
+    /// where no version is there. Version 0, where it is there, is judged whole; what else is wrong with
+    /// the log, `whole` tells.
+    pub fn head<S: Store>(&self, alloc: Global, store: &mut S) -> Result<Head, SourceError>
+        ensures head { S.tells → IsHeadAnswer (IsAbsent (S.disk store.old).files) (IsDeltaHead (S.disk store.old).files)
+            (ShowsAtHead (S.disk store.old).files) result }
+        ensures only_reads { S.tells → OnlyReads ⟦<S as Store>⟧ store.old store.new }
+        ensures cause { FailsBy ⟦<S as Store>⟧ store.old store.new (IsErrOf result StoreFault) }
+        ensures contest { IsUncontestedBy ⟦<S as Store>⟧ store.old store.new ⊥ }
+    {
+        let newest = newest_version(alloc, store)?;
+        let table = table_id(alloc, store)?;
+        Ok(Head {
+            position: position(alloc, newest)?,
+            pending: None,
+            table,
+        })
+    }
+
+    /// The table at the head, which `head` has given, read from version 0 (Delta protocol, "Action
+    /// Reconciliation"). Where a version is missing, the greatest such one is told; otherwise the first
+    /// version at fault.
+    pub fn whole<S: Store>(
+        &self,
+        alloc: Global,
+        store: &mut S,
+        head: &Head,
+    ) -> Result<Table, SourceError>
+        requires { S.tells → IsDeltaHead (S.disk store.old).files head.now }
+        ensures table { S.tells → IfOk result (IsTableAtHead (S.disk store.old).files) }
+        // The table may be published.
+        ensures sound { IfOk result IsPublishable }
+        ensures refused { S.tells → IfErr result (IsReadRefusal (ShowsFromScratch (S.disk store.old).files)) }
+        ensures only_reads { S.tells → OnlyReads ⟦<S as Store>⟧ store.old store.new }
+        ensures cause { FailsBy ⟦<S as Store>⟧ store.old store.new (IsErrOf result StoreFault) }
+        ensures contest { IsUncontestedBy ⟦<S as Store>⟧ store.old store.new ⊥ }
+    {
+        match version_at(head.position.as_str()) {
+            Some(newest) => whole_table(alloc, store, newest),
+            None => Err(no_version(alloc)),
+        }
+    }
+}
