@@ -1,9 +1,9 @@
 -- What the steps of a first commit leave at each path.
-use Rattle.std.proofs.Common.{◌≡◌, ◌≢◌, ◌⊎◌, ℕ, ◌+◌, List, [], ◌++◌, length, refl, sym, ◌∙◌, ap, subst, ⊎_elim, arith, length-append}
-use Rattle.std.specs.Prelude.{Option, Some, None, codes}
+use Rattle.std.proofs.Common.{◌≡◌, ◌≢◌, ℕ, ◌+◌, List, [], ◌++◌, length, refl, sym, ◌∙◌, ap, subst, ⊎_elim, arith, length-append}
+use Rattle.std.specs.Prelude.{Some, None, codes}
 use Rattle.std.specs.FinMap as map
 use Rattle.std.specs.FinSet as set
-use Rattle.lake_store.specs.Disk.{Disk, IsClean, Moves, moved, synced, written}
+use Rattle.lake_store.specs.Disk.{Disk, Moves, moved, synced, written}
 use Rattle.lake_store.proofs.DiskLaws.{path_cases, get-insert_here, get-insert_other, get-remove_here, get-remove_other, contains-remove_here, contains-remove_other, clean-synced}
 use Rattle.sync_driver.specs.HudiPaths.{properties_path, staged_path, claim_path, requested_path, inflight_path, completed_path}
 use Rattle.sync_driver.specs.Steps.{IsStored, IsPublished, IsAnnounced, IsCommitted, GainsCommit, IsFree}

@@ -11,7 +11,6 @@ use Rattle.lake_store.proofs.DiskLaws.{is_path}
 use Rattle.lake_store.proofs.FolderLaws.{any-names_in}
 use Rattle.hudi_names.specs.Time.{IsDigits}
 use Rattle.sync_driver.specs.Folders.{IsVacant}
-use Rattle.sync_driver.specs.HudiPaths.{properties_path, staged_path, claim_path, completed_path}
 use Rattle.sync_driver.specs.Steps.{IsFree}
 
 none_of : {X : Type 0} (o : Option X) → is_some o ≡ false → o ≡ None

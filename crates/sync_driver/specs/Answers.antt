@@ -1,18 +1,17 @@
 -- What a command answers, and the line that is due.
 use Rattle.std.specs.Prelude.{◌≡◌, ◌⊎◌, ℕ, List, codes, Result, Ok, Err, None}
-use Rattle.lake_store.specs.Cause.{Rose}
 use Rattle.lake_store.specs.declared.store.Store.{Ghosts}
 use Rattle.lake_store.specs.declared.sink.Sink as sinks
-use Rattle.table_history.specs.declared.kind.Kind.{Kind}
 use Rattle.table_history.specs.declared.kind.Kind.TheVariants.{Delta, Hudi}
 use Rattle.sync_driver.specs.Firsts.{IsFirstSync}
 use Rattle.sync_driver.specs.Forms.{Words, IsCommand, IsNoCommand}
 use Rattle.sync_driver.specs.Lines.{full_line, refusal_line}
+use Rattle.sync_driver.specs.Shown.{ShowsDelta}
 use Rattle.sync_driver.specs.Tellings.{Tells}
 use Rattle.sync_driver.specs.declared.refusal.Refusal.{Refusal}
 use Rattle.sync_driver.specs.declared.refusal.Refusal.TheVariants as refusal
 use Rattle.sync_driver.specs.declared.words.Form.{Form}
-use Rattle.sync_driver.specs.declared.words.Form.TheVariants.{Sync, Full, Show}
+use Rattle.sync_driver.specs.declared.words.Form.TheVariants.{Sync, Show}
 use Rattle.sync_driver.specs.declared.status.Status.{Status}
 use Rattle.sync_driver.specs.declared.status.Status.TheVariants.{Done, Memory, Usage, Absent, Contested, StoreFault, Later}
 
@@ -32,9 +31,9 @@ abbrev pub line_of : Result ℕ Refusal → List ℕ
 line_of (Ok files) = full_line Hudi files (codes "0")
 line_of (Err r) = refusal_line (status_of_refusal r)
 
--- The form is served: a sync from Delta to Hudi.
+-- The form is served: a sync from Delta to Hudi, or showing Delta.
 abbrev pub IsServed : Form → Type 0
-IsServed form = form ≡ Sync Delta Hudi None
+IsServed form = (form ≡ Sync Delta Hudi None) ⊎ (form ≡ Show Delta)
 
 -- A command's answer and what it has done.
 -- Words that are no command, and forms that aren't served, look at no file.
@@ -42,3 +41,4 @@ pub record Command {S O : Type 0} (store : Ghosts S) (sink : sinks.Ghosts O) (wo
   pub usage : IsNoCommand words → Tells sink out_old out_new (refusal_line Usage) Usage status × (new ≡ old)
   pub later : (place : List ℕ) (form : Form) → IsCommand words place form → (IsServed form → ⊥) → Tells sink out_old out_new (refusal_line Later) Later status × (new ≡ old)
   pub served : (place : List ℕ) → IsCommand words place (Sync Delta Hudi None) → (answer : Result ℕ Refusal) × IsFirstSync store old new answer × Tells sink out_old out_new (line_of answer) (status_of answer) status
+  pub shown : (place : List ℕ) → IsCommand words place (Show Delta) → ShowsDelta store sink old new out_old out_new status

@@ -1,5 +1,5 @@
 -- What a first sync does.
-use Rattle.std.specs.Prelude.{◌≡◌, ◌⊎◌, ℕ, List, Result, Ok, Err, IsErrOf, OnOk}
+use Rattle.std.specs.Prelude.{◌≡◌, ℕ, List, Result, IsErrOf, OnOk}
 use Rattle.lake_store.specs.declared.store.Store.{Ghosts}
 use Rattle.hudi_names.specs.Time.{IsSomeTime}
 use Rattle.sync_driver.specs.Causes.{HasCause}

@@ -7,6 +7,7 @@ pub mod HudiPaths
 pub mod HudiTexts
 pub mod Lines
 pub mod Refusals
+pub mod Shown
 pub mod Statuses
 pub mod Steps
 pub mod Tellings

@@ -1,20 +1,13 @@
 -- The lines that commands print.
-use Rattle.std.specs.Prelude.{◌≡◌, ℕ, ◌==◌, length, nat_lt, List, [], ◌∷◌, ◌++◌, map, codes, Option, Some, None, if◌then◌else◌}
+use Rattle.std.specs.Prelude.{ℕ, ◌==◌, length, List, [], ◌++◌, codes, Option, Some, None, if◌then◌else◌}
 use Rattle.std.specs.Fmt.{decimal}
 use Rattle.table_history.specs.declared.kind.Kind.{Kind}
 use Rattle.table_history.specs.Words.{kind_word, feature_word, limit_word}
+use Rattle.table_lines.specs.Lines.{line}
 use Rattle.sync_driver.specs.declared.status.Side.{Side}
 use Rattle.sync_driver.specs.declared.status.Side.TheVariants.{Source, Target}
 use Rattle.sync_driver.specs.declared.status.Status.{Status}
 use Rattle.sync_driver.specs.declared.status.Status.TheVariants.{Done, Memory, Usage, Absent, Malformed, Unsupported, Limit, Foreign, Contested, StoreFault, SinkFault, Behind, Differs, Later}
-
--- a byte under 32 is printed as `?`
-abbrev pub printed : ℕ → ℕ
-printed b = if nat_lt b 32 then 63 else b
-
--- a text as a line, with its newline
-abbrev pub line : List ℕ → List ℕ
-line text = map printed text ++ 10 ∷ []
 
 abbrev pub side_word : Side → List ℕ
 side_word Source = codes "source"

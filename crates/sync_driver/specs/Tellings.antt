@@ -3,7 +3,7 @@ use Rattle.std.specs.Prelude.{◌≡◌, ◌⊎◌, ℕ, ◌≤◌, List, ◌++�
 use Rattle.lake_store.specs.Cause.{Rose}
 use Rattle.lake_store.specs.declared.sink.Sink.{Ghosts}
 use Rattle.sync_driver.specs.declared.status.Status.{Status}
-use Rattle.sync_driver.specs.declared.status.Status.TheVariants.{Done, Memory, Usage, Absent, Malformed, Unsupported, Limit, Foreign, Contested, StoreFault, SinkFault, Behind, Differs, Later}
+use Rattle.sync_driver.specs.declared.status.Status.TheVariants.{Memory, SinkFault}
 
 -- its line went out whole
 abbrev pub IsSaid : Status → Type 0

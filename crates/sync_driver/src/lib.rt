@@ -7,6 +7,7 @@ mod line;
 mod paths;
 mod publish;
 mod refusal;
+mod show;
 mod source;
 mod status;
 mod tell;
@@ -16,5 +17,7 @@ mod words;
 pub use status::{Side, Status};
 pub use top::{refuse_words, run};
 
+#[cfg(test)]
+mod show_tests;
 #[cfg(test)]
 mod tests;

@@ -2,12 +2,14 @@
 ghost use Rattle.std.specs.Prelude.{◌≡◌, ◌++◌, IfOk, codes, string_bytes};
 ghost use Rattle.std.specs.Fmt.{decimal};
 ghost use Rattle.table_history.specs.Words.{kind_word, feature_word, limit_word};
-ghost use Rattle.sync_driver.specs.Lines.{printed, line, side_word, position_word, path_part, refusal_line, full_line};
+ghost use Rattle.table_lines.specs.Lines.{line};
+ghost use Rattle.sync_driver.specs.Lines.{side_word, position_word, path_part, refusal_line, full_line};
 
 use crate::status::{Side, Status};
 use lake_store::Text;
 use std::alloc::{AllocError, Global};
 use table_history::{Feature, Kind, LimitKind};
+use table_lines::line_of_text;
 
 fn word_of_side(side: Side) -> &'static str
     ensures { result.now ≡ side_word side }
@@ -25,24 +27,6 @@ fn word_of_position(at: &Option<Text>) -> &str
         Some(at) => at.as_str(),
         None => "none",
     }
-}
-
-fn printed(byte: u8) -> u8
-    ensures { result ≡ printed byte }
-{
-    if byte < 32 { b'?' } else { byte }
-}
-
-/// The text as a line.
-fn line_of_text(alloc: Global, text: &str) -> Result<Vec<u8>, AllocError>
-    ensures { IfOk result (λ bytes. bytes.items ≡ line text.now) }
-{
-    let mut out = Vec::new(alloc);
-    for byte in text.as_bytes() {
-        out.push(printed(*byte))?;
-    }
-    out.push(b'\n')?;
-    Ok(out)
 }
 
 fn part_of_path(alloc: Global, path: &Text) -> Result<String, AllocError>

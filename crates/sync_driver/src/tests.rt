@@ -141,7 +141,7 @@ fn other_answers_have_their_lines(rt: HostRuntime) -> Result<(), Fail> {
             "status 2: Usage\n",
         ),
         (
-            "/data/t show delta",
+            "/data/t show hudi",
             Some(ONE_FILE),
             99,
             99,

@@ -1,13 +1,16 @@
 //! The top call.
-ghost use Rattle.std.specs.Prelude.{◌≡◌, ◌↔◌, IsTrue, Ok};
-ghost use Rattle.sync_driver.specs.Answers.{Command, IsServed, line_of, status_of, status_of_refusal};
+ghost use Rattle.std.specs.Prelude.{◌≡◌, ◌↔◌, IsTrue, None, Ok};
+ghost use Rattle.sync_driver.specs.Answers.{Command, line_of, status_of, status_of_refusal};
+ghost use Rattle.table_history.specs.declared.kind.Kind.TheVariants.{Delta, Hudi};
 ghost use Rattle.sync_driver.specs.Lines.{refusal_line};
 ghost use Rattle.sync_driver.specs.Tellings.{Tells};
+ghost use Rattle.sync_driver.specs.declared.words.Form.TheVariants.{Show, Sync};
 ghost use Rattle.sync_driver.specs.declared.status.Status.TheVariants.{Usage};
 
 use crate::first::first_sync;
 use crate::line::full_line;
 use crate::refusal::Refusal;
+use crate::show::show_delta;
 use crate::status::Status;
 use crate::tell::{put_line, refuse};
 use crate::words::{Form, command_of};
@@ -54,10 +57,17 @@ fn finish<O: Sink>(alloc: Global, out: &mut O, answer: Result<usize, Refusal>) -
 }
 
 /// Whether the form is a sync from Delta to Hudi.
-fn is_served(form: Form) -> bool
-    ensures { IsTrue result ↔ IsServed form }
+fn is_first_sync(form: Form) -> bool
+    ensures { IsTrue result ↔ (form ≡ Sync Delta Hudi None) }
 {
     matches!(form, Form::Sync(Kind::Delta, Kind::Hudi, None))
+}
+
+/// Whether the form shows Delta.
+fn shows_delta(form: Form) -> bool
+    ensures { IsTrue result ↔ (form ≡ Show Delta) }
+{
+    matches!(form, Form::Show(Kind::Delta))
 }
 
 /// Does what the words ask for, puts its line out, and answers how it ended. The first word is the
@@ -74,9 +84,12 @@ pub fn run<S: Store, C: Clock, O: Sink>(
     let Some(command) = command_of(words) else {
         return refuse(alloc, out, Status::Usage);
     };
-    if is_served(command.form) {
+    if is_first_sync(command.form) {
         let answer = first_sync(alloc, command.location, store, clock.now_ms());
         return finish(alloc, out, answer);
+    }
+    if shows_delta(command.form) {
+        return show_delta(alloc, store, out);
     }
     refuse(alloc, out, Status::Later)
 }

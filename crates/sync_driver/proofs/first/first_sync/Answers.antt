@@ -1,4 +1,4 @@
-use Rattle.std.proofs.Common.{◌≡◌, List, ℕ, sym, ◌∙◌, subst}
+use Rattle.std.proofs.Common.{List, ℕ, sym, ◌∙◌, subst}
 use Rattle.lake_store.specs.Disk.{Disk}
 use Rattle.hudi_names.specs.Time.{IsSomeTime}
 use Rattle.sync_driver.specs.Folders.{IsVacant}

@@ -1,8 +1,8 @@
-use Rattle.std.proofs.Common.{◌≡◌, List, ℕ, sym, ◌∙◌, ap, subst}
+use Rattle.std.proofs.Common.{List, ℕ, ◌∙◌, ap, subst}
 use Rattle.std.specs.Prelude.{is_some}
 use Rattle.std.specs.FinMap as map
 use Rattle.lake_store.specs.Disk.{Moves}
-use Rattle.sync_driver.specs.HudiPaths.{claim_path, completed_path}
+use Rattle.sync_driver.specs.HudiPaths.{claim_path}
 use Rattle.sync_driver.specs.Steps.{IsStored}
 use Rattle.sync_driver.proofs.StepLaws.{claim_there, completed_free, committed_files}
 use Rattle.sync_driver.proofs.publish.publish_commit.Goals as goal

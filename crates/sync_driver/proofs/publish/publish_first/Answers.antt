@@ -1,4 +1,4 @@
-use Rattle.std.proofs.Common.{◌≡◌, List, ℕ, refl, ◌∙◌, ap, arith}
+use Rattle.std.proofs.Common.{◌≡◌, refl, ◌∙◌, ap, arith}
 use Rattle.std.specs.FinMap as map
 use Rattle.lake_store.specs.Disk.{Disk}
 use Rattle.sync_driver.specs.HudiPaths.{properties_path, staged_path}

@@ -1,5 +1,4 @@
-use Rattle.std.proofs.Common.{◌≡◌, ◌≢◌, ◌∙◌, take, get_or, arith}
-use Rattle.sync_driver.specs.Forms.{location}
+use Rattle.std.proofs.Common.{◌∙◌, arith}
 use Rattle.sync_driver.proofs.Locations.{location_of_more, location_of_slash}
 use Rattle.sync_driver.proofs.words.location_of.Goals as goal
 use Rattle.sync_driver.proofs.words.location_of.Goals.{then-byte-ne47, else-byte-ne47}
