@@ -28,7 +28,8 @@ fn prepare<S: Store>(store: &mut S, properties: Option<&[u8]>) -> Result<(), Sto
     ensures prepared { S.tells → (base : Files)
         → Stands base (S.disk store.old) → IsIdle (S.disk store.old)
         → IsReady (option_copied properties.entry) (S.disk store.old).files
-        → OnOk result (IsPrepared (option_copied properties.entry) base (S.disk store.old) (S.disk store.new)) }
+        → OnOk result (IsPrepared (option_copied properties.entry) base (S.disk store.old)
+        (S.disk store.new)) }
     ensures alone { S.tells → LeavesAlone ⟦<S as Store>⟧ (IsKeptBut (option_copied properties.entry))
         store.old store.new }
     ensures cause { FailsBy ⟦<S as Store>⟧ store.old store.new (IsErrOf result StoreError.Failed) }
@@ -72,7 +73,8 @@ pub fn publish_commit<S: Store>(
     // Whatever the answer, completed instants stay byte for byte at any moment, and all else but
     // what stopped commits left.
     ensures kept { S.tells → LeavesAlone ⟦<S as Store>⟧
-        (IsKept (option_copied properties.entry) instant.now (S.disk store.old).files) store.old store.new }
+        (IsKept (option_copied properties.entry) instant.now (S.disk store.old).files)
+        store.old store.new }
     ensures folder { S.tells → ChangesOnlyIn ⟦<S as Store>⟧ timeline_folder store.old store.new }
     ensures cause { FailsBy ⟦<S as Store>⟧ store.old store.new (IsErrOf result StoreError.Failed) }
     ensures contest { IsContestedBy ⟦<S as Store>⟧ store.old store.new
