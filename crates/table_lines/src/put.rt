@@ -36,7 +36,8 @@ pub fn rows_in_order<'a>(alloc: Global, rows: &'a FileRows) -> Result<Vec<&'a Fi
 
 fn put_row<O: Sink>(alloc: Global, out: &mut O, row: &FileRow) -> Result<(), SinkError>
     ensures ok { O.tells → OnOk result (O.output out.new ≡ O.output out.old ++ row_line row.now) }
-    ensures err { O.tells → OnErr result ((n : ℕ) × (O.output out.new ≡ O.output out.old ++ take n (row_line row.now))) }
+    ensures err { O.tells → OnErr result
+        ((n : ℕ) × (O.output out.new ≡ O.output out.old ++ take n (row_line row.now))) }
     ensures cause { HasFault O.faults O.may_fail out.old out.new (IsErrOf result SinkError.Failed) }
 {
     let line = row_line(alloc, row)?;
@@ -44,8 +45,10 @@ fn put_row<O: Sink>(alloc: Global, out: &mut O, row: &FileRow) -> Result<(), Sin
 }
 
 fn put_rows<O: Sink>(alloc: Global, out: &mut O, rows: &[&FileRow]) -> Result<(), SinkError>
-    ensures ok { O.tells → OnOk result (O.output out.new ≡ O.output out.old ++ concat (map (λ row. row_line row.now) rows.now)) }
-    ensures err { O.tells → OnErr result ((n : ℕ) × (O.output out.new ≡ O.output out.old ++ take n (concat (map (λ row. row_line row.now) rows.now)))) }
+    ensures ok { O.tells → OnOk result (O.output out.new
+        ≡ O.output out.old ++ concat (map (λ row. row_line row.now) rows.now)) }
+    ensures err { O.tells → OnErr result ((n : ℕ) × (O.output out.new
+        ≡ O.output out.old ++ take n (concat (map (λ row. row_line row.now) rows.now)))) }
     ensures cause { HasFault O.faults O.may_fail out.old out.new (IsErrOf result SinkError.Failed) }
 {
     for row in rows {
@@ -54,8 +57,8 @@ fn put_rows<O: Sink>(alloc: Global, out: &mut O, rows: &[&FileRow]) -> Result<()
     Ok(())
 }
 
-/// Puts the lines of a table at a position out, one by one: the table's own, and one of each of these
-/// rows. After a refusal a front of them may have gone out.
+/// Puts the lines of a table at a position out, one by one: the table's own, and one of each of
+/// these rows. After a refusal a front of them may have gone out.
 pub fn put_lines<O: Sink>(
     alloc: Global,
     out: &mut O,
@@ -64,8 +67,10 @@ pub fn put_lines<O: Sink>(
     table: &Table,
     rows: &[&FileRow],
 ) -> Result<(), SinkError>
-    ensures ok { O.tells → OnOk result (O.output out.new ≡ O.output out.old ++ lines_over kind position.now table.now (map (λ row. row.now) rows.now)) }
-    ensures err { O.tells → OnErr result ((n : ℕ) × (O.output out.new ≡ O.output out.old ++ take n (lines_over kind position.now table.now (map (λ row. row.now) rows.now)))) }
+    ensures ok { O.tells → OnOk result (O.output out.new ≡ O.output out.old
+        ++ lines_over kind position.now table.now (map (λ row. row.now) rows.now)) }
+    ensures err { O.tells → OnErr result ((n : ℕ) × (O.output out.new ≡ O.output out.old
+        ++ take n (lines_over kind position.now table.now (map (λ row. row.now) rows.now)))) }
     ensures cause { HasFault O.faults O.may_fail out.old out.new (IsErrOf result SinkError.Failed) }
 {
     let line = summary_line(alloc, kind, position, table, rows)?;

@@ -58,7 +58,8 @@ pub(crate) fn summary_line(
     table: &Table,
     rows: &[&FileRow],
 ) -> Result<Vec<u8>, AllocError>
-    ensures { IfOk result (λ bytes. bytes.items ≡ summary_line kind position.now table.now (map (λ row. row.now) rows.now)) }
+    ensures { IfOk result (λ bytes. bytes.items
+        ≡ summary_line kind position.now table.now (map (λ row. row.now) rows.now)) }
 {
     let format = kind.word();
     let position = position.as_str();
