@@ -98,10 +98,13 @@ fn missing_version<S: Store>(
     newest: u64,
 ) -> Result<Option<u64>, SourceError>
     requires { newest ≤ MAX_DELTA_VERSION }
-    ensures missing { S.tells → IsNewest (S.disk store.old).files newest → IfOk result (λ found. MatchOption found
+    ensures missing { S.tells → IsNewest (S.disk store.old).files newest
+        → IfOk result (λ found. MatchOption found
         (HasEach (S.disk store.old).files newest) (IsLastMissing (S.disk store.old).files newest)) }
-    ensures within { IfOk result (λ found. MatchOption found (Unit {0}) (λ version. version ≤ MAX_DELTA_VERSION)) }
-    ensures refused { S.tells → IsNewest (S.disk store.old).files newest → IfErr result (IsReadRefusal (HasManyNames (S.disk store.old).files)) }
+    ensures within { IfOk result
+        (λ found. MatchOption found (Unit {0}) (λ version. version ≤ MAX_DELTA_VERSION)) }
+    ensures refused { S.tells → IsNewest (S.disk store.old).files newest
+        → IfErr result (IsReadRefusal (HasManyNames (S.disk store.old).files)) }
     ensures only_reads { S.tells → OnlyReads ⟦<S as Store>⟧ store.old store.new }
     ensures cause { FailsBy ⟦<S as Store>⟧ store.old store.new (IsErrOf result StoreFault) }
     ensures contest { IsUncontestedBy ⟦<S as Store>⟧ store.old store.new ⊥ }
@@ -116,9 +119,11 @@ fn missing_version<S: Store>(
 /// The table that the versions from 0 to this one make.
 fn table_up_to<S: Store>(alloc: Global, store: &mut S, newest: u64) -> Result<Table, SourceError>
     requires { newest ≤ MAX_DELTA_VERSION }
-    ensures table { S.tells → IsNewest (S.disk store.old).files newest → IfOk result (IsTableAtHead (S.disk store.old).files) }
+    ensures table { S.tells → IsNewest (S.disk store.old).files newest
+        → IfOk result (IsTableAtHead (S.disk store.old).files) }
     ensures sound { IfOk result IsPublishable }
-    ensures refused { S.tells → IfErr result (IsReadRefusal (IsRefusedLog (S.disk store.old).files newest)) }
+    ensures refused { S.tells
+        → IfErr result (IsReadRefusal (IsRefusedLog (S.disk store.old).files newest)) }
     ensures only_reads { S.tells → OnlyReads ⟦<S as Store>⟧ store.old store.new }
     ensures cause { FailsBy ⟦<S as Store>⟧ store.old store.new (IsErrOf result StoreFault) }
     ensures contest { IsUncontestedBy ⟦<S as Store>⟧ store.old store.new ⊥ }
@@ -132,9 +137,11 @@ fn table_up_to<S: Store>(alloc: Global, store: &mut S, newest: u64) -> Result<Ta
 /// The same, where none of the versions is missing.
 fn whole_table<S: Store>(alloc: Global, store: &mut S, newest: u64) -> Result<Table, SourceError>
     requires { newest ≤ MAX_DELTA_VERSION }
-    ensures table { S.tells → IsNewest (S.disk store.old).files newest → IfOk result (IsTableAtHead (S.disk store.old).files) }
+    ensures table { S.tells → IsNewest (S.disk store.old).files newest
+        → IfOk result (IsTableAtHead (S.disk store.old).files) }
     ensures sound { IfOk result IsPublishable }
-    ensures refused { S.tells → IsNewest (S.disk store.old).files newest → IfErr result (IsReadRefusal (ShowsFromScratch (S.disk store.old).files)) }
+    ensures refused { S.tells → IsNewest (S.disk store.old).files newest
+        → IfErr result (IsReadRefusal (ShowsFromScratch (S.disk store.old).files)) }
     ensures only_reads { S.tells → OnlyReads ⟦<S as Store>⟧ store.old store.new }
     ensures cause { FailsBy ⟦<S as Store>⟧ store.old store.new (IsErrOf result StoreFault) }
     ensures contest { IsUncontestedBy ⟦<S as Store>⟧ store.old store.new ⊥ }
@@ -176,12 +183,12 @@ impl DeltaSource {
         Kind::Delta
     }
 
-    /// The newest version in the log, and the table's id, which version 0 states. It is absent exactly
-    /// where no version is there. Version 0, where it is there, is judged whole; what else is wrong with
-    /// the log, `whole` tells.
+    /// The newest version in the log, and the table's id, which version 0 states. It is absent
+    /// exactly where no version is there. Version 0, where it is there, is judged whole; what else
+    /// is wrong with the log, `whole` tells.
     pub fn head<S: Store>(&self, alloc: Global, store: &mut S) -> Result<Head, SourceError>
-        ensures head { S.tells → IsHeadAnswer (IsAbsent (S.disk store.old).files) (IsDeltaHead (S.disk store.old).files)
-            (ShowsAtHead (S.disk store.old).files) result }
+        ensures head { S.tells → IsHeadAnswer (IsAbsent (S.disk store.old).files)
+            (IsDeltaHead (S.disk store.old).files) (ShowsAtHead (S.disk store.old).files) result }
         ensures only_reads { S.tells → OnlyReads ⟦<S as Store>⟧ store.old store.new }
         ensures cause { FailsBy ⟦<S as Store>⟧ store.old store.new (IsErrOf result StoreFault) }
         ensures contest { IsUncontestedBy ⟦<S as Store>⟧ store.old store.new ⊥ }
@@ -196,8 +203,8 @@ impl DeltaSource {
     }
 
     /// The table at the head, which `head` has given, read from version 0 (Delta protocol, "Action
-    /// Reconciliation"). Where a version is missing, the greatest such one is told; otherwise the first
-    /// version at fault.
+    /// Reconciliation"). Where a version is missing, the greatest such one is told; otherwise the
+    /// first version at fault.
     pub fn whole<S: Store>(
         &self,
         alloc: Global,
@@ -208,7 +215,8 @@ impl DeltaSource {
         ensures table { S.tells → IfOk result (IsTableAtHead (S.disk store.old).files) }
         // The table may be published.
         ensures sound { IfOk result IsPublishable }
-        ensures refused { S.tells → IfErr result (IsReadRefusal (ShowsFromScratch (S.disk store.old).files)) }
+        ensures refused { S.tells
+            → IfErr result (IsReadRefusal (ShowsFromScratch (S.disk store.old).files)) }
         ensures only_reads { S.tells → OnlyReads ⟦<S as Store>⟧ store.old store.new }
         ensures cause { FailsBy ⟦<S as Store>⟧ store.old store.new (IsErrOf result StoreFault) }
         ensures contest { IsUncontestedBy ⟦<S as Store>⟧ store.old store.new ⊥ }

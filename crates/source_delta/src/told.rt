@@ -29,7 +29,8 @@ fn limit(which: LimitKind) -> SourceError
 /// The version's file isn't in its grammar.
 fn malformed(alloc: Global, version: u64) -> SourceError
     requires { version ≤ MAX_DELTA_VERSION }
-    ensures told { IsReadRefusal (λ e. (path : List ℕ) × IsVersionPath path version × (e ≡ Malformed path)) result }
+    ensures told { IsReadRefusal
+        (λ e. (path : List ℕ) × IsVersionPath path version × (e ≡ Malformed path)) result }
     ensures fault { result ≢ StoreFault }
 {
     match version_path(alloc, version) {
@@ -41,7 +42,8 @@ fn malformed(alloc: Global, version: u64) -> SourceError
 /// The version's file shows a feature that isn't supported.
 pub(crate) fn unsupported(alloc: Global, feature: Feature, version: u64) -> SourceError
     requires { version ≤ MAX_DELTA_VERSION }
-    ensures told { IsReadRefusal (λ e. (path : List ℕ) × IsVersionPath path version × (e ≡ Unsupported feature path)) result }
+    ensures told { IsReadRefusal (λ e. (path : List ℕ) × IsVersionPath path version
+        × (e ≡ Unsupported feature path)) result }
     ensures fault { result ≢ StoreFault }
 {
     match version_path(alloc, version) {

@@ -47,12 +47,14 @@ fn status_of_source(error: SourceError) -> Status
 
 /// The log's head, and the table there, read from scratch.
 fn read_table<S: Store>(alloc: Global, store: &mut S) -> Result<Shown, SourceError>
-    ensures head { S.tells → IfOk result (λ shown. IsDeltaHead (S.disk store.old).files shown.head) }
+    ensures head { S.tells
+        → IfOk result (λ shown. IsDeltaHead (S.disk store.old).files shown.head) }
     ensures table { S.tells
         → IfOk result (λ shown. IsTableAtHead (S.disk store.old).files shown.table) }
     ensures refused { S.tells → IfErr result (IsShowRefusal (S.disk store.old).files) }
     ensures only_reads { S.tells → OnlyReads ⟦<S as Store>⟧ store.old store.new }
-    ensures cause { FailsBy ⟦<S as Store>⟧ store.old store.new (IsErrOf result SourceError.StoreFault) }
+    ensures cause { FailsBy ⟦<S as Store>⟧ store.old store.new
+        (IsErrOf result SourceError.StoreFault) }
     ensures contest { IsUncontestedBy ⟦<S as Store>⟧ store.old store.new ⊥ }
 {
     let source = DeltaSource::new();

@@ -19,8 +19,7 @@ pub returns : goal.returns
 returns g c =
     let rows = map (λ (row : Bor FileRow). row.now) c.deref.result.now in
     let lines = lines_over Delta c.args.shown.now.head.position c.args.shown.now.table rows in
-    let same = sym c.deref.ensures.value in
-    (
+    let same = sym c.deref.ensures.value in (
       Ok lines,
       record {
         rows = rows;
@@ -30,5 +29,5 @@ returns g c =
       },
       tt,
       subst (λ (s : Status). Tells g.O.Sink c.args.out.now c.put_lines-put.new.out lines Done s) (sym c.status_of_put.ensures)
-      (put_told g.O.Sink c.args.out.now c.put_lines-put.new.out lines c.put_lines-put.result c.put_lines-put.ensures.ok c.put_lines-put.ensures.err c.put_lines-put.ensures.cause),
+          (put_told g.O.Sink c.args.out.now c.put_lines-put.new.out lines c.put_lines-put.result c.put_lines-put.ensures.ok c.put_lines-put.ensures.err c.put_lines-put.ensures.cause),
     )
