@@ -13,3 +13,6 @@ pub mod WrittenLemmas
 pub mod StepLemmas
 pub mod ActionLemmas
 pub mod OwnLemmas
+pub mod StrayLemmas
+pub mod SeenLemmas
+pub mod ToldLemmas

@@ -5,3 +5,4 @@ pub mod Writing
 pub mod Fitting
 pub mod TableId
 pub mod Kept
+pub mod InspectSteps

@@ -1,5 +1,5 @@
 -- What a Delta target's files stand for, and what a version carries.
-use Rattle.std.specs.Prelude.{◌≡◌, ◌↔◌, ◌⊎◌, ℕ, suc, List, [], ◌∷◌, length, filter_map, ◌==◌, ◌&&◌, nat_le, Bool, take, drop, Contains, Option, None, Some, IsSome, codes, if◌then◌else◌}
+use Rattle.std.specs.Prelude.{◌≡◌, ◌↔◌, ◌⊎◌, ℕ, suc, List, length, filter_map, find, ◌==◌, ◌&&◌, nat_le, Bool, take, drop, Contains, Option, None, Some, IsSome, option_map, codes, if◌then◌else◌}
 use Rattle.std.specs.FinMap as map
 use Rattle.std.specs.Fmt.{decimal}
 use Rattle.std.specs.List.{list_all}
@@ -30,8 +30,7 @@ use Rattle.target_delta.specs.Names.{HasVersions, IsLeftoverName, path_of}
 
 -- the value of the first setting of this name
 abbrev pub setting : List ℕ → List (List ℕ × List ℕ) → Option (List ℕ)
-setting name [] = None
-setting name (p ∷ ps) = if bytes_eq name p.0 then Some p.1 else setting name ps
+setting name settings = option_map (λ p. p.1) (find (λ p. bytes_eq p.0 name) settings)
 
 abbrev pub mark_setting : List ℕ
 mark_setting = codes "lakebridge.mark"

@@ -3,6 +3,7 @@
 #![tactic(auto)]
 
 mod actions;
+mod inspect;
 mod kept;
 mod meta;
 mod names;
@@ -13,5 +14,7 @@ mod written;
 pub use kept::DeltaKept;
 pub use target::DeltaTarget;
 
+#[cfg(test)]
+mod inspect_tests;
 #[cfg(test)]
 mod tests;

@@ -1,0 +1,181 @@
+-- What a Delta log that was read up to its newest version stands at.
+use Rattle.std.proofs.Common.{◌≡◌, ◌≢◌, inl, inr, ℕ, suc, pos, true, ◌+◌, ◌≤◌, List, [], Option, Some, None, refl, sym, ap, subst, ◌∙◌, arith}
+use Rattle.std.specs.Option.{option_and_then, option_map}
+use Rattle.std.proofs.lemmas.Bool.{cases_lt}
+use Rattle.lake_basics.specs.declared.limits.TheConstants.{MAX_DELTA_VERSION}
+use Rattle.lake_store.specs.Disk.{Files}
+use Rattle.table_history.specs.History.{IsOfType, column_type}
+use Rattle.table_history.specs.TypeTree.{TypeTree}
+use Rattle.table_history.specs.declared.kind.Kind.{Kind}
+use Rattle.table_history.specs.declared.row.PartValue.{PartValue}
+use Rattle.table_history.specs.declared.row.PartValue.TheVariants as value
+use Rattle.table_history.specs.declared.table.Table.{Table}
+use Rattle.partition_map.specs.Kind.{IsOfKind, part_kind_of}
+use Rattle.partition_map.specs.declared.kind.PartKind.{PartKind}
+use Rattle.partition_map.specs.declared.kind.PartKind.TheVariants as kind
+use Rattle.partition_map.proofs.Laws.{kind_of_type}
+use Rattle.delta_log.specs.Change.{IsTableOfLog}
+use Rattle.delta_log.specs.declared.commit.DeltaCommit.{DeltaCommit}
+use Rattle.delta_log.specs.declared.commit.MetaData.{MetaData}
+use Rattle.delta_table.specs.Log.{IsLog, IsLogOf, IsNewestProtocol, SaysCommit}
+use Rattle.delta_table.specs.declared.log.Log.{Log}
+use Rattle.delta_table.proofs.LogLaws.{read_is_log}
+use Rattle.delta_table.proofs.PathLaws.{says_once}
+use Rattle.target_core.specs.Conditions.{IsPublishable}
+use Rattle.target_core.specs.Mark.{IsMarkText}
+use Rattle.target_core.specs.SeenView.{IsSeen, IsSeenSound}
+use Rattle.target_core.specs.Views.{Standing, standing_of}
+use Rattle.target_core.specs.declared.mark.Mark.{Mark}
+use Rattle.target_core.specs.declared.target.Seen.{Seen}
+use Rattle.target_core.specs.declared.target.Seen.TheVariants.{Absent, Ours, Foreign}
+use Rattle.target_delta.specs.Inspecting.{IsForeign}
+use Rattle.target_delta.specs.InspectSteps.{IsKeptOf, IsMarkOf, IsNewest, IsSeenOf}
+use Rattle.target_delta.specs.Kept.{HoldsEnd, StandsFor, view_of}
+use Rattle.target_delta.specs.Names.{HasVersions}
+use Rattle.target_delta.specs.Reading.{IsMarkAt, IsOurs, Reads, mark_setting, setting}
+use Rattle.target_delta.specs.declared.kept.DeltaKept.{DeltaKept}
+use Rattle.target_delta.proofs.LogLemmas.{log_front}
+
+-- ---- the table may be published
+
+value_of : (k : PartKind) → (v : PartValue) × (v ≢ value.Null) × IsOfKind k v
+value_of kind.Boolean = (value.Boolean true, λ e. absurd cc, tt)
+value_of kind.Int = (value.Int (pos 0), λ e. absurd cc, tt)
+value_of kind.Long = (value.Long (pos 0), λ e. absurd cc, tt)
+value_of kind.Text = (value.Text [], λ e. absurd cc, tt)
+value_of kind.Date = (value.Date (pos 0), λ e. absurd cc, tt)
+
+some_kind : (o : Option PartKind) → o ≢ None → (k : PartKind) × (o ≡ Some k)
+some_kind None h = absurd (h refl)
+some_kind (Some k) h = (k, refl)
+
+typed : (o : Option TypeTree) → option_and_then part_kind_of o ≢ None → (t : TypeTree) × (v : PartValue) × (o ≡ Some t) × (v ≢ value.Null) × IsOfType t v
+typed None h = absurd (h refl)
+typed (Some t) h =
+    let is = some_kind (part_kind_of t) h in
+    let v = value_of is.0 in
+    (t, v.0, refl, v.1, (kind_of_type t is.0 is.1 v.0).0 v.2)
+
+pub publishable : (table : Table) → IsTableOfLog table → IsPublishable table
+publishable table is = record {
+  sound = is.sound;
+  paths = is.paths;
+  live_files = is.live_files;
+  partition_columns = is.partition_columns;
+  partition_distinct = is.partition_distinct;
+  partition_kinds = λ name there. typed (column_type table.schema name) (is.partition_kinds name there);
+  schema = is.schema;
+  size = is.size;
+}
+
+-- ---- the newest version's mark
+
+module _ (files : Files) (newest : ℕ) (log : Log) (is : IsLogOf files (newest + 1) log) where
+  -- the newest metadata is of the newest version, where that version has its own
+  own_meta : (c : DeltaCommit) (m : MetaData) → SaysCommit files newest c → c.meta ≡ Some m → (log.meta_version ≡ newest) × (m ≡ log.meta)
+  own_meta c m says stated =
+      elim (cases_lt is.meta.version newest) [
+        | inl lt ↦ absurd (none_some m (sym (is.meta.last newest c lt (omega arith) says) ∙ stated))
+        | inr le ↦
+            let within = is.meta.within in
+            let version : is.meta.version ≡ newest = omega (arith, le, within) in
+            let commit : is.meta.commit ≡ c = says_once files newest is.meta.commit c (subst (λ (n : ℕ). SaysCommit files n is.meta.commit) version is.meta.says) says in
+            let both : Some m ≡ Some log.meta = sym stated ∙ ap (λ (d : DeltaCommit). d.meta) (sym commit) ∙ is.meta.is in
+            (is.meta_version ∙ version, cc)
+      ]
+    where
+      none_some : (x : MetaData) → None ≡ Some x → ⊥
+      none_some x e = absurd cc
+
+  pub mark_at : (mark : Mark) → IsMarkOf log newest mark → IsMarkAt files newest (standing_of mark)
+  mark_at mark of =
+      let version : is.meta.version ≡ newest = sym is.meta_version ∙ of.own in
+      record {
+        commit = is.meta.commit;
+        read = subst (λ (n : ℕ). SaysCommit files n is.meta.commit) version is.meta.says;
+        mark = mark;
+        has = record { meta = log.meta; stated = is.meta.is; text = of.text; found = of.found; reads = of.reads };
+        at = of.at;
+        is = refl;
+      }
+
+  pub mark_of_at : (standing : Standing) (at : IsMarkAt files newest standing) → IsMarkOf log newest at.mark
+  mark_of_at standing at =
+      let own = own_meta at.commit at.has.meta at.read at.has.stated in
+      record {
+        own = own.0;
+        text = at.has.text;
+        found = subst (λ (m : MetaData). setting mark_setting m.configuration ≡ Some at.has.text) own.1 at.has.found;
+        reads = at.has.reads;
+        at = at.at;
+      }
+
+-- ---- what is seen
+
+module _ (files : Files) (newest : ℕ) (log : Log) (is : IsLogOf files (newest + 1) log) (last : IsNewest files newest) (within : newest ≤ MAX_DELTA_VERSION) where
+  count : newest + 1 ≡ suc newest
+  count = omega arith
+
+  whole : IsLog files (suc newest) (Some log.table)
+  whole = subst (λ (n : ℕ). IsLog files n (Some log.table)) count (read_is_log files (newest + 1) (Some log.table) is.table)
+
+  all_there : HasVersions files (suc newest)
+  all_there = record {
+    within = omega (arith, within);
+    there = λ version lt. let front = log_front files (suc newest) version (Some log.table) lt whole in (front.3.bytes, front.3.holds);
+    none = λ version le has. let upto = last.last version has in omega (arith, le, upto);
+  }
+
+  module _ (mark : Mark) (of : IsMarkOf log newest mark) (kept : DeltaKept) (k : IsKeptOf log newest mark kept) where
+    ours : IsOurs files (view_of kept)
+    ours = record {
+      newest = newest;
+      count = k.commits ∙ count;
+      versions = all_there;
+      log = subst (λ (t : Table). IsLog files (suc newest) (Some t)) (sym k.table) whole;
+      standing = standing_of mark;
+      mark = ap (λ (m : Option Mark). option_map standing_of m) k.marked;
+      marked = mark_at files newest log is mark of;
+    }
+
+    end : HoldsEnd files kept
+    end =
+        let at = mark_at files newest log is mark of in
+        record {
+          newest = newest;
+          count = k.commits ∙ count;
+          commit = is.meta.commit;
+          says = subst (λ (n : ℕ). SaysCommit files n is.meta.commit) (sym is.meta_version ∙ of.own) is.meta.says;
+          meta = log.meta;
+          stated = is.meta.is;
+          id = sym k.id;
+          protocol = log.protocol;
+          newest_protocol = subst (λ (n : ℕ). IsNewestProtocol files n log.protocol) count is.protocol;
+          ntz = sym k.ntz;
+        }
+
+    pub stands : (id : List ℕ) → StandsFor id kept files
+    stands id = record { reads = inr ours; end = inr end }
+
+  pub seen_here : (source : Kind) (id : List ℕ) (seen : Seen DeltaKept) → IsSeenOf log newest source seen → IsSeen (Reads files) (IsForeign source files) view_of (λ kept. StandsFor id kept files) source seen
+  seen_here source id Absent h = absurd h
+  seen_here source id (Ours kept) h = (stands h.0 h.1 kept h.3 id, (standing_of h.0, ap (λ (m : Option Mark). option_map standing_of m) h.3.marked, h.2))
+  seen_here source id (Foreign path) h = inr (inr (record {
+    newest = newest;
+    named = h.0;
+    versions = all_there;
+    table = log.table;
+    log = whole;
+    unmarked = λ standing at same. h.1 at.mark (mark_of_at files newest log is standing at) (ap (λ (s : Standing). s.origin.source) at.is ∙ same);
+  }))
+
+-- what is kept of a log of a table that may be followed on
+pub kept_sound : (log : Log) (newest : ℕ) (source : Kind) (mark : Mark) (kept : DeltaKept) → IsTableOfLog log.table → IsKeptOf log newest mark kept → mark.source ≡ source → IsSeenSound view_of source (Ours kept)
+kept_sound log newest source mark kept table k is = (subst IsPublishable (sym k.table) (publishable log.table table), (standing_of mark, ap (λ (m : Option Mark). option_map standing_of m) k.marked, is))
+
+-- Where the setting's text is no mark, the log has none.
+pub no_mark : (log : Log) (newest : ℕ) (settings : List (List ℕ × List ℕ)) (text : List ℕ) (mark : Mark) → settings ≡ log.meta.configuration → Some text ≡ setting mark_setting settings → ((m : Mark) → IsMarkText text m → ⊥) → IsMarkOf log newest mark → ⊥
+no_mark log newest settings text mark are found none of =
+    let both : Some text ≡ Some of.text = found ∙ ap (setting mark_setting) are ∙ of.found in
+    let same : of.text ≡ text = cc in
+    none mark (subst (λ (t : List ℕ). IsMarkText t mark) same of.reads)
