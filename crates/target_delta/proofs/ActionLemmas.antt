@@ -1,7 +1,8 @@
 -- The actions of a change, in the order of their paths.
-use Rattle.std.proofs.Common.{◌≡◌, ⊎_elim, ℕ, ◌+◌, ◌<◌, ◌≤◌, Bool, true, false, not, cond, List, [], ◌∷◌, ◌++◌, length, get_or, take, filter, map, Contains, Some, refl, sym, ap, subst, ◌∙◌, arith}
+use Rattle.std.proofs.Common.{◌≡◌, ⊎_elim, ℕ, ◌+◌, ◌<◌, ◌≤◌, Bool, true, false, not, cond, List, [], ◌∷◌, ◌++◌, length, get_or, take, filter, map, All, Contains, Some, refl, sym, ap, subst, ◌∙◌, arith}
 use Rattle.std.specs.Prelude.{◌↔◌, IfOk, is_some, Result, Ok, Err}
 use Rattle.std.proofs.Math.Seq.{take-length}
+use Rattle.std.proofs.lemmas.List.Elements.{All-cons, All-nil}
 use Rattle.std.proofs.lemmas.Bool.{cases_Bool, false≢true}
 use Rattle.std.proofs.lemmas.Map.Keys.{IsDistinct-cons, IsDistinct-head, IsDistinct-tail}
 use Rattle.std.proofs.lemmas.Slice.Eq.{bytes_eq-Decides}
@@ -9,11 +10,13 @@ use Rattle.table_history.proofs.RowListLemmas.{Contains-cases, Contains-filter, 
 use Rattle.delta_log.proofs.BehindLemmas.{has_row, one_row}
 use Rattle.std.specs.List.{AllByRecursion, IsDistinct}
 use Rattle.std.specs.Str.{bytes_eq}
+use Rattle.table_history.specs.Path.{IsPath}
 use Rattle.table_history.specs.Row.{Row}
 use Rattle.table_history.specs.Rows.{HasDistinctPaths, HasPath, IsInByteOrder, paths_of, row_at}
 use Rattle.table_history.specs.declared.table.Change.{Change}
 use Rattle.table_history.proofs.TableLemmas.{Contains-paths_cases}
 use Rattle.delta_log.specs.Commit.{file_path, file_paths}
+use Rattle.delta_log.specs.Sound.{IsSoundFile}
 use Rattle.delta_log.specs.declared.commit.FileAction.TheVariants as file
 use Rattle.delta_log.specs.declared.commit.FileAction.{FileAction}
 use Rattle.target_delta.specs.Writing.{AreActions, AreAddsAt, CanAdd, IsAddOf, LeavesAdded, LosesRemoved}
@@ -179,3 +182,7 @@ actions_are partition change rows lost paths adds files leaves loses distinct lo
   removes_order = subst (λ (l : List (List ℕ)). IsInByteOrder l) (sym (remove_paths lost)) lost_order;
   adds_order = subst (λ (l : List (List ℕ)). IsInByteOrder l) (sym (add_paths partition rows paths adds added)) paths_order;
 }
+
+pub removes_sound : (paths : List (List ℕ)) → ((path : List ℕ) → Contains paths path → IsPath path) → All IsSoundFile (map file.Remove paths)
+removes_sound [] are = All-nil IsSoundFile
+removes_sound (p ∷ paths) are = All-cons IsSoundFile (file.Remove p) (map file.Remove paths) (are p (Contains-head p paths)) (removes_sound paths (λ path there. are path (Contains-tail p paths path there)))

@@ -16,3 +16,11 @@ pub mod OwnLemmas
 pub mod StrayLemmas
 pub mod SeenLemmas
 pub mod ToldLemmas
+pub mod HeldLemmas
+pub mod KindLemmas
+pub mod FormLemmas
+pub mod WritableLemmas
+pub mod CommitLemmas
+pub mod NewVersionLemmas
+pub mod StoreLemmas
+pub mod LawLemmas

@@ -72,7 +72,7 @@ module _ (name : List ℕ) (version : ℕ) (named : IsVersionPath name version) 
   pub below : (path : List ℕ) (v : ℕ) → v < version → IsVersionPath path v → map.get new path ≡ map.get old path
   below path v lt is = beside.versions path v (λ (same : path ≡ name). let one : v ≡ version = version_of_path name v version (subst (λ (p : List ℕ). IsVersionPath p v) same is) named in absurd (omega (arith, lt, one))) is
 
-  says_below : (v : ℕ) (c : DeltaCommit) → v < version → SaysCommit old v c → SaysCommit new v c
+  pub says_below : (v : ℕ) (c : DeltaCommit) → v < version → SaysCommit old v c → SaysCommit new v c
   says_below v c lt h = record { bytes = h.bytes; holds = record { path = h.holds.path; is = h.holds.is; there = below h.holds.path v lt h.holds.is ∙ h.holds.there }; readable = h.readable }
 
   marked_below : (v : ℕ) (s : Standing) → v < version → IsMarkAt old v s → IsMarkAt new v s

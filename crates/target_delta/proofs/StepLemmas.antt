@@ -44,7 +44,7 @@ removes_nothing : (columns : PartColumns) (path : List ℕ) (g : FileAction) (ro
 removes_nothing columns path (file.Add q ws bytes records) row is adds = is
 removes_nothing columns path (file.Remove q) row is adds = adds
 
-path_there : (f : FileAction) (fs : List FileAction) → Contains fs f → Contains (file_paths fs) (file_path f)
+pub path_there : (f : FileAction) (fs : List FileAction) → Contains fs f → Contains (file_paths fs) (file_path f)
 path_there f [] there = absurd (Contains-none f there)
 path_there f (x ∷ fs) there =
     ⊎_elim
@@ -52,7 +52,7 @@ path_there f (x ∷ fs) there =
     (λ later. Contains-tail (file_path x) (file_paths fs) (file_path f) (path_there f fs later))
     (Contains-cases x fs f there)
 
-path_from : (path : List ℕ) (fs : List FileAction) → Contains (file_paths fs) path → (f : FileAction) × Contains fs f × (file_path f ≡ path)
+pub path_from : (path : List ℕ) (fs : List FileAction) → Contains (file_paths fs) path → (f : FileAction) × Contains fs f × (file_path f ≡ path)
 path_from path [] there = absurd (Contains-none path there)
 path_from path (x ∷ fs) there =
     ⊎_elim
@@ -62,7 +62,7 @@ path_from path (x ∷ fs) there =
 
 -- ---- the protocol that is written
 
-due_first : (has : Bool) → protocol_due 0 false has ≡ None → ⊥
+pub due_first : (has : Bool) → protocol_due 0 false has ≡ None → ⊥
 due_first true is = cc
 due_first false is = cc
 
@@ -70,7 +70,7 @@ by_first : (b : Bool) (p : Protocol) → cond b (Some plain_protocol) None ≡ S
 by_first true p is = cc
 by_first false p is = absurd (cc)
 
-due_is : (version : ℕ) (named has : Bool) (p : Protocol) → protocol_due version named has ≡ Some p → (plain_protocol ≡ p) ⊎ (ntz_protocol ≡ p)
+pub due_is : (version : ℕ) (named has : Bool) (p : Protocol) → protocol_due version named has ≡ Some p → (plain_protocol ≡ p) ⊎ (ntz_protocol ≡ p)
 due_is version true true p is = absurd (cc)
 due_is version false true p is = inr (let same : ntz_protocol ≡ p = cc in same)
 due_is version named false p is = inl (by_first (version == 0) p is)
@@ -127,10 +127,10 @@ module _ (end : LogEnd) (origin : Origin) (commit : Commit) (written d : DeltaCo
     (base : Option Table) (next : Table) (before : StandsBefore end base commit next) where
   -- ---- the metadata
 
-  again : MetaAgain (meta_of end origin commit) d.meta
+  pub again : MetaAgain (meta_of end origin commit) d.meta
   again = meta_again (meta_of end origin commit) d.meta (subst (λ (o : Option MetaData). SameMeta o d.meta) w.meta same.meta)
 
-  spelled : delta_schema_of again.again.schema ≡ Ok next.schema
+  pub spelled : delta_schema_of again.again.schema ≡ Ok next.schema
   spelled = ap delta_schema_of (sym again.schema ∙ ap delta_text (sym before.schema)) ∙ before.spells
 
   pub partition_is : partition_behind d.meta base ≡ next.partition
@@ -154,7 +154,7 @@ module _ (end : LogEnd) (origin : Origin) (commit : Commit) (written d : DeltaCo
 
   -- ---- the partition columns
 
-  found : (columns : PartColumns) × ArePartColumns next.schema next.partition columns
+  pub found : (columns : PartColumns) × ArePartColumns next.schema next.partition columns
   found = columns_there next.schema next.partition before.publishable.partition_kinds
 
   -- ---- the rows
@@ -163,14 +163,14 @@ module _ (end : LogEnd) (origin : Origin) (commit : Commit) (written d : DeltaCo
   fit row there = before.publishable.sound.values row ((before.rows row).1 (inl there))
 
   module _ (columns : PartColumns) (are : ArePartColumns next.schema next.partition columns) where
-    added_again : (row : Row) → Contains commit.change.added row → (g : FileAction) × Contains d.files g × AddsRow columns g row
+    pub added_again : (row : Row) → Contains commit.change.added row → (g : FileAction) × Contains d.files g × AddsRow columns g row
     added_again row there =
         let f = w.files.of_row row there in
         let within : Contains written.files f.0 = subst (λ (l : List FileAction). Contains l f.0) (sym w.files.split) (Contains-append_right w.files.removes w.files.adds f.0 f.1) in
         let g = again_of written.files d.files f.0 same.files within in
         (g.0, g.1, adds_again next.schema next.partition columns are before.publishable.partition_distinct row (fit row there) f.0 g.0 (subst (λ (p : List (List ℕ)). IsAddOf p row f.0) (sym before.partition) f.2) g.2)
 
-    added_from : (g : FileAction) (row : Row) → Contains d.files g → AddsRow columns g row → Contains commit.change.added row
+    pub added_from : (g : FileAction) (row : Row) → Contains d.files g → AddsRow columns g row → Contains commit.change.added row
     added_from g row there adds =
         let f = again_from written.files d.files g same.files there in
         let within : Contains (w.files.removes ++ w.files.adds) f.0 = subst (λ (l : List FileAction). Contains l f.0) w.files.split f.1 in
@@ -256,10 +256,10 @@ module _ (end : LogEnd) (origin : Origin) (commit : Commit) (written d : DeltaCo
 
   -- ---- the grammar
 
-  protocol_is : d.protocol ≡ protocol_due end.version end.ntz (have_ntz (schema_behind end commit.change))
+  pub protocol_is : d.protocol ≡ protocol_due end.version end.ntz (have_ntz (schema_behind end commit.change))
   protocol_is = sym same.protocol ∙ w.protocol
 
-  meta_partition : (m : MetaData) → d.meta ≡ Some m → m.partition ≡ next.partition
+  pub meta_partition : (m : MetaData) → d.meta ≡ Some m → m.partition ≡ next.partition
   meta_partition m is = ap (λ (n : MetaData). n.partition) (one_meta m is) ∙ sym again.partition ∙ sym before.partition
 
   no_err : (m : MetaData) (e : MapError) → d.meta ≡ Some m → delta_schema_of m.schema ≡ Err e → ⊥

@@ -1,5 +1,5 @@
 -- Why commits don't fit a Delta target.
-use Rattle.std.specs.Prelude.{◌≡◌, ◌≢◌, ◌⊎◌, ℕ, ◌<◌, List, [], ◌∷◌, ◌++◌, length, Contains, Some}
+use Rattle.std.specs.Prelude.{◌≡◌, ◌≢◌, ◌⊎◌, ◌↔◌, ℕ, ◌<◌, List, [], ◌∷◌, ◌++◌, length, map, Contains, Option, None, Some, Bool, IsTrue}
 use Rattle.table_history.specs.Row.{Row}
 use Rattle.table_history.specs.TypeTree.{ColumnTrees}
 use Rattle.table_history.specs.declared.feature.Feature.TheVariants.{PartitionChange, ValueForm}
@@ -7,18 +7,29 @@ use Rattle.table_history.specs.declared.limit.LimitKind.TheVariants.{Publish}
 use Rattle.table_history.specs.declared.row.PartValue.{PartValue}
 use Rattle.table_history.specs.declared.table.Commit.{Commit}
 use Rattle.lake_basics.specs.declared.limits.TheConstants.{MAX_PUBLISHED_COMMITS}
-use Rattle.partition_map.specs.Columns.{HasOtherKind}
+use Rattle.partition_map.specs.Columns.{column_kind}
 use Rattle.partition_map.specs.DeltaText.{HasNoDeltaText}
+use Rattle.partition_map.specs.declared.kind.PartKind.{PartKind}
 use Rattle.target_core.specs.declared.target.TargetError.{TargetError}
 use Rattle.target_core.specs.declared.target.TargetError.TheVariants.{Limit, Unsupported}
 use Rattle.target_delta.specs.Writing.{LogEnd, end_behind}
 
--- A commit behind another one, or behind the target's, gives a partition column another kind.
+-- the kinds of these columns, none where one is no column or its type has no kind
+abbrev pub kinds_of : ColumnTrees → List (List ℕ) → List (Option PartKind)
+kinds_of schema names = map (column_kind schema) names
+
+-- A commit behind another one, or behind the target's, states a schema in which the kinds of the partition columns are others.
 abbrev pub ChangesKinds : LogEnd → List Commit → Type 0
 ChangesKinds end [] = ⊥
 ChangesKinds end (commit ∷ commits) =
-    ((0 < end.version) × ((schema : ColumnTrees) × (commit.change.schema ≡ Some schema) × HasOtherKind end.schema schema end.partition))
+    ((0 < end.version) × ((schema : ColumnTrees) × (commit.change.schema ≡ Some schema) × (kinds_of end.schema end.partition ≢ kinds_of schema end.partition)))
     ⊎ ChangesKinds (end_behind end commit) commits
+
+-- The log's end has these partition columns, which are of these kinds, and there is a commit before it where that is so.
+pub record EndsWith (end : LogEnd) (names : List (List ℕ)) (kinds : List (Option PartKind)) (published : Bool) : Type 0 where
+  pub names_are : end.partition ≡ names
+  pub kinds_are : kinds_of end.schema end.partition ≡ kinds
+  pub commit : IsTrue published ↔ (0 < end.version)
 
 -- There are commits, and the target has one of other partition columns, or their kinds change.
 abbrev pub ChangesPartition : LogEnd → List (List ℕ) → List Commit → Type 0
@@ -42,6 +53,11 @@ pub record IsFirstValueForm (rows : List Row) (path : List ℕ) : Type 0 where
   pub here : HasValueForm row
   pub none : (other : Row) → Contains front other → ¬ HasValueForm other
   pub is : path ≡ row.path
+
+-- This is the path of the first of the rows with such a value, if it is there.
+abbrev pub IsFormOf : List Row → Option (List ℕ) → Type 0
+IsFormOf rows None = (row : Row) → Contains rows row → ¬ HasValueForm row
+IsFormOf rows (Some path) = IsFirstValueForm rows path
 
 -- The first cause in this order: too many commits, other partition columns or kinds, a value without a text.
 pub data Unfit (end : LogEnd) (partition : List (List ℕ)) (commits : List Commit) : TargetError → Type 0 where

@@ -1,8 +1,11 @@
 pub mod Names
+pub mod Held
 pub mod Reading
 pub mod Inspecting
 pub mod Writing
 pub mod Fitting
 pub mod TableId
+pub mod DeltaMeaning
 pub mod Kept
 pub mod InspectSteps
+pub mod NewVersion

@@ -1,6 +1,6 @@
 //! The file actions that a change is written as.
 
-ghost use Rattle.std.specs.Prelude.{◌≡◌, ◌↔◌, ◌<◌, ◌^◌, ℕ, List, Contains, IfOk, length, map, ◌++◌};
+ghost use Rattle.std.specs.Prelude.{◌≡◌, ◌↔◌, ◌<◌, ◌^◌, ℕ, List, All, Contains, IfOk, length, map, ◌++◌};
 ghost use Rattle.std.specs.List.{IsDistinct};
 ghost use Rattle.std.specs.Str.{bytes_eq};
 ghost use Rattle.table_history.specs.Path.{IsPath};
@@ -133,7 +133,10 @@ fn adds_of(
     requires there { (path : List ℕ) → Contains paths.now path → HasPath rows.now path }
     requires fit { (row : Row) → Contains rows.now row → Contains paths.now row.path
         → CanAdd partition.now row }
-    ensures { IfOk result (λ files. AreAddsAt partition.now rows.now paths.now files.items) }
+    ensures adds { IfOk result
+        (λ files. AreAddsAt partition.now rows.now paths.now files.items) }
+    ensures sound { IfOk result (λ files. ((row : Row) → Contains rows.now row → IsPath row.path)
+        → IsDistinct bytes_eq partition.now → All IsSoundFile files.items) }
 {
     let mut files = Vec::with_capacity(alloc, paths.len())?;
     for path in paths {
@@ -174,7 +177,10 @@ pub(crate) fn actions_of(
     requires removed { IsDistinct bytes_eq change.now.removed }
     requires added { HasDistinctPaths change.now.added }
     requires fit { (row : Row) → Contains change.now.added row → CanAdd partition.now row }
-    ensures { IfOk result (AreActions partition.now change.now) }
+    ensures actions { IfOk result (AreActions partition.now change.now) }
+    ensures sound { IfOk result (λ files. ((path : List ℕ) → Contains change.now.removed path
+        → IsPath path) → ((row : Row) → Contains after.now row → IsPath row.path)
+        → IsDistinct bytes_eq partition.now → All IsSoundFile files) }
 {
     let lost = lost_paths(alloc, change.removed.as_slice(), after)?;
     let removes = removes_of(alloc, lost)?;

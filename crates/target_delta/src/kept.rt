@@ -1,13 +1,9 @@
 //! What is kept of a Delta target between two commits.
 
-ghost use Rattle.std.specs.Prelude.{◌≡◌, [], IfOk};
-ghost use Rattle.lake_store.specs.Disk.{Files};
-ghost use Rattle.target_core.specs.Views.{absent};
-ghost use Rattle.target_delta.specs.Kept.{StandsFor, view_of};
-ghost use Rattle.target_delta.specs.Reading.{Reads};
+ghost use Rattle.std.specs.Prelude.{◌≡◌, true};
+ghost use Rattle.target_delta.specs.Held.{are_held};
 
 use lake_basics::Text;
-use std::alloc::{AllocError, Global};
 use table_history::Table;
 use target_core::Mark;
 
@@ -21,24 +17,5 @@ pub struct DeltaKept {
     pub(crate) id: Text,
     /// Whether the newest protocol lists `timestampNtz` for readers.
     pub(crate) names_ntz: bool,
-}
-
-/// What is kept before the first commit of a target of these partition columns, which gives the
-/// table this id.
-pub(crate) fn fresh_kept(
-    alloc: Global,
-    id: &Text,
-    partition: &[Text],
-) -> Result<DeltaKept, AllocError>
-    ensures view { IfOk result (λ kept. view_of kept ≡ absent partition.now) }
-    ensures stands { IfOk result (λ kept. (files : Files) → Reads files (absent [])
-        → StandsFor id.now kept files) }
-{
-    Ok(DeltaKept {
-        table: Table::empty(alloc, partition)?,
-        mark: None,
-        commits: 0,
-        id: id.copy(alloc)?,
-        names_ntz: false,
-    })
+    ghost rows_held: { are_held table.rows ≡ true },
 }

@@ -3,12 +3,16 @@
 #![tactic(auto)]
 
 mod actions;
+mod commit;
+mod fitting;
+mod fresh;
 mod inspect;
 mod kept;
 mod meta;
 mod names;
 mod ntz;
 mod target;
+mod version;
 mod written;
 
 pub use kept::DeltaKept;

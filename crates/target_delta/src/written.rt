@@ -1,9 +1,10 @@
 //! The commit that is written for a change.
 
-ghost use Rattle.std.specs.Prelude.{◌≡◌, ◌∷◌, [], Contains, IfOk, OnOk, Ok, Some};
+ghost use Rattle.std.specs.Prelude.{◌≡◌, All, Contains, IfOk, List, OnOk, Ok, ℕ};
 ghost use Rattle.std.specs.List.{IsDistinct};
 ghost use Rattle.std.specs.Str.{bytes_eq};
 ghost use Rattle.serde_json.specs.Written.{compact_text};
+ghost use Rattle.table_history.specs.Path.{IsPath};
 ghost use Rattle.table_history.specs.Row.{Row};
 ghost use Rattle.table_history.specs.Rows.{HasDistinctPaths};
 ghost use Rattle.table_history.specs.SchemaSize.{IsWithinLimits};
@@ -11,8 +12,9 @@ ghost use Rattle.table_history.specs.Sound.{IsSound};
 ghost use Rattle.schema_map.specs.Delta.{delta_schema_of};
 ghost use Rattle.schema_map.specs.DeltaWriting.{delta_text};
 ghost use Rattle.target_core.specs.Mark.{IsMarkText, mark_data};
-ghost use Rattle.target_delta.specs.Reading.{mark_setting};
-ghost use Rattle.target_delta.specs.Writing.{AreActions, CanAdd, LeavesAdded, LosesRemoved, have_ntz, protocol_due};
+ghost use Rattle.delta_log.specs.Sound.{IsSoundFile};
+ghost use Rattle.target_delta.specs.NewVersion.{IsWrittenOf};
+ghost use Rattle.target_delta.specs.Writing.{CanAdd, LeavesAdded, LosesRemoved};
 
 use crate::actions::actions_of;
 use crate::kept::DeltaKept;
@@ -38,15 +40,10 @@ pub(crate) fn written_of(
     requires added { HasDistinctPaths change.now.added }
     requires fit { (row : Row) → Contains change.now.added row
         → CanAdd behind.now.table.partition row }
-    ensures protocol { IfOk result (λ c. c.protocol ≡ protocol_due behind.now.commits
-        behind.now.names_ntz (have_ntz behind.now.table.schema)) }
-    ensures meta { IfOk result (λ c. c.meta ≡ Some (record {
-      id = behind.now.id;
-      schema = delta_text behind.now.table.schema;
-      partition = behind.now.table.partition;
-      configuration = (mark_setting, compact_text (mark_data mark.now)) ∷ [];
-    })) }
-    ensures files { IfOk result (λ c. AreActions behind.now.table.partition change.now c.files) }
+    ensures is { IfOk result (IsWrittenOf behind.now change.now mark.now) }
+    ensures sound { IfOk result (λ c. ((path : List ℕ) → Contains change.now.removed path
+        → IsPath path) → IsDistinct bytes_eq behind.now.table.partition
+        → All IsSoundFile c.files) }
     ensures reads_back { OnOk result (IsMarkText (compact_text (mark_data mark.now)) mark.now) }
     ensures spells { OnOk result (IsSound behind.now.table.schema
         → IsWithinLimits behind.now.table.schema

@@ -1,0 +1,211 @@
+-- What a commit leaves of the store, where it is refused before it writes, and where its version is staged and published.
+use Rattle.std.proofs.Common.{◌≡◌, ◌≢◌, ◌⊎◌, inl, inr, ⊎_elim, ℕ, suc, ◌+◌, ◌≤◌, Bool, true, false, List, [], ◌∷◌, Option, Some, None, refl, sym, ap, subst, ◌∙◌, arith}
+use Rattle.std.specs.Prelude.{Err, IsErrOf, IsSome, Ok, Result, is_ok}
+use Rattle.std.specs.FinMap as map
+use Rattle.std.proofs.lemmas.Bool.{false≢true}
+use Rattle.lake_basics.specs.declared.limits.TheConstants.{MAX_DELTA_VERSION, MAX_FILE_BYTES}
+use Rattle.lake_store.specs.Cause.{HasContest, HasFault}
+use Rattle.lake_store.specs.Disk.{Disk, Files, IsClean, IsDirty, MayLeave}
+use Rattle.lake_store.specs.Publication.{IsAbsentOrWhole, IsStaged, IsStagedImage}
+use Rattle.lake_store.specs.Runs.{IsEachMoment, IsIn, IsOutside, LeavesAlone, LeavesOnly}
+use Rattle.lake_store.specs.declared.store.Store.{Ghosts}
+use Rattle.lake_store.specs.declared.store.StoreError.{StoreError}
+use Rattle.lake_store.specs.declared.store.StoreError.TheVariants.{Taken}
+use Rattle.lake_store.specs.declared.store.StoreError.TheVariants as errors
+use Rattle.lake_store.proofs.DiskLaws.{path_cases}
+use Rattle.table_history.specs.declared.limit.LimitKind.TheVariants.{File}
+use Rattle.lake_store.proofs.MomentLaws.{started, weaker}
+use Rattle.lake_store.proofs.RunLaws.{NowOnly, alone_by_reading, reading_begins}
+use Rattle.table_history.specs.declared.table.Commit.{Commit}
+use Rattle.delta_table.specs.Versions.{IsVersionPath, log_folder}
+use Rattle.target_core.specs.Conditions.{CanPublish, Fits}
+use Rattle.target_core.specs.Folders.{MayLeaveIn, after_crash}
+use Rattle.target_core.specs.Outcome.{Uncontested, answer_of}
+use Rattle.target_core.specs.Publishing.{Publishes}
+use Rattle.target_core.specs.Step.{IsBefore, IsBeforeOrBehind, IsBehind}
+use Rattle.target_core.specs.Views.{Origin, View}
+use Rattle.target_core.specs.declared.target.TargetError.{TargetError}
+use Rattle.target_core.specs.declared.target.TargetError.TheVariants.{Contested}
+use Rattle.target_core.proofs.OneStep.{publishes_none, publishes_one}
+use Rattle.target_delta.specs.DeltaMeaning.{delta_meaning}
+use Rattle.target_delta.specs.Fitting.{Unfit}
+use Rattle.target_delta.specs.Kept.{StandsFor, end_of, view_of}
+use Rattle.target_delta.specs.Names.{HasVersions, IsLeftover, IsReached, IsSettled, IsStagedPath}
+use Rattle.target_delta.specs.NewVersion.{IsNewVersion}
+use Rattle.target_delta.specs.Reading.{commits_in}
+use Rattle.target_delta.specs.declared.kept.DeltaKept.{DeltaKept}
+use Rattle.target_delta.proofs.CommitLemmas.{advanced, earlier, free_path, is_before, is_behind}
+use Rattle.target_delta.proofs.CountLemmas.{count_is}
+use Rattle.target_delta.proofs.KeptLemmas.{versions_of_reads}
+use Rattle.target_delta.proofs.NameLemmas.{leftover_in, never_leftover, staged_leftover, version_in}
+use Rattle.target_delta.proofs.PublishLemmas.{IsBeside, image_beside, staged_beside, versions_now}
+use Rattle.target_delta.proofs.ReadingLemmas.{crash_carries, crash_reads, crash_settled, dirty_or_clean, none_there, version_clean}
+
+-- ---- causes
+
+pub fault_too : {S : Type 0} (faults : S → ℕ) (may_fail : S → Type 0) (old new : S) (P Q : Type 0) → (Q → P) → HasFault faults may_fail old new P → HasFault faults may_fail old new Q
+fault_too faults may_fail old new P Q back h = record { later = h.later; still = h.still; rose = λ q. h.rose (back q); allowed = λ q. h.allowed (back q) }
+
+pub contest_too : {S : Type 0} (contests : S → ℕ) (may_contest : S → Type 0) (old new : S) (P Q : Type 0) → (P → Q) → (Q → P) → HasContest contests may_contest old new P → HasContest contests may_contest old new Q
+contest_too contests may_contest old new P Q to back h = record { later = h.later; still = h.still; rose = λ q. h.rose (back q); allowed = λ q. h.allowed (back q); same = λ none. h.same (λ p. none (to p)) }
+
+pub no_fault : {S : Type 0} (faults : S → ℕ) (may_fail : S → Type 0) (s : S) (Q : Type 0) → (Q → ⊥) → HasFault faults may_fail s s Q
+no_fault faults may_fail s Q never = record { later = omega arith; still = λ m. m; rose = λ q. absurd (never q); allowed = λ q. absurd (never q) }
+
+pub no_contest : {S : Type 0} (contests : S → ℕ) (may_contest : S → Type 0) (s : S) (Q : Type 0) → (Q → ⊥) → HasContest contests may_contest s s Q
+no_contest contests may_contest s Q never = record { later = omega arith; still = λ m. m; rose = λ q. absurd (never q); allowed = λ q. absurd (never q); same = λ _. refl }
+
+-- ---- answers
+
+ok_err : {T : Type 0} (v : T) (e : TargetError) → IsErrOf {T = T} (Ok v) e → ⊥
+ok_err v e is = cc
+
+pub untaken_by : {T : Type 0} (r : Result T TargetError) (e : TargetError) (s : StoreError) → r ≡ Err e → e ≡ answer_of File MAX_FILE_BYTES s → Uncontested r → s ≡ Taken → ⊥
+untaken_by (Ok v) e s is gives u taken = absurd (ok_err v e is)
+untaken_by (Err x) e s is gives u taken =
+    let same : x ≡ e = cc in
+    u (same ∙ gives ∙ ap (answer_of File MAX_FILE_BYTES) taken)
+
+only_taken : (s : StoreError) → answer_of File MAX_FILE_BYTES s ≡ Contested → s ≡ Taken
+only_taken errors.Memory is = absurd (cc)
+only_taken errors.Failed is = absurd (cc)
+only_taken (errors.TooLong n) is = absurd (cc)
+only_taken errors.Taken is = refl
+
+pub contested_by : {T : Type 0} (r : Result T TargetError) (e : TargetError) (s : StoreError) → r ≡ Err e → e ≡ answer_of File MAX_FILE_BYTES s → IsErrOf r Contested → s ≡ Taken
+contested_by (Ok v) e s is gives contested = absurd (ok_err v e is)
+contested_by (Err x) e s is gives contested =
+    let same : x ≡ e = cc in
+    let is_contested : x ≡ Contested = cc in
+    only_taken s (sym gives ∙ sym same ∙ is_contested)
+
+pub err_same : {T : Type 0} (s : StoreError) → IsErrOf {T = T} (Err s) Taken → s ≡ Taken
+err_same s is = cc
+
+pub ok_taken : {T : Type 0} (x : T) (s : StoreError) → IsErrOf {T = T} (Ok x) s → ⊥
+ok_taken x s is = cc
+
+pub not_ok : {T : Type 0} (r : Result T TargetError) (e : TargetError) → r ≡ Err e → is_ok r ≡ true → ⊥
+not_ok r e is ok = let no : is_ok r ≡ false = ap is_ok is in false≢true (sym no ∙ ok)
+
+-- ---- nothing is done
+
+module _ {S : Type 0} (store : Ghosts S) (only_now : NowOnly store) (s : S) (told : store.tells) where
+  pub alone_none : (Kept : List ℕ → Type 0) → LeavesAlone store Kept s s
+  alone_none Kept = alone_by_reading store Kept s s (reading_begins store only_now s told)
+
+  module _ (id : List ℕ) (origin : Origin) (kept : DeltaKept) (commit : Commit) (stands : StandsFor id kept (store.disk s).files) (settled : IsSettled (store.disk s)) where
+    abbrev Left : Files → Type 0
+    Left files = IsBefore delta_meaning (view_of kept) (store.disk s).files files × IsSettled (after_crash files)
+
+    left_in : (image : Files) → MayLeave (store.disk s) image → MayLeaveIn log_folder (store.disk s) image
+    left_in image may path within clean = may path clean
+
+    left_by : (image : Files) → MayLeave (store.disk s) image → Left image
+    left_by image may = (
+      record {
+        reads = crash_reads (store.disk s) image settled (left_in image may) (view_of kept) stands.reads;
+        earlier = λ c change standing le h. crash_carries (store.disk s) image settled (left_in image may) c change standing h;
+      },
+      crash_settled image,
+    )
+
+    pub publishes_nothing : (U : Type 0) → Publishes store delta_meaning origin (view_of kept) (commit ∷ []) U false s s
+    publishes_nothing U =
+        publishes_none store delta_meaning origin (view_of kept) commit s s told (λ c change standing le h. h) (alone_none (IsReached (store.disk s).files)) U
+        (λ _. (record { reads = stands.reads; earlier = λ c change standing le h. h }, settled))
+        (λ _. started store only_now s Left (λ t image may. left_by image may) told)
+
+-- ---- staged and published
+
+three : {A B C D : Type 0} → (A → D) → (B → D) → (C → D) → A ⊎ B ⊎ C → D
+three f g h (inl a) = f a
+three f g h (inr (inl b)) = g b
+three f g h (inr (inr c)) = h c
+
+module _ {S : Type 0} (store : Ghosts S) (old new : S) (told : store.tells) (staged name bytes : List ℕ) (version : ℕ) (is_staged : IsStagedPath staged version) (named : IsVersionPath name version) (IsTaken : Type 0)
+    (left : IsStaged staged name bytes IsTaken (store.disk old) (store.disk new)) (moments : LeavesOnly store old new (IsStagedImage staged name bytes IsTaken (store.disk old))) where
+  leftover : IsLeftover staged
+  leftover = staged_leftover staged version is_staged
+
+  alone_apart : (Kept : List ℕ → Type 0) → ((path : List ℕ) → Kept path → path ≢ staged) → ((path : List ℕ) → Kept path → path ≢ name) → LeavesAlone store Kept old new
+  alone_apart Kept off_staged off_name = record {
+    disk = record {
+      files = λ path kept. left.others path (off_staged path kept) (off_name path kept);
+      clean = λ path kept clean. left.clean path (off_staged path kept) clean;
+    };
+    moments = weaker store old new (IsStagedImage staged name bytes IsTaken (store.disk old)) (λ image. (path : List ℕ) → Kept path → IsClean (store.disk old) path → map.get image path ≡ map.get (store.disk old).files path)
+        (λ image is path kept clean. is.others path (off_staged path kept) (off_name path kept) clean) moments told;
+  }
+
+  pub alone_staged : LeavesAlone store (IsOutside log_folder) old new
+  alone_staged = alone_apart (IsOutside log_folder)
+      (λ path outside is. outside (subst (λ (p : List ℕ). IsIn log_folder p) (sym is) (leftover_in staged leftover)))
+      (λ path outside is. outside (subst (λ (p : List ℕ). IsIn log_folder p) (sym is) (version_in name version named)))
+
+  module _ (versions : HasVersions (store.disk old).files version) where
+    free : map.get (store.disk old).files name ≡ None
+    free = free_path (store.disk old).files name version named versions
+
+    pub beside_now : IsBeside name (store.disk old).files (store.disk new).files
+    beside_now = staged_beside staged name bytes version named leftover IsTaken (store.disk old) (store.disk new) left
+
+    pub reached_alone : LeavesAlone store (IsReached (store.disk old).files) old new
+    reached_alone = alone_apart (IsReached (store.disk old).files)
+        (λ path reached is. never_leftover path reached.version reached.named (subst IsLeftover (sym is) leftover))
+        (λ path reached is. none_there (map.get (store.disk old).files path) (ap (λ (p : List ℕ). map.get (store.disk old).files p) is ∙ free) reached.there)
+
+    pub settled_now : IsSettled (store.disk old) → IsSettled (store.disk new)
+    settled_now settled = record {
+      leftovers = λ path within dirty. ⊎_elim
+          (λ (same : path ≡ staged). subst IsLeftover (sym same) leftover)
+          (λ (apart : path ≢ staged). ⊎_elim
+          (λ was. settled.leftovers path within was)
+          (λ clean. absurd (false≢true (sym (left.clean path apart clean) ∙ dirty)))
+          (dirty_or_clean (store.disk old) path))
+          (path_cases path staged);
+    }
+
+    -- the version is there
+    pub counted_now : version ≤ MAX_DELTA_VERSION → (there_bytes : List ℕ) → map.get (store.disk new).files name ≡ Some there_bytes → HasVersions (store.disk new).files (suc version)
+    counted_now within there_bytes there = versions_now name version named (store.disk old).files (store.disk new).files free beside_now versions within there_bytes there
+
+    -- another writer's version is there
+    pub count_taken : version ≤ MAX_DELTA_VERSION → (theirs : List ℕ) → map.get (store.disk new).files name ≡ Some theirs → commits_in (store.disk new).files ≤ version + 1
+    count_taken within theirs there =
+        let count = count_is (store.disk new).files (suc version) (versions_now name version named (store.disk old).files (store.disk new).files free beside_now versions within theirs there) in
+        omega (arith, count)
+
+  module _ (id : List ℕ) (origin : Origin) (now : ℕ) (kept next : DeltaKept) (commit : Commit) (same : version ≡ kept.commits) (v : IsNewVersion origin now kept commit bytes next)
+      (can : CanPublish (view_of kept) commit) (fits : Fits (Unfit (end_of kept)) kept.table.partition (commit ∷ [])) (stands : StandsFor id kept (store.disk old).files) (settled : IsSettled (store.disk old)) where
+    named_kept : IsVersionPath name kept.commits
+    named_kept = subst (λ (n : ℕ). IsVersionPath name n) same named
+
+    versions_kept : HasVersions (store.disk old).files version
+    versions_kept = subst (λ (n : ℕ). HasVersions (store.disk old).files n) (sym same) (versions_of_reads (store.disk old).files (view_of kept) stands.reads)
+
+    abbrev Either : Files → Type 0
+    Either files = IsBeforeOrBehind delta_meaning origin (view_of kept) (store.disk old).files commit (view_of next) files
+
+    either : (files : Files) → IsBeside name (store.disk old).files files → (IsTaken → ⊥) → IsAbsentOrWhole name bytes IsTaken files → Either files
+    either files beside untaken = three
+        (λ none. inl (is_before origin now kept next commit bytes v can fits id (store.disk old).files stands name named_kept files beside none))
+        (λ there. inr (is_behind origin now kept next commit bytes v can fits id (store.disk old).files stands name named_kept files beside there))
+        (λ taken. absurd (untaken taken))
+
+    either_left : (image : Files) → (IsTaken → ⊥) → IsStagedImage staged name bytes IsTaken (store.disk old) image → Either image × IsSettled (after_crash image)
+    either_left image untaken is = (
+      either image (image_beside staged name bytes version named leftover IsTaken (store.disk old) image settled is) untaken (is.file (version_clean (store.disk old) name version settled named)),
+      crash_settled image,
+    )
+
+    pub publishes_staged : (U : Type 0) → (U → IsTaken → ⊥) → (done : Bool) → (done ≡ true → map.get (store.disk new).files name ≡ Some bytes)
+        → Publishes store delta_meaning origin (view_of kept) (commit ∷ []) U done old new
+    publishes_staged U untaken done whole =
+        publishes_one store delta_meaning origin (view_of kept) commit old new told
+        (earlier origin now kept next commit bytes v can fits id (store.disk old).files stands name named_kept (store.disk new).files (beside_now versions_kept))
+        (reached_alone versions_kept)
+        U (view_of next) (advanced origin now kept next commit bytes v) done
+        (λ is. is_behind origin now kept next commit bytes v can fits id (store.disk old).files stands name named_kept (store.disk new).files (beside_now versions_kept) (whole is))
+        (λ u. (either (store.disk new).files (beside_now versions_kept) (untaken u) left.file, settled_now versions_kept settled))
+        (λ u. weaker store old new (IsStagedImage staged name bytes IsTaken (store.disk old)) (λ files. Either files × IsSettled (after_crash files)) (λ image is. either_left image (untaken u) is) moments told)

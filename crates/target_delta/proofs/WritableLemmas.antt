@@ -1,0 +1,166 @@
+-- What is written for a change may be written: its actions are on distinct paths of the table, and aren't too many.
+use Rattle.std.proofs.Common.{◌≡◌, ⊎_elim, ℕ, suc, ◌+◌, ◌≤◌, Bool, true, false, not, List, [], ◌∷◌, ◌++◌, length, map, All, Contains, Option, Some, None, refl, sym, ap, subst, ◌∙◌, arith}
+use Rattle.std.specs.Prelude.{IfSome, IsSome}
+use Rattle.std.specs.List.{AllByRecursion, IsDistinct}
+use Rattle.std.specs.Str.{bytes_eq}
+use Rattle.std.proofs.lemmas.Bool.{cases_Bool, false≢true}
+use Rattle.std.proofs.lemmas.List.{length-append}
+use Rattle.std.proofs.lemmas.List.Elements.{Contains-append_left, Contains-append_right, Contains-append_cases}
+use Rattle.std.proofs.lemmas.Map.Keys.{IsDistinct-cons, IsDistinct-head, IsDistinct-tail}
+use Rattle.std.proofs.lemmas.Slice.Eq.{bytes_eq-Decides}
+use Rattle.lake_basics.specs.declared.limits.TheConstants.{MAX_ACTIONS, MAX_LIVE_FILES}
+use Rattle.table_history.specs.Row.{Row}
+use Rattle.table_history.specs.Rows.{HasPath, paths_of}
+use Rattle.table_history.specs.declared.table.Change.{Change}
+use Rattle.table_history.proofs.RowListLemmas.{Contains-none, Contains-head, Contains-tail, Contains-cases, Contains-paths}
+use Rattle.table_history.proofs.TableLemmas.{Contains-paths_cases, distinct_order}
+use Rattle.delta_log.specs.Commit.{file_path, file_paths}
+use Rattle.delta_log.specs.Sound.{HasNeededFeatures, HaveDistinctNames, IsSoundFile, IsWritable}
+use Rattle.delta_log.specs.declared.commit.DeltaCommit.{DeltaCommit}
+use Rattle.delta_log.specs.declared.commit.FileAction.{FileAction}
+use Rattle.delta_log.specs.declared.commit.FileAction.TheVariants as file
+use Rattle.delta_log.specs.declared.commit.MetaData.{MetaData}
+use Rattle.delta_log.specs.declared.commit.Protocol.{Protocol}
+use Rattle.target_core.specs.declared.mark.Mark.{Mark}
+use Rattle.serde_json.specs.Written.{compact_text}
+use Rattle.target_core.specs.Changes.{IsGone}
+use Rattle.target_core.specs.Mark.{mark_data}
+use Rattle.target_delta.specs.Reading.{mark_setting}
+use Rattle.target_delta.specs.NewVersion.{IsWrittenOf}
+use Rattle.target_delta.specs.Writing.{AreActions, LeavesAdded, have_ntz, ntz_protocol, plain_protocol, protocol_due}
+use Rattle.target_delta.specs.declared.kept.DeltaKept.{DeltaKept}
+use Rattle.target_delta.proofs.StepLemmas.{due_is, path_from}
+
+-- ---- distinct texts that are all among others
+
+split_at : (xs : List (List ℕ)) (x : List ℕ) → Contains xs x → (before : List (List ℕ)) × (after : List (List ℕ)) × (xs ≡ before ++ x ∷ after)
+split_at [] x there = absurd (Contains-none x there)
+split_at (y ∷ ys) x there =
+    ⊎_elim
+    (λ (here : y ≡ x). ([], ys, ap (λ (w : List ℕ). w ∷ ys) here))
+    (λ later. let more = split_at ys x later in (y ∷ more.0, more.1, ap (λ (l : List (List ℕ)). y ∷ l) more.2))
+    (Contains-cases y ys x there)
+
+none_at : (x : List ℕ) (xs : List (List ℕ)) (z : List ℕ) → AllByRecursion (λ y. bytes_eq x y ≡ false) xs → Contains xs z → x ≡ z → ⊥
+none_at x [] z all there same = Contains-none z there
+none_at x (y ∷ xs) z all there same =
+    ⊎_elim
+    (λ (here : y ≡ z). false≢true (sym all.0 ∙ (bytes_eq-Decides x y).1 (same ∙ sym here)))
+    (λ later. none_at x xs z all.1 later same)
+    (Contains-cases y xs z there)
+
+pub fewer : (xs ys : List (List ℕ)) → IsDistinct bytes_eq xs → ((x : List ℕ) → Contains xs x → Contains ys x) → length xs ≤ length ys
+fewer [] ys distinct among = omega arith
+fewer (x ∷ xs) ys distinct among =
+    let cut = split_at ys x (among x (Contains-head x xs)) in
+    let others : (z : List ℕ) → Contains xs z → Contains (cut.0 ++ cut.1) z = λ z there.
+    ⊎_elim
+    (λ front. Contains-append_left cut.0 cut.1 z front)
+    (λ behind. ⊎_elim
+    (λ (same : x ≡ z). absurd (none_at x xs z (IsDistinct-head bytes_eq x xs distinct) there same))
+    (λ later. Contains-append_right cut.0 cut.1 z later)
+    (Contains-cases x cut.1 z behind))
+    (Contains-append_cases cut.0 (x ∷ cut.1) z (subst (λ (l : List (List ℕ)). Contains l z) cut.2 (among z (Contains-tail x xs z there)))) in
+    let rest = fewer xs (cut.0 ++ cut.1) (IsDistinct-tail bytes_eq x xs distinct) others in
+    omega (arith, rest, length-append cut.0 cut.1, length-append cut.0 (x ∷ cut.1), ap length cut.2)
+
+-- ---- two lists that share none
+
+apart_from : (x : List ℕ) (ys : List (List ℕ)) → (Contains ys x → ⊥) → AllByRecursion (λ y. bytes_eq x y ≡ false) ys
+apart_from x [] none = tt
+apart_from x (y ∷ ys) none = (
+  ⊎_elim (λ is. absurd (none (subst (λ (z : List ℕ). Contains (y ∷ ys) z) (sym ((bytes_eq-Decides x y).0 is)) (Contains-head y ys)))) (λ is. is) (cases_Bool (bytes_eq x y)),
+  apart_from x ys (λ later. none (Contains-tail y ys x later)),
+)
+
+all_both : (P : List ℕ → Type 0) (xs ys : List (List ℕ)) → AllByRecursion P xs → AllByRecursion P ys → AllByRecursion P (xs ++ ys)
+all_both P [] ys a b = b
+all_both P (x ∷ xs) ys a b = (a.0, all_both P xs ys a.1 b)
+
+pub distinct_both : (xs ys : List (List ℕ)) → IsDistinct bytes_eq xs → IsDistinct bytes_eq ys → ((x : List ℕ) → Contains xs x → Contains ys x → ⊥) → IsDistinct bytes_eq (xs ++ ys)
+distinct_both [] ys a b apart = b
+distinct_both (x ∷ xs) ys a b apart =
+    IsDistinct-cons bytes_eq x (xs ++ ys)
+    (all_both (λ y. bytes_eq x y ≡ false) xs ys (IsDistinct-head bytes_eq x xs a) (apart_from x ys (apart x (Contains-head x xs))))
+    (distinct_both xs ys (IsDistinct-tail bytes_eq x xs a) b (λ y there. apart y (Contains-tail x xs y there)))
+
+-- ---- the actions
+
+paths_append : (fs gs : List FileAction) → file_paths (fs ++ gs) ≡ file_paths fs ++ file_paths gs
+paths_append [] gs = refl
+paths_append (f ∷ fs) gs = ap (λ (l : List (List ℕ)). file_path f ∷ l) (paths_append fs gs)
+
+paths_length : (fs : List FileAction) → length (file_paths fs) ≡ length fs
+paths_length [] = refl
+paths_length (f ∷ fs) = ap suc (paths_length fs)
+
+rows_length : (rows : List Row) → length (paths_of rows) ≡ length rows
+rows_length [] = refl
+rows_length (r ∷ rows) = ap suc (rows_length rows)
+
+module _ (partition : List (List ℕ)) (change : Change) (files : List FileAction) (are : AreActions partition change files) where
+  remove_gone : (path : List ℕ) → Contains (file_paths are.removes) path → IsGone change path
+  remove_gone path there =
+      let from = path_from path are.removes there in
+      let gone = (are.gone from.0).0 from.1 in
+      subst (λ (p : List ℕ). IsGone change p) (sym (ap file_path gone.2) ∙ from.2) gone.1
+
+  add_added : (path : List ℕ) → Contains (file_paths are.adds) path → HasPath change.added path
+  add_added path there =
+      let from = path_from path are.adds there in
+      let row = are.from_row from.0 from.1 in
+      (row.0, row.1, sym (ap file_path row.2.is) ∙ from.2)
+
+  paths_are : file_paths files ≡ file_paths are.removes ++ file_paths are.adds
+  paths_are = ap file_paths are.split ∙ paths_append are.removes are.adds
+
+  pub actions_distinct : IsDistinct bytes_eq (file_paths files)
+  actions_distinct = subst (λ (l : List (List ℕ)). IsDistinct bytes_eq l) (sym paths_are)
+      (distinct_both (file_paths are.removes) (file_paths are.adds) (distinct_order (file_paths are.removes) are.removes_order) (distinct_order (file_paths are.adds) are.adds_order)
+      (λ path removed added. (remove_gone path removed).1 (add_added path added)))
+
+  pub actions_few : (rows : List Row) → LeavesAdded change.added rows → length rows ≤ MAX_LIVE_FILES → length change.removed ≤ MAX_LIVE_FILES → length files ≤ MAX_ACTIONS
+  actions_few rows leaves few gone =
+      let removes = fewer (file_paths are.removes) change.removed (distinct_order (file_paths are.removes) are.removes_order) (λ path there. (remove_gone path there).0) in
+      let adds = fewer (file_paths are.adds) (paths_of rows) (distinct_order (file_paths are.adds) are.adds_order)
+      (λ path there. let row = add_added path there in subst (λ (p : List ℕ). Contains (paths_of rows) p) row.2 (Contains-paths rows row.0 (leaves row.0 row.1))) in
+      let all = ap length are.split in
+      omega (arith, removes, adds, few, gone, all, length-append are.removes are.adds, paths_length are.removes, paths_length are.adds, rows_length rows)
+
+-- ---- the commit
+
+plain_needed : HasNeededFeatures plain_protocol
+plain_needed three = absurd (false≢true three)
+
+ntz_needed : HasNeededFeatures ntz_protocol
+ntz_needed three = refl
+
+needed : (version : ℕ) (named has : Bool) → IfSome (protocol_due version named has) HasNeededFeatures
+needed version named has = go (protocol_due version named has) refl
+  where
+    go : (o : Option Protocol) → protocol_due version named has ≡ o → IfSome o HasNeededFeatures
+    go None is = tt
+    go (Some p) is = ⊎_elim
+        (λ (plain : plain_protocol ≡ p). subst HasNeededFeatures plain plain_needed)
+        (λ (ntz : ntz_protocol ≡ p). subst HasNeededFeatures ntz ntz_needed)
+        (due_is version named has p is)
+
+module _ (behind : DeltaKept) (change : Change) (mark : Mark) (written : DeltaCommit) (is : IsWrittenOf behind change mark written) where
+  one_name : (o : Option MetaData) (m : MetaData) → o ≡ Some m → HaveDistinctNames m.configuration → IfSome o (λ n. HaveDistinctNames n.configuration)
+  one_name None m same distinct = absurd (cc)
+  one_name (Some n) m same distinct = let one : m ≡ n = cc in subst (λ (x : MetaData). HaveDistinctNames x.configuration) one distinct
+
+  only_name : HaveDistinctNames ((mark_setting, compact_text (mark_data mark)) ∷ [])
+  unfolding IsDistinct
+  only_name = (tt, tt)
+
+  pub writable : All IsSoundFile written.files → LeavesAdded change.added behind.table.rows → length behind.table.rows ≤ MAX_LIVE_FILES → length change.removed ≤ MAX_LIVE_FILES → IsWritable written
+  writable sound leaves few gone = record {
+    sound = record {
+      files = sound;
+      distinct = actions_distinct behind.table.partition change written.files is.files;
+      configuration = one_name written.meta _ is.meta only_name;
+    };
+    protocol = subst (λ (o : Option Protocol). IfSome o HasNeededFeatures) (sym is.protocol) (needed behind.commits behind.names_ntz (have_ntz behind.table.schema));
+    few = actions_few behind.table.partition change written.files is.files behind.table.rows leaves few gone;
+  }

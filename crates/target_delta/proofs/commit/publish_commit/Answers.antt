@@ -1,0 +1,171 @@
+use Rattle.std.proofs.Common.{◌≡◌, ℕ, suc, Bool, true, List, [], ◌∷◌, Some, Err, refl, sym, ap, subst, ◌∙◌, arith}
+use Rattle.std.specs.Prelude.{is_ok}
+use Rattle.std.specs.Option.{option_copied}
+use Rattle.std.proofs.lemmas.Result.{err_from_is_err_and}
+use Rattle.delta_table.specs.Versions.{IsVersionPath}
+use Rattle.target_core.specs.Outcome.{Uncontested}
+use Rattle.target_core.specs.Publishing.{Publishes}
+use Rattle.target_core.specs.Views.{Origin}
+use Rattle.target_delta.specs.DeltaMeaning.{delta_meaning}
+use Rattle.target_delta.specs.Kept.{view_of}
+use Rattle.target_delta.specs.Names.{HasVersions, IsStagedPath}
+use Rattle.target_delta.specs.NewVersion.{IsNewVersion}
+use Rattle.target_delta.specs.Writing.{LogEnd}
+use Rattle.target_delta.proofs.CommitLemmas.{fits_behind, free_path, stands_now}
+use Rattle.target_delta.proofs.KeptLemmas.{versions_of_reads}
+use Rattle.target_delta.proofs.StoreLemmas.{alone_staged, beside_now, contested_by, count_taken, counted_now, err_same, not_ok, ok_taken, publishes_nothing, publishes_staged, untaken_by}
+use Rattle.target_delta.proofs.commit.publish_commit.Goals as goal
+
+pub returns-in_err-version-clause-publishes : goal.returns-in_err-version-clause-publishes
+returns-in_err-version-clause-publishes g c told id stands settled =
+    let kept = c.args.kept.now in
+    let s = c.args.store.now in
+    let origin : Origin = record { source = c.args.source; table = option_copied c.args.table } in
+    let exit = err_from_is_err_and c.from_residual.result c.from_residual.ensures.1 in
+    subst (λ (done : Bool). Publishes g.S.Store delta_meaning origin (view_of kept) (c.args.commit.now ∷ []) (Uncontested c.from_residual.result) done s s) (sym (ap is_ok exit.1))
+    (publishes_nothing g.S.Store g.met.S.Store.only_now s told id origin kept c.args.commit.now stands settled (Uncontested c.from_residual.result))
+
+pub stage_and_publish-requires-clause-free : goal.stage_and_publish-requires-clause-free
+stage_and_publish-requires-clause-free g c told =
+    let kept = c.args.kept.now in
+    let named = subst (λ p. IsVersionPath p kept.commits) (sym c.as_str-path.ensures.value) c.in_ok-version.ensures.path in
+    free_path (g.S.Store.disk c.args.store.now).files c.as_str-path.result.now kept.commits named (c.requires.counted told)
+
+pub returns-in_err-stage_and_publish-clause-alone : goal.returns-in_err-stage_and_publish-clause-alone
+returns-in_err-stage_and_publish-clause-alone g c told =
+    let store = g.S.Store in
+    let kept = c.args.kept.now in
+    let next = c.new_version.new.kept in
+    let old = c.args.store.now in
+    let new = c.stage_and_publish.new.store in
+    let staged = c.as_str-staged.result.now in
+    let name = c.as_str-path.result.now in
+    let bytes = c.as_slice.result.now in
+    let origin : Origin = record { source = c.args.source; table = option_copied c.args.table } in
+    let is_staged = subst (λ p. IsStagedPath p kept.commits) (sym c.as_str-staged.ensures.value) c.in_ok-version.ensures.staged in
+    let named = subst (λ p. IsVersionPath p kept.commits) (sym c.as_str-path.ensures.value) c.in_ok-version.ensures.path in
+    let v = subst (λ b. IsNewVersion origin c.args.now_ms kept c.args.commit.now b next) (sym c.as_slice.ensures.value) c.in_ok-version.ensures.is in
+    alone_staged store old new told staged name bytes kept.commits is_staged named _ (c.in_err-stage_and_publish.ensures.left told) c.in_err-stage_and_publish.ensures.any_moment
+
+pub returns-in_err-stage_and_publish-clause-publishes : goal.returns-in_err-stage_and_publish-clause-publishes
+returns-in_err-stage_and_publish-clause-publishes g c told id stands settled =
+    let store = g.S.Store in
+    let kept = c.args.kept.now in
+    let next = c.new_version.new.kept in
+    let old = c.args.store.now in
+    let new = c.stage_and_publish.new.store in
+    let staged = c.as_str-staged.result.now in
+    let name = c.as_str-path.result.now in
+    let bytes = c.as_slice.result.now in
+    let origin : Origin = record { source = c.args.source; table = option_copied c.args.table } in
+    let is_staged = subst (λ p. IsStagedPath p kept.commits) (sym c.as_str-staged.ensures.value) c.in_ok-version.ensures.staged in
+    let named = subst (λ p. IsVersionPath p kept.commits) (sym c.as_str-path.ensures.value) c.in_ok-version.ensures.path in
+    let v = subst (λ b. IsNewVersion origin c.args.now_ms kept c.args.commit.now b next) (sym c.as_slice.ensures.value) c.in_ok-version.ensures.is in
+    let exit = err_from_is_err_and c.from_residual-in_err-stage_and_publish.result c.from_residual-in_err-stage_and_publish.ensures.1 in
+    let result = c.from_residual-in_err-stage_and_publish.result in
+    let error = c.in_err-stage_and_publish.field-0.0 in
+    publishes_staged store old new told staged name bytes kept.commits is_staged named _ (c.in_err-stage_and_publish.ensures.left told) c.in_err-stage_and_publish.ensures.any_moment id origin c.args.now_ms kept next c.args.commit.now refl v c.requires.can c.requires.fits stands settled
+    (Uncontested result) (λ u taken. untaken_by result exit.0 error exit.1 exit.2 u (err_same error taken)) (is_ok result) (λ ok. absurd (not_ok result exit.0 exit.1 ok))
+
+pub returns-in_err-stage_and_publish-clause-contested : goal.returns-in_err-stage_and_publish-clause-contested
+returns-in_err-stage_and_publish-clause-contested g c told id stands settled contested =
+    let store = g.S.Store in
+    let kept = c.args.kept.now in
+    let next = c.new_version.new.kept in
+    let old = c.args.store.now in
+    let new = c.stage_and_publish.new.store in
+    let staged = c.as_str-staged.result.now in
+    let name = c.as_str-path.result.now in
+    let bytes = c.as_slice.result.now in
+    let origin : Origin = record { source = c.args.source; table = option_copied c.args.table } in
+    let is_staged = subst (λ p. IsStagedPath p kept.commits) (sym c.as_str-staged.ensures.value) c.in_ok-version.ensures.staged in
+    let named = subst (λ p. IsVersionPath p kept.commits) (sym c.as_str-path.ensures.value) c.in_ok-version.ensures.path in
+    let v = subst (λ b. IsNewVersion origin c.args.now_ms kept c.args.commit.now b next) (sym c.as_slice.ensures.value) c.in_ok-version.ensures.is in
+    let exit = err_from_is_err_and c.from_residual-in_err-stage_and_publish.result c.from_residual-in_err-stage_and_publish.ensures.1 in
+    let result = c.from_residual-in_err-stage_and_publish.result in
+    let error = c.in_err-stage_and_publish.field-0.0 in
+    let taken = c.in_err-stage_and_publish.ensures.taken told (ap (λ e. Err e) (contested_by result exit.0 error exit.1 exit.2 contested)) in
+    count_taken store old new told staged name bytes kept.commits is_staged named _ (c.in_err-stage_and_publish.ensures.left told) c.in_err-stage_and_publish.ensures.any_moment (c.requires.counted told) v.within taken.theirs taken.file
+
+pub returns-clause-alone : goal.returns-clause-alone
+returns-clause-alone g c told =
+    let store = g.S.Store in
+    let kept = c.args.kept.now in
+    let next = c.new_version.new.kept in
+    let old = c.args.store.now in
+    let new = c.stage_and_publish.new.store in
+    let staged = c.as_str-staged.result.now in
+    let name = c.as_str-path.result.now in
+    let bytes = c.as_slice.result.now in
+    let origin : Origin = record { source = c.args.source; table = option_copied c.args.table } in
+    let is_staged = subst (λ p. IsStagedPath p kept.commits) (sym c.as_str-staged.ensures.value) c.in_ok-version.ensures.staged in
+    let named = subst (λ p. IsVersionPath p kept.commits) (sym c.as_str-path.ensures.value) c.in_ok-version.ensures.path in
+    let v = subst (λ b. IsNewVersion origin c.args.now_ms kept c.args.commit.now b next) (sym c.as_slice.ensures.value) c.in_ok-version.ensures.is in
+    alone_staged store old new told staged name bytes kept.commits is_staged named _ (c.in_ok-stage_and_publish.ensures.left told) c.in_ok-stage_and_publish.ensures.any_moment
+
+pub returns-clause-counted : goal.returns-clause-counted
+returns-clause-counted g c told =
+    let store = g.S.Store in
+    let kept = c.args.kept.now in
+    let next = c.new_version.new.kept in
+    let old = c.args.store.now in
+    let new = c.stage_and_publish.new.store in
+    let staged = c.as_str-staged.result.now in
+    let name = c.as_str-path.result.now in
+    let bytes = c.as_slice.result.now in
+    let origin : Origin = record { source = c.args.source; table = option_copied c.args.table } in
+    let is_staged = subst (λ p. IsStagedPath p kept.commits) (sym c.as_str-staged.ensures.value) c.in_ok-version.ensures.staged in
+    let named = subst (λ p. IsVersionPath p kept.commits) (sym c.as_str-path.ensures.value) c.in_ok-version.ensures.path in
+    let v = subst (λ b. IsNewVersion origin c.args.now_ms kept c.args.commit.now b next) (sym c.as_slice.ensures.value) c.in_ok-version.ensures.is in
+    let count : suc kept.commits ≡ next.commits = omega (arith, ap (λ (e : LogEnd). e.version) v.end) in
+    subst (λ (n : ℕ). HasVersions (store.disk new).files n) count (counted_now store old new told staged name bytes kept.commits is_staged named _ (c.in_ok-stage_and_publish.ensures.left told) c.in_ok-stage_and_publish.ensures.any_moment (c.requires.counted told) v.within bytes (c.in_ok-stage_and_publish.ensures.published told).file)
+
+pub returns-clause-fits : goal.returns-clause-fits
+returns-clause-fits g c =
+    let store = g.S.Store in
+    let kept = c.args.kept.now in
+    let next = c.new_version.new.kept in
+    let old = c.args.store.now in
+    let new = c.stage_and_publish.new.store in
+    let staged = c.as_str-staged.result.now in
+    let name = c.as_str-path.result.now in
+    let bytes = c.as_slice.result.now in
+    let origin : Origin = record { source = c.args.source; table = option_copied c.args.table } in
+    let is_staged = subst (λ p. IsStagedPath p kept.commits) (sym c.as_str-staged.ensures.value) c.in_ok-version.ensures.staged in
+    let named = subst (λ p. IsVersionPath p kept.commits) (sym c.as_str-path.ensures.value) c.in_ok-version.ensures.path in
+    let v = subst (λ b. IsNewVersion origin c.args.now_ms kept c.args.commit.now b next) (sym c.as_slice.ensures.value) c.in_ok-version.ensures.is in
+    fits_behind origin c.args.now_ms kept next c.args.commit.now bytes v
+
+pub returns-clause-stands : goal.returns-clause-stands
+returns-clause-stands g c told id stands settled =
+    let store = g.S.Store in
+    let kept = c.args.kept.now in
+    let next = c.new_version.new.kept in
+    let old = c.args.store.now in
+    let new = c.stage_and_publish.new.store in
+    let staged = c.as_str-staged.result.now in
+    let name = c.as_str-path.result.now in
+    let bytes = c.as_slice.result.now in
+    let origin : Origin = record { source = c.args.source; table = option_copied c.args.table } in
+    let is_staged = subst (λ p. IsStagedPath p kept.commits) (sym c.as_str-staged.ensures.value) c.in_ok-version.ensures.staged in
+    let named = subst (λ p. IsVersionPath p kept.commits) (sym c.as_str-path.ensures.value) c.in_ok-version.ensures.path in
+    let v = subst (λ b. IsNewVersion origin c.args.now_ms kept c.args.commit.now b next) (sym c.as_slice.ensures.value) c.in_ok-version.ensures.is in
+    stands_now origin c.args.now_ms kept next c.args.commit.now bytes v c.requires.can c.requires.fits id (store.disk old).files stands name named (store.disk new).files
+    (beside_now store old new told staged name bytes kept.commits is_staged named _ (c.in_ok-stage_and_publish.ensures.left told) c.in_ok-stage_and_publish.ensures.any_moment (c.requires.counted told)) (c.in_ok-stage_and_publish.ensures.published told).file
+
+pub returns-clause-publishes : goal.returns-clause-publishes
+returns-clause-publishes g c told id stands settled =
+    let store = g.S.Store in
+    let kept = c.args.kept.now in
+    let next = c.new_version.new.kept in
+    let old = c.args.store.now in
+    let new = c.stage_and_publish.new.store in
+    let staged = c.as_str-staged.result.now in
+    let name = c.as_str-path.result.now in
+    let bytes = c.as_slice.result.now in
+    let origin : Origin = record { source = c.args.source; table = option_copied c.args.table } in
+    let is_staged = subst (λ p. IsStagedPath p kept.commits) (sym c.as_str-staged.ensures.value) c.in_ok-version.ensures.staged in
+    let named = subst (λ p. IsVersionPath p kept.commits) (sym c.as_str-path.ensures.value) c.in_ok-version.ensures.path in
+    let v = subst (λ b. IsNewVersion origin c.args.now_ms kept c.args.commit.now b next) (sym c.as_slice.ensures.value) c.in_ok-version.ensures.is in
+    publishes_staged store old new told staged name bytes kept.commits is_staged named _ (c.in_ok-stage_and_publish.ensures.left told) c.in_ok-stage_and_publish.ensures.any_moment id origin c.args.now_ms kept next c.args.commit.now refl v c.requires.can c.requires.fits stands settled
+    _ (λ u taken. ok_taken _ _ taken) true (λ ok. (c.in_ok-stage_and_publish.ensures.published told).file)

@@ -1,0 +1,9 @@
+use Rattle.target_delta.proofs.HeldLemmas.{held_few}
+use Rattle.target_delta.proofs.WritableLemmas.{writable}
+use Rattle.target_delta.proofs.version.text_of.Goals as goal
+
+pub bytes_of-requires : goal.bytes_of-requires
+bytes_of-requires c =
+    let behind = c.args.behind.now in
+    writable behind c.args.change.now c.args.mark.now c.in_ok-written.written c.in_ok-written.ensures.is (c.in_ok-written.ensures.sound c.requires.paths c.requires.partition)
+    c.requires.leaves (held_few behind.table.rows behind.rows_held) c.requires.few
