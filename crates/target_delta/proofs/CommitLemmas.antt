@@ -1,6 +1,6 @@
 -- What the files read as when a commit's version is there or not, and what is kept behind it.
 use Rattle.std.proofs.Common.{◌≡◌, ◌≢◌, ◌⊎◌, inl, inr, ⊎_elim, ℕ, suc, ◌+◌, ◌<◌, ◌≤◌, ◌==◌, ◌||◌, Bool, true, false, cond, List, [], ◌∷◌, ◌++◌, Contains, Option, Some, None, refl, sym, ap, subst, ◌∙◌, arith}
-use Rattle.std.specs.Prelude.{◌↔◌, IsSome, unwrap_or}
+use Rattle.std.specs.Prelude.{◌↔◌, IsSome, option_map, unwrap_or}
 use Rattle.std.specs.FinMap as map
 use Rattle.std.specs.Str.{bytes_eq}
 use Rattle.std.proofs.lemmas.Bool.{cases_lt}
@@ -227,7 +227,7 @@ module _ (origin : Origin) (now : ℕ) (kept next : DeltaKept) (commit : Commit)
           settings = only_setting (mark_setting, compact_text (mark_data mark)) meta_now.configuration (again (end_of kept) origin commit v.written v.again v.is v.same base_now.base next.table base_now.before).settings
 
           first_setting : (text : List ℕ) → setting mark_setting ((mark_setting, text) ∷ []) ≡ Some text
-          first_setting text = ap (λ (b : Bool). cond b (Some text) None) ((bytes_eq-Decides mark_setting mark_setting).1 refl)
+          first_setting text = ap (λ (b : Bool). option_map (λ (p : List ℕ × List ℕ). p.1) (cond b (Some (mark_setting, text)) None)) ((bytes_eq-Decides mark_setting mark_setting).1 refl)
 
           has_mark : HasMark v.again mark
           has_mark = record {

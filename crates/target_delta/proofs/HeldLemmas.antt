@@ -8,6 +8,7 @@ use Rattle.table_history.specs.Path.{IsPath, is_path}
 use Rattle.table_history.specs.Row.{Row}
 use Rattle.table_history.proofs.PathTests.{path_decided}
 use Rattle.table_history.proofs.RowListLemmas.{Contains-none, Contains-head, Contains-tail, Contains-cases}
+use Rattle.delta_log.specs.Change.{IsTableOfLog}
 use Rattle.target_core.specs.Conditions.{IsPublishable}
 use Rattle.table_history.specs.declared.table.Table.{Table}
 use Rattle.target_delta.specs.Held.{are_held}
@@ -50,6 +51,9 @@ held_few rows is = le_by (length rows) MAX_LIVE_FILES (left_true (nat_le (length
 -- a table that may be published
 pub held_of : (table : Table) → IsPublishable table → are_held table.rows ≡ true
 held_of table may = both_true (nat_le (length table.rows) MAX_LIVE_FILES) (list_all (λ row. is_path row.path) table.rows) (le_test (length table.rows) MAX_LIVE_FILES may.live_files) (all_paths table.rows may.paths)
+
+pub held_log : (table : Table) → IsTableOfLog table → are_held table.rows ≡ true
+held_log table of = both_true (nat_le (length table.rows) MAX_LIVE_FILES) (list_all (λ row. is_path row.path) table.rows) (le_test (length table.rows) MAX_LIVE_FILES of.live_files) (all_paths table.rows of.paths)
 
 pub none_held : are_held [] ≡ true
 none_held = refl

@@ -193,8 +193,10 @@ fn seen_of(
     }
 }
 
+#[tactic(auto, using(crate::proofs::HeldLemmas::held_log))]
 fn kept_of(log: Log, newest: u64, mark: Mark) -> DeltaKept
     requires version { newest ≤ MAX_DELTA_VERSION }
+    requires table { IsTableOfLog log.table }
     ensures { IsKeptOf log newest mark result }
 {
     let names_ntz = names_ntz(&log.protocol);

@@ -1,5 +1,5 @@
-//! A Delta table as the target of a sync, begun: what a Delta log stands for as a target, the id of a
-//! new table, and the commit that is written for a change.
+//! A Delta table as the target of a sync: what its log stands for, and the calls that inspect it and
+//! publish commits.
 #![tactic(auto)]
 
 mod actions;
