@@ -43,11 +43,11 @@ use Rattle.target_delta.specs.NewVersion.{IsNewVersion}
 use Rattle.target_delta.specs.Reading.{HasMark, IsAbsent, IsCarried, IsMarkAt, IsOurs, Reads, mark_setting, setting}
 use Rattle.target_delta.specs.Writing.{IsWritten, LogEnd, Passes, end_behind, have_ntz, mark_of, meta_of, names_ntz, ntz_protocol, plain_protocol, protocol_due, schema_behind}
 use Rattle.target_delta.specs.declared.kept.DeltaKept.{DeltaKept}
-use Rattle.target_delta.proofs.FitLemmas.{fits_alike, fits_rest}
-use Rattle.target_delta.proofs.KeptLemmas.{versions_of_reads}
+use Rattle.target_delta.specs.FitLemmas.{fits_alike, fits_rest}
+use Rattle.target_delta.specs.KeptLemmas.{versions_of_reads}
 use Rattle.target_delta.proofs.KindLemmas.{other_kinds}
 use Rattle.target_delta.proofs.PublishLemmas.{IsBeside, below, carried_below, ours_now, reads_before, says_below, versions_now}
-use Rattle.target_delta.proofs.ReadingLemmas.{absent_or_ours, no_commits}
+use Rattle.target_delta.specs.ReadingLemmas.{absent_or_ours, no_commits}
 use Rattle.target_delta.proofs.StepLemmas.{StandsBefore, added_again, added_from, again, due_first, found, meta_partition, protocol_is, spelled, step}
 use Rattle.target_delta.proofs.WrittenLemmas.{again_from, again_of, only_setting}
 

@@ -1,18 +1,9 @@
-pub mod NameLemmas
-pub mod LogLemmas
-pub mod ReadingLemmas
-pub mod FitLemmas
-pub mod KeptLemmas
 pub mod TextLemmas
-pub mod CountLemmas
 pub mod ColumnLemmas
-pub mod InspectLemmas
-pub mod AlikeLemmas
 pub mod PublishLemmas
 pub mod WrittenLemmas
 pub mod StepLemmas
 pub mod ActionLemmas
-pub mod OwnLemmas
 pub mod StrayLemmas
 pub mod SeenLemmas
 pub mod ToldLemmas
@@ -23,4 +14,3 @@ pub mod WritableLemmas
 pub mod CommitLemmas
 pub mod NewVersionLemmas
 pub mod StoreLemmas
-pub mod LawLemmas

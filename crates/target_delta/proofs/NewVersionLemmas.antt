@@ -34,9 +34,9 @@ use Rattle.target_delta.specs.NewVersion.{IsGoneOn, IsNewVersion, IsTextOf, IsTe
 use Rattle.target_delta.specs.Reading.{mark_setting}
 use Rattle.target_delta.specs.Writing.{AreActions, CanAdd, IsWritten, LeavesAdded, LosesRemoved, Passes, end_behind, have_ntz, mark_of, protocol_due}
 use Rattle.target_delta.specs.declared.kept.DeltaKept.{DeltaKept}
-use Rattle.target_delta.proofs.FitLemmas.{fits_rows}
+use Rattle.target_delta.specs.FitLemmas.{fits_rows}
 use Rattle.target_delta.proofs.HeldLemmas.{held_few, held_of, held_paths}
-use Rattle.target_delta.proofs.KeptLemmas.{ends_by}
+use Rattle.target_delta.specs.KeptLemmas.{ends_by}
 use Rattle.target_delta.proofs.WritableLemmas.{fewer}
 
 -- ---- the rows behind the change

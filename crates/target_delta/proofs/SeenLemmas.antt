@@ -34,7 +34,7 @@ use Rattle.target_delta.specs.Kept.{HoldsEnd, StandsFor, view_of}
 use Rattle.target_delta.specs.Names.{HasVersions}
 use Rattle.target_delta.specs.Reading.{IsMarkAt, IsOurs, Reads, mark_setting, setting}
 use Rattle.target_delta.specs.declared.kept.DeltaKept.{DeltaKept}
-use Rattle.target_delta.proofs.LogLemmas.{log_front}
+use Rattle.target_delta.specs.LogLemmas.{log_front}
 
 -- ---- the table may be published
 

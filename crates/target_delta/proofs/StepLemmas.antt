@@ -35,7 +35,7 @@ use Rattle.target_core.specs.Changes.{IsGone}
 use Rattle.target_core.specs.Conditions.{IsPublishable}
 use Rattle.target_core.specs.Views.{Origin}
 use Rattle.target_delta.specs.Writing.{IsAddOf, IsWritten, LogEnd, have_ntz, mark_of, meta_of, ntz_feature, ntz_protocol, plain_protocol, protocol_due, schema_behind}
-use Rattle.target_delta.proofs.LogLemmas.{one_columns}
+use Rattle.target_delta.specs.LogLemmas.{one_columns}
 use Rattle.target_delta.proofs.WrittenLemmas.{MetaAgain, adds_again, again_from, again_of, column_kind_there, columns_there, meta_again, only_row, only_setting, same_paths}
 
 -- ---- paths and actions

@@ -9,3 +9,13 @@ pub mod DeltaMeaning
 pub mod Kept
 pub mod InspectSteps
 pub mod NewVersion
+pub mod NameLemmas
+pub mod LogLemmas
+pub mod ReadingLemmas
+pub mod FitLemmas
+pub mod KeptLemmas
+pub mod CountLemmas
+pub mod InspectLemmas
+pub mod AlikeLemmas
+pub mod OwnLemmas
+pub mod LawLemmas

@@ -4,9 +4,16 @@ ghost use Rattle.std.specs.Prelude.{◌≡◌, ◌∷◌, ◌++◌, ℕ, List, [
 ghost use Rattle.target_core.specs.declared.target.TargetError.TheVariants.{Memory};
 ghost use Rattle.target_delta.specs.TableId.{id_name, table_id};
 
+use crate::commit::publish_commit;
+use crate::fitting::fits;
+use crate::fresh::fresh_kept;
+use crate::inspect::inspect;
+use crate::kept::DeltaKept;
 use lake_basics::Text;
+use lake_store::Store;
 use std::alloc::{AllocError, Global};
-use target_core::TargetError;
+use table_history::{Commit, Kind, Table};
+use target_core::{Mark, Seen, Target, TargetError};
 use uuid::Uuid;
 
 /// A Delta table as the target of a sync. A log that is there already keeps its own table id.
@@ -39,4 +46,179 @@ impl DeltaTarget {
             id: table_id(alloc, location)?,
         })
     }
+}
+
+impl Target for DeltaTarget {
+    ghost use Rattle.table_history.specs.declared.kind.Kind.TheVariants.{Delta};
+    ghost use Rattle.target_delta.specs.DeltaMeaning.{image};
+    ghost use Rattle.target_delta.specs.Fitting.{Unfit};
+    ghost use Rattle.target_delta.specs.Inspecting.{IsCrowded, IsForeign};
+    ghost use Rattle.target_delta.specs.Kept.{StandsFor, end_of, view_of};
+    ghost use Rattle.target_delta.specs.Names.{HasVersions, IsReached, IsSettled};
+    ghost use Rattle.target_delta.specs.Reading.{IsCarried, Reads, commits_in};
+    ghost use Rattle.target_delta.specs.Writing.{Passes};
+    ghost use Rattle.target_delta.specs.FitLemmas.{fits_first, fits_partition};
+    ghost use Rattle.target_delta.specs.InspectLemmas.{not_foreign, one_path};
+    ghost use Rattle.target_delta.specs.KeptLemmas.{kept_own};
+    ghost use Rattle.target_delta.specs.LawLemmas.{commits_read, counted_own, image_publishable, kept_counted, passes_alike, reached_alone, unfit_alike};
+    ghost use Rattle.target_delta.specs.OwnLemmas.{commits_own, crowded_own, foreign_own};
+    ghost use Rattle.target_delta.specs.ReadingLemmas.{absent_any, carries_own, carries_within, crash_carries, crash_reads, crash_settled, newest, one_change, one_view, published, reached_clean, reached_in, reached_stays, reads_own, settled_clean, settled_own};
+
+    type Kept = DeltaKept;
+
+    ghost kind = { λ t. Delta };
+
+    ghost image = { λ t schema. image schema };
+
+    ghost reads = { λ t files view. Reads files view };
+
+    ghost commits_in = { λ t files. commits_in files };
+
+    ghost is_foreign = { λ t source files path. IsForeign source files path };
+
+    ghost is_crowded = { λ t source files which number. IsCrowded files which number };
+
+    ghost unfit = { λ t kept partition commits e. Unfit (end_of kept) partition commits e };
+
+    ghost passes = { λ t kept files origin now commits which number.
+        Passes (end_of kept) origin now commits which number };
+
+    ghost carries = { λ t files number change standing. IsCarried files number change standing };
+
+    ghost reached = { λ t files path. IsReached files path };
+
+    ghost settled = { λ t disk. IsSettled disk };
+
+    ghost counted = { λ t kept files. HasVersions files kept.commits };
+
+    ghost stands_for = { λ t kept files. StandsFor t.id kept files };
+
+    ghost view = { λ t kept. view_of kept };
+
+    fn kind(&self) -> Kind {
+        Kind::Delta
+    }
+
+    fn table<'a>(&self, kept: &'a DeltaKept) -> &'a Table {
+        &kept.table
+    }
+
+    fn mark<'a>(&self, kept: &'a DeltaKept) -> Option<&'a Mark> {
+        kept.mark.as_ref()
+    }
+
+    fn commits(&self, kept: &DeltaKept) -> u64 {
+        kept.commits
+    }
+
+    fn inspect<S: Store>(
+        &self,
+        alloc: Global,
+        store: &mut S,
+        source: Kind,
+    ) -> Result<Seen<DeltaKept>, TargetError> {
+        inspect(alloc, store, source)
+    }
+
+    fn fresh(&self, alloc: Global, partition: &[Text]) -> Result<DeltaKept, TargetError> {
+        Ok(fresh_kept(alloc, &self.id, partition)?)
+    }
+
+    fn fits(
+        &self,
+        alloc: Global,
+        kept: &DeltaKept,
+        partition: &[Text],
+        commits: &[Commit],
+    ) -> Result<(), TargetError> {
+        fits(alloc, kept, partition, commits)
+    }
+
+    fn commit<S: Store>(
+        &self,
+        alloc: Global,
+        store: &mut S,
+        kept: &mut DeltaKept,
+        commit: &Commit,
+        source: Kind,
+        table: Option<&Text>,
+        now_ms: u64,
+    ) -> Result<(), TargetError> {
+        publish_commit(alloc, store, kept, commit, source, table, now_ms)
+    }
+
+    ghost one_view = { λ t files v w a b. one_view files v w a b };
+
+    ghost commits_read = { λ t files v reads. commits_read files v reads };
+
+    ghost absent_any = { λ t files p q reads. absent_any files p q reads };
+
+    ghost image_publishable = { λ t table held is may. image_publishable table held is may };
+
+    ghost published = { λ t files v reads. published files v reads };
+
+    ghost not_foreign = { λ t source files path v foreign reads.
+        not_foreign source files path v foreign reads };
+
+    ghost one_path = { λ t source files p q a b. one_path source files p q a b };
+
+    ghost fits_first = { λ t kept partition commit commits fits.
+        fits_first (end_of kept) partition commit commits fits };
+
+    ghost fits_partition = { λ t kept partition commits some fits published.
+        fits_partition (end_of kept) partition commits some fits published };
+
+    ghost unfit_alike = { λ t kept other files partition commits e a b same unfit.
+        unfit_alike t.id kept other files partition commits e a b same unfit };
+
+    ghost passes_alike = { λ t kept other files origin now commits which number a b same passes.
+        passes_alike t.id kept other files origin now commits which number a b same passes };
+
+    ghost one_change = { λ t files c a b m n h k. one_change files c a b m n h k };
+
+    ghost carries_within = { λ t files v c change m reads h.
+        carries_within files v c change m reads h };
+
+    ghost newest = { λ t files v change m reads h. newest files v change m reads h };
+
+    ghost kept_view = { λ t kept files stands. stands.reads };
+
+    ghost kept_counted = { λ t kept files stands. kept_counted t.id kept files stands };
+
+    ghost reached_in = { λ t files path h. reached_in files path h };
+
+    ghost reached_stays = { λ t a b same path h. reached_stays a b same path h };
+
+    ghost reached_clean = { λ t disk path settled h. reached_clean disk path settled h };
+
+    ghost reads_own = { λ t a b v same h. reads_own a b v same h };
+
+    ghost commits_own = { λ t a b same. commits_own a b same };
+
+    ghost foreign_own = { λ t source a b path same h. foreign_own source a b path same h };
+
+    ghost crowded_own = { λ t source a b which number same h.
+        crowded_own a b which number same h };
+
+    ghost carries_own = { λ t a b c change m same h. carries_own a b c change m same h };
+
+    ghost passes_own = { λ t kept a b origin now commits which number same h. h };
+
+    ghost kept_own = { λ t kept a b same h. kept_own t.id kept a b same h };
+
+    ghost counted_own = { λ t kept a b same h. counted_own kept.commits a b same h };
+
+    ghost reached_alone = { λ t a b v same none reads. reached_alone a b v same none reads };
+
+    ghost settled_absent = { λ t disk reads clean. settled_clean disk clean };
+
+    ghost settled_own = { λ t a b same fewer settled. settled_own a b fewer settled };
+
+    ghost crash_reads = { λ t disk image v settled left reads.
+        crash_reads disk image settled left v reads };
+
+    ghost crash_carries = { λ t disk image v c change m settled left reads le h.
+        crash_carries disk image settled left c change m h };
+
+    ghost crash_settled = { λ t disk image settled left. crash_settled image };
 }

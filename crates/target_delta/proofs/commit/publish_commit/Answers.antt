@@ -12,7 +12,7 @@ use Rattle.target_delta.specs.Names.{HasVersions, IsStagedPath}
 use Rattle.target_delta.specs.NewVersion.{IsNewVersion}
 use Rattle.target_delta.specs.Writing.{LogEnd}
 use Rattle.target_delta.proofs.CommitLemmas.{fits_behind, free_path, stands_now}
-use Rattle.target_delta.proofs.KeptLemmas.{versions_of_reads}
+use Rattle.target_delta.specs.KeptLemmas.{versions_of_reads}
 use Rattle.target_delta.proofs.StoreLemmas.{alone_staged, beside_now, contested_by, count_taken, counted_now, err_same, not_ok, ok_taken, publishes_nothing, publishes_staged, untaken_by}
 use Rattle.target_delta.proofs.commit.publish_commit.Goals as goal
 

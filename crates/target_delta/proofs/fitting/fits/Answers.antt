@@ -7,7 +7,7 @@ use Rattle.table_history.specs.declared.feature.Feature.TheVariants.{PartitionCh
 use Rattle.target_core.specs.declared.target.TargetError.TheVariants.{Unsupported}
 use Rattle.target_delta.specs.Fitting.{ChangesPartition, HasValueForm, IsFormOf, Unfit, added_rows, changes, form, many}
 use Rattle.target_delta.specs.Kept.{end_of}
-use Rattle.target_delta.proofs.FitLemmas.{fits_by}
+use Rattle.target_delta.specs.FitLemmas.{fits_by}
 use Rattle.target_delta.proofs.fitting.fits.Goals as goal
 
 pub returns-then-commits-gt-MAX_PUBLISHED_COMMITS-clause-refusal : goal.returns-then-commits-gt-MAX_PUBLISHED_COMMITS-clause-refusal

@@ -1,7 +1,7 @@
 use Rattle.std.proofs.Common.{ap, refl, sym, ◌∙◌, subst, false, None}
 use Rattle.table_history.specs.declared.table.Table.{Table}
 use Rattle.target_core.specs.Views.{View}
-use Rattle.target_delta.proofs.KeptLemmas.{fresh_stands}
+use Rattle.target_delta.specs.KeptLemmas.{fresh_stands}
 use Rattle.target_delta.proofs.fresh.fresh_kept.Goals as goal
 
 pub returns-clause-stands : goal.returns-clause-stands

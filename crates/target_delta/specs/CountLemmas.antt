@@ -28,8 +28,8 @@ use Rattle.delta_table.proofs.PathLaws.{path_once}
 use Rattle.delta_table.specs.Versions.{HasVersion, log_folder}
 use Rattle.table_history.proofs.RowListLemmas.{Contains-none, Contains-head, Contains-tail, Contains-cases}
 use Rattle.target_delta.specs.Names.{HasVersions, path_of}
-use Rattle.target_delta.proofs.NameLemmas.{same_behind}
-use Rattle.target_delta.proofs.ReadingLemmas.{reached_there, some_there}
+use Rattle.target_delta.specs.NameLemmas.{same_behind}
+use Rattle.target_delta.specs.ReadingLemmas.{reached_there, some_there}
 use Rattle.target_delta.specs.Reading.{commits_in, is_digit, is_version_name, version_named, versions_in}
 
 -- ---- the test of a name

@@ -29,8 +29,8 @@ use Rattle.target_core.specs.declared.mark.Mark.{Mark}
 use Rattle.target_core.proofs.Marks.{one_mark}
 use Rattle.target_delta.specs.Names.{HasVersions, IsLeftoverName, IsReached, IsSettled, path_of}
 use Rattle.target_delta.specs.Reading.{HasMark, IsAbsent, IsCarried, IsMarkAt, IsOurs, Reads, mark_setting, setting}
-use Rattle.target_delta.proofs.NameLemmas.{name_in, never_leftover, same_behind, version_in}
-use Rattle.target_delta.proofs.LogLemmas.{SameTable, SameVersions, has_too, log_too, one_columns, one_table, says_too, versions_sym}
+use Rattle.target_delta.specs.NameLemmas.{name_in, never_leftover, same_behind, version_in}
+use Rattle.target_delta.specs.LogLemmas.{SameTable, SameVersions, has_too, log_too, one_columns, one_table, says_too, versions_sym}
 
 -- ---- one of each
 

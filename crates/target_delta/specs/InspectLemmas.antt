@@ -23,9 +23,9 @@ use Rattle.target_core.specs.Views.{IsOfSource, IsUnpublished, Standing, View}
 use Rattle.target_delta.specs.Inspecting.{IsFault, IsFaulty, IsFirstFaulty, IsFirstStray, IsForeign, IsUnmarked}
 use Rattle.target_delta.specs.Names.{path_of}
 use Rattle.target_delta.specs.Reading.{IsAbsent, IsMarkAt, IsOurs, Reads}
-use Rattle.target_delta.proofs.AlikeLemmas.{feature_too, grammar_too}
-use Rattle.target_delta.proofs.LogLemmas.{SameTables, log_front, one_table, tables_sym}
-use Rattle.target_delta.proofs.ReadingLemmas.{no_commits, one_count}
+use Rattle.target_delta.specs.AlikeLemmas.{feature_too, grammar_too}
+use Rattle.target_delta.specs.LogLemmas.{SameTables, log_front, one_table, tables_sym}
+use Rattle.target_delta.specs.ReadingLemmas.{no_commits, one_count}
 
 alike : (c : DeltaCommit) (a b : Option Table) (e : DeltaError) → SameTables a b → IsFault e → IsChangeRefusal c a e → IsChangeRefusal c b e
 alike c a b errors.Memory same fault h = absurd fault

@@ -10,7 +10,7 @@ use Rattle.delta_log.specs.Change.{ChangesPartition, IsOutsideGrammar, Shows, co
 use Rattle.delta_log.specs.TableBehind.{ArePartColumns, IsSchemaBehind}
 use Rattle.delta_log.specs.declared.commit.DeltaCommit.{DeltaCommit}
 use Rattle.delta_log.specs.declared.commit.MetaData.{MetaData}
-use Rattle.target_delta.proofs.LogLemmas.{SameTables, same_partitions, same_schemas, tables_sym}
+use Rattle.target_delta.specs.LogLemmas.{SameTables, same_partitions, same_schemas, tables_sym}
 
 none_too : (a b : Option Table) → SameTables a b → a ≡ None → b ≡ None
 none_too None None same is = refl

@@ -14,9 +14,9 @@ use Rattle.target_core.specs.Folders.{SameIn}
 use Rattle.target_delta.specs.Inspecting.{IsCrowded, IsFaulty, IsFirstFaulty, IsFirstStray, IsForeign, IsStray, IsUnmarked, PassesIn}
 use Rattle.target_delta.specs.Names.{path_of}
 use Rattle.target_delta.specs.Reading.{commits_in, version_named}
-use Rattle.target_delta.proofs.LogLemmas.{has_too, holds_too, log_too, says_too}
-use Rattle.target_delta.proofs.NameLemmas.{name_in}
-use Rattle.target_delta.proofs.ReadingLemmas.{marked_too, own_versions, versions_too}
+use Rattle.target_delta.specs.LogLemmas.{has_too, holds_too, log_too, says_too}
+use Rattle.target_delta.specs.NameLemmas.{name_in}
+use Rattle.target_delta.specs.ReadingLemmas.{marked_too, own_versions, versions_too}
 
 -- ---- names
 

@@ -20,10 +20,10 @@ use Rattle.target_delta.specs.Names.{HasVersions, IsReached}
 use Rattle.target_delta.specs.Reading.{IsCarried, Reads, commits_in}
 use Rattle.target_delta.specs.Writing.{LogEnd, Passes}
 use Rattle.target_delta.specs.declared.kept.DeltaKept.{DeltaKept}
-use Rattle.target_delta.proofs.CountLemmas.{count_is}
-use Rattle.target_delta.proofs.FitLemmas.{unfit_same}
-use Rattle.target_delta.proofs.KeptLemmas.{one_end, versions_of_reads}
-use Rattle.target_delta.proofs.ReadingLemmas.{own_versions, reached_carries, reached_reads, versions_too}
+use Rattle.target_delta.specs.CountLemmas.{count_is}
+use Rattle.target_delta.specs.FitLemmas.{unfit_same}
+use Rattle.target_delta.specs.KeptLemmas.{one_end, versions_of_reads}
+use Rattle.target_delta.specs.ReadingLemmas.{own_versions, reached_carries, reached_reads, versions_too}
 
 pub kept_counted : (id : List ℕ) (kept : DeltaKept) (files : Files) → StandsFor id kept files → HasVersions files kept.commits
 kept_counted id kept files stands = versions_of_reads files (view_of kept) stands.reads

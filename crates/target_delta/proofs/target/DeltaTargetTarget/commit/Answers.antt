@@ -1,0 +1,10 @@
+use Rattle.target_delta.proofs.target.DeltaTargetTarget.commit.Goals as goal
+
+pub returns-clause-publishes : goal.returns-clause-publishes
+returns-clause-publishes g c told stands settled = c.publish_commit.ensures.publishes told c.args.self.now.id stands settled
+
+pub returns-clause-contested : goal.returns-clause-contested
+returns-clause-contested g c told stands settled is = c.publish_commit.ensures.contested told c.args.self.now.id stands settled is
+
+pub returns-clause-limited : goal.returns-clause-limited
+returns-clause-limited g c told stands settled which number is = c.publish_commit.ensures.limited told c.args.self.now.id stands settled which number is
