@@ -1,5 +1,5 @@
 -- From recovery to the publication.
-use Rattle.std.proofs.Common.{◌≡◌, ◌≢◌, ◌⊎◌, inl, inr, ⊎_elim, ℕ, List, refl, sym, ap, subst}
+use Rattle.std.proofs.Common.{◌≡◌, ◌≢◌, ◌⊎◌, inl, inr, ⊎_elim, ℕ, List, refl, sym, ◌∙◌, ap, subst}
 use Rattle.std.specs.Prelude.{Option, None, Some, is_some, Result, Ok, Err}
 use Rattle.std.specs.FinMap as map
 use Rattle.lake_store.specs.Disk.{Disk, Files, IsClean, IsName, synced, with_file}
@@ -13,12 +13,12 @@ use Rattle.hudi_names.specs.declared.name.State.{State}
 use Rattle.hudi_names.specs.declared.name.State.TheVariants as state
 use Rattle.hudi_commit.specs.Names.{IsInstantIn, IsThere, claim_path, completed_name, completed_path, pending_path, properties_path, timeline_folder, timeline_path}
 use Rattle.hudi_commit.specs.Orderly.{IsOrderly}
-use Rattle.hudi_commit.specs.Runs.{HasProperties, IsAllClean, IsBase, IsBefore, IsBeforeOrAfter, IsCommitted, IsIdle, IsKept, IsKeptBut, IsNext, IsNoFileOf, IsOneStep, IsPrepared, IsPublished, IsQuiet, IsReady, IsRecovered, IsTidied, IsUncontested, NotGiven, StaysBefore, StaysOrGains, prepared, with_commit}
+use Rattle.hudi_commit.specs.Runs.{HasProperties, IsAllClean, IsBase, IsBefore, IsBeforeOrAfter, IsCommitted, IsIdle, IsKept, IsKeptBut, IsNext, IsNoFileOf, IsOneStep, IsPrepared, IsPublished, IsQuiet, IsReady, IsRecovered, IsTidied, IsUncontested, NotGiven, StaysBefore, StaysOrGains, announced, claimed, completed, prepared, with_commit}
 use Rattle.hudi_commit.specs.Settled.{IsSettled, Stands, StandsAt}
 use Rattle.hudi_commit.proofs.NameLaws.{claim_not_properties, claim_not_staged, completed_instant, completed_is_name, completed_not_properties, completed_stays, not_staged, properties_stay}
 use Rattle.hudi_commit.proofs.OpenLaws.{not_of, open_inside}
 use Rattle.hudi_commit.proofs.OrderlyLaws.{orderly_real, there, there_none}
-use Rattle.hudi_commit.proofs.PublishLaws.{absent, has_quiet, has_stands, quiet_unannounced}
+use Rattle.hudi_commit.proofs.PublishLaws.{absent, has_quiet, has_stands, moved_here, quiet_unannounced}
 use Rattle.hudi_commit.proofs.StepLaws.{clean_settled, in_timeline}
 
 -- a result that isn't a contest, where it is `Ok`
@@ -112,6 +112,10 @@ committed properties t b d₀ d₂ d₃ d₄ recovered prep done = record {
   claim = done.claim;
   recovered = done.recovered (prep.recovered recovered);
 }
+
+-- the file that is completed
+pub completed_here : (t b : List ℕ) (old new : Disk) → new ≡ completed t b old → map.get new.files (completed_path t) ≡ Some b
+completed_here t b old new done = ap (λ (d : Disk). map.get d.files (completed_path t)) done ∙ moved_here (announced t (claimed t b old)) (claim_path t) (completed_path t) b
 
 prepared_base : (properties : Option (List ℕ)) (entry : Files) → IsBase properties entry (prepared properties entry)
 prepared_base None entry = refl

@@ -1,7 +1,7 @@
 -- What a run of store calls makes of a timeline.
 use Rattle.std.specs.Prelude.{◌≡◌, ◌≢◌, ◌⊎◌, ℕ, List, [], Option, None, Some, Result, Ok, Err}
 use Rattle.std.specs.FinMap as map
-use Rattle.lake_store.specs.Disk.{Disk, Files, IsClean, IsName, removed, synced, with_file, written}
+use Rattle.lake_store.specs.Disk.{Disk, Files, IsClean, IsName, moved, removed, synced, with_file, written}
 use Rattle.lake_store.specs.Runs.{IsEachMoment}
 use Rattle.lake_store.specs.declared.store.Store.{Ghosts}
 use Rattle.lake_store.specs.declared.store.StoreError.{StoreError}
@@ -100,6 +100,10 @@ claimed instant bytes disk = synced (written disk (claim_path instant) bytes)
 -- the disk with an instant's pending names
 abbrev pub announced : List ℕ → Disk → Disk
 announced instant disk = synced (written (written disk (pending_path Requested instant) []) (pending_path Inflight instant) [])
+
+-- the disk with an instant's completed file, which was its claim
+abbrev pub completed : List ℕ → List ℕ → Disk → Disk
+completed instant bytes disk = moved (announced instant (claimed instant bytes disk)) (claim_path instant) (completed_path instant) bytes
 
 abbrev pub IsAllClean : Disk → Type 0
 IsAllClean disk = (path : List ℕ) → IsClean disk path

@@ -1,5 +1,5 @@
 //! One commit, with the recovery before it.
-ghost use Rattle.std.specs.Prelude.{◌≡◌, ◌<◌, ℕ, List, IsErrOf, None, OnOk, codes, length};
+ghost use Rattle.std.specs.Prelude.{◌≡◌, ◌<◌, ℕ, List, IsErrOf, None, OnOk, Some, codes, length};
 ghost use Rattle.std.specs.Option.{option_copied};
 ghost use Rattle.std.specs.FinMap as map;
 ghost use Rattle.lake_basics.specs.declared.limits.TheConstants.{MAX_NAMES};
@@ -62,6 +62,8 @@ pub fn publish_commit<S: Store>(
         → IsReady (option_copied properties.entry) (S.disk store.old).files
         → OnOk result (IsCommitted (option_copied properties.entry) instant.now text.now
         (S.disk store.old) (S.disk store.new)) }
+    ensures completed { S.tells → OnOk result
+        (map.get (S.disk store.new).files (completed_path instant.now) ≡ Some text.now) }
 
     // At any moment the timeline reads as before or as after, and it stays settled.
     ensures one_step { S.tells → IsUncontested result → IsOrderly (S.disk store.old).files

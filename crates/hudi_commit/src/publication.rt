@@ -6,7 +6,7 @@ ghost use Rattle.lake_store.specs.Disk.{Files, with_file};
 ghost use Rattle.lake_store.specs.Runs.{FailsBy, IsContestedBy, IsUncontestedBy, LeavesAlone};
 ghost use Rattle.hudi_names.specs.Time.{IsSomeTime};
 ghost use Rattle.hudi_commit.specs.Names.{completed_path};
-ghost use Rattle.hudi_commit.specs.Runs.{IsNext, IsNoFileOf, IsNotOf, IsPublished, IsUncontested, StaysAlike, StaysOrGains, announced, claimed};
+ghost use Rattle.hudi_commit.specs.Runs.{IsNext, IsNoFileOf, IsNotOf, IsPublished, IsUncontested, StaysAlike, StaysOrGains, announced, claimed, completed};
 ghost use Rattle.hudi_commit.specs.Settled.{IsAnnounceable, IsUnannounced, Stands};
 
 use crate::paths::InstantPaths;
@@ -63,6 +63,8 @@ pub fn complete<S: Store>(
     ensures published { S.tells → (base : Files)
         → Stands base (S.disk store.old) → IsNext paths.now (S.disk store.old)
         → OnOk result (IsPublished base paths.now bytes.now (S.disk store.old) (S.disk store.new)) }
+    ensures completed { S.tells
+        → OnOk result (S.disk store.new ≡ completed paths.now bytes.now (S.disk store.old)) }
     ensures alone { S.tells → LeavesAlone ⟦<S as Store>⟧ (IsNoFileOf paths.now)
         store.old store.new }
     ensures cause { FailsBy ⟦<S as Store>⟧ store.old store.new (IsErrOf result StoreError.Failed) }

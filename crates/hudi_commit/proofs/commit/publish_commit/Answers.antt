@@ -1,4 +1,5 @@
-use Rattle.std.proofs.Common.{ap, sym, ◌∙◌, subst}
+use Rattle.std.proofs.Common.{◌≡◌, ap, sym, ◌∙◌, subst}
+use Rattle.std.specs.Prelude.{Some}
 use Rattle.std.specs.Option.{option_copied}
 use Rattle.std.specs.FinMap as map
 use Rattle.std.proofs.lemmas.Result.{err_from_is_err_and, on_ok_weaker}
@@ -7,9 +8,9 @@ use Rattle.lake_store.specs.Runs.{IsOutside}
 use Rattle.lake_store.proofs.RunLaws.{alone_further, alone_of_fewer}
 use Rattle.hudi_names.specs.Time.{IsSomeTime}
 use Rattle.hudi_commit.specs.Names.{completed_path, timeline_folder}
-use Rattle.hudi_commit.specs.Runs.{IsCommitted, IsKept, IsKeptBut, IsNext, IsNoFileOf, IsNotOpen, IsOneStep, IsPublished, prepared}
+use Rattle.hudi_commit.specs.Runs.{IsCommitted, IsKept, IsKeptBut, IsNext, IsNoFileOf, IsNotOpen, IsOneStep, IsPublished, completed, prepared}
 use Rattle.hudi_commit.proofs.AloneLaws.{alone_begun, alone_sync}
-use Rattle.hudi_commit.proofs.CommitLaws.{before_step, committed, completed_kept_but, entry_stands, kept_but, kept_from, outside_kept, prepared_next, recovered_idle, step_then, synced_clean, synced_stands, tidied_ready}
+use Rattle.hudi_commit.proofs.CommitLaws.{before_step, committed, completed_here, completed_kept_but, entry_stands, kept_but, kept_from, outside_kept, prepared_next, recovered_idle, step_then, synced_clean, synced_stands, tidied_ready}
 use Rattle.hudi_commit.proofs.KeepLaws.{begun, keeps_then, sync_keeps}
 use Rattle.hudi_commit.proofs.OpenLaws.{completed_not_open, open_same}
 use Rattle.hudi_commit.proofs.StagingLaws.{alike_before, before_then}
@@ -167,6 +168,17 @@ returns-clause-committed g c told orderly ready =
     on_ok_weaker c.complete.result
     (λ (done : IsPublished (prepared props entry) c.in_ok-paths.paths b (disk s3) (disk s4)). subst (λ x. IsCommitted props x b (disk s0) (disk s4)) at (committed props c.in_ok-paths.paths b (disk s0) (disk s2) (disk s3) (disk s4) recovered prep done))
     (c.complete.ensures.published told (prepared props entry) prep.stands (subst (λ x. IsNext x (disk s3)) (sym at) next))
+
+pub returns-clause-completed : goal.returns-clause-completed
+returns-clause-completed g c told =
+    let disk = g.S.Store.disk in
+    let b = c.args.text.now in
+    let s3 = c.prepare.new.store in
+    let s4 = c.complete.new.store in
+    on_ok_weaker c.complete.result
+    (λ (done : disk s4 ≡ completed c.in_ok-paths.paths b (disk s3)).
+    subst (λ t. map.get (disk s4).files (completed_path t) ≡ Some b) c.in_ok-paths.ensures (completed_here c.in_ok-paths.paths b (disk s3) (disk s4) done))
+    (c.complete.ensures.completed told)
 
 pub returns-in_err-paths-clause-kept : goal.returns-in_err-paths-clause-kept
 returns-in_err-paths-clause-kept g c told =

@@ -2,10 +2,10 @@ use Rattle.std.proofs.Common.{List, ℕ, inl, inr, ap, sym, ◌∙◌, subst, �
 use Rattle.std.specs.Prelude.{Some, is_some}
 use Rattle.std.specs.FinMap as map
 use Rattle.std.proofs.lemmas.Result.{on_ok_weaker}
-use Rattle.lake_store.specs.Disk.{Moves, with_file}
+use Rattle.lake_store.specs.Disk.{Moves, moved, with_file}
 use Rattle.lake_store.proofs.RunLaws.{alone_further, alone_of_fewer}
 use Rattle.hudi_commit.specs.Names.{claim_path, completed_path}
-use Rattle.hudi_commit.specs.Runs.{IsNoFileOf, IsNotOf, IsPublished}
+use Rattle.hudi_commit.specs.Runs.{IsNoFileOf, IsNotOf, IsPublished, announced}
 use Rattle.hudi_commit.specs.Settled.{Stands}
 use Rattle.hudi_commit.proofs.AloneLaws.{alone_publish}
 use Rattle.hudi_commit.proofs.KeepLaws.{keeps_then}
@@ -87,6 +87,23 @@ returns-clause-published g c told base stands next =
     subst (IsPublished base t b (disk s₀))
     (sym (has_moved_at (disk s₂) (disk s₃) c.claim-2.result.now c.completed.result.now (claim_path t) (completed_path t) b c.claim-2.ensures c.completed.ensures (claim_here t b is (disk s₀) (disk s₁) (disk s₂) ok₁ ok₂) moves))
     (commit_published t b is (disk s₀) (disk s₁) (disk s₂) ok₁ ok₂ base next.properties k₂.disk))
+    (c.publish.ensures.ok told)
+
+pub returns-clause-completed : goal.returns-clause-completed
+returns-clause-completed g c told =
+    let disk = g.S.Store.disk in
+    let t = c.args.paths.now in
+    let b = c.args.bytes.now in
+    let s₀ = c.args.store.now in
+    let s₁ = c.claim.new.store in
+    let s₂ = c.announce.new.store in
+    let s₃ = c.publish.new.self in
+    let ok₁ = c.in_ok-claim.ensures.claimed told in
+    let ok₂ = c.in_ok-announce.ensures.announced told in
+    on_ok_weaker c.publish.result
+    (λ (moves : Moves c.claim-2.result.now c.completed.result.now (disk s₂) (disk s₃)).
+    has_moved_at (disk s₂) (disk s₃) c.claim-2.result.now c.completed.result.now (claim_path t) (completed_path t) b c.claim-2.ensures c.completed.ensures (claim_here t b c.requires.real (disk s₀) (disk s₁) (disk s₂) ok₁ ok₂) moves
+    ∙ ap (λ d. moved d (claim_path t) (completed_path t) b) (ok₂ ∙ ap (announced t) ok₁))
     (c.publish.ensures.ok told)
 
 fewer : (t path : List ℕ) → IsNoFileOf t path → IsNotOf t path
