@@ -83,6 +83,13 @@ pub fn publish_commit<S: Store>(
         (IsErrOf result StoreError.Taken) }
     ensures too_long { (n : ℕ) → IsErrOf result (StoreError.TooLong n) → (MAX_NAMES < n)
         × (S.tells → n ≡ length (names_in (S.disk store.old).files claims_folder)) }
+
+    // Where the claims are too many nothing is published.
+    ensures unpublished { S.tells → (n : ℕ) → IsErrOf result (StoreError.TooLong n)
+        → map.get (S.disk store.new).files (completed_path instant.now) ≡ None }
+    ensures unmoved { S.tells → IsOrderly (S.disk store.old).files → (n : ℕ)
+        → IsErrOf result (StoreError.TooLong n)
+        → Stands (S.disk store.old).files (S.disk store.new) }
 {
     let paths = InstantPaths::new(alloc, instant)?;
     store.sync()?;

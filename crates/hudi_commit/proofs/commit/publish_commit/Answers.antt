@@ -180,6 +180,21 @@ returns-clause-completed g c told =
     subst (λ t. map.get (disk s4).files (completed_path t) ≡ Some b) c.in_ok-paths.ensures (completed_here c.in_ok-paths.paths b (disk s3) (disk s4) done))
     (c.complete.ensures.completed told)
 
+-- no file of the instant is completed before the last call
+pub returns-in_err-clear_claims-clause-unpublished : goal.returns-in_err-clear_claims-clause-unpublished
+returns-in_err-clear_claims-clause-unpublished g c told n long =
+    let disk = g.S.Store.disk in
+    let t = c.args.instant.now in
+    (c.clear_claims.ensures.alone told).disk.files (completed_path t) (completed_not_open (disk c.sync.new.self).files t c.requires.real.1.digits)
+    ∙ ap (λ (d : Disk). map.get d.files (completed_path t)) (c.in_ok-sync.ensures.ok told) ∙ c.requires.free told
+
+pub returns-in_err-clear_claims-clause-unmoved : goal.returns-in_err-clear_claims-clause-unmoved
+returns-in_err-clear_claims-clause-unmoved g c told orderly n long =
+    let disk = g.S.Store.disk in
+    let s0 = c.args.store.now in
+    let s1 = c.sync.new.self in
+    (c.clear_claims.ensures.keeps told (disk s0).files (synced_stands (disk s0) (disk s1) (c.in_ok-sync.ensures.ok told) orderly)).disk
+
 pub returns-in_err-paths-clause-kept : goal.returns-in_err-paths-clause-kept
 returns-in_err-paths-clause-kept g c told =
     let store = g.S.Store in
