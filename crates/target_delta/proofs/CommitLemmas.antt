@@ -83,10 +83,13 @@ module _ (origin : Origin) (now : ℕ) (kept next : DeltaKept) (commit : Commit)
   commits_are : next.commits ≡ kept.commits + 1
   commits_are = ap (λ (e : LogEnd). e.version) v.end
 
+  standing_is : option_map standing_of next.mark ≡ Some (standing_at origin commit.position)
+  standing_is = ap (λ (m : Option Mark). option_map standing_of m) v.mark
+
   pub advanced : IsAdvanced image origin (view_of kept) commit (view_of next)
   advanced = record {
     commits = commits_are;
-    mark = v.mark;
+    mark = standing_is;
     rows = v.after.rows;
     distinct = v.after.distinct;
     partition = v.after.partition;
@@ -245,7 +248,7 @@ module _ (origin : Origin) (now : ℕ) (kept next : DeltaKept) (commit : Commit)
           count_now = omega (arith, commits_are)
 
           ours : IsOurs new (view_of next)
-          ours = ours_now name kept.commits named old new free beside versions v.within bytes there (view_of kept) (view_of next) base_now.base v.again (standing_at origin commit.position) base_now.log says stepped count_now v.mark marked
+          ours = ours_now name kept.commits named old new free beside versions v.within bytes there (view_of kept) (view_of next) base_now.base v.again (standing_at origin commit.position) base_now.log says stepped count_now standing_is marked
 
           pub carries : IsCarried new (kept.commits + 1) commit.change (standing_at origin commit.position)
           carries =
@@ -364,6 +367,7 @@ module _ (origin : Origin) (now : ℕ) (kept next : DeltaKept) (commit : Commit)
                   meta = meta_now;
                   stated = stated;
                   id = sym (again (end_of kept) origin commit v.written v.again v.is v.same base_now.base next.table base_now.before).id ∙ sym (ap (λ (e : LogEnd). e.id) v.end);
+                  at = ap (λ (m : Option Mark). option_map (λ (n : Mark). n.at) m) v.mark;
                   protocol = p.protocol;
                   newest_protocol = p.newest;
                   ntz = p.ntz;

@@ -1,6 +1,6 @@
 -- The version that a commit is written as, from the table behind it.
 use Rattle.std.proofs.Common.{◌≡◌, inl, inr, ⊎_elim, ℕ, suc, ◌+◌, ◌<◌, ◌≤◌, ◌||◌, Bool, true, List, [], ◌∷◌, ◌++◌, length, Contains, Some, refl, sym, ap, subst, ◌∙◌, arith}
-use Rattle.std.specs.Prelude.{Err, Ok, OnErr, OnOk, Result, option_map}
+use Rattle.std.specs.Prelude.{Err, Ok, OnErr, OnOk, Result}
 use Rattle.std.specs.List.{IsDistinct}
 use Rattle.std.specs.Str.{bytes_eq}
 use Rattle.std.proofs.lemmas.List.{append-nil}
@@ -23,7 +23,7 @@ use Rattle.schema_map.specs.DeltaWriting.{delta_text}
 use Rattle.delta_log.specs.declared.commit.DeltaCommit.{DeltaCommit}
 use Rattle.target_core.specs.Conditions.{CanPublish, Fits, IsPublishable}
 use Rattle.target_core.specs.Mark.{IsMarkText, mark_data}
-use Rattle.target_core.specs.Views.{Origin, standing_of}
+use Rattle.target_core.specs.Views.{Origin}
 use Rattle.target_core.specs.declared.mark.Mark.{Mark}
 use Rattle.target_core.specs.declared.target.TargetError.{TargetError}
 use Rattle.target_core.specs.declared.target.TargetError.TheVariants as errors
@@ -118,7 +118,7 @@ module _ (kept mid : DeltaKept) (commit : Commit) (origin : Origin) (now : ℕ) 
     after = subst (λ (t : Table). IsAfter kept.table commit.change t) (sym gone.table) after;
     end = ends_by (end_of next) (end_behind (end_of kept) commit) (gone.commits ∙ ap (λ (n : ℕ). n + 1) commits) (gone.id ∙ id)
         (ap (λ (t : Table). t.schema) gone.table ∙ after.schema) (ap (λ (t : Table). t.partition) gone.table ∙ after.partition) (gone.ntz ∙ (λ i. ntz i || have_ntz (after.schema i)));
-    mark = ap (option_map standing_of) gone.mark_is ∙ ap (λ (m : Mark). Some (standing_of m)) is;
+    mark = gone.mark_is ∙ ap (λ (m : Mark). Some m) is;
     written = text.written;
     is = written_is text.written text.is;
     again = text.again;

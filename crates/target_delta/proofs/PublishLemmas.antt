@@ -12,6 +12,7 @@ use Rattle.table_history.specs.declared.table.Table.{Table}
 use Rattle.delta_log.specs.declared.commit.DeltaCommit.{DeltaCommit}
 use Rattle.delta_table.specs.Log.{IsLog, IsStep, SaysCommit}
 use Rattle.delta_table.specs.Versions.{HoldsVersion, IsVersionPath}
+use Rattle.delta_table.proofs.LogLaws.{live_rows}
 use Rattle.target_core.specs.Views.{Standing, View}
 use Rattle.target_delta.specs.Names.{HasVersions, IsLeftover, IsLeftoverName, IsSettled, path_of}
 use Rattle.target_delta.specs.Reading.{IsCarried, IsMarkAt, IsOurs, Reads}
@@ -117,12 +118,15 @@ module _ (name : List ℕ) (version : ℕ) (named : IsVersionPath name version) 
     }
 
     pub ours_now : (view next : View) (base : Option Table) (c : DeltaCommit) (standing : Standing) → IsLog old version base → SaysCommit new version c → IsStep c base next.table → next.commits ≡ suc version → next.mark ≡ Some standing → IsMarkAt new version standing → IsOurs new next
-    ours_now view next base c standing log says step count mark marked = record {
-      newest = version;
-      count = count;
-      versions = versions_now;
-      log = (base, log_below old new version base below log, c, says, next.table, step, refl);
-      standing = standing;
-      mark = mark;
-      marked = marked;
-    }
+    ours_now view next base c standing log says step count mark marked =
+        let longer : IsLog new (suc version) (Some next.table) = (base, log_below old new version base below log, c, says, next.table, step, refl) in
+        record {
+          newest = version;
+          count = count;
+          versions = versions_now;
+          log = longer;
+          live = live_rows new (suc version) next.table longer;
+          standing = standing;
+          mark = mark;
+          marked = marked;
+        }

@@ -17,9 +17,9 @@ use Rattle.partition_map.proofs.Laws.{kind_of_type}
 use Rattle.delta_log.specs.Change.{IsTableOfLog}
 use Rattle.delta_log.specs.declared.commit.DeltaCommit.{DeltaCommit}
 use Rattle.delta_log.specs.declared.commit.MetaData.{MetaData}
-use Rattle.delta_table.specs.Log.{IsLog, IsLogOf, IsNewestProtocol, SaysCommit}
+use Rattle.delta_table.specs.Log.{HasLiveRows, IsLog, IsLogOf, IsNewestProtocol, SaysCommit}
 use Rattle.delta_table.specs.declared.log.Log.{Log}
-use Rattle.delta_table.proofs.LogLaws.{read_is_log}
+use Rattle.delta_table.proofs.LogLaws.{live_rows, read_is_log}
 use Rattle.delta_table.proofs.PathLaws.{says_once}
 use Rattle.target_core.specs.Conditions.{IsPublishable}
 use Rattle.target_core.specs.Mark.{IsMarkText}
@@ -133,6 +133,7 @@ module _ (files : Files) (newest : ℕ) (log : Log) (is : IsLogOf files (newest 
       count = k.commits ∙ count;
       versions = all_there;
       log = subst (λ (t : Table). IsLog files (suc newest) (Some t)) (sym k.table) whole;
+      live = subst (λ (t : Table). HasLiveRows files (suc newest) t) (sym k.table) (live_rows files (suc newest) log.table whole);
       standing = standing_of mark;
       mark = ap (λ (m : Option Mark). option_map standing_of m) k.marked;
       marked = mark_at files newest log is mark of;
@@ -149,6 +150,7 @@ module _ (files : Files) (newest : ℕ) (log : Log) (is : IsLogOf files (newest 
           meta = log.meta;
           stated = is.meta.is;
           id = sym k.id;
+          at = ap (λ (m : Option Mark). option_map (λ (n : Mark). n.at) m) k.marked ∙ ap (λ (t : List ℕ). Some t) of.at;
           protocol = log.protocol;
           newest_protocol = subst (λ (n : ℕ). IsNewestProtocol files n log.protocol) count is.protocol;
           ntz = sym k.ntz;

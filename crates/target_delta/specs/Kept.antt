@@ -1,5 +1,6 @@
 -- What is kept of a Delta target, and when it is what the files hold.
 use Rattle.std.specs.Prelude.{◌≡◌, ◌⊎◌, ℕ, suc, List, false, Some, option_map}
+use Rattle.std.specs.Fmt.{decimal}
 use Rattle.lake_store.specs.Disk.{Files}
 use Rattle.delta_log.specs.declared.commit.DeltaCommit.{DeltaCommit}
 use Rattle.delta_log.specs.declared.commit.MetaData.{MetaData}
@@ -16,7 +17,7 @@ view_of kept = record { commits = kept.commits; mark = option_map standing_of ke
 abbrev pub end_of : DeltaKept → LogEnd
 end_of kept = record { version = kept.commits; id = kept.id; schema = kept.table.schema; partition = kept.table.partition; ntz = kept.names_ntz }
 
--- The newest version's metadata has the kept id, and the newest protocol lists the feature as kept.
+-- The newest version's metadata has the kept id, the kept mark names that version, and the newest protocol lists the feature as kept.
 pub record HoldsEnd (files : Files) (kept : DeltaKept) : Type 0 where
   pub newest : ℕ
   pub count : kept.commits ≡ suc newest
@@ -25,6 +26,7 @@ pub record HoldsEnd (files : Files) (kept : DeltaKept) : Type 0 where
   pub meta : MetaData
   pub stated : commit.meta ≡ Some meta
   pub id : meta.id ≡ kept.id
+  pub at : option_map (λ m. m.at) kept.mark ≡ Some (decimal newest)
   pub protocol : Protocol
   pub newest_protocol : IsNewestProtocol files (suc newest) protocol
   pub ntz : names_ntz protocol ≡ kept.names_ntz

@@ -89,6 +89,7 @@ kept_own id kept a b same h =
             meta = held.meta;
             stated = held.stated;
             id = held.id;
+            at = held.at;
             protocol = held.protocol;
             newest_protocol = protocol_too held.newest held.protocol held.newest_protocol;
             ntz = held.ntz;

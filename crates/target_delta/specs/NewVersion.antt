@@ -1,5 +1,5 @@
 -- The version that a commit is written as, and what is kept behind it.
-use Rattle.std.specs.Prelude.{◌≡◌, ◌||◌, ◌+◌, ℕ, ◌∷◌, [], List, ◌<◌, ◌≤◌, length, Ok, Some, option_map}
+use Rattle.std.specs.Prelude.{◌≡◌, ◌||◌, ◌+◌, ℕ, ◌∷◌, [], List, ◌<◌, ◌≤◌, length, Ok, Some}
 use Rattle.serde_json.specs.Written.{compact_text}
 use Rattle.lake_basics.specs.declared.limits.TheConstants.{MAX_DELTA_VERSION, MAX_FILE_BYTES}
 use Rattle.table_history.specs.SchemaSize.{IsWithinLimits}
@@ -15,7 +15,7 @@ use Rattle.delta_log.specs.Readable.{IsReadableCommit}
 use Rattle.delta_log.specs.Writing.{SameCommit, commit_text}
 use Rattle.delta_log.specs.declared.commit.DeltaCommit.{DeltaCommit}
 use Rattle.target_core.specs.Mark.{IsMarkText, mark_data}
-use Rattle.target_core.specs.Views.{Origin, standing_at, standing_of}
+use Rattle.target_core.specs.Views.{Origin}
 use Rattle.target_core.specs.declared.mark.Mark.{Mark}
 use Rattle.target_core.specs.declared.target.TargetError.{TargetError}
 use Rattle.target_core.specs.declared.target.TargetError.TheVariants.{Memory, StoreFault, Contested, Limit, Unsupported}
@@ -71,7 +71,7 @@ pub record IsNewVersion (origin : Origin) (now : ℕ) (kept : DeltaKept) (commit
   pub within : kept.commits ≤ MAX_DELTA_VERSION
   pub after : IsAfter kept.table commit.change next.table
   pub end : end_of next ≡ end_behind (end_of kept) commit
-  pub mark : option_map standing_of next.mark ≡ Some (standing_at origin commit.position)
+  pub mark : next.mark ≡ Some (mark_of (end_of kept) origin commit.position)
   pub written : DeltaCommit
   pub is : IsWritten (end_of kept) origin commit written
   pub again : DeltaCommit

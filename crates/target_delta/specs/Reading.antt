@@ -18,7 +18,7 @@ use Rattle.delta_log.specs.declared.commit.DeltaCommit.{DeltaCommit}
 use Rattle.delta_log.specs.declared.commit.FileAction.{FileAction}
 use Rattle.delta_log.specs.declared.commit.FileAction.TheVariants as file
 use Rattle.delta_log.specs.declared.commit.MetaData.{MetaData}
-use Rattle.delta_table.specs.Log.{IsLog, SaysCommit}
+use Rattle.delta_table.specs.Log.{HasLiveRows, IsLog, SaysCommit}
 use Rattle.delta_table.specs.Versions.{HasVersion, log_folder}
 use Rattle.target_core.specs.Changes.{IsGone}
 use Rattle.target_core.specs.Mark.{IsMarkText}
@@ -59,12 +59,14 @@ pub record IsAbsent (files : Files) : Type 0 where
   pub versions : (version : ℕ) → ¬ HasVersion files version
   pub names : (name : List ℕ) → IsName name → IsSome (map.get files (path_of name)) → IsLeftoverName name
 
--- The versions are all there from 0 on, each read and taken over those before it, and the newest has its own mark.
+-- The versions are all there from 0 on, each read and taken over those before it, the rows are the live ones behind the newest (Delta protocol,
+-- "Action Reconciliation"), and the newest has its own mark.
 pub record IsOurs (files : Files) (view : View) : Type 0 where
   pub newest : ℕ
   pub count : view.commits ≡ suc newest
   pub versions : HasVersions files (suc newest)
   pub log : IsLog files (suc newest) (Some view.table)
+  pub live : HasLiveRows files (suc newest) view.table
   pub standing : Standing
   pub mark : view.mark ≡ Some standing
   pub marked : IsMarkAt files newest standing

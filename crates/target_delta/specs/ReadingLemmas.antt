@@ -20,6 +20,7 @@ use Rattle.delta_log.specs.declared.commit.MetaData.{MetaData}
 use Rattle.schema_map.specs.Delta.{delta_schema_of}
 use Rattle.delta_table.specs.Log.{IsLog, SaysCommit}
 use Rattle.delta_table.specs.Versions.{HasVersion, IsVersionPath, log_folder}
+use Rattle.delta_table.proofs.LogLaws.{live_rows}
 use Rattle.delta_table.proofs.PathLaws.{says_once}
 use Rattle.target_core.specs.Changes.{SameRowChange}
 use Rattle.target_core.specs.Folders.{MayLeaveIn, SameIn, after_crash}
@@ -160,15 +161,18 @@ module _ (a b : Files) (same : SameVersions a b) where
   }
 
   pub ours_too : (v : View) → IsOurs a v → IsOurs b v
-  ours_too v h = record {
-    newest = h.newest;
-    count = h.count;
-    versions = versions_too (suc h.newest) h.versions;
-    log = log_too a b same (suc h.newest) (Some v.table) h.log;
-    standing = h.standing;
-    mark = h.mark;
-    marked = marked_too h.newest h.standing h.marked;
-  }
+  ours_too v h =
+      let log : IsLog b (suc h.newest) (Some v.table) = log_too a b same (suc h.newest) (Some v.table) h.log in
+      record {
+        newest = h.newest;
+        count = h.count;
+        versions = versions_too (suc h.newest) h.versions;
+        log = log;
+        live = live_rows b (suc h.newest) v.table log;
+        standing = h.standing;
+        mark = h.mark;
+        marked = marked_too h.newest h.standing h.marked;
+      }
 
   pub carried_too : (number : ℕ) (change : Change) (s : Standing) → IsCarried a number change s → IsCarried b number change s
   carried_too number change s h = record {
