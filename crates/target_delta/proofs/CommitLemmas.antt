@@ -25,7 +25,7 @@ use Rattle.delta_log.specs.declared.commit.FileAction.{FileAction}
 use Rattle.delta_log.specs.declared.commit.FileAction.TheVariants as file
 use Rattle.delta_log.specs.declared.commit.MetaData.{MetaData}
 use Rattle.delta_log.specs.declared.commit.Protocol.{Protocol}
-use Rattle.delta_table.specs.Log.{IsLog, IsNewestProtocol, IsStep, SaysCommit}
+use Rattle.delta_table.specs.Log.{IsLog, IsNewestMeta, IsNewestProtocol, IsStep, SaysCommit}
 use Rattle.delta_table.specs.Versions.{HasVersion, IsVersionPath}
 use Rattle.delta_table.proofs.PathLaws.{says_once}
 use Rattle.target_core.specs.Changes.{IsGone}
@@ -40,7 +40,7 @@ use Rattle.target_delta.specs.Fitting.{ChangesKinds, Unfit, kinds_of}
 use Rattle.target_delta.specs.Kept.{HoldsEnd, IsFirst, StandsFor, end_of, view_of}
 use Rattle.target_delta.specs.Names.{HasVersions}
 use Rattle.target_delta.specs.NewVersion.{IsNewVersion}
-use Rattle.target_delta.specs.Reading.{HasMark, IsAbsent, IsCarried, IsMarkAt, IsOurs, Reads, mark_setting, setting}
+use Rattle.target_delta.specs.Reading.{HasMark, IsAbsent, IsCarried, IsMarkAt, IsOurs, KeepsId, Reads, mark_setting, setting}
 use Rattle.target_delta.specs.Writing.{IsWritten, LogEnd, Passes, end_behind, have_ntz, mark_of, meta_of, names_ntz, ntz_protocol, plain_protocol, protocol_due, schema_behind}
 use Rattle.target_delta.specs.declared.kept.DeltaKept.{DeltaKept}
 use Rattle.target_delta.specs.FitLemmas.{fits_alike, fits_rest}
@@ -198,10 +198,10 @@ module _ (origin : Origin) (now : ℕ) (kept next : DeltaKept) (commit : Commit)
         free : map.get old name ≡ None
         free = free_path old name kept.commits named versions
 
-        pub earlier : StillCarries delta_meaning kept.commits old new
-        earlier c change s le carried = carried_below name kept.commits named old new free beside c change s le carried
+        pub earlier : StillCarries (delta_meaning id) kept.commits old new
+        earlier c change s le carried = carried_below name kept.commits named old new free beside id c change s le carried
 
-        pub is_before : map.get new name ≡ None → IsBefore delta_meaning (view_of kept) old new
+        pub is_before : map.get new name ≡ None → IsBefore (delta_meaning id) (view_of kept) old new
         is_before none = record {
           reads = reads_before name kept.commits named old new free beside none (view_of kept) stands.reads;
           earlier = earlier;
@@ -250,7 +250,26 @@ module _ (origin : Origin) (now : ℕ) (kept next : DeltaKept) (commit : Commit)
           ours : IsOurs new (view_of next)
           ours = ours_now name kept.commits named old new free beside versions v.within bytes there (view_of kept) (view_of next) base_now.base v.again (standing_at origin commit.position) base_now.log says stepped count_now standing_is marked
 
-          pub carries : IsCarried new (kept.commits + 1) commit.change (standing_at origin commit.position)
+          -- ---- what it carries
+
+          id_is : meta_now.id ≡ kept.id
+          id_is = sym (again (end_of kept) origin commit v.written v.again v.is v.same base_now.base next.table base_now.before).id
+
+          keeps_by : IsFirst old id kept ⊎ HoldsEnd old kept → KeepsId id new kept.commits meta_now.id
+          keeps_by (inl first) = subst (λ (n : ℕ). KeepsId id new n meta_now.id) (sym first.commits) (id_is ∙ first.id_is)
+          keeps_by (inr held) =
+              let count = held.count in
+              let before : IsNewestMeta new (suc held.newest) held.meta = record {
+                version = held.newest;
+                within = omega arith;
+                commit = held.commit;
+                says = says_below name kept.commits named old new free beside held.newest held.commit (omega (arith, count)) held.says;
+                is = held.stated;
+                last = λ later c after within said. absurd (omega (arith, after, within));
+              } in
+              subst (λ (n : ℕ). KeepsId id new n meta_now.id) (sym count) (held.meta, before, id_is ∙ sym held.id)
+
+          pub carries : IsCarried id new (kept.commits + 1) commit.change (standing_at origin commit.position)
           carries =
               let columns = found (end_of kept) origin commit v.written v.again v.is v.same base_now.base next.table base_now.before in
               record {
@@ -260,6 +279,7 @@ module _ (origin : Origin) (now : ℕ) (kept next : DeltaKept) (commit : Commit)
                 read = says;
                 meta = meta_now;
                 stated = stated;
+                keeps = keeps_by stands.end;
                 schema = next.table.schema;
                 spelled = spelled (end_of kept) origin commit v.written v.again v.is v.same base_now.base next.table base_now.before;
                 columns = columns.0;
@@ -272,7 +292,7 @@ module _ (origin : Origin) (now : ℕ) (kept next : DeltaKept) (commit : Commit)
                 marked = marked;
               }
 
-          pub is_behind : IsBehind delta_meaning origin (view_of kept) old commit (view_of next) new
+          pub is_behind : IsBehind (delta_meaning id) origin (view_of kept) old commit (view_of next) new
           is_behind = record { reads = inr ours; carries = carries; earlier = earlier }
 
           -- ---- the newest protocol
@@ -366,7 +386,7 @@ module _ (origin : Origin) (now : ℕ) (kept next : DeltaKept) (commit : Commit)
                   says = says;
                   meta = meta_now;
                   stated = stated;
-                  id = sym (again (end_of kept) origin commit v.written v.again v.is v.same base_now.base next.table base_now.before).id ∙ sym (ap (λ (e : LogEnd). e.id) v.end);
+                  id = id_is ∙ sym (ap (λ (e : LogEnd). e.id) v.end);
                   at = ap (λ (m : Option Mark). option_map (λ (n : Mark). n.at) m) v.mark;
                   protocol = p.protocol;
                   newest_protocol = p.newest;

@@ -17,7 +17,7 @@ use Rattle.target_core.specs.Views.{Standing, View}
 use Rattle.target_delta.specs.Names.{HasVersions, IsLeftover, IsLeftoverName, IsSettled, path_of}
 use Rattle.target_delta.specs.Reading.{IsCarried, IsMarkAt, IsOurs, Reads}
 use Rattle.target_delta.specs.NameLemmas.{name_in, never_leftover, same_behind, version_of_path}
-use Rattle.target_delta.specs.LogLemmas.{SameVersions, log_below}
+use Rattle.target_delta.specs.LogLemmas.{SameVersions, id_below, log_below}
 use Rattle.target_delta.specs.ReadingLemmas.{dirty_or_clean, none_there, reads_too, version_clean}
 
 -- Every version but the one that is published is as before, and so is each name but leftovers and that version's.
@@ -79,8 +79,8 @@ module _ (name : List ℕ) (version : ℕ) (named : IsVersionPath name version) 
   marked_below : (v : ℕ) (s : Standing) → v < version → IsMarkAt old v s → IsMarkAt new v s
   marked_below v s lt h = record { commit = h.commit; read = says_below v h.commit lt h.read; mark = h.mark; has = h.has; at = h.at; is = h.is }
 
-  pub carried_below : (number : ℕ) (change : Change) (s : Standing) → number ≤ version → IsCarried old number change s → IsCarried new number change s
-  carried_below number change s le h =
+  pub carried_below : (id : List ℕ) (number : ℕ) (change : Change) (s : Standing) → number ≤ version → IsCarried id old number change s → IsCarried id new number change s
+  carried_below id number change s le h =
       let is = h.is in
       let lt : h.version < version = omega (arith, le, is) in
       record {
@@ -90,6 +90,7 @@ module _ (name : List ℕ) (version : ℕ) (named : IsVersionPath name version) 
         read = says_below h.version h.commit lt h.read;
         meta = h.meta;
         stated = h.stated;
+        keeps = id_below id old new h.version h.meta.id (λ path v less path_is. below path v (omega (arith, less, lt)) path_is) h.keeps;
         schema = h.schema;
         spelled = h.spelled;
         columns = h.columns;

@@ -96,7 +96,7 @@ module _ {S : Type 0} (store : Ghosts S) (only_now : NowOnly store) (s : S) (tol
 
   module _ (id : List ℕ) (origin : Origin) (kept : DeltaKept) (commit : Commit) (stands : StandsFor id kept (store.disk s).files) (settled : IsSettled (store.disk s)) where
     abbrev Left : Files → Type 0
-    Left files = IsBefore delta_meaning (view_of kept) (store.disk s).files files × IsSettled (after_crash files)
+    Left files = IsBefore (delta_meaning id) (view_of kept) (store.disk s).files files × IsSettled (after_crash files)
 
     left_in : (image : Files) → MayLeave (store.disk s) image → MayLeaveIn log_folder (store.disk s) image
     left_in image may path within clean = may path clean
@@ -105,14 +105,14 @@ module _ {S : Type 0} (store : Ghosts S) (only_now : NowOnly store) (s : S) (tol
     left_by image may = (
       record {
         reads = crash_reads (store.disk s) image settled (left_in image may) (view_of kept) stands.reads;
-        earlier = λ c change standing le h. crash_carries (store.disk s) image settled (left_in image may) c change standing h;
+        earlier = λ c change standing le h. crash_carries (store.disk s) image settled (left_in image may) id c change standing h;
       },
       crash_settled image,
     )
 
-    pub publishes_nothing : (U : Type 0) → Publishes store delta_meaning origin (view_of kept) (commit ∷ []) U false s s
+    pub publishes_nothing : (U : Type 0) → Publishes store (delta_meaning id) origin (view_of kept) (commit ∷ []) U false s s
     publishes_nothing U =
-        publishes_none store delta_meaning origin (view_of kept) commit s s told (λ c change standing le h. h) (alone_none (IsReached (store.disk s).files)) U
+        publishes_none store (delta_meaning id) origin (view_of kept) commit s s told (λ c change standing le h. h) (alone_none (IsReached (store.disk s).files)) U
         (λ _. (record { reads = stands.reads; earlier = λ c change standing le h. h }, settled))
         (λ _. started store only_now s Left (λ t image may. left_by image may) told)
 
@@ -185,7 +185,7 @@ module _ {S : Type 0} (store : Ghosts S) (old new : S) (told : store.tells) (sta
     versions_kept = subst (λ (n : ℕ). HasVersions (store.disk old).files n) (sym same) (versions_of_reads (store.disk old).files (view_of kept) stands.reads)
 
     abbrev Either : Files → Type 0
-    Either files = IsBeforeOrBehind delta_meaning origin (view_of kept) (store.disk old).files commit (view_of next) files
+    Either files = IsBeforeOrBehind (delta_meaning id) origin (view_of kept) (store.disk old).files commit (view_of next) files
 
     either : (files : Files) → IsBeside name (store.disk old).files files → (IsTaken → ⊥) → IsAbsentOrWhole name bytes IsTaken files → Either files
     either files beside untaken = three
@@ -200,9 +200,9 @@ module _ {S : Type 0} (store : Ghosts S) (old new : S) (told : store.tells) (sta
     )
 
     pub publishes_staged : (U : Type 0) → (U → IsTaken → ⊥) → (done : Bool) → (done ≡ true → map.get (store.disk new).files name ≡ Some bytes)
-        → Publishes store delta_meaning origin (view_of kept) (commit ∷ []) U done old new
+        → Publishes store (delta_meaning id) origin (view_of kept) (commit ∷ []) U done old new
     publishes_staged U untaken done whole =
-        publishes_one store delta_meaning origin (view_of kept) commit old new told
+        publishes_one store (delta_meaning id) origin (view_of kept) commit old new told
         (earlier origin now kept next commit bytes v can fits id (store.disk old).files stands name named_kept (store.disk new).files (beside_now versions_kept))
         (reached_alone versions_kept)
         U (view_of next) (advanced origin now kept next commit bytes v) done

@@ -1,5 +1,5 @@
 -- What a Delta target's files mean. A Delta table holds each schema as it is.
-use Rattle.std.specs.Prelude.{Option, Some}
+use Rattle.std.specs.Prelude.{ℕ, List, Option, Some}
 use Rattle.table_history.specs.TypeTree.{ColumnTrees}
 use Rattle.table_history.specs.declared.kind.Kind.TheVariants.{Delta}
 use Rattle.target_core.specs.Meaning.{Meaning, meaning_of}
@@ -9,5 +9,6 @@ use Rattle.target_delta.specs.Reading.{IsCarried, Reads, commits_in}
 abbrev pub image : ColumnTrees → Option ColumnTrees
 image schema = Some schema
 
-abbrev pub delta_meaning : Meaning
-delta_meaning = meaning_of Delta image Reads commits_in IsCarried IsReached IsSettled
+-- `new` is the id of a new table.
+abbrev pub delta_meaning : List ℕ → Meaning
+delta_meaning new = meaning_of Delta image Reads commits_in (IsCarried new) IsReached IsSettled

@@ -15,7 +15,7 @@ use Rattle.target_delta.specs.Names.{HasVersions}
 use Rattle.target_delta.specs.Reading.{IsAbsent, Reads}
 use Rattle.target_delta.specs.Writing.{LogEnd, names_ntz}
 use Rattle.target_delta.specs.declared.kept.DeltaKept.{DeltaKept}
-use Rattle.target_delta.specs.LogLemmas.{says_too, versions_sym}
+use Rattle.target_delta.specs.LogLemmas.{newest_below, says_too}
 use Rattle.target_delta.specs.ReadingLemmas.{one_view, own_versions, reads_own, no_commits}
 
 one_meta : (files : Files) (version : ℕ) (c d : DeltaCommit) (m n : MetaData) → SaysCommit files version c → SaysCommit files version d → c.meta ≡ Some m → d.meta ≡ Some n → m ≡ n
@@ -101,14 +101,7 @@ kept_own id kept a b same h =
     absent_own none = ⊎_elim (λ (is : IsAbsent b × IsUnpublished (absent [])). is.0) (λ ours. absurd (let count = ours.count in omega (arith, count))) (reads_own a b (absent []) same (inl (none, refl)))
 
     protocol_too : (newest : ℕ) (p : Protocol) → IsNewestProtocol a (suc newest) p → IsNewestProtocol b (suc newest) p
-    protocol_too newest p h = record {
-      version = h.version;
-      within = h.within;
-      commit = h.commit;
-      says = says_too a b (own_versions a b same) h.version h.commit h.says;
-      is = h.is;
-      last = λ later c after before says. h.last later c after before (says_too b a (versions_sym a b (own_versions a b same)) later c says);
-    }
+    protocol_too newest p h = newest_below (λ (c : DeltaCommit). c.protocol) a b (suc newest) p (λ path version lt is. own_versions a b same path version is) h
 
 -- ---- how many versions there are
 

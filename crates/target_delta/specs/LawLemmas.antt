@@ -44,9 +44,9 @@ pub passes_alike : (id : List ℕ) (kept other : DeltaKept) (files : Files) (ori
     → kept.table.partition ≡ other.table.partition → Passes (end_of kept) origin now commits which number → Passes (end_of other) origin now commits which number
 passes_alike id kept other files origin now commits which number h k same passes = subst (λ (end : LogEnd). Passes end origin now commits which number) (one_end files id kept other h k same) passes
 
-pub reached_alone : (a b : Files) (v : View) → ((path : List ℕ) → IsReached a path → map.get b path ≡ map.get a path) → ((path : List ℕ) → IsIn log_folder path → (IsReached a path → ⊥) → map.get b path ≡ None)
-    → Reads a v → Reads b v × ((c : ℕ) (change : Change) (m : Standing) → c ≤ v.commits → IsCarried a c change m → IsCarried b c change m)
-reached_alone a b v same none reads = (reached_reads a b same none v reads, λ c change m le h. reached_carries a b same none c change m h)
+pub reached_alone : (new : List ℕ) (a b : Files) (v : View) → ((path : List ℕ) → IsReached a path → map.get b path ≡ map.get a path) → ((path : List ℕ) → IsIn log_folder path → (IsReached a path → ⊥) → map.get b path ≡ None)
+    → Reads a v → Reads b v × ((c : ℕ) (change : Change) (m : Standing) → c ≤ v.commits → IsCarried new a c change m → IsCarried new b c change m)
+reached_alone new a b v same none reads = (reached_reads a b same none v reads, λ c change m le h. reached_carries a b same none new c change m h)
 
 pub commits_read : (files : Files) (v : View) → Reads files v → commits_in files ≡ v.commits
 commits_read files v reads = count_is files v.commits (versions_of_reads files v reads)

@@ -12,9 +12,10 @@ use Rattle.delta_log.specs.Live.{ActsOn, IsRowBehind, PartColumns}
 use Rattle.delta_log.specs.TableBehind.{ArePartColumns, IsSchemaBehind, partition_behind, rows_before, schema_before}
 use Rattle.delta_log.specs.declared.commit.DeltaCommit.{DeltaCommit}
 use Rattle.delta_log.specs.declared.commit.MetaData.{MetaData}
-use Rattle.delta_table.specs.Log.{IsLog, IsStep, SaysCommit}
+use Rattle.delta_table.specs.Log.{IsLog, IsNewestPart, IsStep, SaysCommit}
 use Rattle.delta_table.specs.Versions.{HasVersion, HoldsVersion, IsVersionPath}
 use Rattle.delta_table.proofs.PathLaws.{says_once}
+use Rattle.target_delta.specs.Reading.{KeepsId}
 
 -- ---- one table, up to the order of rows
 
@@ -148,6 +149,28 @@ module _ (a b : Files) (same : SameVersions a b) where
 
 pub versions_sym : (a b : Files) → SameVersions a b → SameVersions b a
 versions_sym a b same path version is = sym (same path version is)
+
+-- what the newest of so many versions has there, where the two have the same versions under that number
+pub newest_below : {A : Type 0} (part : DeltaCommit → Option A) (a b : Files) (n : ℕ) (x : A) → ((path : List ℕ) (version : ℕ) → version < n → IsVersionPath path version → map.get b path ≡ map.get a path) → IsNewestPart part a n x → IsNewestPart part b n x
+newest_below part a b n x same h =
+    let there = same h.says.holds.path h.version h.within h.says.holds.is in
+    record {
+      version = h.version;
+      within = h.within;
+      commit = h.commit;
+      says = record { bytes = h.says.bytes; holds = record { path = h.says.holds.path; is = h.says.holds.is; there = there ∙ h.says.holds.there }; readable = h.says.readable };
+      is = h.is;
+      last = λ later c after before said. h.last later c after before (record {
+        bytes = said.bytes;
+        holds = record { path = said.holds.path; is = said.holds.is; there = sym (same said.holds.path later before said.holds.is) ∙ said.holds.there };
+        readable = said.readable;
+      });
+    }
+
+-- the id that a version keeps, where the two have the same versions before it
+pub id_below : (new : List ℕ) (a b : Files) (version : ℕ) (id : List ℕ) → ((path : List ℕ) (v : ℕ) → v < version → IsVersionPath path v → map.get b path ≡ map.get a path) → KeepsId new a version id → KeepsId new b version id
+id_below new a b zero id same h = h
+id_below new a b (suc version) id same h = (h.0, newest_below (λ (c : DeltaCommit). c.meta) a b (suc version) h.0 same h.1, h.2)
 
 -- the same under a number of versions
 pub log_below : (a b : Files) (n : ℕ) (table : Option Table) → ((path : List ℕ) (version : ℕ) → version < n → IsVersionPath path version → map.get b path ≡ map.get a path) → IsLog a n table → IsLog b n table

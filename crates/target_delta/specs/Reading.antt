@@ -1,5 +1,5 @@
 -- What a Delta target's files stand for, and what a version carries.
-use Rattle.std.specs.Prelude.{◌≡◌, ◌↔◌, ◌⊎◌, ℕ, suc, List, length, filter_map, find, ◌==◌, ◌&&◌, nat_le, Bool, take, drop, Contains, Option, None, Some, IsSome, option_map, codes, if◌then◌else◌}
+use Rattle.std.specs.Prelude.{◌≡◌, ◌↔◌, ◌⊎◌, ℕ, zero, suc, List, length, filter_map, find, ◌==◌, ◌&&◌, nat_le, Bool, take, drop, Contains, Option, None, Some, IsSome, option_map, codes, if◌then◌else◌}
 use Rattle.std.specs.FinMap as map
 use Rattle.std.specs.Fmt.{decimal}
 use Rattle.std.specs.List.{list_all}
@@ -18,7 +18,7 @@ use Rattle.delta_log.specs.declared.commit.DeltaCommit.{DeltaCommit}
 use Rattle.delta_log.specs.declared.commit.FileAction.{FileAction}
 use Rattle.delta_log.specs.declared.commit.FileAction.TheVariants as file
 use Rattle.delta_log.specs.declared.commit.MetaData.{MetaData}
-use Rattle.delta_table.specs.Log.{HasLiveRows, IsLog, SaysCommit}
+use Rattle.delta_table.specs.Log.{HasLiveRows, IsLog, IsNewestMeta, SaysCommit}
 use Rattle.delta_table.specs.Versions.{HasVersion, log_folder}
 use Rattle.target_core.specs.Changes.{IsGone}
 use Rattle.target_core.specs.Mark.{IsMarkText}
@@ -96,15 +96,21 @@ commits_in files = length (versions_in files)
 
 -- ---- what a version carries
 
+-- The table goes on with its id: that of the newest metadata before the version, and in version 0 the id of a new table.
+abbrev pub KeepsId : List ℕ → Files → ℕ → List ℕ → Type 0
+KeepsId new files zero id = id ≡ new
+KeepsId new files (suc version) id = (before : MetaData) × IsNewestMeta files (suc version) before × (id ≡ before.id)
+
 -- The commit of this number, counted from 1, is the version before that number. Its adds are the added rows, its removes the paths that are
--- removed and not added again, and its mark says this.
-pub record IsCarried (files : Files) (number : ℕ) (change : Change) (standing : Standing) : Type 0 where
+-- removed and not added again, its metadata keeps the table's id, and its mark says this. `new` is the id of a new table.
+pub record IsCarried (new : List ℕ) (files : Files) (number : ℕ) (change : Change) (standing : Standing) : Type 0 where
   pub version : ℕ
   pub is : number ≡ suc version
   pub commit : DeltaCommit
   pub read : SaysCommit files version commit
   pub meta : MetaData
   pub stated : commit.meta ≡ Some meta
+  pub keeps : KeepsId new files version meta.id
   pub schema : ColumnTrees
   pub spelled : Spells meta schema
   pub columns : PartColumns

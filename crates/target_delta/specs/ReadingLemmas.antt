@@ -31,7 +31,7 @@ use Rattle.target_core.proofs.Marks.{one_mark}
 use Rattle.target_delta.specs.Names.{HasVersions, IsLeftoverName, IsReached, IsSettled, path_of}
 use Rattle.target_delta.specs.Reading.{HasMark, IsAbsent, IsCarried, IsMarkAt, IsOurs, Reads, mark_setting, setting}
 use Rattle.target_delta.specs.NameLemmas.{name_in, never_leftover, same_behind, version_in}
-use Rattle.target_delta.specs.LogLemmas.{SameTable, SameVersions, has_too, log_too, one_columns, one_table, says_too, versions_sym}
+use Rattle.target_delta.specs.LogLemmas.{SameTable, SameVersions, has_too, id_below, log_too, one_columns, one_table, says_too, versions_sym}
 
 -- ---- one of each
 
@@ -106,8 +106,8 @@ adds_of : (c d : DeltaCommit) → c ≡ d → (columns others : PartColumns) →
 adds_of c d same columns others alike row h =
     (h.0, subst (λ (e : DeltaCommit). Contains e.files h.0) same h.1, subst (λ (cs : PartColumns). AddsRow cs h.0 row) alike h.2)
 
-pub one_change : (files : Files) (number : ℕ) (a b : Change) (s t : Standing) → IsCarried files number a s → IsCarried files number b t → SameRowChange a b × (s ≡ t)
-one_change files number a b s t h k =
+pub one_change : (new : List ℕ) (files : Files) (number : ℕ) (a b : Change) (s t : Standing) → IsCarried new files number a s → IsCarried new files number b t → SameRowChange a b × (s ≡ t)
+one_change new files number a b s t h k =
     let numbers : suc h.version ≡ suc k.version = sym h.is ∙ k.is in
     let version : h.version ≡ k.version = cc in
     let read : SaysCommit files k.version h.commit = subst (λ (n : ℕ). SaysCommit files n h.commit) version h.read in
@@ -131,9 +131,9 @@ one_change files number a b s t h k =
       standing,
     )
 
-pub carries_within : (files : Files) (v : View) (number : ℕ) (change : Change) (s : Standing) → Reads files v → IsCarried files number change s → number ≤ v.commits
-carries_within files v number change s (inl a) h = absurd (a.0.versions h.version (h.read.bytes, h.read.holds))
-carries_within files v number change s (inr b) h =
+pub carries_within : (new : List ℕ) (files : Files) (v : View) (number : ℕ) (change : Change) (s : Standing) → Reads files v → IsCarried new files number change s → number ≤ v.commits
+carries_within new files v number change s (inl a) h = absurd (a.0.versions h.version (h.read.bytes, h.read.holds))
+carries_within new files v number change s (inr b) h =
     let is = h.is in
     let count = b.count in
     elim (cases_lt h.version (suc b.newest)) [
@@ -141,9 +141,9 @@ carries_within files v number change s (inr b) h =
       | inr le ↦ absurd (b.versions.none h.version le (h.read.bytes, h.read.holds))
     ]
 
-pub newest : (files : Files) (v : View) (change : Change) (s : Standing) → Reads files v → IsCarried files v.commits change s → v.mark ≡ Some s
-newest files v change s (inl a) h = let none = no_commits v a.1 in let is = h.is in absurd (omega (arith, none, is))
-newest files v change s (inr b) h =
+pub newest : (new : List ℕ) (files : Files) (v : View) (change : Change) (s : Standing) → Reads files v → IsCarried new files v.commits change s → v.mark ≡ Some s
+newest new files v change s (inl a) h = let none = no_commits v a.1 in let is = h.is in absurd (omega (arith, none, is))
+newest new files v change s (inr b) h =
     let same : b.newest ≡ h.version = let count = b.count in let is = h.is in omega (arith, count, is) in
     b.mark ∙ ap (λ (t : Standing). Some t) (one_standing files h.version b.standing s (subst (λ (n : ℕ). IsMarkAt files n b.standing) same b.marked) h.marked)
 
@@ -174,14 +174,15 @@ module _ (a b : Files) (same : SameVersions a b) where
         marked = marked_too h.newest h.standing h.marked;
       }
 
-  pub carried_too : (number : ℕ) (change : Change) (s : Standing) → IsCarried a number change s → IsCarried b number change s
-  carried_too number change s h = record {
+  pub carried_too : (new : List ℕ) (number : ℕ) (change : Change) (s : Standing) → IsCarried new a number change s → IsCarried new b number change s
+  carried_too new number change s h = record {
     version = h.version;
     is = h.is;
     commit = h.commit;
     read = says_too a b same h.version h.commit h.read;
     meta = h.meta;
     stated = h.stated;
+    keeps = id_below new a b h.version h.meta.id (λ path v lt is. same path v is) h.keeps;
     schema = h.schema;
     spelled = h.spelled;
     columns = h.columns;
@@ -209,8 +210,8 @@ own_versions a b same path version is = same path (version_in path version is)
 pub reads_own : (a b : Files) (v : View) → SameIn log_folder a b → Reads a v → Reads b v
 reads_own a b v same h = reads_too a b (own_versions a b same) v (λ name there. inr (subst (λ (o : Option (List ℕ)). IsSome o) (same (path_of name) (name_in name)) there)) h
 
-pub carries_own : (a b : Files) (number : ℕ) (change : Change) (s : Standing) → SameIn log_folder a b → IsCarried a number change s → IsCarried b number change s
-carries_own a b number change s same h = carried_too a b (own_versions a b same) number change s h
+pub carries_own : (new : List ℕ) (a b : Files) (number : ℕ) (change : Change) (s : Standing) → SameIn log_folder a b → IsCarried new a number change s → IsCarried new b number change s
+carries_own new a b number change s same h = carried_too a b (own_versions a b same) new number change s h
 
 -- ---- settled
 
@@ -253,8 +254,8 @@ module _ (disk : Disk) (image : Files) (settled : IsSettled disk) (left : MayLea
   pub crash_reads : (v : View) → Reads disk.files v → Reads image v
   crash_reads v h = reads_too disk.files image crash_versions v crash_names h
 
-  pub crash_carries : (number : ℕ) (change : Change) (s : Standing) → IsCarried disk.files number change s → IsCarried image number change s
-  crash_carries number change s h = carried_too disk.files image crash_versions number change s h
+  pub crash_carries : (new : List ℕ) (number : ℕ) (change : Change) (s : Standing) → IsCarried new disk.files number change s → IsCarried new image number change s
+  crash_carries new number change s h = carried_too disk.files image crash_versions new number change s h
 
 -- ---- reached
 
@@ -296,5 +297,5 @@ module _ (a b : Files) (same : (path : List ℕ) → IsReached a path → map.ge
     h.1,
   )
 
-  pub reached_carries : (number : ℕ) (change : Change) (s : Standing) → IsCarried a number change s → IsCarried b number change s
-  reached_carries number change s h = carried_too a b reached_versions number change s h
+  pub reached_carries : (new : List ℕ) (number : ℕ) (change : Change) (s : Standing) → IsCarried new a number change s → IsCarried new b number change s
+  reached_carries new number change s h = carried_too a b reached_versions new number change s h

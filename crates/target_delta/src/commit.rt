@@ -54,7 +54,7 @@ pub(crate) fn publish_commit<S: Store>(
         → OnOk result (StandsFor id kept.new (S.disk store.new).files) }
     ensures publishes { S.tells → (id : List ℕ) → StandsFor id kept.old (S.disk store.old).files
         → IsSettled (S.disk store.old)
-        → Publishes ⟦<S as Store>⟧ delta_meaning
+        → Publishes ⟦<S as Store>⟧ (delta_meaning id)
         (record { source = source; table = option_copied table.entry })
         (view_of kept.old) (commit.now ∷ [])
         (Uncontested result) (is_ok result) store.old store.new }

@@ -83,7 +83,8 @@ impl Target for DeltaTarget {
     ghost passes = { λ t kept files origin now commits which number.
         Passes (end_of kept) origin now commits which number };
 
-    ghost carries = { λ t files number change standing. IsCarried files number change standing };
+    ghost carries = { λ t files number change standing.
+        IsCarried t.id files number change standing };
 
     ghost reached = { λ t files path. IsReached files path };
 
@@ -174,12 +175,12 @@ impl Target for DeltaTarget {
     ghost passes_alike = { λ t kept other files origin now commits which number a b same passes.
         passes_alike t.id kept other files origin now commits which number a b same passes };
 
-    ghost one_change = { λ t files c a b m n h k. one_change files c a b m n h k };
+    ghost one_change = { λ t files c a b m n h k. one_change t.id files c a b m n h k };
 
     ghost carries_within = { λ t files v c change m reads h.
-        carries_within files v c change m reads h };
+        carries_within t.id files v c change m reads h };
 
-    ghost newest = { λ t files v change m reads h. newest files v change m reads h };
+    ghost newest = { λ t files v change m reads h. newest t.id files v change m reads h };
 
     ghost kept_view = { λ t kept files stands. stands.reads };
 
@@ -200,7 +201,7 @@ impl Target for DeltaTarget {
     ghost crowded_own = { λ t source a b which number same h.
         crowded_own a b which number same h };
 
-    ghost carries_own = { λ t a b c change m same h. carries_own a b c change m same h };
+    ghost carries_own = { λ t a b c change m same h. carries_own t.id a b c change m same h };
 
     ghost passes_own = { λ t kept a b origin now commits which number same h. h };
 
@@ -208,7 +209,7 @@ impl Target for DeltaTarget {
 
     ghost counted_own = { λ t kept a b same h. counted_own kept.commits a b same h };
 
-    ghost reached_alone = { λ t a b v same none reads. reached_alone a b v same none reads };
+    ghost reached_alone = { λ t a b v same none reads. reached_alone t.id a b v same none reads };
 
     ghost settled_absent = { λ t disk reads clean. settled_clean disk clean };
 
@@ -218,7 +219,7 @@ impl Target for DeltaTarget {
         crash_reads disk image settled left v reads };
 
     ghost crash_carries = { λ t disk image v c change m settled left reads le h.
-        crash_carries disk image settled left c change m h };
+        crash_carries disk image settled left t.id c change m h };
 
     ghost crash_settled = { λ t disk image settled left. crash_settled image };
 }

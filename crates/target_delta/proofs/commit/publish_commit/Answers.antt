@@ -22,7 +22,7 @@ returns-in_err-version-clause-publishes g c told id stands settled =
     let s = c.args.store.now in
     let origin : Origin = record { source = c.args.source; table = option_copied c.args.table } in
     let exit = err_from_is_err_and c.from_residual.result c.from_residual.ensures.1 in
-    subst (λ (done : Bool). Publishes g.S.Store delta_meaning origin (view_of kept) (c.args.commit.now ∷ []) (Uncontested c.from_residual.result) done s s) (sym (ap is_ok exit.1))
+    subst (λ (done : Bool). Publishes g.S.Store (delta_meaning id) origin (view_of kept) (c.args.commit.now ∷ []) (Uncontested c.from_residual.result) done s s) (sym (ap is_ok exit.1))
     (publishes_nothing g.S.Store g.met.S.Store.only_now s told id origin kept c.args.commit.now stands settled (Uncontested c.from_residual.result))
 
 pub stage_and_publish-requires-clause-free : goal.stage_and_publish-requires-clause-free
