@@ -1,0 +1,12 @@
+//! A Hudi table as the target of a sync, begun: what the files of a Hudi timeline stand for as a
+//! target, and the name of a new table.
+#![tactic(auto)]
+
+mod kept;
+mod target;
+
+pub use kept::HudiKept;
+pub use target::HudiTarget;
+
+#[cfg(test)]
+mod tests;
