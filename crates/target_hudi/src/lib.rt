@@ -3,6 +3,7 @@
 #![tactic(auto)]
 
 mod kept;
+mod properties;
 mod target;
 
 pub use kept::HudiKept;
