@@ -121,6 +121,7 @@ module _ (kept mid : DeltaKept) (commit : Commit) (origin : Origin) (now : ℕ) 
     mark = gone.mark_is ∙ ap (λ (m : Mark). Some m) is;
     written = text.written;
     is = written_is text.written text.is;
+    text = text.text;
     again = text.again;
     readable = text.readable;
     same = text.same;

@@ -2,6 +2,7 @@
 use Rattle.std.specs.Prelude.{◌≡◌, ◌||◌, ◌+◌, ℕ, ◌∷◌, [], List, ◌<◌, ◌≤◌, length, Ok, Some}
 use Rattle.serde_json.specs.Written.{compact_text}
 use Rattle.lake_basics.specs.declared.limits.TheConstants.{MAX_DELTA_VERSION, MAX_FILE_BYTES}
+use Rattle.lake_store.specs.Disk.{Files}
 use Rattle.table_history.specs.SchemaSize.{IsWithinLimits}
 use Rattle.table_history.specs.Sound.{IsSound}
 use Rattle.table_history.specs.Tables.{IsAfter}
@@ -14,6 +15,7 @@ use Rattle.schema_map.specs.DeltaWriting.{delta_text}
 use Rattle.delta_log.specs.Readable.{IsReadableCommit}
 use Rattle.delta_log.specs.Writing.{SameCommit, commit_text}
 use Rattle.delta_log.specs.declared.commit.DeltaCommit.{DeltaCommit}
+use Rattle.delta_table.specs.Versions.{HoldsVersion}
 use Rattle.target_core.specs.Mark.{IsMarkText, mark_data}
 use Rattle.target_core.specs.Views.{Origin}
 use Rattle.target_core.specs.declared.mark.Mark.{Mark}
@@ -21,7 +23,7 @@ use Rattle.target_core.specs.declared.target.TargetError.{TargetError}
 use Rattle.target_core.specs.declared.target.TargetError.TheVariants.{Memory, StoreFault, Contested, Limit, Unsupported}
 use Rattle.target_delta.specs.Kept.{end_of}
 use Rattle.target_delta.specs.Reading.{mark_setting}
-use Rattle.target_delta.specs.Writing.{AreActions, IsWritten, Passes, end_behind, have_ntz, mark_of, protocol_due, schema_behind}
+use Rattle.target_delta.specs.Writing.{AreActions, IsWritten, LogEnd, Passes, end_behind, have_ntz, mark_of, protocol_due, schema_behind}
 use Rattle.target_delta.specs.declared.kept.DeltaKept.{DeltaKept}
 
 -- This is written for a change with this mark, where the table of `behind` is that behind the change and all else of it stands before.
@@ -39,6 +41,7 @@ pub record IsWrittenOf (behind : DeltaKept) (change : Change) (mark : Mark) (wri
 pub record IsTextOf (behind : DeltaKept) (change : Change) (mark : Mark) (now : ℕ) (bytes : List ℕ) : Type 0 where
   pub written : DeltaCommit
   pub is : IsWrittenOf behind change mark written
+  pub text : bytes ≡ commit_text now written
   pub again : DeltaCommit
   pub readable : IsReadableCommit bytes again
   pub same : SameCommit written again
@@ -74,11 +77,18 @@ pub record IsNewVersion (origin : Origin) (now : ℕ) (kept : DeltaKept) (commit
   pub mark : next.mark ≡ Some (mark_of (end_of kept) origin commit.position)
   pub written : DeltaCommit
   pub is : IsWritten (end_of kept) origin commit written
+  pub text : bytes ≡ commit_text now written
   pub again : DeltaCommit
   pub readable : IsReadableCommit bytes again
   pub same : SameCommit written again
   pub reads_back : IsMarkText (compact_text (mark_data (mark_of (end_of kept) origin commit.position))) (mark_of (end_of kept) origin commit.position)
   pub spells : delta_schema_of (delta_text next.table.schema) ≡ Ok next.table.schema
+
+-- The version behind this end is there, and its bytes are the text of what is written for the commit at this time.
+pub record HoldsText (files : Files) (end : LogEnd) (origin : Origin) (now : ℕ) (commit : Commit) : Type 0 where
+  pub written : DeltaCommit
+  pub is : IsWritten end origin commit written
+  pub holds : HoldsVersion files end.version (commit_text now written)
 
 -- A number is passed, or memory runs out.
 abbrev pub IsVersionRefusal : (LimitKind → ℕ → Type 0) → TargetError → Type 0

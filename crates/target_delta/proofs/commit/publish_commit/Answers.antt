@@ -169,3 +169,17 @@ returns-clause-publishes g c told id stands settled =
     let v = subst (λ b. IsNewVersion origin c.args.now_ms kept c.args.commit.now b next) (sym c.as_slice.ensures.value) c.in_ok-version.ensures.is in
     publishes_staged store old new told staged name bytes kept.commits is_staged named _ (c.in_ok-stage_and_publish.ensures.left told) c.in_ok-stage_and_publish.ensures.any_moment id origin c.args.now_ms kept next c.args.commit.now refl v c.requires.can c.requires.fits stands settled
     _ (λ u taken. ok_taken _ _ taken) true (λ ok. (c.in_ok-stage_and_publish.ensures.published told).file)
+
+pub returns-clause-writes : goal.returns-clause-writes
+returns-clause-writes g c told =
+    let kept = c.args.kept.now in
+    let next = c.new_version.new.kept in
+    let name = c.as_str-path.result.now in
+    let origin : Origin = record { source = c.args.source; table = option_copied c.args.table } in
+    let named = subst (λ p. IsVersionPath p kept.commits) (sym c.as_str-path.ensures.value) c.in_ok-version.ensures.path in
+    let v = subst (λ b. IsNewVersion origin c.args.now_ms kept c.args.commit.now b next) (sym c.as_slice.ensures.value) c.in_ok-version.ensures.is in
+    record {
+      written = v.written;
+      is = v.is;
+      holds = record { path = name; is = named; there = (c.in_ok-stage_and_publish.ensures.published told).file ∙ ap (λ (b : List ℕ). Some b) v.text };
+    }
