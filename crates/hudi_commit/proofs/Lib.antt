@@ -1,4 +1,5 @@
 pub mod AloneLaws
+pub mod ClaimLaws
 pub mod CommitLaws
 pub mod KeepLaws
 pub mod NameLaws

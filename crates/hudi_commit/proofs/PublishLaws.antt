@@ -135,6 +135,7 @@ module _ (p : List ℕ) (d₀ d₁ d₂ d₃ : Disk) (is_removed : d₁ ≡ remo
   pub moved_has : HasProperties p d₀ (moved d₃ staged_properties_path properties_path p)
   moved_has = record {
     here = moved_here d₃ staged_properties_path properties_path p;
+    staged = moved_gone d₃ staged_properties_path properties_path p (λ e. not_staged properties_path properties_stay (sym e));
     others = λ q ns np. moved_file d₃ staged_properties_path properties_path p q ns np ∙ staged_others q ns ∙ ap (λ (d : Disk). map.get d.files q) is_removed ∙ get-remove_other d₀.files properties_path q np;
     clean = λ q. moved_clean d₃ staged_properties_path properties_path p q (staged_clean q);
   }

@@ -2,7 +2,7 @@
 use Rattle.std.specs.Prelude.{◌≡◌, ◌≢◌, ◌⊎◌, ℕ, List, [], Option, None, Some, Result, Ok, Err}
 use Rattle.std.specs.FinMap as map
 use Rattle.lake_store.specs.Disk.{Disk, Files, IsClean, IsName, moved, removed, synced, with_file, written}
-use Rattle.lake_store.specs.Runs.{IsEachMoment}
+use Rattle.lake_store.specs.Runs.{IsEachMoment, IsIn}
 use Rattle.lake_store.specs.declared.store.Store.{Ghosts}
 use Rattle.lake_store.specs.declared.store.StoreError.{StoreError}
 use Rattle.lake_store.specs.declared.store.StoreError.TheVariants.{Taken}
@@ -108,6 +108,10 @@ completed instant bytes disk = moved (announced instant (claimed instant bytes d
 abbrev pub IsAllClean : Disk → Type 0
 IsAllClean disk = (path : List ℕ) → IsClean disk path
 
+-- the folder has no file that it hadn't before
+abbrev pub HasNotGrown : List ℕ → Files → Files → Type 0
+HasNotGrown folder old new = (path : List ℕ) → IsIn folder path → IsThere new path → IsThere old path
+
 -- leftovers alone are gone
 pub record IsTidied (old new : Disk) : Type 0 where
   pub fewer : (path : List ℕ) → IsThere new.files path → IsThere old.files path
@@ -132,9 +136,10 @@ pub record IsIdle (disk : Disk) : Type 0 where
   pub clean : IsAllClean disk
   pub done : (stage : Stage) (instant : List ℕ) → IsDigits instant → IsThere disk.files (pending_path stage instant) → IsThere disk.files (completed_path instant)
 
--- The properties have come from the staged ones, durably, and all else is as before.
+-- The properties have come from the staged ones, which are gone, durably, and all else is as before.
 pub record HasProperties (properties : List ℕ) (old new : Disk) : Type 0 where
   pub here : map.get new.files properties_path ≡ Some properties
+  pub staged : map.get new.files staged_properties_path ≡ None
   pub others : (path : List ℕ) → path ≢ staged_properties_path → path ≢ properties_path → map.get new.files path ≡ map.get old.files path
   pub clean : IsAllClean new
 

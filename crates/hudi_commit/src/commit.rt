@@ -9,7 +9,7 @@ ghost use Rattle.lake_store.specs.Runs.{ChangesOnlyIn, FailsBy, IsContestedBy, L
 ghost use Rattle.hudi_names.specs.Time.{IsSomeTime};
 ghost use Rattle.hudi_commit.specs.Names.{claims_folder, completed_path, timeline_folder};
 ghost use Rattle.hudi_commit.specs.Orderly.{IsOrderly};
-ghost use Rattle.hudi_commit.specs.Runs.{IsCommitted, IsIdle, IsKept, IsKeptBut, IsOneStep, IsPrepared, IsReady, IsUncontested, StaysBefore};
+ghost use Rattle.hudi_commit.specs.Runs.{HasNotGrown, IsCommitted, IsIdle, IsKept, IsKeptBut, IsOneStep, IsPrepared, IsReady, IsUncontested, StaysBefore};
 ghost use Rattle.hudi_commit.specs.Settled.{IsSettled, Stands};
 
 use crate::paths::InstantPaths;
@@ -30,6 +30,8 @@ fn prepare<S: Store>(store: &mut S, properties: Option<&[u8]>) -> Result<(), Sto
         → IsReady (option_copied properties.entry) (S.disk store.old).files
         → OnOk result (IsPrepared (option_copied properties.entry) base (S.disk store.old)
         (S.disk store.new)) }
+    ensures not_grown { S.tells → OnOk result (HasNotGrown claims_folder (S.disk store.old).files
+        (S.disk store.new).files) }
     ensures alone { S.tells → LeavesAlone ⟦<S as Store>⟧ (IsKeptBut (option_copied properties.entry))
         store.old store.new }
     ensures cause { FailsBy ⟦<S as Store>⟧ store.old store.new (IsErrOf result StoreError.Failed) }
@@ -64,6 +66,8 @@ pub fn publish_commit<S: Store>(
         (S.disk store.old) (S.disk store.new)) }
     ensures completed { S.tells → OnOk result
         (map.get (S.disk store.new).files (completed_path instant.now) ≡ Some text.now) }
+    ensures not_grown { S.tells → OnOk result (HasNotGrown claims_folder (S.disk store.old).files
+        (S.disk store.new).files) }
 
     // At any moment the timeline reads as before or as after, and it stays settled.
     ensures one_step { S.tells → IsUncontested result → IsOrderly (S.disk store.old).files
