@@ -8,7 +8,7 @@ use Rattle.lake_store.specs.declared.store.Store.{Ghosts}
 use Rattle.lake_store.specs.declared.store.StoreError.{StoreError}
 use Rattle.lake_store.proofs.DiskLaws.{clean-synced}
 use Rattle.lake_store.proofs.MomentLaws.{goes_further, weaker}
-use Rattle.hudi_names.specs.Time.{IsDigits}
+use Rattle.hudi_names.specs.Time.{IsDigits, IsSomeTime}
 use Rattle.hudi_names.specs.declared.name.State.{State}
 use Rattle.hudi_names.specs.declared.name.State.TheVariants as state
 use Rattle.hudi_commit.specs.Names.{IsInstantIn, IsThere, claim_path, completed_name, completed_path, pending_path, properties_path, timeline_folder, timeline_path}
@@ -151,8 +151,8 @@ module _ {S : Type 0} (store : Ghosts S) (told : store.tells) (properties : Opti
 pub kept_but : (properties : Option (List ℕ)) (t : List ℕ) (entry : Files) (path : List ℕ) → IsKept properties t entry path → IsKeptBut properties path
 kept_but properties t entry path kept = record { staged = λ e. kept.leftover (inl e); given = kept.given }
 
-pub kept_from : (properties : Option (List ℕ)) (t : List ℕ) (entry : Files) → IsDigits t → map.get entry (completed_path t) ≡ None → (path : List ℕ) → IsKept properties t entry path → IsNoFileOf t path
-kept_from properties t entry is none path kept = record { leftover = not_of entry path t is none kept.leftover; completed = kept.completed }
+pub kept_from : (properties : Option (List ℕ)) (t : List ℕ) (entry : Files) → IsSomeTime t → map.get entry (completed_path t) ≡ None → (path : List ℕ) → IsKept properties t entry path → IsNoFileOf t path
+kept_from properties t entry real none path kept = record { leftover = not_of entry path t real none kept.leftover; completed = kept.completed }
 
 pub completed_kept_but : (properties : Option (List ℕ)) (t : List ℕ) → IsDigits t → IsKeptBut properties (completed_path t)
 completed_kept_but None t is = record { staged = not_staged (completed_path t) (completed_stays t is); given = tt }

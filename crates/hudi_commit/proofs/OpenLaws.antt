@@ -4,7 +4,7 @@ use Rattle.std.specs.Prelude.{Option, None, Some, option_map}
 use Rattle.std.specs.FinMap as map
 use Rattle.lake_store.specs.Disk.{Files}
 use Rattle.lake_store.specs.Runs.{IsIn}
-use Rattle.hudi_names.specs.Time.{IsDigits}
+use Rattle.hudi_names.specs.Time.{IsDigits, IsSomeTime}
 use Rattle.hudi_commit.specs.Names.{IsLeftover, IsOf, IsOpenLeftover, IsThere, Stage, completed_path, pending_path, timeline_folder}
 use Rattle.hudi_commit.specs.Runs.{IsNotOf, IsNotOpen}
 use Rattle.hudi_commit.proofs.NameLaws.{completed_stays}
@@ -13,12 +13,12 @@ use Rattle.hudi_commit.proofs.StepLaws.{in_timeline}
 
 module _ (files : Files) (q : List ℕ) where
   abbrev Open : Type 0
-  Open = (t : List ℕ) × IsDigits t × (IsThere files (completed_path t) → ⊥) × IsOf t q
+  Open = (t : List ℕ) × IsSomeTime t × (IsThere files (completed_path t) → ⊥) × IsOf t q
 
   pub open_leftover : IsOpenLeftover files q → IsLeftover q
   open_leftover = ⊎_elim inl (λ (o : Open). ⊎_elim
-      (λ c. inr (inl (o.0, o.1, c)))
-      (λ (p : (s : Stage) × (q ≡ pending_path s o.0)). inr (inr (p.0, o.0, o.1, p.1))) o.3)
+      (λ c. inr (inl (o.0, o.1.1.digits, c)))
+      (λ (p : (s : Stage) × (q ≡ pending_path s o.0)). inr (inr (p.0, o.0, o.1.1.digits, p.1))) o.3)
 
   pub open_inside : IsOpenLeftover files q → IsIn timeline_folder q
   open_inside = ⊎_elim
@@ -28,13 +28,13 @@ module _ (files : Files) (q : List ℕ) where
       (λ (p : (s : Stage) × (q ≡ pending_path s o.0)). subst (IsIn timeline_folder) (sym p.1) (in_timeline _)) o.3)
 
   -- an instant that isn't completed may change
-  pub not_of : (t : List ℕ) → IsDigits t → map.get files (completed_path t) ≡ None → IsNotOpen files q → IsNotOf t q
-  not_of t is none free of = free (inr (t, is, (λ found. there_none files (completed_path t) found none), of))
+  pub not_of : (t : List ℕ) → IsSomeTime t → map.get files (completed_path t) ≡ None → IsNotOpen files q → IsNotOf t q
+  not_of t real none free of = free (inr (t, real, (λ found. there_none files (completed_path t) found none), of))
 
   -- where the same instants are completed
   pub open_same : (other : Files) → ((t : List ℕ) → IsDigits t → map.get other (completed_path t) ≡ map.get files (completed_path t)) → IsNotOpen files q → IsNotOpen other q
   open_same other same free = ⊎_elim (λ e. free (inl e))
-      (λ (o : (t : List ℕ) × IsDigits t × (IsThere other (completed_path t) → ⊥) × IsOf t q). free (inr (o.0, o.1, (λ done. o.2 (there files other (completed_path o.0) (same o.0 o.1) done)), o.3)))
+      (λ (o : (t : List ℕ) × IsSomeTime t × (IsThere other (completed_path t) → ⊥) × IsOf t q). free (inr (o.0, o.1, (λ done. o.2 (there files other (completed_path o.0) (same o.0 o.1.1.digits) done)), o.3)))
 
 pub completed_not_open : (files : Files) (t : List ℕ) → IsDigits t → IsNotOpen files (completed_path t)
 completed_not_open files t is leftover = completed_stays t is (open_leftover files (completed_path t) leftover)

@@ -3,7 +3,7 @@ use Rattle.std.specs.Prelude.{◌≡◌, ◌⊎◌, ℕ, List, ◌++◌, Some, I
 use Rattle.std.specs.FinMap as map
 use Rattle.lake_store.specs.Disk.{Files}
 use Rattle.hudi_names.specs.Name.{instant_of}
-use Rattle.hudi_names.specs.Time.{IsDigits}
+use Rattle.hudi_names.specs.Time.{IsDigits, IsSomeTime}
 use Rattle.hudi_names.specs.declared.name.Action.{Action}
 use Rattle.hudi_names.specs.declared.name.State.{State}
 
@@ -59,11 +59,11 @@ IsLeftover path =
 abbrev pub IsOf : List ℕ → List ℕ → Type 0
 IsOf instant path = (path ≡ claim_path instant) ⊎ ((stage : Stage) × (path ≡ pending_path stage instant))
 
--- A leftover that a commit may write over or remove: the staged properties, or that of 17 digits that aren't completed.
+-- A leftover that a commit may write over or remove: the staged properties, or that of an instant that isn't completed, 17 digits that spell a real day and time.
 abbrev pub IsOpenLeftover : Files → List ℕ → Type 0
 IsOpenLeftover files path =
     (path ≡ staged_properties_path)
-    ⊎ ((instant : List ℕ) × IsDigits instant × (IsSome (map.get files (completed_path instant)) → ⊥) × IsOf instant path)
+    ⊎ ((instant : List ℕ) × IsSomeTime instant × (IsSome (map.get files (completed_path instant)) → ⊥) × IsOf instant path)
 
 -- the name is that of an instant in this state
 abbrev pub IsInstantIn : State → List ℕ → Type 0

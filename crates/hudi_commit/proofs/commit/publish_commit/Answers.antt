@@ -334,7 +334,6 @@ returns-clause-kept g c told =
     let s2 = c.clear_claims.new.store in
     let s3 = c.prepare.new.store in
     let s4 = c.complete.new.store in
-    let is = c.requires.real.1.digits in
     let ok1 = c.in_ok-sync.ensures.ok told in
     let at = c.in_ok-paths.ensures in
     let a0 = alone_begun store told g.met.S.Store.only_now (IsKept props t (disk s0).files) s0 in
@@ -343,7 +342,7 @@ returns-clause-kept g c told =
     let a2 = alone_further store (IsKept props t (disk s0).files) s0 s1 s2 (λ _. a1) (λ _. f2) told in
     let f3 = alone_of_fewer store (IsKeptBut props) (IsKept props t (disk s0).files) s2 s3 (kept_but props t (disk s0).files) (c.prepare.ensures.alone told) in
     let a3 = alone_further store (IsKept props t (disk s0).files) s0 s2 s3 (λ _. a2) (λ _. f3) told in
-    let f4 = alone_of_fewer store (IsNoFileOf c.in_ok-paths.paths) (IsKept props t (disk s0).files) s3 s4 (λ q kept. subst (λ x. IsNoFileOf x q) (sym at) (kept_from props t (disk s0).files is (c.requires.free told) q kept)) (c.complete.ensures.alone told) in
+    let f4 = alone_of_fewer store (IsNoFileOf c.in_ok-paths.paths) (IsKept props t (disk s0).files) s3 s4 (λ q kept. subst (λ x. IsNoFileOf x q) (sym at) (kept_from props t (disk s0).files c.requires.real (c.requires.free told) q kept)) (c.complete.ensures.alone told) in
     let a4 = alone_further store (IsKept props t (disk s0).files) s0 s3 s4 (λ _. a3) (λ _. f4) told in
     a4
 
@@ -358,7 +357,6 @@ returns-clause-folder g c told =
     let s2 = c.clear_claims.new.store in
     let s3 = c.prepare.new.store in
     let s4 = c.complete.new.store in
-    let is = c.requires.real.1.digits in
     let ok1 = c.in_ok-sync.ensures.ok told in
     let at = c.in_ok-paths.ensures in
     let a0 = alone_begun store told g.met.S.Store.only_now (IsKept props t (disk s0).files) s0 in
@@ -367,6 +365,6 @@ returns-clause-folder g c told =
     let a2 = alone_further store (IsKept props t (disk s0).files) s0 s1 s2 (λ _. a1) (λ _. f2) told in
     let f3 = alone_of_fewer store (IsKeptBut props) (IsKept props t (disk s0).files) s2 s3 (kept_but props t (disk s0).files) (c.prepare.ensures.alone told) in
     let a3 = alone_further store (IsKept props t (disk s0).files) s0 s2 s3 (λ _. a2) (λ _. f3) told in
-    let f4 = alone_of_fewer store (IsNoFileOf c.in_ok-paths.paths) (IsKept props t (disk s0).files) s3 s4 (λ q kept. subst (λ x. IsNoFileOf x q) (sym at) (kept_from props t (disk s0).files is (c.requires.free told) q kept)) (c.complete.ensures.alone told) in
+    let f4 = alone_of_fewer store (IsNoFileOf c.in_ok-paths.paths) (IsKept props t (disk s0).files) s3 s4 (λ q kept. subst (λ x. IsNoFileOf x q) (sym at) (kept_from props t (disk s0).files c.requires.real (c.requires.free told) q kept)) (c.complete.ensures.alone told) in
     let a4 = alone_further store (IsKept props t (disk s0).files) s0 s3 s4 (λ _. a3) (λ _. f4) told in
     alone_of_fewer store (IsKept props t (disk s0).files) (IsOutside timeline_folder) s0 s4 (outside_kept props t (disk s0).files) a4

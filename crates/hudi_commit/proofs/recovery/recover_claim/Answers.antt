@@ -2,7 +2,7 @@ use Rattle.lake_store.specs.Runs.{LeavesAlone}
 use Rattle.std.proofs.Common.{◌≡◌, sym, ◌∙◌, ap, subst}
 use Rattle.std.specs.Prelude.{None}
 use Rattle.std.specs.FinMap as map
-use Rattle.hudi_names.specs.Time.{IsDigits}
+use Rattle.hudi_names.specs.Time.{IsSomeTime}
 use Rattle.hudi_commit.specs.Names.{completed_path}
 use Rattle.hudi_commit.proofs.OpenLaws.{not_of, read_none}
 use Rattle.lake_store.proofs.RunLaws.{alone_further, alone_of_fewer}
@@ -62,10 +62,10 @@ returns-clause-alone g c told =
     let files = (store.disk c.args.store.now).files in
     let t = c.in_ok-paths.paths in
     let time = real_name c.as_bytes.result.now c.args.name.now c.as_bytes.ensures.value c.is_none.result c.read_time.result c.read_time.ensures c.is_none.ensures c.if-is_none.false in
-    let is : IsDigits t = subst IsDigits (sym c.in_ok-paths.ensures) time.1.digits in
+    let real : IsSomeTime t = subst IsSomeTime (sym c.in_ok-paths.ensures) time in
     let none : map.get files (completed_path t) ≡ None = ap (map.get files) (sym c.completed.ensures) ∙ read_none _ _ _ (c.in_ok-completed.ensures.bytes told) c.in-None.is in
     let read : store.tells → LeavesAlone store (IsNotOpen files) c.args.store.now c.read_part.new.self = λ told. alone_read store told g.met.S.Store.only_now (IsNotOpen files) c.args.store.now c.args.store.now c.read_part.new.self
     (alone_begun store told g.met.S.Store.only_now (IsNotOpen files) c.args.store.now) c.read_part.ensures.elapses c.read_part.ensures.same in
     let cleared : store.tells → LeavesAlone store (IsNotOpen files) c.read_part.new.self c.clear_claim.new.store = λ told.
-    alone_of_fewer store (IsNotOf t) (IsNotOpen files) c.read_part.new.self c.clear_claim.new.store (λ q. not_of files q t is none) (c.clear_claim.ensures.alone told) in
+    alone_of_fewer store (IsNotOf t) (IsNotOpen files) c.read_part.new.self c.clear_claim.new.store (λ q. not_of files q t real none) (c.clear_claim.ensures.alone told) in
     alone_further store (IsNotOpen files) c.args.store.now c.read_part.new.self c.clear_claim.new.store read cleared told
