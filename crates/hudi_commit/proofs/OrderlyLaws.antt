@@ -6,7 +6,7 @@ use Rattle.lake_store.specs.Disk.{Files}
 use Rattle.hudi_names.specs.Time.{IsDigits, IsSomeTime}
 use Rattle.hudi_names.specs.declared.name.State.TheVariants.{Completed}
 use Rattle.hudi_commit.specs.Names.{IsThere, Stage, completed_name, completed_path, pending_name, pending_path, properties_path, timeline_path}
-use Rattle.hudi_commit.specs.Orderly.{IsAtFault, IsOrderly, IsReadAlike, IsSameTimeline, LacksProperties}
+use Rattle.hudi_commit.specs.Orderly.{IsAtFault, IsFaultless, IsOrderly, IsReadAlike, IsSameTimeline, LacksProperties}
 use Rattle.hudi_commit.proofs.NameLaws.{completed_instant, completed_is_name, not_completed, pending_instant, pending_is_name, same_instant, state_of}
 
 -- what is there in one is there in the other
@@ -36,10 +36,16 @@ module _ (files : Files) (orderly : IsOrderly files) where
   lacks_none : LacksProperties files → ⊥
   lacks_none lacks = lacks.5 (orderly.properties lacks.0 lacks.1 lacks.2 lacks.3 lacks.4)
 
--- the reading lemma
-pub read_alike : (a b : Files) → IsOrderly a → IsOrderly b → IsSameTimeline a b → IsReadAlike a b
-read_alike a b orderly_a orderly_b same = record {
+  pub faultless : IsFaultless files
+  faultless = record { instants = no_fault; properties = lacks_none }
+
+alike : (a b : Files) → IsOrderly a → IsOrderly b → IsSameTimeline a b → IsReadAlike a b
+alike a b orderly_a orderly_b same = record {
   timeline = same;
   faults = λ name. ((λ fault. absurd (no_fault a orderly_a name fault)), (λ fault. absurd (no_fault b orderly_b name fault)));
   lacks = ((λ lacks. absurd (lacks_none a orderly_a lacks)), (λ lacks. absurd (lacks_none b orderly_b lacks)));
 }
+
+-- the reading lemma
+pub read_alike : (a b : Files) → IsOrderly a → IsOrderly b → IsSameTimeline a b → IsReadAlike a b × IsFaultless a × IsFaultless b
+read_alike a b orderly_a orderly_b same = (alike a b orderly_a orderly_b same, faultless a orderly_a, faultless b orderly_b)

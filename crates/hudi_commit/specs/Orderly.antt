@@ -40,6 +40,11 @@ abbrev pub LacksProperties : Files → Type 0
 LacksProperties files =
     (state : State) × (name : List ℕ) × IsName name × IsInstantIn state name × IsThere files (timeline_path name) × (IsThere files properties_path → ⊥)
 
+-- no instant that isn't completed is at fault, and the properties are there wherever an instant's name is
+pub record IsFaultless (files : Files) : Type 0 where
+  pub instants : (name : List ℕ) → IsAtFault files name → ⊥
+  pub properties : LacksProperties files → ⊥
+
 -- A reader that looks at the properties, the completed instants and these faults alone can't tell the two apart.
 pub record IsReadAlike (a b : Files) : Type 0 where
   pub timeline : IsSameTimeline a b
