@@ -2,7 +2,7 @@
 use Rattle.std.proofs.Common.{◌≡◌, ◌≢◌, ◌⊎◌, inl, inr, ⊎_elim, ℕ, List, refl, sym, ◌∙◌, ap, subst}
 use Rattle.std.specs.Prelude.{Option, None, Some, is_some, Result, Ok, Err}
 use Rattle.std.specs.FinMap as map
-use Rattle.lake_store.specs.Disk.{Disk, Files, IsClean, IsName, synced, with_file}
+use Rattle.lake_store.specs.Disk.{Disk, Files, IsClean, IsName, synced}
 use Rattle.lake_store.specs.Runs.{IsIn, IsOutside}
 use Rattle.lake_store.specs.declared.store.Store.{Ghosts}
 use Rattle.lake_store.specs.declared.store.StoreError.{StoreError}
@@ -13,12 +13,13 @@ use Rattle.hudi_names.specs.declared.name.State.{State}
 use Rattle.hudi_names.specs.declared.name.State.TheVariants as state
 use Rattle.hudi_commit.specs.Names.{IsInstantIn, IsThere, claim_path, completed_name, completed_path, pending_path, properties_path, timeline_folder, timeline_path}
 use Rattle.hudi_commit.specs.Orderly.{IsOrderly}
-use Rattle.hudi_commit.specs.Runs.{HasProperties, IsAllClean, IsBase, IsBefore, IsBeforeOrAfter, IsCommitted, IsIdle, IsKept, IsKeptBut, IsNext, IsNoFileOf, IsOneStep, IsPrepared, IsPublished, IsQuiet, IsReady, IsRecovered, IsTidied, IsUncontested, NotGiven, StaysBefore, StaysOrGains, announced, claimed, completed, prepared, with_commit}
+use Rattle.hudi_commit.specs.Runs.{HasProperties, IsAfter, IsAllClean, IsBase, IsBefore, IsBeforeOrAfter, IsCommitted, IsIdle, IsKept, IsKeptBut, IsNext, IsNoFileOf, IsOneStep, IsPrepared, IsPublished, IsQuiet, IsReady, IsRecovered, IsTidied, IsUncontested, NotGiven, StaysBefore, StaysOrGains, announced, claimed, completed, prepared}
 use Rattle.hudi_commit.specs.Settled.{IsSettled, Stands, StandsAt}
 use Rattle.hudi_commit.proofs.NameLaws.{claim_not_properties, claim_not_staged, completed_instant, completed_is_name, completed_not_properties, completed_stays, not_staged, properties_stay}
 use Rattle.hudi_commit.proofs.OpenLaws.{not_of, open_inside}
 use Rattle.hudi_commit.proofs.OrderlyLaws.{orderly_real, there, there_none}
 use Rattle.hudi_commit.proofs.PublishLaws.{absent, has_quiet, has_stands, moved_here, quiet_unannounced}
+use Rattle.hudi_commit.proofs.StagingLaws.{after_of}
 use Rattle.hudi_commit.proofs.StepLaws.{clean_settled, in_timeline}
 
 -- a result that isn't a contest, where it is `Ok`
@@ -136,14 +137,14 @@ module _ {S : Type 0} (store : Ghosts S) (told : store.tells) (properties : Opti
       let entry = (store.disk old).files in
       let at : (image : Files) → StandsAt (prepared properties entry) image → IsBefore properties entry image = λ image stands. record { base = prepared properties entry; is_base = prepared_base properties entry; stands = stands } in
       record {
-        settled = ⊎_elim (λ (before : Stands (prepared properties entry) (store.disk new)). before.settled) (λ (after : Stands (with_commit properties entry t b) (store.disk new)). after.settled) last.disk;
+        settled = ⊎_elim (λ (before : Stands (prepared properties entry) (store.disk new)). before.settled) (λ (after : IsPublished (prepared properties entry) t b (store.disk mid) (store.disk new)). after.stands.settled) last.disk;
         disk = ⊎_elim
             (λ (before : Stands (prepared properties entry) (store.disk new)). inl (at (store.disk new).files (record { orderly = before.orderly; alike = before.alike })))
-            (λ (after : Stands (with_commit properties entry t b) (store.disk new)). inr (record { orderly = after.orderly; alike = after.alike }))
+            (λ (after : IsPublished (prepared properties entry) t b (store.disk mid) (store.disk new)). inr (after_of (prepared properties entry) t b (store.disk mid) (store.disk new) after))
             last.disk;
         moments = goes_further store old mid new (IsBeforeOrAfter properties entry t b)
             (weaker store old mid (IsBefore properties entry) (IsBeforeOrAfter properties entry t b) (λ image. inl) (λ _. run.moments))
-            (weaker store mid new (λ image. StandsAt (prepared properties entry) image ⊎ StandsAt (with_file (prepared properties entry) (completed_path t) (Some b)) image) (IsBeforeOrAfter properties entry t b)
+            (weaker store mid new (λ image. StandsAt (prepared properties entry) image ⊎ IsAfter (prepared properties entry) t b image) (IsBeforeOrAfter properties entry t b)
             (λ image. ⊎_elim (λ before. inl (at image before)) inr) (λ _. last.moments)) told;
       }
 

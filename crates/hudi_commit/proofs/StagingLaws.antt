@@ -12,7 +12,7 @@ use Rattle.lake_store.proofs.MomentLaws.{goes_further, goes_on, started, weaker}
 use Rattle.lake_store.proofs.RunLaws.{NowOnly}
 use Rattle.hudi_names.specs.Time.{IsDigits, IsSomeTime}
 use Rattle.hudi_commit.specs.Names.{IsLeftover, IsThere, Stage, Requested, Inflight, claim_path, completed_path, pending_path, properties_path}
-use Rattle.hudi_commit.specs.Runs.{IsAllClean, IsBase, IsBefore, IsPublished, IsRecovered, IsUncontested, StaysAlike, StaysBefore, StaysOrGains, announced, claimed}
+use Rattle.hudi_commit.specs.Runs.{IsAfter, IsAllClean, IsBase, IsBefore, IsPublished, IsRecovered, IsUncontested, StaysAlike, StaysBefore, StaysOrGains, announced, claimed}
 use Rattle.hudi_commit.specs.Settled.{IsAnnounceable, Stands, StandsAt}
 use Rattle.hudi_commit.proofs.NameLaws.{Properties, Claim, Pending, Completed, apart, claim_leftover, completed_stays, name_of-claim, name_of-completed, name_of-pending, name_of-properties, pending_leftover, properties_stay}
 use Rattle.hudi_commit.proofs.OrderlyLaws.{there, there_none}
@@ -199,22 +199,33 @@ module _ (t b : List ℕ) (time : IsSomeTime t) where
               (moved_file d₂ (claim_path t) (completed_path t) b (completed_path u) (completed_no_claim u is_u) other_completed ∙ whole_same (completed_path u) (completed_stays u is_u)) done)
               (path_cases u t)
 
+-- what is published, and what a crash leaves of it
+pub after_of : (base : Files) (t b : List ℕ) (old new : Disk) → IsPublished base t b old new → IsAfter base t b new.files
+after_of base t b old new done = record { stands = record { orderly = done.stands.orderly; alike = done.stands.alike }; pending = done.pending; claim = done.claim }
+
+crash_after : (base : Files) (t b : List ℕ) (old new : Disk) (image : Files) → IsPublished base t b old new → MayLeave new image → IsAfter base t b image
+crash_after base t b old new image done may = record {
+  stands = crash_stands (with_file base (completed_path t) (Some b)) new image done.stands may;
+  pending = λ s. may (pending_path s t) (done.clean (pending_path s t)) ∙ done.pending s;
+  claim = may (claim_path t) (done.clean (claim_path t)) ∙ done.claim;
+}
+
 module _ {S : Type 0} (store : Ghosts S) (told : store.tells) (base : Files) (t b : List ℕ) where
   -- nothing is published yet
   pub not_yet : (old new : S) → StaysAlike store base old new → StaysOrGains store base t b old new
   not_yet old new keeps = record {
     disk = inl keeps.disk;
-    moments = weaker store old new (StandsAt base) (λ image. StandsAt base image ⊎ StandsAt (with_file base (completed_path t) (Some b)) image) (λ image. inl) (λ t. keeps.moments) told;
+    moments = weaker store old new (StandsAt base) (λ image. StandsAt base image ⊎ IsAfter base t b image) (λ image. inl) (λ t. keeps.moments) told;
   }
 
   -- the last call
   pub gains_on : (old mid new : S) → StaysOrGains store base t b old mid → Elapses store.disk store.time store.left_since mid new
-      → Stands base (store.disk new) ⊎ Stands (with_file base (completed_path t) (Some b)) (store.disk new) → StaysOrGains store base t b old new
+      → Stands base (store.disk new) ⊎ IsPublished base t b (store.disk old) (store.disk new) → StaysOrGains store base t b old new
   gains_on old mid new so_far elapses stands = record {
     disk = stands;
-    moments = goes_on store old mid new (λ image. StandsAt base image ⊎ StandsAt (with_file base (completed_path t) (Some b)) image) (λ t. so_far.moments) (λ t. elapses)
+    moments = goes_on store old mid new (λ image. StandsAt base image ⊎ IsAfter base t b image) (λ t. so_far.moments) (λ t. elapses)
         (λ _ image may. ⊎_elim
         (λ before. inl (crash_stands base (store.disk new) image before may))
-        (λ after. inr (crash_stands (with_file base (completed_path t) (Some b)) (store.disk new) image after may))
+        (λ after. inr (crash_after base t b (store.disk old) (store.disk new) image after may))
         stands) told;
   }

@@ -44,9 +44,15 @@ pub record IsBefore (properties : Option (List ℕ)) (entry image : Files) : Typ
   pub is_base : IsBase properties entry base
   pub stands : StandsAt base image
 
+-- The files are orderly, and read as these and the instant's completed file. Its pending names are empty files and its claim is gone.
+pub record IsAfter (base : Files) (instant text : List ℕ) (image : Files) : Type 0 where
+  pub stands : StandsAt (with_file base (completed_path instant) (Some text)) image
+  pub pending : (stage : Stage) → map.get image (pending_path stage instant) ≡ Some []
+  pub claim : map.get image (claim_path instant) ≡ None
+
 -- The files are orderly, and read as before the commit or as after it.
 abbrev pub IsBeforeOrAfter : Option (List ℕ) → Files → List ℕ → List ℕ → Files → Type 0
-IsBeforeOrAfter properties entry instant text image = IsBefore properties entry image ⊎ StandsAt (with_commit properties entry instant text) image
+IsBeforeOrAfter properties entry instant text image = IsBefore properties entry image ⊎ IsAfter (prepared properties entry) instant text image
 
 -- So it is at return and after a crash at any moment, and the disk is settled at return.
 pub record IsOneStep {S : Type 0} (store : Ghosts S) (properties : Option (List ℕ)) (instant text : List ℕ) (old new : S) : Type 0 where
@@ -154,11 +160,6 @@ pub record IsNext (instant : List ℕ) (disk : Disk) : Type 0 where
   pub unannounced : IsUnannounced disk instant
   pub properties : IsThere disk.files properties_path
 
--- as these files do, or with the completed file too
-pub record StaysOrGains {S : Type 0} (store : Ghosts S) (base : Files) (instant text : List ℕ) (old new : S) : Type 0 where
-  pub disk : Stands base (store.disk new) ⊎ Stands (with_file base (completed_path instant) (Some text)) (store.disk new)
-  pub moments : IsEachMoment store old new (λ image. StandsAt base image ⊎ StandsAt (with_file base (completed_path instant) (Some text)) image)
-
 -- neither the properties nor the staged ones
 pub record IsNoProperties (path : List ℕ) : Type 0 where
   pub staged : path ≢ staged_properties_path
@@ -189,3 +190,8 @@ pub record IsPublished (base : Files) (instant bytes : List ℕ) (old new : Disk
   pub pending : (stage : Stage) → map.get new.files (pending_path stage instant) ≡ Some []
   pub claim : map.get new.files (claim_path instant) ≡ None
   pub recovered : IsRecovered old → IsRecovered new
+
+-- as these files do, or as published
+pub record StaysOrGains {S : Type 0} (store : Ghosts S) (base : Files) (instant text : List ℕ) (old new : S) : Type 0 where
+  pub disk : Stands base (store.disk new) ⊎ IsPublished base instant text (store.disk old) (store.disk new)
+  pub moments : IsEachMoment store old new (λ image. StandsAt base image ⊎ IsAfter base instant text image)

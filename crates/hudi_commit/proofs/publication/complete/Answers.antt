@@ -1,15 +1,15 @@
 use Rattle.std.proofs.Common.{List, ℕ, inl, inr, ap, sym, ◌∙◌, subst, ⊎_elim}
-use Rattle.std.specs.Prelude.{Some, is_some}
+use Rattle.std.specs.Prelude.{is_some}
 use Rattle.std.specs.FinMap as map
 use Rattle.std.proofs.lemmas.Result.{on_ok_weaker}
-use Rattle.lake_store.specs.Disk.{Moves, moved, with_file}
+use Rattle.lake_store.specs.Disk.{Moves, moved}
 use Rattle.lake_store.proofs.RunLaws.{alone_further, alone_of_fewer}
 use Rattle.hudi_commit.specs.Names.{claim_path, completed_path}
 use Rattle.hudi_commit.specs.Runs.{IsNoFileOf, IsNotOf, IsPublished, announced}
 use Rattle.hudi_commit.specs.Settled.{Stands}
 use Rattle.hudi_commit.proofs.AloneLaws.{alone_publish}
 use Rattle.hudi_commit.proofs.KeepLaws.{keeps_then}
-use Rattle.hudi_commit.proofs.StagingLaws.{announced_clean, claim_here, claimed_announceable, commit_published, commit_stands, gains_on, has_moved_at, not_yet, still_free, uncontested_at}
+use Rattle.hudi_commit.proofs.StagingLaws.{announced_clean, claim_here, claimed_announceable, commit_published, gains_on, has_moved_at, not_yet, still_free, uncontested_at}
 use Rattle.hudi_commit.proofs.publication.complete.Goals as goal
 
 pub returns-in_err-claim-clause-gains : goal.returns-in_err-claim-clause-gains
@@ -62,7 +62,7 @@ returns-clause-gains g c told free base stands next =
     gains_on store told base t b s₀ s₂ s₃ (not_yet store told base t b s₀ s₂ k₂) (c.publish.ensures.elapses told)
     (⊎_elim
     (λ same. inl (subst (Stands base) (sym same) k₂.disk))
-    (λ gone. inr (subst (Stands (with_file base (completed_path t) (Some b))) (sym gone) (commit_stands t b is (disk s₀) (disk s₁) (disk s₂) ok₁ ok₂ base next.properties k₂.disk)))
+    (λ gone. inr (subst (IsPublished base t b (disk s₀)) (sym gone) (commit_published t b is (disk s₀) (disk s₁) (disk s₂) ok₁ ok₂ base next.properties k₂.disk)))
     (uncontested_at c.publish.result (disk s₂) (disk s₃) c.claim-2.result.now c.completed.result.now (claim_path t) (completed_path t) b c.claim-2.ensures c.completed.ensures free
     (claim_here t b is (disk s₀) (disk s₁) (disk s₂) ok₁ ok₂) (c.publish.ensures.ok told) (c.publish.ensures.taken told) (c.publish.ensures.err told)))
 
