@@ -3,13 +3,13 @@ use Rattle.std.proofs.Common.{◌≡◌, ◌≤◌, ◌+◌, ℕ, List, Option, 
 use Rattle.std.specs.Prelude.{IfErr, IfOk, MatchOption, Result, Ok, Err}
 use Rattle.lake_basics.specs.declared.limits.TheConstants.{MAX_DELTA_VERSION}
 use Rattle.lake_store.specs.Disk.{Files}
-use Rattle.delta_table.specs.Log.{IsNewestMeta, SaysCommit}
+use Rattle.delta_table.specs.Log.{IsLogOf, SaysCommit}
 use Rattle.delta_table.specs.Refusals.{IsListRefusal, IsLogRefusal, TellsOf}
 use Rattle.delta_table.specs.Versions.{AreVersions, HasVersion, IsVersionPath}
 use Rattle.delta_table.specs.declared.error.LogError.{LogError}
 use Rattle.delta_table.specs.declared.error.LogError.TheVariants as log
+use Rattle.delta_table.specs.declared.log.Log.{Log}
 use Rattle.delta_table.specs.declared.versions.Versions.{Versions}
-use Rattle.delta_log.specs.declared.commit.MetaData.{MetaData}
 use Rattle.table_history.specs.declared.feature.Feature.TheVariants.{NeedsCheckpoint}
 use Rattle.source_core.specs.Answers.{IsHeadRefusal, IsReadRefusal}
 use Rattle.source_core.specs.declared.error.SourceError.{SourceError}
@@ -70,11 +70,12 @@ names_shown files source.StoreFault h = tt
 zero_of : (n : ℕ) → n ≤ 0 → n ≡ 0
 zero_of n h = omega arith
 
-pub id_stated : (files : Files) (meta : MetaData) (id : List ℕ) → IsNewestMeta files 1 meta → id ≡ meta.id → IsTableId files (Some id)
-id_stated files meta id newest same =
+pub id_stated : (files : Files) (read : Log) (id : List ℕ) → IsLogOf files 1 read → id ≡ read.meta.id → IsTableId files (Some id)
+id_stated files read id is same =
+    let newest = is.meta in
     let within = newest.within in
     let first : newest.version ≡ 0 = omega (arith, within) in
-    (newest.commit, meta, subst (λ v. SaysCommit files v newest.commit) first newest.says, newest.is, same)
+    (newest.commit, read.meta, read.table, subst (λ v. SaysCommit files v newest.commit) first newest.says, newest.is, same, is.table)
 
 pub not_there : (files : Files) (version : ℕ) → IsLogRefusal files 0 (log.Missing version) → IsTableId files None
 not_there files version h = subst (λ v. HasVersion files v → ⊥) (zero_of h.0 h.2) h.4.1

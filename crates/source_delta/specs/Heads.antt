@@ -17,10 +17,10 @@ pub record IsNewest (files : Files) (newest : ℕ) : Type 0 where
   pub there : HasVersion files newest
   pub last : (version : ℕ) → HasVersion files version → version ≤ newest
 
--- what the metadata of version 0 states, where that version is there
+-- what the metadata of version 0 states, where that version is there, which is read whole then and taken as the first
 abbrev pub IsTableId : Files → Option (List ℕ) → Type 0
 IsTableId files None = ¬ HasVersion files 0
-IsTableId files (Some id) = (c : DeltaCommit) × (m : MetaData) × SaysCommit files 0 c × (c.meta ≡ Some m) × (id ≡ m.id)
+IsTableId files (Some id) = (c : DeltaCommit) × (m : MetaData) × (first : Table) × SaysCommit files 0 c × (c.meta ≡ Some m) × (id ≡ m.id) × IsReadLog files 1 (Some first)
 
 -- The newest version in decimal. Nothing is pending in a Delta log.
 pub record IsDeltaHead (files : Files) (head : Head) : Type 0 where

@@ -11,7 +11,7 @@ without_id-requires g c = tells_within 0 (omega arith) c.in-Err.error c.in-Err.e
 pub returns-in-Ok-clause-id : goal.returns-in-Ok-clause-id
 returns-in-Ok-clause-id g c told =
     let files = (g.S.Store.disk c.args.store.now).files in
-    id_stated files c.in-Ok.log.meta c.id_of.result (c.in-Ok.ensures.log told).meta c.id_of.ensures
+    id_stated files c.in-Ok.log c.id_of.result (c.in-Ok.ensures.log told) c.id_of.ensures
 
 pub returns-in-Err-clause-id : goal.returns-in-Err-clause-id
 returns-in-Err-clause-id g c told =
