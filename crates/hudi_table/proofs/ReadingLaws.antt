@@ -1,6 +1,7 @@
 -- A reading with one instant more, and its live rows.
-use Rattle.std.proofs.Common.{◌≡◌, List, [], ◌∷◌, ◌++◌, Option, Some, None, refl, sym, ap, subst, ◌∙◌, inl, ⊎_elim}
+use Rattle.std.proofs.Common.{◌≡◌, ◌≤◌, List, length, [], ◌∷◌, ◌++◌, Option, Some, None, refl, sym, ap, subst, ◌∙◌, inl, ⊎_elim}
 use Rattle.std.specs.Prelude.{IfSome}
+use Rattle.lake_basics.specs.declared.limits.TheConstants.{MAX_COMMITS}
 use Rattle.lake_store.specs.Disk.{Files}
 use Rattle.table_history.specs.Tables.{IsAfter}
 use Rattle.table_history.specs.declared.table.Change.{Change}
@@ -58,15 +59,15 @@ reading_further files naming table front (Some latest) c next was step =
     }
 
 -- an instant that is refused behind those that can be read
-pub stops_at : (files : Files) (naming : Naming) (table : HudiTable) (instants front behind : List CompletedInstant) (c : CompletedInstant) (latest : Option Latest) (e : TimelineError) → instants ≡ front ++ c ∷ behind
+pub stops_at : (files : Files) (naming : Naming) (table : HudiTable) (instants front behind : List CompletedInstant) (c : CompletedInstant) (latest : Option Latest) (e : TimelineError) → length instants ≤ MAX_COMMITS → instants ≡ front ++ c ∷ behind
     → IsReadingOf files naming table front latest → IsStepRefusal files naming table c (table_in latest) e → IsReadingRefusal files naming table instants e
-stops_at files naming table instants front behind c latest error.Memory split read refused = tt
-stops_at files naming table instants front behind c latest error.StoreFault split read refused = tt
-stops_at files naming table instants front behind c latest error.ManyNames split read refused = refused
-stops_at files naming table instants front behind c latest error.ManyCommits split read refused = absurd refused
-stops_at files naming table instants front behind c latest (error.Missing p) split read refused = record { front = front; instant = c; behind = behind; split = split; latest = latest; read = read; refused = refused }
-stops_at files naming table instants front behind c latest (error.Large p) split read refused = record { front = front; instant = c; behind = behind; split = split; latest = latest; read = read; refused = refused }
-stops_at files naming table instants front behind c latest (error.Refused p e) split read refused = record { front = front; instant = c; behind = behind; split = split; latest = latest; read = read; refused = refused }
+stops_at files naming table instants front behind c latest error.Memory few split read refused = tt
+stops_at files naming table instants front behind c latest error.StoreFault few split read refused = tt
+stops_at files naming table instants front behind c latest error.ManyNames few split read refused = refused
+stops_at files naming table instants front behind c latest error.ManyCommits few split read refused = absurd refused
+stops_at files naming table instants front behind c latest (error.Missing p) few split read refused = record { few = few; front = front; instant = c; behind = behind; split = split; latest = latest; read = read; refused = refused }
+stops_at files naming table instants front behind c latest (error.Large p) few split read refused = record { few = few; front = front; instant = c; behind = behind; split = split; latest = latest; read = read; refused = refused }
+stops_at files naming table instants front behind c latest (error.Refused p e) few split read refused = record { few = few; front = front; instant = c; behind = behind; split = split; latest = latest; read = read; refused = refused }
 
 -- ---- live rows
 

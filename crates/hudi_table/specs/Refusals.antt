@@ -1,5 +1,5 @@
 -- Why a timeline isn't read.
-use Rattle.std.specs.Prelude.{◌≡◌, ◌⊎◌, ℕ, ◌<◌, true, false, List, ◌∷◌, ◌++◌, codes, length, Err, None, Option}
+use Rattle.std.specs.Prelude.{◌≡◌, ◌⊎◌, ℕ, ◌<◌, ◌≤◌, true, false, List, ◌∷◌, ◌++◌, codes, length, Err, None, Option}
 use Rattle.std.specs.FinMap as map
 use Rattle.lake_basics.specs.declared.limits.TheConstants.{MAX_COMMITS, MAX_FILE_BYTES, MAX_NAMES}
 use Rattle.lake_store.specs.Disk.{Files, names_in}
@@ -85,8 +85,9 @@ IsInstantRefusal files c e = IsFileRefusal files c.name (IsUnreadable files c) e
 abbrev pub IsStepRefusal : Files → Naming → HudiTable → CompletedInstant → Option Table → TimelineError → Type 0
 IsStepRefusal files naming table c base e = IsFileRefusal files c.name (λ cause. IsUnreadable files c cause ⊎ IsUnfit files naming table c base cause) e
 
--- One of the instants is refused so, and those before it can be read.
+-- The instants aren't too many, one of them is refused so, and those before it can be read.
 pub record StopsAt (files : Files) (naming : Naming) (table : HudiTable) (instants : List CompletedInstant) (e : TimelineError) : Type 0 where
+  pub few : length instants ≤ MAX_COMMITS
   pub front : List CompletedInstant
   pub instant : CompletedInstant
   pub behind : List CompletedInstant

@@ -1,7 +1,8 @@
-use Rattle.std.proofs.Common.{◌≡◌, ◌∙◌, ◌+◌, ◌++◌, ◌∷◌, [], List, Option, Some, Result, ap, drop, subst, sym, take}
+use Rattle.std.proofs.Common.{◌≡◌, ◌≤◌, ◌∙◌, ◌+◌, ◌++◌, ◌∷◌, [], List, Option, Some, Result, ap, arith, drop, length, subst, sym, take}
 use Rattle.std.specs.Prelude.{IfErr}
 use Rattle.std.proofs.lemmas.List.{drop_more, take-append-drop, take_all, take_more}
 use Rattle.std.proofs.lemmas.Result.{err_from_is_err_and}
+use Rattle.lake_basics.specs.declared.limits.TheConstants.{MAX_COMMITS}
 use Rattle.lake_store.specs.Disk.{Disk}
 use Rattle.lake_store.proofs.RunLaws as runs
 use Rattle.hudi_table.specs.Reading.{IsNextHere, IsReadingOf, table_in}
@@ -25,12 +26,13 @@ returns-in_err-read_next-clause-refused g c told =
     let i = c.loop-instant.instant-index in
     let x = c.instant-item.result in
     let e = c.in_err-read_next.field-0.0 in
+    let few : length instants ≤ MAX_COMMITS = omega arith in
     let split : instants ≡ take i instants ++ x ∷ drop (i + 1) instants =
     sym (take-append-drop i instants) ∙ ap (λ l. take i instants ++ l) (drop_more instants i x c.loop-instant-test.true ∙ ap (λ y. y ∷ drop (i + 1) instants) (sym c.instant-item.is)) in
     let step = subst (λ (d : Disk). IsStepRefusal d.files naming table x (table_in c.loop-instant.latest) e) (so_far.reads told).disk (c.in_err-read_next.ensures.refused told) in
     subst (λ (r : Result (Option Latest) TimelineError). IfErr r (IsReadingRefusal files naming table instants)) (sym exit.1)
     (subst (IsReadingRefusal files naming table instants) (sym exit.2)
-    (stops_at files naming table instants (take i instants) (drop (i + 1) instants) x c.loop-instant.latest e split (so_far.read told) step))
+    (stops_at files naming table instants (take i instants) (drop (i + 1) instants) x c.loop-instant.latest e few split (so_far.read told) step))
 
 pub returns-in_err-read_next-clause-only_reads : goal.returns-in_err-read_next-clause-only_reads
 returns-in_err-read_next-clause-only_reads g c = runs.reading_further g.S.Store c.args.store.now c.loop-instant.store c.read_next.new.store c.loop-instant.invariant.reads c.in_err-read_next.ensures.only_reads
