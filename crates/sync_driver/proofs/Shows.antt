@@ -1,5 +1,5 @@
 -- What showing a Delta table answers.
-use Rattle.std.proofs.Common.{◌≡◌, ◌⊎◌, ◌++◌, List, ℕ, length, take, inl, inr, ⊎_elim, refl, sym, ap, subst, ◌∙◌, arith}
+use Rattle.std.proofs.Common.{◌≡◌, ◌⊎◌, ◌++◌, ◌∷◌, List, [], ℕ, length, take, inl, inr, ⊎_elim, refl, sym, ap, subst, ◌∙◌, arith}
 use Rattle.std.proofs.Math.Seq.{take-length}
 use Rattle.std.proofs.lemmas.List.{append-nil}
 use Rattle.std.specs.Prelude.{IfErr, IfOk, IsErrOf, OnErr, OnOk, Result, Ok, Err}
@@ -10,6 +10,8 @@ use Rattle.lake_store.specs.declared.store.Store.{Ghosts}
 use Rattle.lake_store.specs.declared.sink.Sink as sinks
 use Rattle.lake_store.specs.declared.sink.SinkError.{SinkError}
 use Rattle.lake_store.specs.declared.sink.SinkError.TheVariants as sink_error
+use Rattle.table_history.specs.Row.{Row}
+use Rattle.table_history.specs.declared.kind.Kind.{Kind}
 use Rattle.table_history.specs.declared.kind.Kind.TheVariants.{Delta}
 use Rattle.table_history.specs.declared.table.Table.{Table}
 use Rattle.source_core.specs.Answers.{IsHeadRefusal, IsReadRefusal}
@@ -19,7 +21,7 @@ use Rattle.source_core.specs.declared.head.Head.{Head}
 use Rattle.source_delta.specs.Heads.{IsAbsent, IsDeltaHead, IsTableAtHead}
 use Rattle.source_delta.specs.Reading.{ShowsAtHead, ShowsFromScratch}
 use Rattle.source_delta.proofs.Runs.{fails_as}
-use Rattle.table_lines.specs.TableLines.{AreTableLines}
+use Rattle.table_lines.specs.TableLines.{AreTableLines, lines_over}
 use Rattle.sync_driver.specs.Lines.{refusal_line}
 use Rattle.sync_driver.specs.Shown.{IsReadableLog, IsShow, IsShowRefusal, ShowsDelta, put_status, shown_status, shown_text, status_of_source}
 use Rattle.sync_driver.specs.Tellings.{Tells}
@@ -55,10 +57,10 @@ module _ {S O : Type 0} (store : Ghosts S) (sink : sinks.Ghosts O) (old new : S)
   ends : (answer : Result (List ℕ) SourceError) → IsShow store old new answer → Tells sink out_old out_new (shown_text answer) (shown_status answer) status
       → store.tells → IsReadableLog (store.disk old).files → (Rose (store.faults old) (store.faults new) → ⊥) → (Rose (sink.faults out_old) (sink.faults out_new) → ⊥) → (status ≡ Done) ⊎ (status ≡ Memory)
   ends (Ok lines) show told tells readable no_fault no_sink =
-      ⊎_elim (λ due. inl due) (λ other. ⊎_elim (λ memory. inr memory) (λ failed. absurd (no_sink failed.1.0)) other) told.status
+      ⊎_elim (λ due. inl due) (λ other. ⊎_elim (λ memory. inr memory) (λ failed. absurd (no_sink failed.1.1.0)) other) told.status
   ends (Err e) show told tells readable no_fault no_sink =
       let memory : e ≡ source.Memory = refusal_ends (store.disk old).files readable e (show.refused tells) (λ is. no_fault (show.cause.rose (ap (λ (d : SourceError). Err d) is))) in
-      ⊎_elim (λ due. inr (due ∙ ap status_of_source memory)) (λ other. ⊎_elim (λ out. inr out) (λ failed. absurd (no_sink failed.1.0)) other) told.status
+      ⊎_elim (λ due. inr (due ∙ ap status_of_source memory)) (λ other. ⊎_elim (λ out. inr out) (λ failed. absurd (no_sink failed.1.1.0)) other) told.status
 
   shows : (answer : Result (List ℕ) SourceError) → IsShow store old new answer → Tells sink out_old out_new (shown_text answer) (shown_status answer) status → ShowsDelta store sink old new out_old out_new status
   shows answer show told = record { answer = answer; show = show; told = told; complete = ends answer show told }
@@ -98,37 +100,51 @@ module _ {S O : Type 0} (store : Ghosts S) (sink : sinks.Ghosts O) (old new : S)
 
 -- ---- putting lines out
 
+-- a line has its newline
+line_there : (text : List ℕ) (rest : List ℕ) → (text ++ 10 ∷ []) ++ rest ≡ [] → ⊥
+line_there [] rest none = absurd (cc)
+line_there (c ∷ text) rest none = absurd (cc)
+
+-- the lines of a table begin with its own
+pub lines_there : (kind : Kind) (position : List ℕ) (table : Table) (rows : List Row) → lines_over kind position table rows ≡ [] → ⊥
+lines_there kind position table rows none = line_there _ _ none
+
 -- memory ran out before anything went out
 pub nothing_told : {O : Type 0} (sink : sinks.Ghosts O) (out : O) (line : List ℕ) (due : Status) → Tells sink out out line due Memory
 nothing_told sink out line due = record {
   faults = omega arith;
   can_fail = λ m. m;
   status = inr (inl refl);
+  silent = λ none. refl;
   whole = λ tells said. absurd said;
   front = λ tells. (0, sym (append-nil (sink.output out)));
 }
 
-pub put_told : {O : Type 0} (sink : sinks.Ghosts O) (old new : O) (lines : List ℕ) (r : Result (Unit {0}) SinkError)
+-- what a put of lines has told, where there are some
+pub put_told : {O : Type 0} (sink : sinks.Ghosts O) (old new : O) (lines : List ℕ) (r : Result (Unit {0}) SinkError) → (lines ≡ [] → ⊥)
     → (sink.tells → OnOk r (sink.output new ≡ sink.output old ++ lines)) → (sink.tells → OnErr r ((n : ℕ) × (sink.output new ≡ sink.output old ++ take n lines)))
     → HasFault sink.faults sink.may_fail old new (IsErrOf r sink_error.Failed) → Tells sink old new lines Done (put_status r)
-put_told sink old new lines (Ok x) ok err cause = record {
+put_told sink old new lines (Ok x) some ok err cause = record {
   faults = cause.later;
   can_fail = cause.still;
   status = inl refl;
+  silent = λ none. absurd (some none);
   whole = λ tells said. ok tells;
   front = λ tells. (length lines, ok tells ∙ ap (λ (l : List ℕ). sink.output old ++ l) (sym (take-length lines)));
 }
-put_told sink old new lines (Err sink_error.Memory) ok err cause = record {
+put_told sink old new lines (Err sink_error.Memory) some ok err cause = record {
   faults = cause.later;
   can_fail = cause.still;
   status = inr (inl refl);
+  silent = λ none. absurd (some none);
   whole = λ tells said. absurd said;
   front = err;
 }
-put_told sink old new lines (Err sink_error.Failed) ok err cause = record {
+put_told sink old new lines (Err sink_error.Failed) some ok err cause = record {
   faults = cause.later;
   can_fail = cause.still;
-  status = inr (inr (refl, (cause.rose refl, cause.allowed refl)));
+  status = inr (inr (refl, (some, (cause.rose refl, cause.allowed refl))));
+  silent = λ none. absurd (some none);
   whole = λ tells said. absurd said;
   front = err;
 }

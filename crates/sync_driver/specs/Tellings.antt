@@ -1,5 +1,5 @@
 -- What a command has put out.
-use Rattle.std.specs.Prelude.{◌≡◌, ◌⊎◌, ℕ, ◌≤◌, List, ◌++◌, take}
+use Rattle.std.specs.Prelude.{◌≡◌, ◌≢◌, ◌⊎◌, ℕ, ◌≤◌, List, [], ◌++◌, take}
 use Rattle.lake_store.specs.Cause.{Rose}
 use Rattle.lake_store.specs.declared.sink.Sink.{Ghosts}
 use Rattle.sync_driver.specs.declared.status.Status.{Status}
@@ -11,10 +11,11 @@ IsSaid Memory = ⊥
 IsSaid SinkFault = ⊥
 IsSaid _ = Unit {0}
 
--- The line is put out, and the status is the one that is due; or memory ran out, or the put failed.
+-- The line is put out, and the status is the one that is due; or memory ran out, or the put failed. Where there is no line, nothing is put.
 pub record Tells {O : Type 0} (sink : Ghosts O) (old new : O) (line : List ℕ) (due given : Status) : Type 0 where
   pub faults : sink.faults old ≤ sink.faults new
   pub can_fail : sink.may_fail new → sink.may_fail old
-  pub status : (given ≡ due) ⊎ (given ≡ Memory) ⊎ ((given ≡ SinkFault) × (Rose (sink.faults old) (sink.faults new) × sink.may_fail old))
+  pub status : (given ≡ due) ⊎ (given ≡ Memory) ⊎ ((given ≡ SinkFault) × ((line ≢ []) × (Rose (sink.faults old) (sink.faults new) × sink.may_fail old)))
+  pub silent : line ≡ [] → new ≡ old
   pub whole : sink.tells → IsSaid given → sink.output new ≡ sink.output old ++ line
   pub front : sink.tells → (n : ℕ) × (sink.output new ≡ sink.output old ++ take n line)

@@ -8,10 +8,14 @@ use crate::status::Status;
 use lake_store::{Sink, SinkError};
 use std::alloc::Global;
 
-/// Puts the line out. The answer is the status that is due, unless the line is cut.
+/// Puts the line out, if it isn't empty. The answer is the status that is due, unless the line is
+/// cut.
 pub(crate) fn put_line<O: Sink>(out: &mut O, line: &[u8], due: Status) -> Status
     ensures { Tells ⟦<O as Sink>⟧ out.old out.new line.now due result }
 {
+    if line.is_empty() {
+        return due;
+    }
     match out.put(line) {
         Ok(()) => due,
         Err(SinkError::Memory) => Status::Memory,

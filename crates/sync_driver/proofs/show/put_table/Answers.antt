@@ -9,7 +9,7 @@ use Rattle.table_lines.specs.TableLines.{lines_over}
 use Rattle.sync_driver.specs.Tellings.{Tells}
 use Rattle.sync_driver.specs.declared.status.Status.{Status}
 use Rattle.sync_driver.specs.declared.status.Status.TheVariants.{Done, Memory}
-use Rattle.sync_driver.proofs.Shows.{nothing_told, put_told}
+use Rattle.sync_driver.proofs.Shows.{lines_there, nothing_told, put_told}
 use Rattle.sync_driver.proofs.show.put_table.Goals as goal
 
 pub returns-in_default : goal.returns-in_default
@@ -29,5 +29,5 @@ returns g c =
       },
       tt,
       subst (λ (s : Status). Tells g.O.Sink c.args.out.now c.put_lines-put.new.out lines Done s) (sym c.status_of_put.ensures)
-          (put_told g.O.Sink c.args.out.now c.put_lines-put.new.out lines c.put_lines-put.result c.put_lines-put.ensures.ok c.put_lines-put.ensures.err c.put_lines-put.ensures.cause),
+          (put_told g.O.Sink c.args.out.now c.put_lines-put.new.out lines c.put_lines-put.result (lines_there Delta c.args.shown.now.head.position c.args.shown.now.table rows) c.put_lines-put.ensures.ok c.put_lines-put.ensures.err c.put_lines-put.ensures.cause),
     )
