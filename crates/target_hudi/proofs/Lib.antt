@@ -1,2 +1,4 @@
 pub mod NameLemmas
+pub mod OrderLemmas
 pub mod PairLemmas
+pub mod StatLemmas

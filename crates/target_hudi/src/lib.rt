@@ -4,6 +4,7 @@
 
 mod kept;
 mod properties;
+mod stats;
 mod target;
 
 pub use kept::HudiKept;

@@ -1,0 +1,6 @@
+use Rattle.std.proofs.Common.{◌≡◌, map, take}
+use Rattle.target_hudi.specs.Writing.{stat_of}
+use Rattle.target_hudi.proofs.stats.stats_of.Given as goal
+
+abbrev pub invariant-loop-row : goal.invariant-loop-row
+invariant-loop-row l = l.stats.items ≡ map (stat_of l.instant) (take l.row-index l.added)
