@@ -12,6 +12,8 @@ use Rattle.std.proofs.lemmas.Cmp.{nat_list_cmp_total, nat_list_eq_equiv, on_tota
 use Rattle.std.proofs.lemmas.List.{get_or-map, length-map}
 use Rattle.std.proofs.lemmas.List.Sorted.{Contains-permutation, IsPermutation-map, IsPermutation-sym, ranks_by}
 use Rattle.std.proofs.lemmas.Map.Keys.{IsDistinct-IsPermutation, apart_from_distinct, sorted_from_all_adjacent}
+use Rattle.std.proofs.lemmas.Slice.Eq.{bytes_eq-Decides}
+use Rattle.hudi_timeline.specs.Group.{joined}
 use Rattle.hudi_timeline.specs.InstantText.{replaced_cmp, stat_cmp}
 use Rattle.hudi_timeline.specs.declared.instant.Stat.{Stat}
 
@@ -43,6 +45,15 @@ same_text x y h = texts_ties x y ∙ h
 
 pub stats_tied : (x y : Stat) → is_eq (stat_cmp x y) ≡ true → bytes_eq x.path y.path ≡ true
 stats_tied x y h = same_text x.path y.path (then_tied (slice_cmp nat_cmp x.partition_path y.partition_path) (slice_cmp nat_cmp x.path y.path) h).1
+
+joined_same : (x y : List ℕ × List ℕ) → (bytes_eq x.0 y.0 ≡ true) × (bytes_eq x.1 y.1 ≡ true) → bytes_eq (joined x.0 x.1) (joined y.0 y.1) ≡ true
+joined_same x y same =
+    let first : x.0 ≡ y.0 = (bytes_eq-Decides x.0 y.0).0 same.0 in
+    let second : x.1 ≡ y.1 = (bytes_eq-Decides x.1 y.1).0 same.1 in
+    (bytes_eq-Decides (joined x.0 x.1) (joined y.0 y.1)).1 (λ i. joined (first i) (second i))
+
+pub ids_tied : (x y : List ℕ × List ℕ) → is_eq (replaced_cmp x y) ≡ true → bytes_eq (joined x.0 x.1) (joined y.0 y.1) ≡ true
+ids_tied x y h = let both = then_tied (slice_cmp nat_cmp x.0 y.0) (slice_cmp nat_cmp x.1 y.1) h in joined_same x y (same_text x.0 y.0 both.0, same_text x.1 y.1 both.1)
 
 rising : (o : Ordering) → is_lt (ordering_reverse o) ≡ false → is_eq o ≡ false → o ≡ Less
 rising Less h e = refl

@@ -5,6 +5,7 @@ use Rattle.serde_json.specs.Written.{compact_text}
 use Rattle.lake_basics.specs.declared.limits.TheConstants.{MAX_FILE_BYTES, MAX_NAMES}
 use Rattle.lake_store.specs.Disk.{Files, names_in}
 use Rattle.table_history.specs.Row.{Row}
+use Rattle.table_history.specs.Rows.{HasPath}
 use Rattle.table_history.specs.TypeTree.{ColumnTrees}
 use Rattle.table_history.specs.Words.{limit_number}
 use Rattle.table_history.specs.declared.kind.Kind.TheVariants.{Hudi}
@@ -68,17 +69,29 @@ replaced_of path = (folder_of path, file_name_of path)
 abbrev pub mark_of : List ℕ → Origin → List ℕ → Mark
 mark_of instant origin position = record { at = instant; source = origin.source; to = position; table = origin.table }
 
--- This is written for the commit at this instant, behind a timeline's end: a write stat of each added row, the paths that are removed and not added
--- again, the schema and the mark.
-pub record IsWritten (end : TimelineEnd) (origin : Origin) (instant : List ℕ) (commit : Commit) (written : Instant) : Type 0 where
+-- This is written for the commit at this instant, where the schema is the one behind it: a write stat of each added row, the paths that are removed and
+-- not added again, the schema and the mark.
+pub record IsWrittenOver (schema : ColumnTrees) (origin : Origin) (instant : List ℕ) (commit : Commit) (written : Instant) : Type 0 where
   pub stats : (s : Stat) → Contains written.stats s ↔ ((row : Row) × Contains commit.change.added row × (s ≡ stat_of instant row))
   pub stats_order : IsStrictlySortedBy stat_cmp written.stats
   pub replaced : (p : List ℕ × List ℕ) → Contains written.replaced p ↔ ((path : List ℕ) × IsGone commit.change path × (p ≡ replaced_of path))
   pub replaced_order : IsStrictlySortedBy replaced_cmp written.replaced
-  pub schema : List ℕ
-  pub spelled : avro_schema_text (stated_behind end commit.change) ≡ Ok schema
-  pub stated : written.schema ≡ Some schema
+  pub text : List ℕ
+  pub spelled : avro_schema_text schema ≡ Ok text
+  pub stated : written.schema ≡ Some text
   pub mark : written.mark ≡ Some (compact_text (mark_data (mark_of instant origin commit.position)))
+
+-- the same behind a timeline's end
+abbrev pub IsWritten : TimelineEnd → Origin → List ℕ → Commit → Instant → Type 0
+IsWritten end origin instant commit written = IsWrittenOver (stated_behind end commit.change) origin instant commit written
+
+-- Behind a change the added rows are there.
+abbrev pub LeavesAdded : List Row → List Row → Type 0
+LeavesAdded added rows = (row : Row) → Contains added row → Contains rows row
+
+-- Behind the change a removed path has a row only where one is added.
+abbrev pub LosesRemoved : Change → List Row → Type 0
+LosesRemoved change rows = (path : List ℕ) → Contains change.removed path → HasPath rows path → HasPath change.added path
 
 -- ---- numbers that are passed
 

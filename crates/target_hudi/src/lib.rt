@@ -4,8 +4,10 @@
 
 mod kept;
 mod properties;
+mod replaced;
 mod stats;
 mod target;
+mod written;
 
 pub use kept::HudiKept;
 pub use target::HudiTarget;
