@@ -3,9 +3,11 @@
 
 mod error;
 mod head;
+mod source;
 
 pub use error::SourceError;
 pub use head::{Head, position_of};
+pub use source::Source;
 
 #[cfg(test)]
 mod tests;

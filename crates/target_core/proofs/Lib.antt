@@ -6,3 +6,4 @@ pub mod Steps
 pub mod OneStep
 pub mod Along
 pub mod SameStart
+pub mod HeldRows

@@ -12,3 +12,4 @@ pub mod Gained
 pub mod Publishing
 pub mod Step
 pub mod Progress
+pub mod Held

@@ -1,59 +1,9 @@
--- What is tested of rows that are kept.
-use Rattle.std.proofs.Common.{◌≡◌, ⊎_elim, ℕ, ◌≤◌, ◌&&◌, Bool, true, false, nat_le, List, [], ◌∷◌, length, Contains, refl, sym, ap, subst, ◌∙◌, arith}
-use Rattle.std.specs.List.{list_all}
-use Rattle.std.proofs.lemmas.Bool.{false≢true}
-use Rattle.std.proofs.lemmas.Bool.Decides.{nat_tests}
-use Rattle.lake_basics.specs.declared.limits.TheConstants.{MAX_LIVE_FILES}
-use Rattle.table_history.specs.Path.{IsPath, is_path}
-use Rattle.table_history.specs.Row.{Row}
-use Rattle.table_history.proofs.PathTests.{path_decided}
-use Rattle.table_history.proofs.RowListLemmas.{Contains-none, Contains-head, Contains-tail, Contains-cases}
+-- The rows of a log's table are such as are kept.
+use Rattle.std.proofs.Common.{◌≡◌, true}
 use Rattle.delta_log.specs.Change.{IsTableOfLog}
-use Rattle.target_core.specs.Conditions.{IsPublishable}
 use Rattle.table_history.specs.declared.table.Table.{Table}
-use Rattle.target_delta.specs.Held.{are_held}
-
-both_true : (a b : Bool) → a ≡ true → b ≡ true → (a && b) ≡ true
-both_true a b p q = ap (λ t. t && b) p ∙ q
-
-left_true : (a b : Bool) → (a && b) ≡ true → a ≡ true
-left_true true b h = refl
-left_true false b h = h
-
-right_true : (a b : Bool) → (a && b) ≡ true → b ≡ true
-right_true true b h = h
-right_true false b h = absurd (false≢true h)
-
-le_test : (n m : ℕ) → n ≤ m → nat_le n m ≡ true
-le_test n m is = grind (arith, nat_tests)
-
-le_by : (n m : ℕ) → nat_le n m ≡ true → n ≤ m
-le_by n m is = grind (arith, nat_tests)
-
-all_paths : (rows : List Row) → ((row : Row) → Contains rows row → IsPath row.path) → list_all (λ row. is_path row.path) rows ≡ true
-all_paths [] are = refl
-all_paths (r ∷ rows) are = both_true (is_path r.path) (list_all (λ row. is_path row.path) rows) ((path_decided r.path).1 (are r (Contains-head r rows))) (all_paths rows (λ row there. are row (Contains-tail r rows row there)))
-
-paths_all : (rows : List Row) → list_all (λ row. is_path row.path) rows ≡ true → (row : Row) → Contains rows row → IsPath row.path
-paths_all [] is row there = absurd (Contains-none row there)
-paths_all (r ∷ rows) is row there =
-    ⊎_elim
-    (λ (here : r ≡ row). subst (λ (x : Row). IsPath x.path) here ((path_decided r.path).0 (left_true (is_path r.path) (list_all (λ row. is_path row.path) rows) is)))
-    (λ later. paths_all rows (right_true (is_path r.path) (list_all (λ row. is_path row.path) rows) is) row later)
-    (Contains-cases r rows row there)
-
-pub held_paths : (rows : List Row) → are_held rows ≡ true → (row : Row) → Contains rows row → IsPath row.path
-held_paths rows is = paths_all rows (right_true (nat_le (length rows) MAX_LIVE_FILES) (list_all (λ row. is_path row.path) rows) is)
-
-pub held_few : (rows : List Row) → are_held rows ≡ true → length rows ≤ MAX_LIVE_FILES
-held_few rows is = le_by (length rows) MAX_LIVE_FILES (left_true (nat_le (length rows) MAX_LIVE_FILES) (list_all (λ row. is_path row.path) rows) is)
-
--- a table that may be published
-pub held_of : (table : Table) → IsPublishable table → are_held table.rows ≡ true
-held_of table may = both_true (nat_le (length table.rows) MAX_LIVE_FILES) (list_all (λ row. is_path row.path) table.rows) (le_test (length table.rows) MAX_LIVE_FILES may.live_files) (all_paths table.rows may.paths)
+use Rattle.target_core.specs.Held.{are_held}
+use Rattle.target_core.proofs.HeldRows.{are_held_by}
 
 pub held_log : (table : Table) → IsTableOfLog table → are_held table.rows ≡ true
-held_log table of = both_true (nat_le (length table.rows) MAX_LIVE_FILES) (list_all (λ row. is_path row.path) table.rows) (le_test (length table.rows) MAX_LIVE_FILES of.live_files) (all_paths table.rows of.paths)
-
-pub none_held : are_held [] ≡ true
-none_held = refl
+held_log table of = are_held_by table.rows of.live_files of.paths

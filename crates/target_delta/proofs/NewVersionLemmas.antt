@@ -28,14 +28,14 @@ use Rattle.target_core.specs.declared.mark.Mark.{Mark}
 use Rattle.target_core.specs.declared.target.TargetError.{TargetError}
 use Rattle.target_core.specs.declared.target.TargetError.TheVariants as errors
 use Rattle.target_delta.specs.Fitting.{Unfit}
-use Rattle.target_delta.specs.Held.{are_held}
+use Rattle.target_core.specs.Held.{are_held}
 use Rattle.target_delta.specs.Kept.{end_of, view_of}
 use Rattle.target_delta.specs.NewVersion.{IsGoneOn, IsNewVersion, IsTextOf, IsTextRefusal, IsVersionRefusal, IsWrittenOf}
 use Rattle.target_delta.specs.Reading.{mark_setting}
 use Rattle.target_delta.specs.Writing.{AreActions, CanAdd, IsWritten, LeavesAdded, LosesRemoved, Passes, end_behind, have_ntz, mark_of, protocol_due}
 use Rattle.target_delta.specs.declared.kept.DeltaKept.{DeltaKept}
 use Rattle.target_delta.specs.FitLemmas.{fits_rows}
-use Rattle.target_delta.proofs.HeldLemmas.{held_few, held_of, held_paths}
+use Rattle.target_core.proofs.HeldRows.{held_few, held_of, held_paths}
 use Rattle.target_delta.specs.KeptLemmas.{ends_by}
 use Rattle.target_delta.proofs.WritableLemmas.{fewer}
 

@@ -1,5 +1,4 @@
 pub mod Names
-pub mod Held
 pub mod Reading
 pub mod Inspecting
 pub mod Writing

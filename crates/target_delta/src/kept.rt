@@ -1,7 +1,7 @@
 //! What is kept of a Delta target between two commits.
 
 ghost use Rattle.std.specs.Prelude.{◌≡◌, true};
-ghost use Rattle.target_delta.specs.Held.{are_held};
+ghost use Rattle.target_core.specs.Held.{are_held};
 
 use lake_basics::Text;
 use table_history::Table;

@@ -4,3 +4,6 @@ pub mod Kept
 pub mod Reading
 pub mod TableName
 pub mod Writing
+pub mod HudiMeaning
+pub mod NewInstant
+pub mod Steps

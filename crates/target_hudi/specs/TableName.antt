@@ -1,6 +1,7 @@
 -- A new Hudi table: its name and its properties (Hudi technical specification, "Table Properties").
 use Rattle.std.specs.Prelude.{◌≡◌, ◌⊎◌, ℕ, true, List, [], ◌∷◌, ◌++◌, Contains, codes}
 use Rattle.std.specs.List.{join_with_byte}
+use Rattle.schema_map.specs.Image.{is_avro_name}
 use Rattle.hudi_timeline.specs.declared.table.HudiTable.{HudiTable}
 use Rattle.hudi_table.specs.Files.{ReadsAs}
 
@@ -29,9 +30,11 @@ new_pairs name partition =
     ∷ ((codes "lakebridge.version", codes "1") ∷ [])))))))))
 
 -- The bytes are read as these pairs, and as a table of this program, whose folders are `name=value` with the values escaped.
+-- Its partition columns are these, where each of them has an Avro name.
 pub record IsNewTable (name : List ℕ) (partition : List (List ℕ)) (bytes : List ℕ) : Type 0 where
   pub table : HudiTable
   pub reads : ReadsAs bytes (record { pairs = new_pairs name partition; table = table })
+  pub partition_is : ((column : List ℕ) → Contains partition column → is_avro_name column ≡ true) → table.partition ≡ partition
   pub ours : table.ours ≡ true
   pub hive_style : table.hive_style ≡ true
   pub url_encode : table.url_encode ≡ true

@@ -1,5 +1,5 @@
 -- The instant that is written for a change, and which numbers it passes.
-use Rattle.std.specs.Prelude.{◌≡◌, ◌↔◌, ◌⊎◌, ℕ, ◌<◌, ℤ, List, [], ◌∷◌, ◌++◌, length, codes, Contains, Option, None, Ok, Some, unwrap_or}
+use Rattle.std.specs.Prelude.{◌≡◌, ◌↔◌, ◌⊎◌, ℕ, ◌<◌, ℤ, List, [], ◌∷◌, ◌++◌, length, codes, Contains, Option, None, Err, Ok, Some, unwrap_or}
 use Rattle.std.specs.List.Sorted.{IsStrictlySortedBy}
 use Rattle.serde_json.specs.Written.{compact_text}
 use Rattle.lake_basics.specs.declared.limits.TheConstants.{MAX_FILE_BYTES, MAX_NAMES}
@@ -15,6 +15,7 @@ use Rattle.table_history.specs.declared.table.Change.{Change}
 use Rattle.table_history.specs.declared.table.Commit.{Commit}
 use Rattle.schema_map.specs.AvroWriting.{avro_schema_text}
 use Rattle.schema_map.specs.Image.{wide_columns}
+use Rattle.schema_map.specs.declared.fault.MapError.{MapError}
 use Rattle.hudi_names.specs.Time.{IsPast9999, IsTime}
 use Rattle.hudi_timeline.specs.Group.{file_name_of, folder_of}
 use Rattle.hudi_timeline.specs.InstantText.{instant_text, replaced_cmp, stat_cmp}
@@ -40,9 +41,13 @@ pub record TimelineEnd : Type 0 where
 abbrev pub stated_behind : TimelineEnd → Change → ColumnTrees
 stated_behind end change = unwrap_or change.schema end.schema
 
--- the same in Hudi's types
+-- the schema behind the commit: the one that it states, in Hudi's types, or else the one before
+abbrev pub held_behind : Option ColumnTrees → ColumnTrees → ColumnTrees
+held_behind None before = before
+held_behind (Some stated) before = wide_columns stated
+
 abbrev pub schema_behind : TimelineEnd → Change → ColumnTrees
-schema_behind end change = wide_columns (stated_behind end change)
+schema_behind end change = held_behind change.schema end.schema
 
 -- the timeline's end behind a commit at this instant
 abbrev pub end_behind : TimelineEnd → List ℕ → Commit → TimelineEnd
@@ -69,6 +74,11 @@ replaced_of path = (folder_of path, file_name_of path)
 abbrev pub mark_of : List ℕ → Origin → List ℕ → Mark
 mark_of instant origin position = record { at = instant; source = origin.source; to = position; table = origin.table }
 
+-- the text of the schema in Avro, and none where it has no such text
+abbrev pub IsStatedText : ColumnTrees → Option (List ℕ) → Type 0
+IsStatedText schema None = (e : MapError) × (avro_schema_text schema ≡ Err e)
+IsStatedText schema (Some text) = avro_schema_text schema ≡ Ok text
+
 -- This is written for the commit at this instant, where the schema is the one behind it: a write stat of each added row, the paths that are removed and
 -- not added again, the schema and the mark.
 pub record IsWrittenOver (schema : ColumnTrees) (origin : Origin) (instant : List ℕ) (commit : Commit) (written : Instant) : Type 0 where
@@ -76,9 +86,7 @@ pub record IsWrittenOver (schema : ColumnTrees) (origin : Origin) (instant : Lis
   pub stats_order : IsStrictlySortedBy stat_cmp written.stats
   pub replaced : (p : List ℕ × List ℕ) → Contains written.replaced p ↔ ((path : List ℕ) × IsGone commit.change path × (p ≡ replaced_of path))
   pub replaced_order : IsStrictlySortedBy replaced_cmp written.replaced
-  pub text : List ℕ
-  pub spelled : avro_schema_text schema ≡ Ok text
-  pub stated : written.schema ≡ Some text
+  pub stated : IsStatedText schema written.schema
   pub mark : written.mark ≡ Some (compact_text (mark_data (mark_of instant origin commit.position)))
 
 -- the same behind a timeline's end

@@ -1,5 +1,10 @@
 //! What is kept of a Hudi target between two commits.
 
+ghost use Rattle.std.specs.Prelude.{◌≡◌, true, ∥◌∥₁};
+ghost use Rattle.std.specs.Option.{ForSome};
+ghost use Rattle.hudi_names.specs.Time.{IsSomeTime};
+ghost use Rattle.target_core.specs.Held.{are_held};
+
 use lake_basics::Text;
 use table_history::Table;
 use target_core::Mark;
@@ -12,4 +17,6 @@ pub struct HudiKept {
     pub(crate) commits: u64,
     /// The time of the newest completed instant.
     pub(crate) newest: Option<Text>,
+    ghost newest_real: { ForSome newest (λ time. ∥ IsSomeTime time ∥₁) },
+    ghost rows_held: { are_held table.rows ≡ true },
 }

@@ -1,4 +1,4 @@
-use Rattle.target_delta.proofs.HeldLemmas.{held_few}
+use Rattle.target_core.proofs.HeldRows.{held_few}
 use Rattle.target_delta.proofs.WritableLemmas.{writable}
 use Rattle.target_delta.proofs.version.text_of.Goals as goal
 

@@ -1,7 +1,7 @@
 use Rattle.std.proofs.Common.{sym, subst}
 use Rattle.std.specs.List.{IsDistinct}
 use Rattle.std.specs.Str.{bytes_eq}
-use Rattle.target_delta.proofs.HeldLemmas.{held_paths}
+use Rattle.target_core.proofs.HeldRows.{held_paths}
 use Rattle.target_delta.proofs.written.written_of.Goals as goal
 
 pub returns-clause-sound : goal.returns-clause-sound

@@ -1,0 +1,55 @@
+-- The instant that a commit is published as, and what is kept behind it.
+use Rattle.std.specs.Prelude.{◌≡◌, ◌↔◌, ◌≢◌, ◌+◌, ℕ, List, Contains, IfSome, None, Ok, Option, Some}
+use Rattle.std.specs.Cmp.Lexicographic.{slice_cmp}
+use Rattle.std.specs.Ordering.{nat_cmp}
+use Rattle.std.specs.declared.cmp.Ordering.TheVariants.{Less}
+use Rattle.serde_json.specs.Written.{compact_text}
+use Rattle.table_history.specs.Row.{Row}
+use Rattle.table_history.specs.Rows.{HasDistinctPaths}
+use Rattle.table_history.specs.Tables.{IsRowAfter}
+use Rattle.table_history.specs.TypeTree.{ColumnTrees}
+use Rattle.table_history.specs.declared.limit.LimitKind.{LimitKind}
+use Rattle.table_history.specs.declared.table.Commit.{Commit}
+use Rattle.hudi_names.specs.Time.{IsSomeTime}
+use Rattle.hudi_timeline.specs.InstantText.{instant_text}
+use Rattle.hudi_timeline.specs.Instants.{json_instant}
+use Rattle.hudi_timeline.specs.Written.{properties_text}
+use Rattle.hudi_timeline.specs.declared.instant.Instant.{Instant}
+use Rattle.target_core.specs.Mark.{IsMarkText, mark_data}
+use Rattle.target_core.specs.Views.{Origin}
+use Rattle.target_core.specs.declared.target.TargetError.{TargetError}
+use Rattle.target_core.specs.declared.target.TargetError.TheVariants.{Memory, StoreFault, Contested, Limit, Unsupported}
+use Rattle.target_hudi.specs.Kept.{end_of}
+use Rattle.target_hudi.specs.TableName.{IsNewTable, new_pairs}
+use Rattle.target_hudi.specs.Writing.{IsNextInstant, IsWritten, TimelineEnd, end_behind, mark_of}
+use Rattle.target_hudi.specs.declared.kept.HudiKept.{HudiKept}
+
+-- The text of the table's properties is given before its first commit, and none later.
+abbrev pub AreGiven : TimelineEnd → Option (List ℕ) → Type 0
+AreGiven end None = end.newest ≢ None
+AreGiven end (Some bytes) = (end.newest ≡ None) × (bytes ≡ properties_text (new_pairs end.name end.partition)) × IsNewTable end.name end.partition bytes
+
+-- The commit is published under this time with this text, which is read as what is written for it, and `next` is what is kept behind it.
+pub record IsNewInstant (end : TimelineEnd) (origin : Origin) (now : ℕ) (kept : HudiKept) (commit : Commit) (time : List ℕ) (properties : Option (List ℕ)) (text : List ℕ) (next : HudiKept) : Type 0 where
+  pub next_time : IsNextInstant end now time
+  pub real : IsSomeTime time
+  pub later : IfSome end.newest (λ last. slice_cmp nat_cmp last time ≡ Less)
+  pub given : AreGiven end properties
+  pub written : Instant
+  pub is : IsWritten end origin time commit written
+  pub text_is : text ≡ instant_text written
+  pub read : json_instant text ≡ Ok written
+  pub marked : IsMarkText (compact_text (mark_data (mark_of time origin commit.position))) (mark_of time origin commit.position)
+  pub rows : (row : Row) → Contains next.table.rows row ↔ IsRowAfter kept.table.rows commit.change.removed commit.change.added row
+  pub distinct : HasDistinctPaths next.table.rows
+  pub end_is : end_of end.name next ≡ end_behind end time commit
+  pub commits : next.commits ≡ kept.commits + 1
+  pub mark : next.mark ≡ Some (mark_of time origin commit.position)
+
+-- A number is passed, or memory runs out. Nothing of the store is looked at.
+abbrev pub IsInstantRefusal : (LimitKind → ℕ → Type 0) → TargetError → Type 0
+IsInstantRefusal passes Memory = Unit {0}
+IsInstantRefusal passes StoreFault = ⊥
+IsInstantRefusal passes Contested = ⊥
+IsInstantRefusal passes (Limit which number) = passes which number
+IsInstantRefusal passes (Unsupported feature path) = ⊥
