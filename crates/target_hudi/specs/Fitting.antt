@@ -1,5 +1,5 @@
 -- Why commits don't fit a Hudi target.
-use Rattle.std.specs.Prelude.{◌≡◌, ◌≢◌, ◌⊎◌, ℕ, ◌<◌, List, [], ◌∷◌, ◌++◌, length, Contains, Err, None, Option, Some}
+use Rattle.std.specs.Prelude.{◌≡◌, ◌≢◌, ◌⊎◌, ℕ, ◌<◌, List, [], ◌∷◌, ◌++◌, length, map, Contains, Err, None, Option, Some, option_map}
 use Rattle.table_history.specs.Row.{Row}
 use Rattle.table_history.specs.TypeTree.{ColumnTrees}
 use Rattle.table_history.specs.declared.feature.Feature.{Feature}
@@ -7,24 +7,33 @@ use Rattle.table_history.specs.declared.feature.Feature.TheVariants.{AvroName, P
 use Rattle.table_history.specs.declared.limit.LimitKind.TheVariants.{Publish}
 use Rattle.table_history.specs.declared.table.Commit.{Commit}
 use Rattle.lake_basics.specs.declared.limits.TheConstants.{MAX_PUBLISHED_COMMITS}
-use Rattle.partition_map.specs.Columns.{HasOtherKind}
+use Rattle.partition_map.specs.Columns.{column_kind}
 use Rattle.partition_map.specs.Folder.{CarriesValues}
+use Rattle.partition_map.specs.declared.kind.PartKind.{PartKind}
 use Rattle.schema_map.specs.AvroWriting.{avro_schema_text}
 use Rattle.schema_map.specs.declared.fault.MapError.TheVariants as map_errors
 use Rattle.target_core.specs.declared.target.TargetError.{TargetError}
-use Rattle.target_core.specs.declared.target.TargetError.TheVariants.{Limit, Unsupported}
+use Rattle.target_core.specs.declared.target.TargetError.TheVariants.{Limit, Memory, Unsupported}
 
 -- the columns in force behind a commit that may state some
 abbrev pub columns_behind : Option ColumnTrees → Option ColumnTrees → Option ColumnTrees
 columns_behind before None = before
 columns_behind before (Some stated) = Some stated
 
--- A commit behind another one, or behind the target's, gives a partition column another kind.
+-- the kinds of these columns, none where one is no column or its type has no kind
+abbrev pub kinds_of : ColumnTrees → List (List ℕ) → List (Option PartKind)
+kinds_of schema names = map (column_kind schema) names
+
+-- A commit behind another one, or behind the target's, states a schema in which the kinds of the partition columns are others.
 abbrev pub ChangesKinds : Option ColumnTrees → List (List ℕ) → List Commit → Type 0
 ChangesKinds before partition [] = ⊥
 ChangesKinds before partition (commit ∷ commits) =
-    ((held : ColumnTrees) × (stated : ColumnTrees) × (before ≡ Some held) × (commit.change.schema ≡ Some stated) × HasOtherKind held stated partition)
+    ((held : ColumnTrees) × (stated : ColumnTrees) × (before ≡ Some held) × (commit.change.schema ≡ Some stated) × (kinds_of held partition ≢ kinds_of stated partition))
     ⊎ ChangesKinds (columns_behind before commit.change.schema) partition commits
+
+-- the partition columns' kinds in the columns in force, where there are such
+abbrev pub AreKindsBehind : Option ColumnTrees → List (List ℕ) → Option (List (Option PartKind)) → Type 0
+AreKindsBehind before names kinds = option_map (λ schema. kinds_of schema names) before ≡ kinds
 
 -- what a target has that commits are to fit: its partition columns and its columns, where a commit is published
 pub record Held : Type 0 where
@@ -61,6 +70,10 @@ pub record IsFirstAstray (partition : List (List ℕ)) (rows : List Row) (path :
   pub none : (other : Row) → Contains front other → ¬ IsAstray partition other
   pub is : path ≡ row.path
 
+-- such a row as a fault, with its path
+abbrev pub IsAstrayFault : List (List ℕ) → List Row → Feature → List ℕ → Type 0
+IsAstrayFault partition rows feature path = (feature ≡ PartitionPath) × IsFirstAstray partition rows path
+
 -- What is at fault with a commit by itself: its schema, and then its added rows in their order.
 abbrev pub IsCommitFault : List (List ℕ) → Commit → Feature → List ℕ → Type 0
 IsCommitFault partition commit PartitionPath path = ((feature : Feature) (column : List ℕ) → ¬ HasSchemaFault commit feature column) × IsFirstAstray partition commit.change.added path
@@ -77,6 +90,12 @@ pub record IsFirstFault (partition : List (List ℕ)) (commits : List Commit) (f
   pub split : commits ≡ front ++ commit ∷ behind
   pub fault : IsCommitFault partition commit feature path
   pub none : (other : Commit) → Contains front other → HasNoFault partition other
+
+-- A refusal for such a fault. Memory may run out instead.
+abbrev pub IsFaultRefusal : (Feature → List ℕ → Type 0) → TargetError → Type 0
+IsFaultRefusal fault Memory = Unit {0}
+IsFaultRefusal fault (Unsupported feature path) = fault feature path
+IsFaultRefusal fault _ = ⊥
 
 -- The first cause in this order: too many commits, other partition columns or kinds, a commit that is at fault by itself.
 pub data Unfit (held : Option Held) (partition : List (List ℕ)) (commits : List Commit) : TargetError → Type 0 where
