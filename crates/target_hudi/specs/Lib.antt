@@ -7,3 +7,4 @@ pub mod Writing
 pub mod HudiMeaning
 pub mod NewInstant
 pub mod Steps
+pub mod WideLemmas
