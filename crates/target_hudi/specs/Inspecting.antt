@@ -10,6 +10,7 @@ use Rattle.table_history.specs.declared.kind.Kind.{Kind}
 use Rattle.table_history.specs.declared.kind.Kind.TheVariants.{Hudi}
 use Rattle.table_history.specs.declared.limit.LimitKind.{LimitKind}
 use Rattle.table_history.specs.declared.limit.LimitKind.TheVariants.{Commits, File, Names}
+use Rattle.hudi_names.specs.Time.{IsSomeTime}
 use Rattle.hudi_timeline.specs.declared.error.HudiError.{HudiError}
 use Rattle.hudi_timeline.specs.declared.error.HudiError.TheVariants as errors
 use Rattle.hudi_table.specs.Files.{HasFault, HoldsFile, ReadsAs, SaysProperties}
@@ -20,7 +21,7 @@ use Rattle.hudi_table.specs.declared.instants.CompletedInstant.{CompletedInstant
 use Rattle.hudi_table.specs.declared.properties.Properties.{Properties}
 use Rattle.hudi_table.specs.declared.reading.Latest.{Latest}
 use Rattle.hudi_table.specs.declared.reading.Naming.TheVariants.{External}
-use Rattle.hudi_commit.specs.Names.{properties_path, timeline_folder, timeline_path}
+use Rattle.hudi_commit.specs.Names.{IsThere, Stage, claims_folder, completed_path, pending_name, properties_path, timeline_folder, timeline_path}
 use Rattle.hudi_commit.specs.Orderly.{LacksProperties}
 use Rattle.target_core.specs.Views.{Standing}
 use Rattle.target_hudi.specs.Reading.{HasOwnNames, HasOwnProperties, IsMarkAt, IsOwnName, NamesInstant, completed_in}
@@ -98,10 +99,22 @@ PassesIn files table c latest which number =
     ((which ≡ File) × (number ≡ MAX_FILE_BYTES) × IsLarge files c.name)
     ⊎ ((number ≡ limit_number Hudi which) × (IsUnreadable files c (errors.Limit which) ⊎ IsUnfit files External table.table c (table_in latest) (errors.Limit which)))
 
--- The folder has too many names, the properties have too many bytes, too many instants are completed, or one of them passes a number and those before it are read.
+-- Claims are looked up for this instant: it is pending at a real day and time and isn't completed, and the names of instants before it are all own.
+pub record LooksUpClaims (files : Files) : Type 0 where
+  pub properties : HasOwnProperties files
+  pub stage : Stage
+  pub instant : List ℕ
+  pub time : IsSomeTime instant
+  pub pending : NamesInstant files (pending_name stage instant)
+  pub open : ¬ IsThere files (completed_path instant)
+  pub before : (other : List ℕ) → NamesInstant files other → slice_cmp nat_cmp other (pending_name stage instant) ≡ Less → IsOwnName files other
+
+-- The timeline's folder has too many names, the properties have too many bytes, the claims that are looked up are too many, too many instants are
+-- completed, or one of them passes a number and those before it are read.
 abbrev pub IsCrowded : Kind → Files → LimitKind → ℕ → Type 0
 IsCrowded source files which number =
     ((which ≡ Names) × (number ≡ MAX_NAMES) × (MAX_NAMES < length (names_in files timeline_folder)))
     ⊎ (((which ≡ File) × (number ≡ MAX_FILE_BYTES) × IsLarge files (codes "hoodie.properties"))
+    ⊎ (((which ≡ Names) × (number ≡ MAX_NAMES) × LooksUpClaims files × (MAX_NAMES < length (names_in files claims_folder)))
     ⊎ (((which ≡ Commits) × (number ≡ MAX_COMMITS) × HasOwnProperties files × HasOwnNames files × (MAX_COMMITS < length (completed_in files)))
-    ⊎ ((c : CompletedInstant) × (table : Properties) × (latest : Option Latest) × IsReadUpTo source files table c latest × PassesIn files table c latest which number)))
+    ⊎ ((c : CompletedInstant) × (table : Properties) × (latest : Option Latest) × IsReadUpTo source files table c latest × PassesIn files table c latest which number))))
