@@ -106,7 +106,7 @@ pub record LooksUpClaims (files : Files) : Type 0 where
   pub instant : List ℕ
   pub time : IsSomeTime instant
   pub pending : NamesInstant files (pending_name stage instant)
-  pub open : ¬ IsThere files (completed_path instant)
+  pub lacking : ¬ IsThere files (completed_path instant)
   pub before : (other : List ℕ) → NamesInstant files other → slice_cmp nat_cmp other (pending_name stage instant) ≡ Less → IsOwnName files other
 
 -- The timeline's folder has too many names, the properties have too many bytes, the claims that are looked up are too many, too many instants are
