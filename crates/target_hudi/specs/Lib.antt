@@ -1,6 +1,7 @@
 pub mod Fitting
 pub mod Inspecting
 pub mod Kept
+pub mod Rank
 pub mod Reading
 pub mod TableName
 pub mod Writing
