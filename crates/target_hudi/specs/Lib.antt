@@ -9,3 +9,10 @@ pub mod HudiMeaning
 pub mod NewInstant
 pub mod Steps
 pub mod WideLemmas
+pub mod InstantLemmas
+pub mod OnceLemmas
+pub mod ReadingLemmas
+pub mod ViewLemmas
+pub mod SettledLemmas
+pub mod ReachedLemmas
+pub mod KeptLemmas
