@@ -1,5 +1,5 @@
 -- Which completed instants a folder has: those that its names tell, and the same ones where a reader of the timeline sees the same.
-use Rattle.std.proofs.Common.{◌≡◌, inr, ⊎_elim, ℕ, suc, ◌+◌, ◌==◌, ◌&&◌, Bool, true, false, not, List, [], ◌∷◌, ◌++◌, cond, length, map, take, codes, Contains, Option, Some, None, refl, sym, ap, subst, ◌∙◌, arith}
+use Rattle.std.proofs.Common.{◌≡◌, inr, ℕ, suc, ◌+◌, ◌==◌, ◌&&◌, Bool, true, false, not, List, [], ◌∷◌, ◌++◌, cond, length, map, take, codes, Contains, Option, Some, None, refl, sym, ap, subst, ◌∙◌, arith}
 use Rattle.std.specs.Prelude.{option_map}
 use Rattle.std.specs.Char.{is_ascii_digit}
 use Rattle.std.specs.List.{AllByRecursion, before_first, list_all, position_or_len}
@@ -8,8 +8,10 @@ use Rattle.std.specs.Ordering.{nat_cmp}
 use Rattle.std.specs.Cmp.Lexicographic.{slice_cmp}
 use Rattle.std.specs.Str.{bytes_eq}
 use Rattle.std.specs.declared.cmp.Ordering.TheVariants.{Less}
-use Rattle.std.proofs.lemmas.Bool.{cases_Bool, false≢true}
-use Rattle.std.proofs.lemmas.Bool.Decides.{nat_tests}
+use Rattle.std.specs.Bool.{Decides}
+use Rattle.std.proofs.lemmas.Bool.{and_parts}
+use Rattle.std.proofs.lemmas.Bool.Decides.{nat_tests, same_from_decides}
+use Rattle.std.proofs.lemmas.Map.Views.{Contains-from_any}
 use Rattle.std.proofs.lemmas.Slice.Eq.{bytes_eq-Decides}
 use Rattle.lake_store.specs.Disk.{Files, IsName, names_in}
 use Rattle.lake_store.proofs.OrderLaws.{names_in_listed, names_in_sorted}
@@ -22,7 +24,7 @@ use Rattle.hudi_names.specs.declared.name.Action.TheVariants as action
 use Rattle.hudi_names.specs.declared.name.State.{State}
 use Rattle.hudi_names.specs.declared.name.State.TheVariants as state
 use Rattle.hudi_names.proofs.NameLemmas.{named_exactly}
-use Rattle.hudi_timeline.proofs.AnyLemmas.{any_from, any_none, any_to}
+use Rattle.hudi_timeline.proofs.AnyLemmas.{any_from}
 use Rattle.hudi_table.specs.Instants.{completed_of, has_name, instant_named, instant_with, instants_in, is_commit, is_done, is_replacecommit, is_second, path_of, time_of}
 use Rattle.hudi_table.specs.declared.instants.CompletedInstant.{CompletedInstant}
 use Rattle.hudi_table.specs.declared.instants.InstantName.{InstantName}
@@ -49,10 +51,6 @@ pub record IsNamed (files : Files) (c : CompletedInstant) : Type 0 where
 abbrev Said : Type 0
 Said = ℕ × Action × State
 
-both : (a b : Bool) → (a && b) ≡ true → (a ≡ true) × (b ≡ true)
-both true b h = (refl, h)
-both false b h = absurd (false≢true h)
-
 done_state : (s : State) → is_done s ≡ true → s ≡ state.Completed
 done_state state.Requested done = absurd (cc)
 done_state state.Inflight done = absurd (cc)
@@ -70,7 +68,7 @@ completed_parts names i c is = by (is_commit i.action && is_done i.state) refl i
   where
     by : (b : Bool) → (is_commit i.action && is_done i.state) ≡ b → cond b (Some (as_completed names i)) None ≡ Some c → (is_commit i.action ≡ true) × (i.state ≡ state.Completed) × (as_completed names i ≡ c)
     by true passes found =
-        let parts = both (is_commit i.action) (is_done i.state) passes in
+        let parts = and_parts (is_commit i.action) (is_done i.state) passes in
         let same : as_completed names i ≡ c = cc in
         (parts.0, done_state i.state parts.1, same)
     by false fails found = absurd (cc)
@@ -155,7 +153,7 @@ commit_known e = cc
 -- the completed name of 17 digits is that of a replacecommit
 pub replaced : (digits : List ℕ) → IsDigits digits → instant_of (completed_name digits) ≡ Some (17, action.ReplaceCommit, state.Completed)
 replaced digits is =
-    let numeral = (both (length digits == 17) (list_all is_ascii_digit digits) (is_instant_of digits is)).1 in
+    let numeral = (and_parts (length digits == 17) (list_all is_ascii_digit digits) (is_instant_of digits is)).1 in
     (named_exactly (completed_name digits) 17 action.ReplaceCommit state.Completed known).1
     (record { time = digits; word = codes "replacecommit"; rest = codes "replacecommit"; parts = record { split = refl; form = inr is.len; numeral = numeral }; len = is.len; named = refl; says = refl })
 
@@ -165,7 +163,7 @@ above_dot c is = grind (arith, nat_tests)
 before_dot : (digits rest : List ℕ) → list_all is_ascii_digit digits ≡ true → before_first (λ b. b == 46) (digits ++ 46 ∷ rest) ≡ digits
 before_dot [] rest all = refl
 before_dot (c ∷ digits) rest all =
-    let parts = both (is_ascii_digit c) (list_all is_ascii_digit digits) all in
+    let parts = and_parts (is_ascii_digit c) (list_all is_ascii_digit digits) all in
     let k = position_or_len (λ b. b == 46) (digits ++ 46 ∷ rest) in
     let one : 1 + k ≡ suc k = omega arith in
     ap (λ b. take (cond (not b) (1 + k) 0) (c ∷ digits ++ 46 ∷ rest)) (above_dot c parts.0) ∙ ap (λ n. take n (c ∷ digits ++ 46 ∷ rest)) one ∙ ap (λ l. c ∷ l) (before_dot digits rest parts.1)
@@ -187,16 +185,8 @@ same_sym a b same = record { completed = λ name proper is. sym (same.completed 
 pub there_too : (a b : Files) → IsSameTimeline a b → (name : List ℕ) → IsName name → IsInstantIn state.Completed name → IsThere a (path_of name) → IsThere b (path_of name)
 there_too a b same name proper is found = there a b (path_of name) (same.completed name proper is) found
 
-has_to : (names : List (List ℕ)) (name : List ℕ) → Contains names name → has_name names name ≡ true
-has_to names name within = any_from (bytes_eq name) names name within ((bytes_eq-Decides name name).1 refl)
-
-has_none : (names : List (List ℕ)) (name : List ℕ) → (Contains names name → ⊥) → has_name names name ≡ false
-has_none names name none = any_none (bytes_eq name) names (λ x within same. none (subst (Contains names) (sym ((bytes_eq-Decides name x).0 same)) within))
-
-has_from : (names : List (List ℕ)) (name : List ℕ) → has_name names name ≡ true → Contains names name
-has_from names name is =
-    let found = any_to (bytes_eq name) names is in
-    subst (Contains names) (sym ((bytes_eq-Decides name found.0).0 found.2)) found.1
+has : (names : List (List ℕ)) (name : List ℕ) → Decides (has_name names name) (Contains names name)
+has names name = (λ is. Contains-from_any (λ x y same. (bytes_eq-Decides x y).0 same) name names is, λ within. any_from (bytes_eq name) names name within ((bytes_eq-Decides name name).1 refl))
 
 in_folder_too : (a b : Files) → IsSameTimeline a b → (name : List ℕ) → IsInstantIn state.Completed name → Contains (names_in a timeline_folder) name → Contains (names_in b timeline_folder) name
 in_folder_too a b same name is within =
@@ -204,10 +194,11 @@ in_folder_too a b same name is within =
     ((names_in_listed b timeline_folder).members name).1 (listed.0, there_too a b same name listed.0 is listed.1)
 
 one_has : (a b : Files) → IsSameTimeline a b → (name : List ℕ) → IsInstantIn state.Completed name → has_name (names_in a timeline_folder) name ≡ has_name (names_in b timeline_folder) name
-one_has a b same name is = ⊎_elim
-    (λ yes. yes ∙ sym (has_to (names_in b timeline_folder) name (in_folder_too a b same name is (has_from (names_in a timeline_folder) name yes))))
-    (λ no. no ∙ sym (has_none (names_in b timeline_folder) name (λ within. false≢true (sym no ∙ has_to (names_in a timeline_folder) name (in_folder_too b a (same_sym a b same) name is within)))))
-    (cases_Bool (has_name (names_in a timeline_folder) name))
+one_has a b same name is =
+    let there_a = has (names_in a timeline_folder) name in
+    same_from_decides (has_name (names_in a timeline_folder) name) (has_name (names_in b timeline_folder) name)
+    (λ yes. in_folder_too a b same name is (there_a.0 yes), λ within. there_a.1 (in_folder_too b a (same_sym a b same) name is within))
+    (has (names_in b timeline_folder) name)
 
 second_too : (a b : Files) → IsSameTimeline a b → (name : List ℕ) (digits : ℕ) (act : Action) → instant_of name ≡ Some (digits, act, state.Completed)
     → (is_replacecommit act && has_name (names_in a timeline_folder) (time_of name ++ codes ".commit")) ≡ (is_replacecommit act && has_name (names_in b timeline_folder) (time_of name ++ codes ".commit"))

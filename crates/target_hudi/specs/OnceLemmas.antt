@@ -97,18 +97,14 @@ leads_partition table base (c ∷ timeline) t same h = leads_partition table (So
 pub one_kinds : (s t : ColumnTrees) (names : List (List ℕ)) (kinds others : List PartKind) → s ≡ t → AreKindsOf s names kinds → AreKindsOf t names others → kinds ≡ others
 one_kinds s t names kinds others same h k = kinds_same kinds others (sym (subst (λ (c : ColumnTrees). AreKindsOf c names kinds) same h) ∙ k)
 
--- the two are one table, but for the order of rows
-pub record SameTable (t u : Table) : Type 0 where
-  pub rows : SameRows t.rows u.rows
-  pub schema : t.schema ≡ u.schema
-  pub partition : t.partition ≡ u.partition
+-- ---- one reading
 
 pub latest_partition : (files : Files) (naming : Naming) (table : HudiTable) (cs : List CompletedInstant) (latest : Latest) → IsLatestOf files naming table cs latest → latest.table.partition ≡ table.partition
 latest_partition files naming table cs latest h = leads_partition table None (h.before ++ h.newest ∷ []) latest.table refl h.leads
 
 module _ (files : Files) (naming : Naming) (table : HudiTable) (cs : List CompletedInstant) where
-  schemas : (a b : Latest) → IsLatestOf files naming table cs a → IsLatestOf files naming table cs b → a.table.schema ≡ b.table.schema
-  schemas a b h k =
+  pub one_schema : (a b : Latest) → IsLatestOf files naming table cs a → IsLatestOf files naming table cs b → a.table.schema ≡ b.table.schema
+  one_schema a b h k =
       let timeline = one_timeline files naming cs (h.before ++ h.newest ∷ []) (k.before ++ k.newest ∷ []) h.say k.say in
       leads_schema table None None (k.before ++ k.newest ∷ []) a.table b.table refl (subst (λ (t : Timeline). LeadsThrough table None t a.table) timeline h.leads) k.leads
 
@@ -118,14 +114,9 @@ module _ (files : Files) (naming : Naming) (table : HudiTable) (cs : List Comple
       let kinds = one_kinds a.table.schema b.table.schema table.partition h.kinds k.kinds schema h.are_kinds k.are_kinds in
       (k.live row).1 (subst (λ (t : Timeline). HudiLive table k.kinds t row) timeline (subst (λ (ks : List PartKind). HudiLive table ks h.timeline row) kinds ((h.live row).0 there)))
 
-  -- the instants make one table
-  pub one_latest : (a b : Latest) → IsLatestOf files naming table cs a → IsLatestOf files naming table cs b → SameTable a.table b.table
-  one_latest a b h k =
-      let schema = schemas a b h k in
+  pub one_rows : (a b : Latest) → IsLatestOf files naming table cs a → IsLatestOf files naming table cs b → SameRows a.table.rows b.table.rows
+  one_rows a b h k =
+      let schema = one_schema a b h k in
       let live = live_rows files naming table cs a h in
-      let live' = live_rows files naming table cs b k in
-      record {
-        rows = λ row. (rows_too a b schema live live' row, rows_too b a (sym schema) live' live row);
-        schema = schema;
-        partition = latest_partition files naming table cs a h ∙ sym (latest_partition files naming table cs b k);
-      }
+      let other = live_rows files naming table cs b k in
+      λ row. (rows_too a b schema live other row, rows_too b a (sym schema) other live row)

@@ -4,7 +4,6 @@ use Rattle.std.proofs.lemmas.List.{length-append}
 use Rattle.lake_store.specs.Disk.{Files}
 use Rattle.table_history.specs.Row.{Row}
 use Rattle.table_history.specs.declared.table.Change.{Change}
-use Rattle.table_history.specs.declared.table.Table.{Table}
 use Rattle.partition_map.specs.declared.kind.PartKind.{PartKind}
 use Rattle.hudi_timeline.specs.Group.{joined}
 use Rattle.hudi_timeline.specs.Live.{IsWrittenBy, completed}
@@ -14,11 +13,12 @@ use Rattle.hudi_timeline.specs.declared.table.HudiTable.{HudiTable}
 use Rattle.hudi_table.specs.Files.{SaysInstant}
 use Rattle.hudi_table.specs.Reading.{IsLatestOf, form_of}
 use Rattle.hudi_table.specs.declared.instants.CompletedInstant.{CompletedInstant}
+use Rattle.hudi_table.specs.declared.reading.Latest.{Latest}
 use Rattle.hudi_table.specs.declared.reading.Naming.TheVariants.{External}
 use Rattle.target_core.specs.Changes.{IsGone, SameRowChange}
 use Rattle.target_core.specs.Views.{IsPublished, IsUnpublished, SameView, Standing, View, absent}
 use Rattle.target_hudi.specs.Reading.{IsAbsent, IsCarried, IsMarkAt, IsOurs, Reads, commits_in, completed_in}
-use Rattle.target_hudi.specs.OnceLemmas.{SameTable, one_instant, one_kinds, one_latest, one_place, one_standing, one_table_of, some_list}
+use Rattle.target_hudi.specs.OnceLemmas.{latest_partition, one_instant, one_kinds, one_place, one_rows, one_schema, one_standing, one_table_of, some_list}
 
 -- ---- counts
 
@@ -54,23 +54,23 @@ same_newest files v w a b =
     let len : length a.front ≡ length b.front = omega (arith, place_a, place_b, count_a, count_b) in
     (one_place a.front a.newest [] b.front b.newest [] len (sym a.last ∙ b.last)).1
 
+abbrev view_with : Files → Standing → Latest → View
+view_with files standing latest = record { commits = commits_in files; mark = Some standing; table = latest.table }
+
 ours_one : (files : Files) (v w : View) → IsOurs files v → IsOurs files w → SameView v w
 ours_one files v w a b =
+    let cs = completed_in files in
     let table : a.table.table ≡ b.table.table = one_table_of files a.table b.table a.says b.says in
-    let read : IsLatestOf files External b.table.table (completed_in files) a.latest = subst (λ (t : HudiTable). IsLatestOf files External t (completed_in files) a.latest) table a.read in
-    let same = one_latest files External b.table.table (completed_in files) a.latest b.latest read b.read in
+    let read : IsLatestOf files External b.table.table cs a.latest = subst (λ (t : HudiTable). IsLatestOf files External t cs a.latest) table a.read in
     let stands : IsMarkAt files b.newest a.standing = subst (λ (c : CompletedInstant). IsMarkAt files c a.standing) (same_newest files v w a b) a.stands in
-    let standing = one_standing files b.newest a.standing b.standing stands b.stands in
-    let table_a : v.table ≡ a.latest.table = ap (λ (x : View). x.table) a.view_is in
-    let table_b : w.table ≡ b.latest.table = ap (λ (x : View). x.table) b.view_is in
-    let tables : SameTable v.table w.table = subst (λ (t : Table). SameTable t w.table) (sym table_a) (subst (λ (t : Table). SameTable a.latest.table t) (sym table_b) same) in
-    record {
-      commits = sym (commits_read files v (inr a)) ∙ commits_read files w (inr b);
-      mark = ap (λ (x : View). x.mark) a.view_is ∙ ap (λ (s : Standing). Some s) standing ∙ sym (ap (λ (x : View). x.mark) b.view_is);
-      rows = tables.rows;
-      partition = tables.partition;
-      schema = tables.schema;
-    }
+    let same : SameView (view_with files a.standing a.latest) (view_with files b.standing b.latest) = record {
+      commits = refl;
+      mark = ap (λ (s : Standing). Some s) (one_standing files b.newest a.standing b.standing stands b.stands);
+      rows = one_rows files External b.table.table cs a.latest b.latest read b.read;
+      partition = latest_partition files External b.table.table cs a.latest read ∙ sym (latest_partition files External b.table.table cs b.latest b.read);
+      schema = one_schema files External b.table.table cs a.latest b.latest read b.read;
+    } in
+    subst (λ (x : View). SameView x w) (sym a.view_is) (subst (λ (x : View). SameView (view_with files a.standing a.latest) x) (sym b.view_is) same)
 
 pub one_view : (files : Files) (v w : View) → Reads files v → Reads files w → SameView v w ⊎ (IsUnpublished v × IsUnpublished w)
 one_view files v w (inl a) (inl b) = inr (a.1, b.1)
@@ -107,16 +107,16 @@ module _ (files : Files) (number : ℕ) (a b : Change) (s t : Standing) (h : IsC
   table : h.table.table ≡ k.table.table
   table = one_table_of files h.table k.table h.says_table k.says_table
 
-  same : SameTable h.latest.table k.latest.table
-  same =
+  schema : h.latest.table.schema ≡ k.latest.table.schema
+  schema =
       let cs : h.front ++ h.commit ∷ [] ≡ k.front ++ k.commit ∷ [] = λ i. place.0 i ++ place.1 i ∷ [] in
-      one_latest files External k.table.table (k.front ++ k.commit ∷ []) h.latest k.latest
+      one_schema files External k.table.table (k.front ++ k.commit ∷ []) h.latest k.latest
       (subst (λ (x : HudiTable). IsLatestOf files External x (k.front ++ k.commit ∷ []) h.latest) table
       (subst (λ (l : List CompletedInstant). IsLatestOf files External h.table.table l h.latest) cs h.read))
       k.read
 
   kinds : h.kinds ≡ k.kinds
-  kinds = one_kinds h.latest.table.schema k.latest.table.schema k.table.table.partition h.kinds k.kinds same.schema (subst (λ (x : HudiTable). AreKindsOf h.latest.table.schema x.partition h.kinds) table h.are_kinds) k.are_kinds
+  kinds = one_kinds h.latest.table.schema k.latest.table.schema k.table.table.partition h.kinds k.kinds schema (subst (λ (x : HudiTable). AreKindsOf h.latest.table.schema x.partition h.kinds) table h.are_kinds) k.are_kinds
 
   added_too : (row : Row) → Contains a.added row → Contains b.added row
   added_too row is = (k.adds row).1 (subst (λ (c : CompletedInstant). IsWrittenBy k.table.table k.kinds (completed (form_of External c.time) k.instant) row) place.1
