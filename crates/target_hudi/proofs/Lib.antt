@@ -1,6 +1,14 @@
+pub mod CarriedLemmas
+pub mod FittedLemmas
+pub mod KnownLemmas
+pub mod LiveReadLemmas
 pub mod NameLemmas
 pub mod OrderLemmas
 pub mod PairLemmas
 pub mod ReplacedLemmas
+pub mod SchemaReadLemmas
+pub mod SortLemmas
 pub mod StatLemmas
+pub mod StatReadLemmas
+pub mod StepLemmas
 pub mod WrittenLemmas

@@ -6,6 +6,8 @@ use Rattle.lake_basics.specs.declared.limits.TheConstants.{MAX_FILE_BYTES, MAX_N
 use Rattle.lake_store.specs.Disk.{Files, names_in}
 use Rattle.table_history.specs.Row.{Row}
 use Rattle.table_history.specs.Rows.{HasPath}
+use Rattle.table_history.specs.SchemaSize.{IsWithinLimits}
+use Rattle.table_history.specs.Sound.{IsSound}
 use Rattle.table_history.specs.TypeTree.{ColumnTrees}
 use Rattle.table_history.specs.Words.{limit_number}
 use Rattle.table_history.specs.declared.kind.Kind.TheVariants.{Hudi}
@@ -13,6 +15,7 @@ use Rattle.table_history.specs.declared.limit.LimitKind.{LimitKind}
 use Rattle.table_history.specs.declared.limit.LimitKind.TheVariants.{File, Names, Versions}
 use Rattle.table_history.specs.declared.table.Change.{Change}
 use Rattle.table_history.specs.declared.table.Commit.{Commit}
+use Rattle.schema_map.specs.Avro.{limited_avro_schema_of}
 use Rattle.schema_map.specs.AvroWriting.{avro_schema_text}
 use Rattle.schema_map.specs.Image.{wide_columns}
 use Rattle.schema_map.specs.declared.fault.MapError.{MapError}
@@ -78,6 +81,11 @@ mark_of instant origin position = record { at = instant; source = origin.source;
 abbrev pub IsStatedText : ColumnTrees → Option (List ℕ) → Type 0
 IsStatedText schema None = (e : MapError) × (avro_schema_text schema ≡ Err e)
 IsStatedText schema (Some text) = avro_schema_text schema ≡ Ok text
+
+-- The text, where there is one, is read as the schema in Hudi's types.
+abbrev pub IsReadBack : ColumnTrees → Option (List ℕ) → Type 0
+IsReadBack schema None = Unit {0}
+IsReadBack schema (Some text) = IsSound schema → IsWithinLimits schema → limited_avro_schema_of text ≡ Ok (wide_columns schema)
 
 -- This is written for the commit at this instant, where the schema is the one behind it: a write stat of each added row, the paths that are removed and
 -- not added again, the schema and the mark.
