@@ -12,3 +12,4 @@ pub mod StatLemmas
 pub mod StatReadLemmas
 pub mod StepLemmas
 pub mod WrittenLemmas
+pub mod FittingLemmas

@@ -16,3 +16,4 @@ pub mod ViewLemmas
 pub mod SettledLemmas
 pub mod ReachedLemmas
 pub mod KeptLemmas
+pub mod FitLemmas

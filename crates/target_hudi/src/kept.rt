@@ -1,8 +1,9 @@
 //! What is kept of a Hudi target between two commits.
 
-ghost use Rattle.std.specs.Prelude.{◌≡◌, ◌≤◌, ◌+◌, true, ∥◌∥₁};
+ghost use Rattle.std.specs.Prelude.{◌≡◌, ◌≤◌, ◌+◌, None, true};
 ghost use Rattle.std.specs.Option.{ForSome};
 ghost use Rattle.lake_basics.specs.declared.limits.TheConstants.{MAX_COMMITS};
+ghost use Rattle.table_history.specs.SchemaSize.{column_count};
 ghost use Rattle.hudi_names.specs.Time.{IsSomeTime};
 ghost use Rattle.target_core.specs.Held.{are_held};
 ghost use Rattle.target_hudi.specs.Rank.{time_rank};
@@ -23,4 +24,5 @@ pub struct HudiKept {
     ghost rows_held: { are_held table.rows ≡ true },
     // Each commit has a later time than the one before, so that their number ends with the times.
     ghost commits_bounded: { commits ≤ MAX_COMMITS + time_rank newest },
+    ghost begun: { newest ≡ None → (commits ≡ 0) × (column_count table.schema ≡ 0) },
 }

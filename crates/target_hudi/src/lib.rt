@@ -2,6 +2,7 @@
 //! target, and the name of a new table.
 #![tactic(auto)]
 
+mod fitting;
 mod kept;
 mod properties;
 mod replaced;
