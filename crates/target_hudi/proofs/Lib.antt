@@ -13,3 +13,4 @@ pub mod StatReadLemmas
 pub mod StepLemmas
 pub mod WrittenLemmas
 pub mod FittingLemmas
+pub mod FreshLemmas

@@ -3,6 +3,7 @@
 #![tactic(auto)]
 
 mod fitting;
+mod fresh;
 mod kept;
 mod properties;
 mod replaced;
