@@ -1,5 +1,6 @@
 pub mod Mark
 pub mod Folders
+pub mod FolderLemmas
 pub mod Views
 pub mod Changes
 pub mod Outcome
