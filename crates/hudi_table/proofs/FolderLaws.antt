@@ -96,7 +96,7 @@ module _ (names : List (List ℕ)) where
       let parts = named_parts names name (instant_of name) i is in
       subst SaysOf parts.2 (record { there = there; digits = parts.0.0; says = parts.1; time = refl; pending = refl })
 
-  instant_says : (i : InstantName) → Contains (instants_in names) i → SaysOf i
+  pub instant_says : (i : InstantName) → Contains (instants_in names) i → SaysOf i
   instant_says i within = let from = picked_from (instant_named names) names i within in says_of i from.0 from.1 from.2
 
 -- ---- the whole folder
@@ -189,11 +189,11 @@ module _ (files : Files) where
 
   -- ---- what is before it
 
-  before_to : (o : Option (List ℕ)) → MatchOption o ((p : List ℕ) → IsPendingAt files p → ⊥) (IsFirstPending files) → (c : CompletedInstant) → is_before o c ≡ true → (p : List ℕ) → IsPendingAt files p → IsEarlier c.time p
+  pub before_to : (o : Option (List ℕ)) → MatchOption o ((p : List ℕ) → IsPendingAt files p → ⊥) (IsFirstPending files) → (c : CompletedInstant) → is_before o c ≡ true → (p : List ℕ) → IsPendingAt files p → IsEarlier c.time p
   before_to None none c before p at = absurd (none p at)
   before_to (Some first) is c before p at = earlier_than c.time first p (lt_less (slice_cmp nat_cmp c.time first) before) (is.1 p at)
 
-  before_from : (o : Option (List ℕ)) → MatchOption o ((p : List ℕ) → IsPendingAt files p → ⊥) (IsFirstPending files) → (c : CompletedInstant) → ((p : List ℕ) → IsPendingAt files p → IsEarlier c.time p) → is_before o c ≡ true
+  pub before_from : (o : Option (List ℕ)) → MatchOption o ((p : List ℕ) → IsPendingAt files p → ⊥) (IsFirstPending files) → (c : CompletedInstant) → ((p : List ℕ) → IsPendingAt files p → IsEarlier c.time p) → is_before o c ≡ true
   before_from None none c earlier = refl
   before_from (Some first) is c earlier = ap is_lt (earlier first is.0)
 
@@ -203,7 +203,7 @@ module _ (files : Files) where
 
   -- ---- what is completed
 
-  completed_to : (c : CompletedInstant) → Contains completed c → IsCompletedAt files c.time
+  pub completed_to : (c : CompletedInstant) → Contains completed c → IsCompletedAt files c.time
   completed_to c within =
       let from = picked_from (completed_of names) instants c within in
       let i = from.0 in

@@ -6,3 +6,4 @@ pub mod Gathered
 pub mod ReadingLaws
 pub mod FileLaws
 pub mod Runs
+pub mod TypedLemmas

@@ -14,7 +14,7 @@ use lake_store::Store;
 use std::alloc::{AllocError, Global};
 
 /// The path of the timeline's file of this name.
-fn path_of(alloc: Global, name: &str) -> Result<Text, AllocError>
+pub fn timeline_path(alloc: Global, name: &str) -> Result<Text, AllocError>
     ensures { IfOk result (λ path. path ≡ path_of name.now) }
 {
     Ok(Text::from_string(format!(in alloc; ".hoodie/{}", name)?))
@@ -34,7 +34,7 @@ pub(crate) fn read_file<S: Store>(
     ensures cause { FailsBy ⟦<S as Store>⟧ store.old store.new (IsErrOf result StoreFault) }
     ensures contest { IsUncontestedBy ⟦<S as Store>⟧ store.old store.new ⊥ }
 {
-    let path = path_of(alloc, name)?;
+    let path = timeline_path(alloc, name)?;
     match store.read(alloc, path.as_str()) {
         Ok(Some(bytes)) => Ok(bytes),
         Ok(None) => Err(TimelineError::Missing { path }),
@@ -46,7 +46,7 @@ pub(crate) fn read_file<S: Store>(
 pub(crate) fn refusal(alloc: Global, name: &str, error: HudiError) -> TimelineError
     ensures { (result ≡ Memory) ⊎ (result ≡ error_at (path_of name.now) error) }
 {
-    match path_of(alloc, name) {
+    match timeline_path(alloc, name) {
         Ok(path) => error_at(path, error),
         Err(_) => TimelineError::Memory,
     }

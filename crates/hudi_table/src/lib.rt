@@ -10,6 +10,7 @@ mod reading;
 mod timeline;
 
 pub use error::TimelineError;
+pub use file::timeline_path;
 pub use instants::{CompletedInstant, InstantName};
 pub use properties::{Properties, read_table_properties};
 pub use reading::{
