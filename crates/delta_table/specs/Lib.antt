@@ -1,3 +1,4 @@
 pub mod Versions
 pub mod Log
 pub mod Refusals
+pub mod SameVersions
