@@ -1,10 +1,14 @@
 pub mod CarriedLemmas
+pub mod ColumnNames
 pub mod FittedLemmas
 pub mod KnownLemmas
 pub mod LiveReadLemmas
 pub mod NameLemmas
+pub mod NewInstantLemmas
 pub mod OrderLemmas
 pub mod PairLemmas
+pub mod PathLemmas
+pub mod RankLemmas
 pub mod ReplacedLemmas
 pub mod SchemaReadLemmas
 pub mod SortLemmas

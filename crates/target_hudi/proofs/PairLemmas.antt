@@ -7,6 +7,7 @@ use Rattle.std.proofs.lemmas.List.{append_assoc, take_more}
 use Rattle.hudi_timeline.specs.Pairs.{in_order, properties_of}
 use Rattle.hudi_timeline.specs.TableProperties.{checked_table, table_of}
 use Rattle.target_hudi.specs.TableName.{IsNewTable, new_pairs, partition_pairs}
+use Rattle.target_hudi.proofs.ColumnNames.{names_back}
 
 -- four more behind a list, one after the other
 pub four_behind : {P : Type 0} (start one two three : List P) (a b c d : P) → one ≡ start ++ a ∷ [] → two ≡ one ++ b ∷ [] → three ≡ two ++ c ∷ [] → three ++ d ∷ [] ≡ start ++ a ∷ b ∷ c ∷ d ∷ []
@@ -49,6 +50,7 @@ pub is_new_table : (name : List ℕ) (partition : List (List ℕ)) (bytes : List
 is_new_table name [] bytes read = record {
   table = table_of (new_pairs name []);
   reads = (read ∙ ap Ok (pairs_in_order name []), checked name []);
+  partition_is = λ are. refl;
   ours = refl;
   hive_style = refl;
   url_encode = refl;
@@ -56,6 +58,7 @@ is_new_table name [] bytes read = record {
 is_new_table name (column ∷ columns) bytes read = record {
   table = table_of (new_pairs name (column ∷ columns));
   reads = (read ∙ ap Ok (pairs_in_order name (column ∷ columns)), checked name (column ∷ columns));
+  partition_is = λ are. names_back column columns are;
   ours = refl;
   hive_style = refl;
   url_encode = refl;

@@ -44,6 +44,15 @@ lost_are rows removed lost is path = (
   λ h. subst (λ (l : List (List ℕ)). Contains l path) (sym is) (filter_contains (is_lost rows) removed path h.0 (none_lost rows path h.1)),
 )
 
+pub filter_few : (p : List ℕ → Bool) (xs : List (List ℕ)) → length (filter p xs) ≤ length xs
+filter_few p [] = omega arith
+filter_few p (x ∷ xs) =
+    let rest = filter_few p xs in
+    elim (p x) as (λ b. length (cond b (x ∷ filter p xs) (filter p xs)) ≤ length (x ∷ xs)) [
+      | true ↦ omega (arith, rest)
+      | false ↦ omega (arith, rest)
+    ]
+
 filter_apart : (p : List ℕ → Bool) (x : List ℕ) (xs : List (List ℕ)) → AllByRecursion (λ y. bytes_eq x y ≡ false) xs → AllByRecursion (λ y. bytes_eq x y ≡ false) (filter p xs)
 filter_apart p x [] all = tt
 filter_apart p x (y ∷ xs) all =

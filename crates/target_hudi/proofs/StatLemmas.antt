@@ -1,5 +1,5 @@
 -- The write stats of rows.
-use Rattle.std.proofs.Common.{◌≡◌, ⊎_elim, ℕ, ◌+◌, ◌-◌, ◌<◌, ◌≤◌, ◌==◌, not, Bool, true, false, List, [], ◌∷◌, ◌++◌, length, get_or, take, drop, map, Contains, None, sym, ap, subst, ◌∙◌, arith}
+use Rattle.std.proofs.Common.{◌≡◌, ⊎_elim, ℕ, ◌+◌, ◌-◌, ◌^◌, ◌<◌, ◌≤◌, ◌==◌, not, Bool, true, false, List, [], ◌∷◌, ◌++◌, length, get_or, take, drop, map, All, Contains, None, sym, ap, subst, ◌∙◌, arith}
 use Rattle.std.specs.Prelude.{◌↔◌, ◌≢◌, IfOk, Result, Ok, Err, codes}
 use Rattle.std.specs.List.{AllByRecursion, IsDistinct, suffix_len}
 use Rattle.std.specs.Str.{bytes_eq}
@@ -8,10 +8,15 @@ use Rattle.std.proofs.Math.Seq.{take-length}
 use Rattle.std.proofs.lemmas.Bool.{cases_Bool, eqb-true}
 use Rattle.std.proofs.lemmas.Str.{len_utf8_ascii}
 use Rattle.std.proofs.lemmas.Str.Pattern.{NoCharPasses-char}
-use Rattle.std.proofs.lemmas.List.{append_assoc, append_cancel_right, get_or-drop, length-drop}
+use Rattle.std.proofs.lemmas.List.{append_assoc, append_cancel_right, get_or-drop, length-drop, map_more}
 use Rattle.std.proofs.lemmas.List.Sums.{suffix_len_is}
 use Rattle.std.proofs.lemmas.Map.Keys.{IsDistinct-cons, IsDistinct-head, IsDistinct-tail}
 use Rattle.std.proofs.lemmas.Slice.Eq.{bytes_eq-Decides}
+use Rattle.std.proofs.lemmas.List.Elements.{All-cons, All-contains, All-nil}
+use Rattle.hudi_names.specs.Time.{IsDigits}
+use Rattle.hudi_timeline.specs.InstantText.{IsSoundStat}
+use Rattle.table_history.specs.Path.{IsPath, IsPathOfAnyLength}
+use Rattle.target_hudi.proofs.PathLemmas.{external_more, path_more}
 use Rattle.table_history.specs.Row.{Row}
 use Rattle.table_history.specs.Rows.{HasDistinctPaths, paths_of}
 use Rattle.table_history.proofs.RowListLemmas.{Contains-cases, Contains-head, Contains-none, Contains-tail}
@@ -115,6 +120,44 @@ module _ (instant : List ℕ) where
   distinct_stats (r ∷ rows) distinct =
       IsDistinct-cons bytes_eq (r.path ++ suffix) (map (λ (s : Stat). s.path) (map (stat_of instant) rows)) (all_apart r.path rows (IsDistinct-head bytes_eq r.path (paths_of rows) distinct))
       (distinct_stats rows (IsDistinct-tail bytes_eq r.path (paths_of rows) distinct))
+
+-- one stat more, that of the next row
+pub stats_more : (instant : List ℕ) (added : List Row) (i : ℕ) (row : Row) (stat : Stat) (before after : List Stat) → i < length added → row ≡ get_or added i row → stat ≡ stat_of instant row
+    → before ≡ map (stat_of instant) (take i added) → after ≡ before ++ stat ∷ [] → after ≡ map (stat_of instant) (take (i + 1) added)
+stats_more instant added i row stat before after within at is so_far pushed =
+    pushed ∙ (λ j. so_far j ++ is j ∷ []) ∙ ap (λ r. map (stat_of instant) (take i added) ++ stat_of instant r ∷ []) at
+    ∙ sym (map_more (stat_of instant) added i row within)
+
+pub item_there : (added : List Row) (i : ℕ) (row : Row) → i < length added → row ≡ get_or added i row → Contains added row
+item_there added i row within at = (i, within, sym at)
+
+-- ---- their soundness
+
+pub sound_stat : (instant : List ℕ) (row : Row) (path : List ℕ) (stat : Stat) → path ≡ row.path → stat.path ≡ path ++ (codes "_" ++ (instant ++ codes "_hudiext")) → stat.writes < 2 ^ 63 → stat.size < 2 ^ 63 → IsDigits instant → IsPath row.path → IsSoundStat stat
+sound_stat instant row path stat same is writes size digits sound = record {
+  path = subst IsPathOfAnyLength (ap (λ p. p ++ (codes "_" ++ (instant ++ codes "_hudiext"))) (sym same) ∙ sym is) (path_more row.path (codes "_" ++ (instant ++ codes "_hudiext")) sound.form (external_more instant digits));
+  writes = writes;
+  size = size;
+}
+
+all_among : {X : Type 0} (P : X → Type 0) (xs ys : List X) → All P xs → ((x : X) → Contains ys x → Contains xs x) → All P ys
+all_among P xs [] all among = All-nil P
+all_among P xs (y ∷ ys) all among =
+    All-cons P y ys (All-contains P xs y all (among y (Contains-head y ys))) (all_among P xs ys all (λ x there. among x (Contains-tail y ys x there)))
+
+pub sound_by : {V E : Type 0} (stats : List Stat) → All IsSoundStat stats → (items : V → List Stat) (r : Result V E) → IfOk r (λ v. (s : Stat) → Contains (items v) s ↔ Contains stats s) → IfOk r (λ v. All IsSoundStat (items v))
+sound_by stats all items (Ok v) h = all_among IsSoundStat stats (items v) all (λ s there. (h s).0 there)
+sound_by stats all items (Err e) h = tt
+
+-- ---- how many there are
+
+pub as_many : {X V E : Type 0} (n m : ℕ) (items : V → List X) (r : Result V E) → m ≡ n → IfOk r (λ v. length (items v) ≡ m) → IfOk r (λ v. length (items v) ≡ n)
+as_many n m items (Ok v) same h = h ∙ same
+as_many n m items (Err e) same h = tt
+
+pub at_most : {X V E : Type 0} (n m : ℕ) (items : V → List X) (r : Result V E) → m ≤ n → IfOk r (λ v. length (items v) ≡ m) → IfOk r (λ v. length (items v) ≤ n)
+at_most n m items (Ok v) few h = omega (arith, few, h)
+at_most n m items (Err e) few h = tt
 
 -- a loop that has come to its end has gone through all
 pub all_taken : {X : Type 0} (xs : List X) (i : ℕ) → i ≤ length xs → length xs ≤ i → take i xs ≡ xs

@@ -1,18 +1,23 @@
 -- The instant that a commit is published as, and what is kept behind it.
-use Rattle.std.specs.Prelude.{◌≡◌, ◌↔◌, ◌≢◌, ◌+◌, ℕ, List, Contains, IfSome, None, Ok, Option, Some}
+use Rattle.std.specs.Prelude.{◌≡◌, ◌↔◌, ◌≢◌, ◌+◌, ℕ, ℤ, List, Contains, IfSome, None, Ok, Option, Some}
 use Rattle.std.specs.Cmp.Lexicographic.{slice_cmp}
 use Rattle.std.specs.Ordering.{nat_cmp}
 use Rattle.std.specs.declared.cmp.Ordering.TheVariants.{Less}
 use Rattle.serde_json.specs.Written.{compact_text}
+use Rattle.lake_basics.specs.declared.limits.TheConstants.{MAX_FILE_BYTES}
 use Rattle.table_history.specs.Row.{Row}
 use Rattle.table_history.specs.Rows.{HasDistinctPaths}
 use Rattle.table_history.specs.Tables.{IsRowAfter}
 use Rattle.table_history.specs.TypeTree.{ColumnTrees}
+use Rattle.table_history.specs.Words.{limit_number}
+use Rattle.table_history.specs.declared.kind.Kind.TheVariants.{Hudi}
 use Rattle.table_history.specs.declared.limit.LimitKind.{LimitKind}
+use Rattle.table_history.specs.declared.limit.LimitKind.TheVariants.{File, Versions}
 use Rattle.table_history.specs.declared.table.Commit.{Commit}
-use Rattle.hudi_names.specs.Time.{IsSomeTime}
-use Rattle.hudi_timeline.specs.InstantText.{instant_text}
+use Rattle.hudi_names.specs.Time.{IsPast9999, IsSomeTime}
+use Rattle.hudi_timeline.specs.InstantText.{IsSound, instant_text}
 use Rattle.hudi_timeline.specs.Instants.{json_instant}
+use Rattle.hudi_timeline.specs.Next.{IsNext}
 use Rattle.hudi_timeline.specs.Written.{properties_text}
 use Rattle.hudi_timeline.specs.declared.instant.Instant.{Instant}
 use Rattle.target_core.specs.Mark.{IsMarkText, mark_data}
@@ -21,7 +26,7 @@ use Rattle.target_core.specs.declared.target.TargetError.{TargetError}
 use Rattle.target_core.specs.declared.target.TargetError.TheVariants.{Memory, StoreFault, Contested, Limit, Unsupported}
 use Rattle.target_hudi.specs.Kept.{end_of}
 use Rattle.target_hudi.specs.TableName.{IsNewTable, new_pairs}
-use Rattle.target_hudi.specs.Writing.{IsNextInstant, IsWritten, TimelineEnd, end_behind, mark_of}
+use Rattle.target_hudi.specs.Writing.{IsNextInstant, IsReadBack, IsWritten, TimelineEnd, end_behind, mark_of, stated_behind}
 use Rattle.target_hudi.specs.declared.kept.HudiKept.{HudiKept}
 
 -- The text of the table's properties is given before its first commit, and none later.
@@ -37,6 +42,8 @@ pub record IsNewInstant (end : TimelineEnd) (origin : Origin) (now : ℕ) (kept 
   pub given : AreGiven end properties
   pub written : Instant
   pub is : IsWritten end origin time commit written
+  pub sound : IsSound written
+  pub read_back : IsReadBack (stated_behind end commit.change) written.schema
   pub text_is : text ≡ instant_text written
   pub read : json_instant text ≡ Ok written
   pub marked : IsMarkText (compact_text (mark_data (mark_of time origin commit.position))) (mark_of time origin commit.position)
@@ -53,3 +60,11 @@ IsInstantRefusal passes StoreFault = ⊥
 IsInstantRefusal passes Contested = ⊥
 IsInstantRefusal passes (Limit which number) = passes which number
 IsInstantRefusal passes (Unsupported feature path) = ⊥
+
+-- The time lies past the year 9999, or memory runs out.
+abbrev pub IsTimeRefusal : Option (List ℕ) → ℕ → TargetError → Type 0
+IsTimeRefusal newest now e = IsInstantRefusal (λ which number. (which ≡ Versions) × (number ≡ limit_number Hudi Versions) × ((ms : ℤ) → IsNext newest now ms → IsPast9999 ms)) e
+
+-- A text is too long for a file, which says this of it, or memory runs out.
+abbrev pub IsFileRefusal : Type 0 → TargetError → Type 0
+IsFileRefusal large e = IsInstantRefusal (λ which number. (which ≡ File) × (number ≡ MAX_FILE_BYTES) × large) e

@@ -87,6 +87,11 @@ abbrev pub IsReadBack : ColumnTrees → Option (List ℕ) → Type 0
 IsReadBack schema None = Unit {0}
 IsReadBack schema (Some text) = IsSound schema → IsWithinLimits schema → limited_avro_schema_of text ≡ Ok (wide_columns schema)
 
+-- The text is there, and is read as this schema.
+abbrev pub IsReadAs : Option (List ℕ) → ColumnTrees → Type 0
+IsReadAs None schema = ⊥
+IsReadAs (Some text) schema = limited_avro_schema_of text ≡ Ok schema
+
 -- This is written for the commit at this instant, where the schema is the one behind it: a write stat of each added row, the paths that are removed and
 -- not added again, the schema and the mark.
 pub record IsWrittenOver (schema : ColumnTrees) (origin : Origin) (instant : List ℕ) (commit : Commit) (written : Instant) : Type 0 where

@@ -5,6 +5,7 @@
 mod fitting;
 mod fresh;
 mod kept;
+mod new_instant;
 mod properties;
 mod replaced;
 mod stats;

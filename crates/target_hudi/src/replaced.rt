@@ -1,6 +1,6 @@
 //! The file groups that a commit replaces.
 
-ghost use Rattle.std.specs.Prelude.{◌≡◌, ◌↔◌, Contains, IfOk, List, map, ℕ};
+ghost use Rattle.std.specs.Prelude.{◌≡◌, ◌↔◌, ◌≤◌, Contains, IfOk, List, length, map, ℕ};
 ghost use Rattle.std.specs.List.{IsDistinct};
 ghost use Rattle.std.specs.List.Sorted.{IsSorted, IsStrictlySortedBy};
 ghost use Rattle.std.specs.Str.{bytes_eq};
@@ -22,6 +22,7 @@ fn lost_paths(alloc: Global, removed: &[Text], after: &FileRows) -> Result<Vec<T
     ensures paths { IfOk result (λ lost. (path : List ℕ) → Contains lost.items path
         ↔ (Contains removed.now path × ¬ HasPath after.now path)) }
     ensures distinct { IfOk result (λ lost. IsDistinct bytes_eq lost.items) }
+    ensures few { IfOk result (λ lost. length lost.items ≤ length removed.now) }
 {
     let mut lost = Vec::new(alloc);
     for path in removed {
@@ -65,6 +66,7 @@ fn sorted_ids(ids: Vec<(Text, Text)>) -> Result<Vec<(Text, Text)>, AllocError>
         → Contains sorted.items p ↔ Contains ids.items p) }
     ensures order { IfOk result (λ sorted. IsStrictlySortedBy replaced_cmp sorted.items) }
     ensures sorted { IfOk result (λ sorted. IsSorted replaced_cmp sorted.items) }
+    ensures len { IfOk result (λ sorted. length sorted.items ≡ length ids.items) }
 {
     let mut sorted = ids;
     sorted.sort_by(|a, b| compare_ids(a, b))?;
@@ -84,6 +86,7 @@ pub(crate) fn replaced_ids(
         × (p ≡ replaced_of path))) }
     ensures order { IfOk result (λ ids. IsStrictlySortedBy replaced_cmp ids.items) }
     ensures sorted { IfOk result (λ ids. IsSorted replaced_cmp ids.items) }
+    ensures few { IfOk result (λ ids. length ids.items ≤ length removed.now) }
 {
     let lost = lost_paths(alloc, removed, after)?;
     let ids = ids_of(alloc, lost.as_slice())?;

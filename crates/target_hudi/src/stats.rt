@@ -1,13 +1,15 @@
 //! The write stats of the rows that a commit adds.
 
-ghost use Rattle.std.specs.Prelude.{◌≡◌, ◌↔◌, Contains, IfOk, List, codes, map, ◌++◌};
+ghost use Rattle.std.specs.Prelude.{◌≡◌, ◌↔◌, ◌++◌, All, Contains, IfOk, List, codes, length, map};
 ghost use Rattle.std.specs.List.{IsDistinct};
 ghost use Rattle.std.specs.List.Sorted.{IsSorted, IsStrictlySortedBy};
 ghost use Rattle.std.specs.Str.{bytes_eq};
+ghost use Rattle.table_history.specs.Path.{IsPath};
 ghost use Rattle.table_history.specs.Row.{Row};
 ghost use Rattle.table_history.specs.Rows.{HasDistinctPaths};
+ghost use Rattle.hudi_names.specs.Time.{IsDigits};
 ghost use Rattle.hudi_timeline.specs.Group.{file_name_of, folder_of};
-ghost use Rattle.hudi_timeline.specs.InstantText.{stat_cmp};
+ghost use Rattle.hudi_timeline.specs.InstantText.{IsSoundStat, stat_cmp};
 ghost use Rattle.hudi_timeline.specs.declared.instant.Stat.{Stat};
 ghost use Rattle.target_hudi.specs.Writing.{stat_of};
 
@@ -43,7 +45,9 @@ fn stat_path(alloc: Global, path: &Text, instant: &Text) -> Result<Text, AllocEr
 
 /// The write stat of a row.
 fn stat_of(alloc: Global, instant: &Text, row: &FileRow) -> Result<Stat, AllocError>
-    ensures { IfOk result (λ stat. stat ≡ stat_of instant.now row.now) }
+    ensures is { IfOk result (λ stat. stat ≡ stat_of instant.now row.now) }
+    ensures sound { IfOk result (λ stat. IsDigits instant.now → IsPath row.now.path
+        → IsSoundStat stat) }
 {
     let (folder, name) = split_path(row.path.as_str());
     Ok(Stat {
@@ -69,6 +73,7 @@ fn sorted_stats(stats: Vec<Stat>) -> Result<Vec<Stat>, AllocError>
         → Contains sorted.items s ↔ Contains stats.items s) }
     ensures order { IfOk result (λ sorted. IsStrictlySortedBy stat_cmp sorted.items) }
     ensures sorted { IfOk result (λ sorted. IsSorted stat_cmp sorted.items) }
+    ensures len { IfOk result (λ sorted. length sorted.items ≡ length stats.items) }
 {
     let mut sorted = stats;
     sorted.sort_by(|a, b| compare_stats(a, b))?;
@@ -82,11 +87,15 @@ pub(crate) fn stats_of(
     instant: &Text,
     added: &[FileRow],
 ) -> Result<Vec<Stat>, AllocError>
-    requires { HasDistinctPaths added.now }
+    requires digits { IsDigits instant.now }
+    requires distinct { HasDistinctPaths added.now }
+    requires paths { (row : Row) → Contains added.now row → IsPath row.path }
     ensures stats { IfOk result (λ stats. (s : Stat) → Contains stats.items s
         ↔ ((row : Row) × Contains added.now row × (s ≡ stat_of instant.now row))) }
     ensures order { IfOk result (λ stats. IsStrictlySortedBy stat_cmp stats.items) }
     ensures sorted { IfOk result (λ stats. IsSorted stat_cmp stats.items) }
+    ensures sound { IfOk result (λ stats. All IsSoundStat stats.items) }
+    ensures len { IfOk result (λ stats. length stats.items ≡ length added.now) }
 {
     let mut stats = Vec::with_capacity(alloc, added.len())?;
     for row in added {

@@ -1,18 +1,18 @@
 //! The instant that is written for a commit.
 
-ghost use Rattle.std.specs.Prelude.{◌≡◌, Contains, Err, IfOk, List, OnOk, Ok, ℕ};
+ghost use Rattle.std.specs.Prelude.{◌≡◌, ◌≤◌, ◌+◌, Contains, IfOk, List, OnOk, ℕ, length};
 ghost use Rattle.std.specs.List.{IsDistinct};
-ghost use Rattle.std.specs.List.Sorted.{IsSorted};
 ghost use Rattle.std.specs.Option.{option_copied};
 ghost use Rattle.std.specs.Str.{bytes_eq};
 ghost use Rattle.serde_json.specs.Written.{compact_text};
+ghost use Rattle.lake_basics.specs.declared.limits.TheConstants.{MAX_ACTIONS};
 ghost use Rattle.table_history.specs.Path.{IsPath};
+ghost use Rattle.table_history.specs.Row.{Row};
 ghost use Rattle.table_history.specs.Rows.{HasDistinctPaths};
-ghost use Rattle.schema_map.specs.AvroWriting.{avro_schema_text};
-ghost use Rattle.schema_map.specs.declared.fault.MapError.{MapError};
-ghost use Rattle.hudi_timeline.specs.InstantText.{replaced_cmp, stat_cmp};
+ghost use Rattle.hudi_names.specs.Time.{IsDigits};
+ghost use Rattle.hudi_timeline.specs.InstantText.{IsWritable};
 ghost use Rattle.target_core.specs.Mark.{IsMarkText, mark_data};
-ghost use Rattle.target_hudi.specs.Writing.{IsWrittenOver, LeavesAdded, LosesRemoved, mark_of};
+ghost use Rattle.target_hudi.specs.Writing.{IsReadBack, IsStatedText, IsWrittenOver, LeavesAdded, LosesRemoved, mark_of};
 
 use crate::replaced::replaced_ids;
 use crate::stats::stats_of;
@@ -25,7 +25,7 @@ use target_core::{Mark, mark_text};
 
 /// The mark of an instant: the position of the source's commit that it carries, and the id of the
 /// source's table where that is stated.
-fn mark_of(
+pub(crate) fn mark_of(
     alloc: Global,
     instant: &Text,
     position: &Text,
@@ -64,15 +64,15 @@ fn mark_text_of(
     mark_text(alloc, &mark)
 }
 
-/// The Avro schema of a schema that has one.
-fn schema_text(alloc: Global, schema: &Schema) -> Result<Text, AllocError>
-    requires { (e : MapError) → avro_schema_text schema.now ≡ Err e → ⊥ }
-    ensures { IfOk result (λ text. avro_schema_text schema.now ≡ Ok text) }
+/// The Avro text of a schema, where it has one.
+fn schema_text(alloc: Global, schema: &Schema) -> Result<Option<Text>, AllocError>
+    ensures stated { IfOk result (IsStatedText schema.now) }
+    ensures read_back { IfOk result (IsReadBack schema.now) }
 {
     match to_avro(alloc, schema) {
-        Ok(text) => Ok(text),
+        Ok(text) => Ok(Some(text)),
         Err(MapError::Memory) => Err(AllocError),
-        Err(_) => unreachable!(),
+        Err(_) => Ok(None),
     }
 }
 
@@ -87,16 +87,19 @@ pub(crate) fn written_of(
     source: Kind,
     table: Option<&Text>,
 ) -> Result<Instant, AllocError>
+    requires digits { IsDigits instant.now }
     requires leaves { LeavesAdded commit.now.change.added after.now }
     requires loses { LosesRemoved commit.now.change after.now }
     requires added { HasDistinctPaths commit.now.change.added }
     requires removed { IsDistinct bytes_eq commit.now.change.removed }
+    requires added_paths { (row : Row) → Contains commit.now.change.added row → IsPath row.path }
     requires paths { (path : List ℕ) → Contains commit.now.change.removed path → IsPath path }
-    requires spelled { (e : MapError) → avro_schema_text schema.now ≡ Err e → ⊥ }
+    requires few { length commit.now.change.added + length commit.now.change.removed
+        ≤ MAX_ACTIONS }
     ensures is { IfOk result (IsWrittenOver schema.now
         (record { source = source; table = option_copied table.entry }) instant.now commit.now) }
-    ensures stats { IfOk result (λ written. IsSorted stat_cmp written.stats) }
-    ensures replaced { IfOk result (λ written. IsSorted replaced_cmp written.replaced) }
+    ensures writable { IfOk result IsWritable }
+    ensures read_back { IfOk result (λ written. IsReadBack schema.now written.schema) }
     ensures reads_back { OnOk result (IsMarkText (compact_text (mark_data (mark_of instant.now
         (record { source = source; table = option_copied table.entry }) commit.now.position)))
         (mark_of instant.now (record { source = source; table = option_copied table.entry })
@@ -110,7 +113,7 @@ pub(crate) fn written_of(
     Ok(Instant {
         stats: Items::from_vec(stats),
         replaced: Items::from_vec(replaced),
-        schema: Some(schema),
+        schema,
         mark: Some(mark),
     })
 }

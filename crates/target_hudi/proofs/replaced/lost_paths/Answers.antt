@@ -1,7 +1,7 @@
-use Rattle.std.proofs.Common.{◌≡◌, List, ℕ, filter, sym, ap, subst, ◌∙◌}
+use Rattle.std.proofs.Common.{◌≡◌, ◌≤◌, List, ℕ, filter, length, sym, ap, subst, ◌∙◌}
 use Rattle.std.specs.List.{IsDistinct}
 use Rattle.std.specs.Str.{bytes_eq}
-use Rattle.target_hudi.proofs.ReplacedLemmas.{distinct_filter, is_lost, lost_are}
+use Rattle.target_hudi.proofs.ReplacedLemmas.{distinct_filter, filter_few, is_lost, lost_are}
 use Rattle.target_hudi.proofs.StatLemmas.{all_taken}
 use Rattle.target_hudi.proofs.replaced.lost_paths.Goals as goal
 
@@ -16,3 +16,9 @@ returns-clause-distinct c =
     let removed = c.args.removed.now in
     let whole : c.loop-path.lost.items ≡ filter (is_lost c.args.after.now) removed = c.loop-path.invariant ∙ ap (λ (l : List (List ℕ)). filter (is_lost c.args.after.now) l) (all_taken removed c.loop-path.path-index c.loop-path.auto.path-index-end c.loop-path-test.false) in
     subst (λ (l : List (List ℕ)). IsDistinct bytes_eq l) (sym whole) (distinct_filter (is_lost c.args.after.now) removed c.requires)
+
+pub returns-clause-few : goal.returns-clause-few
+returns-clause-few c =
+    let removed = c.args.removed.now in
+    let whole : c.loop-path.lost.items ≡ filter (is_lost c.args.after.now) removed = c.loop-path.invariant ∙ ap (λ (l : List (List ℕ)). filter (is_lost c.args.after.now) l) (all_taken removed c.loop-path.path-index c.loop-path.auto.path-index-end c.loop-path-test.false) in
+    subst (λ (l : List (List ℕ)). length l ≤ length removed) (sym whole) (filter_few (is_lost c.args.after.now) removed)

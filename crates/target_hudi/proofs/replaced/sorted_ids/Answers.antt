@@ -1,5 +1,5 @@
 use Rattle.std.proofs.Common.{rules, ℕ, List}
-use Rattle.std.proofs.lemmas.List.Sorted.{answers_always}
+use Rattle.std.proofs.lemmas.List.Sorted.{answers_always, length_permutation}
 use Rattle.hudi_timeline.specs.Group.{joined}
 use Rattle.hudi_timeline.specs.InstantText.{replaced_cmp}
 use Rattle.target_hudi.proofs.OrderLemmas.{ids_tied, replaced_below, replaced_below-order, replaced_total, rises}
@@ -12,3 +12,6 @@ returns-clause-order c =
 
 pub returns-clause-sorted : goal.returns-clause-sorted
 returns-clause-sorted c = c.in_ok-sort_by.ensures.sorted replaced_below replaced_below-order (answers_always _ _ _ (λ f a r f' h. search rules))
+
+pub returns-clause-len : goal.returns-clause-len
+returns-clause-len c = length_permutation _ _ c.in_ok-sort_by.ensures.permutation
