@@ -17,3 +17,7 @@ pub mod SettledLemmas
 pub mod ReachedLemmas
 pub mod KeptLemmas
 pub mod FitLemmas
+pub mod AlikeLemmas
+pub mod OwnLemmas
+pub mod FaultLemmas
+pub mod InspectLemmas
