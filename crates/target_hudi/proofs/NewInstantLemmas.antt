@@ -116,9 +116,9 @@ module _ (kept : HudiKept) (commit : Commit) (can : CanPublish (view_of kept) co
     pub size_after : IsWithinLimits after.schema
     size_after = may.size
 
-  pub held_either : (before after : Table) {T E : Type 0} (r : Result T E) → before ≡ kept.table → OnOk r (IsAfter before commit.change after) → OnErr r (after ≡ before) → are_held after.rows ≡ true
-  held_either before after (Ok x) same ok err = held_after after (subst (λ (t : Table). IsAfter t commit.change after) same ok)
-  held_either before after (Err e) same ok err = ap (λ (t : Table). are_held t.rows) (err ∙ same) ∙ kept.rows_held
+  pub held_either : (after : Table) {T E : Type 0} (r : Result T E) → OnOk r (IsAfter kept.table commit.change after) → OnErr r (after ≡ kept.table) → are_held after.rows ≡ true
+  held_either after (Ok x) ok err = held_after after ok
+  held_either after (Err e) ok err = ap (λ (t : Table). are_held t.rows) err ∙ kept.rows_held
 
 -- ---- the schema that is stated has a text
 

@@ -23,7 +23,14 @@ pub rank_small : (newest : Option (List ℕ)) → ForSome newest (λ time. ∥ I
 rank_small None real = omega arith
 rank_small (Some time) real = ∥∥₁_elim (real time refl) le_prop (λ (some : IsSomeTime time). let small = digits_small time some.1.digits in omega (arith, small))
 
+-- so one commit more is within it
+pub one_more : (commits : ℕ) (newest : Option (List ℕ)) (time : List ℕ) → commits ≤ MAX_COMMITS + time_rank newest → time_rank newest < time_rank (Some time) → commits + 1 ≤ MAX_COMMITS + time_rank (Some time)
+one_more commits newest time bounded later = omega (arith, bounded, later)
+
 -- ---- a time that is real
+
+pub real_still : (time last : List ℕ) → Some time ≡ Some last → IsSomeTime time → ∥ IsSomeTime last ∥₁
+real_still time last same real = ∣ subst IsSomeTime (cc same) real ∣₁
 
 no_prop : IsProp ⊥
 no_prop x y = absurd x

@@ -5,6 +5,7 @@ ghost use Rattle.std.specs.Cmp.Lexicographic.{slice_cmp};
 ghost use Rattle.std.specs.Option.{option_copied};
 ghost use Rattle.std.specs.Ordering.{nat_cmp};
 ghost use Rattle.std.specs.declared.cmp.Ordering.TheVariants.{Less};
+ghost use Rattle.table_history.specs.Tables.{IsAfter};
 ghost use Rattle.table_history.specs.TypeTree.{ColumnTrees};
 ghost use Rattle.lake_basics.specs.declared.limits.TheConstants.{MAX_FILE_BYTES};
 ghost use Rattle.hudi_names.specs.Time.{IsPast9999, IsSomeTime, IsTime};
@@ -155,11 +156,18 @@ fn hold_schema(
     Ok(())
 }
 
-/// Goes on to the commit of this time, with its mark. The table is as it was.
-fn go_on(kept: &mut HudiKept, time: Text, mark: Mark)
+/// Goes on by the commit, with its time and its mark. For want of memory the table stays as it is.
+fn go_on(
+    alloc: Global,
+    kept: &mut HudiKept,
+    commit: &Commit,
+    time: Text,
+    mark: Mark,
+) -> Result<(), AllocError>
+    requires can { CanPublish (view_of kept.old) commit.now }
     requires real { IsSomeTime time }
     requires later { time_rank kept.old.newest < time_rank (Some time) }
-    ensures table { kept.new.table ≡ kept.old.table }
+    ensures table { OnOk result (IsAfter kept.old.table commit.now.change kept.new.table) }
     ensures mark { kept.new.mark ≡ Some mark }
     ensures newest { kept.new.newest ≡ Some time }
     ensures commits { kept.new.commits ≡ kept.old.commits + 1 }
@@ -167,6 +175,7 @@ fn go_on(kept: &mut HudiKept, time: Text, mark: Mark)
     kept.commits += 1;
     kept.newest = Some(time);
     kept.mark = Some(mark);
+    kept.table.apply(alloc, &commit.change)
 }
 
 /// The instant that a commit is written as, behind what is kept of the table of this name. `kept`
@@ -192,8 +201,7 @@ pub(crate) fn new_instant(
     let time = next_time(alloc, kept, now_ms)?;
     let properties = first_properties(alloc, name, kept)?;
     let mark = mark_of(alloc, &time, &commit.position, source, table)?;
-    go_on(kept, time.copy(alloc)?, mark);
-    kept.table.apply(alloc, &commit.change)?;
+    go_on(alloc, kept, commit, time.copy(alloc)?, mark)?;
     let now = &kept.table;
     let written = written_of(alloc, &time, commit, &now.schema, &now.rows, source, table)?;
     let text = text_of(alloc, &written)?;
