@@ -23,6 +23,7 @@ use Rattle.hudi_timeline.specs.declared.instant.Stat.{Stat}
 use Rattle.hudi_timeline.specs.declared.table.HudiTable.{HudiTable}
 use Rattle.hudi_timeline.proofs.ValueLemmas.{rows_same}
 use Rattle.target_core.specs.Changes.{IsGone}
+use Rattle.target_hudi.specs.Reading.{HasStatRow}
 use Rattle.target_hudi.specs.Writing.{replaced_of, stat_of}
 use Rattle.target_hudi.proofs.ReplacedLemmas.{path_whole}
 use Rattle.target_hudi.proofs.StatReadLemmas.{newest, own_group, own_path}
@@ -51,11 +52,18 @@ module _ (table : HudiTable) (kinds : List PartKind) (time : List ℕ) (written 
   abbrev u : Completed
   u = completed (External time) written
 
+  same_rows : (other : List Row) → AreRowsOf table kinds u other → rows ≡ other
+  same_rows other too =
+      let files : are.0 ≡ too.0 = cc (sym are.1 ∙ too.1) in
+      rows_same (style_of table) table.partition kinds too.0 rows other (subst (λ l. HaveValues (style_of table) table.partition kinds l rows) files are.2) too.2
+
   pub written_there : (row : Row) → IsWrittenBy table kinds u row → Contains rows row
   written_there row by =
-      let files : are.0 ≡ by.stats.0 = cc (sym are.1 ∙ by.stats.1) in
-      let same : rows ≡ by.rows = rows_same (style_of table) table.partition kinds by.stats.0 rows by.rows (subst (λ l. HaveValues (style_of table) table.partition kinds l rows) files are.2) by.stats.2 in
+      let same : rows ≡ by.rows = same_rows by.rows by.stats in
       subst (λ l. Contains l row) (sym (same ∙ by.newest.split)) (Contains-append_right by.newest.before (row ∷ by.newest.after) row (Contains-head row by.newest.after))
+
+  pub stat_row_there : (row : Row) → HasStatRow table kinds u row → Contains rows row
+  stat_row_there row has = subst (λ l. Contains l row) (sym (same_rows has.0 has.1)) has.2
 
   pub there_written : HasDistinctPaths rows → ((row : Row) → Contains rows row → IsPath row.path) → (row : Row) → Contains rows row → IsWrittenBy table kinds u row
   there_written distinct paths row there = record { rows = rows; stats = are; newest = newest time rows distinct paths row there }
@@ -79,7 +87,7 @@ module _ (time : List ℕ) (written : Instant) (old : List Row) (change : Change
   removed_path path there = let row = for.removed_there path there in subst IsPath row.2 (for.old_paths row.0 row.1)
 
   -- the paths that are gone are those that are replaced
-  pub gone_replaced : (path : List ℕ) → IsGone change path ↔ ((p : List ℕ × List ℕ) × Contains written.replaced p × (path ≡ joined p.0 p.1))
+  gone_replaced : (path : List ℕ) → IsGone change path ↔ ((p : List ℕ × List ℕ) × Contains written.replaced p × (path ≡ joined p.0 p.1))
   gone_replaced path = (
     λ gone. (replaced_of path, (for.replaced (replaced_of path)).1 (path, gone, refl), sym (path_whole path (removed_path path gone.0))),
     λ by.
@@ -87,6 +95,20 @@ module _ (time : List ℕ) (written : Instant) (old : List Row) (change : Change
         let same : path ≡ from.0 = by.2 ∙ ap (λ (p : List ℕ × List ℕ). joined p.0 p.1) from.2 ∙ path_whole from.0 (removed_path from.0 from.1.0) in
         subst (λ p. IsGone change p) (sym same) from.1,
   )
+
+  -- so are their ids, and no others
+  pub gone_ids : (path : List ℕ) → IsGone change path ↔ (IsPath path × Contains written.replaced (replaced_of path))
+  gone_ids path = (
+    λ gone. (removed_path path gone.0, (for.replaced (replaced_of path)).1 (path, gone, refl)),
+    λ by.
+        let from = (for.replaced (replaced_of path)).0 by.1 in
+        let there = removed_path from.0 from.1.0 in
+        let same : path ≡ from.0 = sym (path_whole path by.0) ∙ ap (λ (p : List ℕ × List ℕ). joined p.0 p.1) from.2 ∙ path_whole from.0 there in
+        subst (λ p. IsGone change p) (sym same) from.1,
+  )
+
+  pub only_ids : (p : List ℕ × List ℕ) → Contains written.replaced p → (path : List ℕ) × IsPath path × (p ≡ replaced_of path)
+  only_ids p there = let from = (for.replaced p).0 there in (from.0, removed_path from.0 from.1.0, from.2)
 
   gone_touched : (path : List ℕ) → IsGone change path → Touches v path
   gone_touched path gone =

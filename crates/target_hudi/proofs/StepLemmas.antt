@@ -48,11 +48,12 @@ use Rattle.hudi_timeline.proofs.MadeLemmas.{is_change}
 use Rattle.target_core.specs.Conditions.{CanPublish, Fits, IsPublishable}
 use Rattle.target_core.specs.Views.{Origin, Standing}
 use Rattle.target_hudi.specs.Fitting.{Held, Unfit, columns_of}
+use Rattle.target_hudi.specs.Reading.{HasStatRow}
 use Rattle.target_hudi.specs.Steps.{IsBase, IsBehind, IsStep, IsTableFor}
 use Rattle.target_hudi.specs.Writing.{IsReadBack, IsWrittenOver, held_behind, stat_of}
 use Rattle.target_hudi.proofs.CarriedLemmas.{bare_of, has_values, kinds_there, of_kinds}
 use Rattle.target_hudi.proofs.FittedLemmas.{carries, is_spelled, keeps_kinds, no_other_kind, wide_kinds}
-use Rattle.target_hudi.proofs.LiveReadLemmas.{IsWrittenFor, gone_replaced, live_rows, there_written, written_there}
+use Rattle.target_hudi.proofs.LiveReadLemmas.{IsWrittenFor, gone_ids, live_rows, only_ids, stat_row_there, there_written, written_there}
 use Rattle.target_hudi.proofs.SchemaReadLemmas.{IsSchemaRead, base_wide, behind_wide, schema_read}
 use Rattle.target_hudi.proofs.SortLemmas.{diff_there}
 use Rattle.target_hudi.proofs.StatLemmas.{stat_from}
@@ -224,6 +225,12 @@ module _ (table : HudiTable) (before : Table) (held : Option Held) (base : Optio
     λ by. of_stats.there row (written_there table kinds time written rows are_rows row by),
   )
 
+  stat_rows : (row : Row) → Contains change.added row ↔ HasStatRow table kinds u row
+  stat_rows row = (
+    λ there. (rows, are_rows, added_rows row there),
+    λ has. of_stats.there row (stat_row_there table kinds time written rows are_rows row has),
+  )
+
   abbrev after : List Row
   after = rows_after (External time) written.replaced old rows
 
@@ -284,6 +291,7 @@ module _ (table : HudiTable) (before : Table) (held : Option Held) (base : Optio
     after = leads;
     kinds = kinds;
     are_kinds = subst (λ s. AreKindsOf s table.partition kinds) (sym behind.schema) are_kinds;
-    adds = adds;
-    removes = gone_replaced time written old change written_for;
+    adds = stat_rows;
+    removes = gone_ids time written old change written_for;
+    only = only_ids time written old change written_for;
   }

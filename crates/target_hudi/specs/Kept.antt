@@ -32,3 +32,5 @@ pub record IsCounted (kept : HudiKept) (files : Files) : Type 0 where
 pub record StandsFor (kept : HudiKept) (files : Files) : Type 0 where
   pub reads : Reads files (view_of kept)
   pub counted : IsCounted kept files
+  -- the kept mark names the newest instant
+  pub at : option_map (λ m. m.at) kept.mark ≡ kept.newest

@@ -22,4 +22,4 @@ pub counted_own : (kept : HudiKept) (a b : Files) → SameIn timeline_folder a b
 counted_own kept a b same h = record { commits = h.commits ∙ sym (commits_own a b same); newest = newest_own a b kept.newest same h.newest }
 
 pub kept_own : (kept : HudiKept) (a b : Files) → SameIn timeline_folder a b → StandsFor kept a → StandsFor kept b
-kept_own kept a b same h = record { reads = reads_own a b (view_of kept) same h.reads; counted = counted_own kept a b same h.counted }
+kept_own kept a b same h = record { reads = reads_own a b (view_of kept) same h.reads; counted = counted_own kept a b same h.counted; at = h.at }

@@ -5,6 +5,9 @@ use Rattle.std.specs.Ordering.{nat_cmp}
 use Rattle.std.specs.declared.cmp.Ordering.TheVariants.{Less}
 use Rattle.serde_json.specs.Written.{compact_text}
 use Rattle.lake_basics.specs.declared.limits.TheConstants.{MAX_FILE_BYTES}
+use Rattle.std.specs.FinMap as map
+use Rattle.lake_store.specs.Disk.{Files}
+use Rattle.hudi_commit.specs.Names.{completed_path}
 use Rattle.table_history.specs.Row.{Row}
 use Rattle.table_history.specs.Rows.{HasDistinctPaths}
 use Rattle.table_history.specs.Tables.{IsRowAfter}
@@ -52,6 +55,14 @@ pub record IsNewInstant (end : TimelineEnd) (origin : Origin) (now : ℕ) (kept 
   pub end_is : end_of end.name next ≡ end_behind end time commit
   pub commits : next.commits ≡ kept.commits + 1
   pub mark : next.mark ≡ Some (mark_of time origin commit.position)
+
+-- The instant that comes next is completed, with the text of what is written for the commit.
+pub record HoldsText (files : Files) (end : TimelineEnd) (origin : Origin) (now : ℕ) (commit : Commit) : Type 0 where
+  pub time : List ℕ
+  pub next_time : IsNextInstant end now time
+  pub written : Instant
+  pub is : IsWritten end origin time commit written
+  pub holds : map.get files (completed_path time) ≡ Some (instant_text written)
 
 -- A number is passed, or memory runs out. Nothing of the store is looked at.
 abbrev pub IsInstantRefusal : (LimitKind → ℕ → Type 0) → TargetError → Type 0

@@ -1,16 +1,17 @@
 -- What a Hudi target's files stand for, and what a commit carries.
 use Rattle.std.specs.Prelude.{◌≡◌, ◌↔◌, ◌⊎◌, ℕ, suc, ◌<◌, List, [], ◌∷◌, ◌++◌, length, true, Contains, Some, codes}
 use Rattle.lake_store.specs.Disk.{Disk, Files, IsName, names_in}
+use Rattle.table_history.specs.Path.{IsPath}
 use Rattle.table_history.specs.Row.{Row}
 use Rattle.table_history.specs.declared.kind.Kind.{Kind}
 use Rattle.table_history.specs.declared.table.Change.{Change}
 use Rattle.partition_map.specs.declared.kind.PartKind.{PartKind}
 use Rattle.hudi_names.specs.Time.{IsSomeTime}
 use Rattle.hudi_names.specs.declared.name.State.{State}
-use Rattle.hudi_timeline.specs.Group.{joined}
-use Rattle.hudi_timeline.specs.Live.{IsWrittenBy, completed}
+use Rattle.hudi_timeline.specs.Live.{AreRowsOf, Completed, completed}
 use Rattle.hudi_timeline.specs.Schemas.{AreKindsOf}
 use Rattle.hudi_timeline.specs.declared.instant.Instant.{Instant}
+use Rattle.hudi_timeline.specs.declared.table.HudiTable.{HudiTable}
 use Rattle.hudi_table.specs.Files.{HoldsFile, ReadsAs, SaysInstant, SaysProperties}
 use Rattle.hudi_table.specs.Instants.{path_of, timeline_of}
 use Rattle.hudi_table.specs.Reading.{IsReadingOf, form_of}
@@ -25,6 +26,7 @@ use Rattle.target_core.specs.Changes.{IsGone}
 use Rattle.target_core.specs.Mark.{IsMarkText}
 use Rattle.target_core.specs.Views.{IsUnpublished, Standing, View, standing_of}
 use Rattle.target_core.specs.declared.mark.Mark.{Mark}
+use Rattle.target_hudi.specs.Writing.{replaced_of}
 
 -- ---- the folder
 
@@ -101,8 +103,12 @@ Reads files view = (IsAbsent files × IsUnpublished view) ⊎ IsOurs files view
 
 -- ---- what a commit carries
 
--- The commit of this number, counted from 1, is that completed instant. The rows of its write stats are the added rows, its replaced ids are the paths
--- that are removed and not added again, and its mark says this.
+-- A write stat of the instant is this row, whatever else the instant writes.
+abbrev pub HasStatRow : HudiTable → List PartKind → Completed → Row → Type 0
+HasStatRow table kinds u row = (rows : List Row) × AreRowsOf table kinds u rows × Contains rows row
+
+-- The commit of this number, counted from 1, is that completed instant. The rows of its write stats are the added rows, its replaced ids are those of the
+-- paths that are removed and not added again, and its mark says this.
 pub record IsCarried (files : Files) (number : ℕ) (change : Change) (standing : Standing) : Type 0 where
   pub table : Properties
   pub says_table : SaysProperties files table
@@ -118,8 +124,9 @@ pub record IsCarried (files : Files) (number : ℕ) (change : Change) (standing 
   pub read : IsReadingOf files External table.table (front ++ commit ∷ []) (Some latest)
   pub kinds : List PartKind
   pub are_kinds : AreKindsOf latest.table.schema table.table.partition kinds
-  pub adds : (row : Row) → Contains change.added row ↔ IsWrittenBy table.table kinds (completed (form_of External commit.time) instant) row
-  pub removes : (path : List ℕ) → IsGone change path ↔ ((p : List ℕ × List ℕ) × Contains instant.replaced p × (path ≡ joined p.0 p.1))
+  pub adds : (row : Row) → Contains change.added row ↔ HasStatRow table.table kinds (completed (form_of External commit.time) instant) row
+  pub removes : (path : List ℕ) → IsGone change path ↔ (IsPath path × Contains instant.replaced (replaced_of path))
+  pub only : (p : List ℕ × List ℕ) → Contains instant.replaced p → (path : List ℕ) × IsPath path × (p ≡ replaced_of path)
   pub marked : IsMarkAt files commit standing
 
 -- ---- what commits reach, and when a crash changes nothing of it

@@ -185,6 +185,7 @@ module _ (a b : Files) (same : IsSameTimeline a b) where
         are_kinds = h.are_kinds;
         adds = h.adds;
         removes = h.removes;
+        only = h.only;
         marked = marked_too a b same h.commit s among h.marked;
       }
 

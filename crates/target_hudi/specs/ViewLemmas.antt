@@ -2,11 +2,11 @@
 use Rattle.std.proofs.Common.{◌≡◌, ◌⊎◌, inl, inr, ℕ, suc, ◌+◌, ◌≤◌, List, [], ◌∷◌, ◌++◌, length, Contains, Some, refl, sym, ap, subst, ◌∙◌, arith}
 use Rattle.std.proofs.lemmas.List.{length-append}
 use Rattle.lake_store.specs.Disk.{Files}
+use Rattle.table_history.specs.Path.{IsPath}
 use Rattle.table_history.specs.Row.{Row}
 use Rattle.table_history.specs.declared.table.Change.{Change}
 use Rattle.partition_map.specs.declared.kind.PartKind.{PartKind}
-use Rattle.hudi_timeline.specs.Group.{joined}
-use Rattle.hudi_timeline.specs.Live.{IsWrittenBy, completed}
+use Rattle.hudi_timeline.specs.Live.{completed}
 use Rattle.hudi_timeline.specs.Schemas.{AreKindsOf}
 use Rattle.hudi_timeline.specs.declared.instant.Instant.{Instant}
 use Rattle.hudi_timeline.specs.declared.table.HudiTable.{HudiTable}
@@ -17,7 +17,8 @@ use Rattle.hudi_table.specs.declared.reading.Latest.{Latest}
 use Rattle.hudi_table.specs.declared.reading.Naming.TheVariants.{External}
 use Rattle.target_core.specs.Changes.{IsGone, SameRowChange}
 use Rattle.target_core.specs.Views.{IsPublished, IsUnpublished, SameView, Standing, View, absent}
-use Rattle.target_hudi.specs.Reading.{IsAbsent, IsCarried, IsMarkAt, IsOurs, Reads, commits_in, completed_in}
+use Rattle.target_hudi.specs.Reading.{HasStatRow, IsAbsent, IsCarried, IsMarkAt, IsOurs, Reads, commits_in, completed_in}
+use Rattle.target_hudi.specs.Writing.{replaced_of}
 use Rattle.target_hudi.specs.OnceLemmas.{latest_partition, one_instant, one_kinds, one_place, one_rows, one_schema, one_standing, one_table_of, some_list}
 
 -- ---- counts
@@ -91,7 +92,7 @@ published files v (inr b) = inr (let count = newest_place files v b in omega (ar
 -- ---- what a commit carries
 
 abbrev HasGone : Instant → List ℕ → Type 0
-HasGone instant path = (p : List ℕ × List ℕ) × Contains instant.replaced p × (path ≡ joined p.0 p.1)
+HasGone instant path = IsPath path × Contains instant.replaced (replaced_of path)
 
 module _ (files : Files) (number : ℕ) (a b : Change) (s t : Standing) (h : IsCarried files number a s) (k : IsCarried files number b t) where
   place : (h.front ≡ k.front) × (h.commit ≡ k.commit)
@@ -119,10 +120,10 @@ module _ (files : Files) (number : ℕ) (a b : Change) (s t : Standing) (h : IsC
   kinds = one_kinds h.latest.table.schema k.latest.table.schema k.table.table.partition h.kinds k.kinds schema (subst (λ (x : HudiTable). AreKindsOf h.latest.table.schema x.partition h.kinds) table h.are_kinds) k.are_kinds
 
   added_too : (row : Row) → Contains a.added row → Contains b.added row
-  added_too row is = (k.adds row).1 (subst (λ (c : CompletedInstant). IsWrittenBy k.table.table k.kinds (completed (form_of External c.time) k.instant) row) place.1
-      (subst (λ (i : Instant). IsWrittenBy k.table.table k.kinds (completed (form_of External h.commit.time) i) row) instant
-      (subst (λ (ks : List PartKind). IsWrittenBy k.table.table ks (completed (form_of External h.commit.time) h.instant) row) kinds
-      (subst (λ (x : HudiTable). IsWrittenBy x h.kinds (completed (form_of External h.commit.time) h.instant) row) table ((h.adds row).0 is)))))
+  added_too row is = (k.adds row).1 (subst (λ (c : CompletedInstant). HasStatRow k.table.table k.kinds (completed (form_of External c.time) k.instant) row) place.1
+      (subst (λ (i : Instant). HasStatRow k.table.table k.kinds (completed (form_of External h.commit.time) i) row) instant
+      (subst (λ (ks : List PartKind). HasStatRow k.table.table ks (completed (form_of External h.commit.time) h.instant) row) kinds
+      (subst (λ (x : HudiTable). HasStatRow x h.kinds (completed (form_of External h.commit.time) h.instant) row) table ((h.adds row).0 is)))))
 
   gone_too : (path : List ℕ) → IsGone a path → IsGone b path
   gone_too path is = (k.removes path).1 (subst (λ (i : Instant). HasGone i path) instant ((h.removes path).0 is))
