@@ -18,3 +18,12 @@ pub mod StepLemmas
 pub mod WrittenLemmas
 pub mod FittingLemmas
 pub mod FreshLemmas
+pub mod BehindLemmas
+pub mod BesideLemmas
+pub mod KeepsLemmas
+pub mod MomentLemmas
+pub mod PickedLemmas
+pub mod PublishLemmas
+pub mod ReadTableLemmas
+pub mod StoreLemmas
+pub mod TimelineLemmas

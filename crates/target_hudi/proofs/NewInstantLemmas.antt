@@ -1,5 +1,5 @@
 -- The instant that a commit is written as, from the table behind it.
-use Rattle.std.proofs.Common.{◌≡◌, inl, inr, ⊎_elim, ℕ, ℤ, ◌+◌, ◌<◌, ◌≤◌, Bool, true, List, [], ◌∷◌, length, Contains, IfSome, Option, None, Some, refl, sym, ap, subst, ◌∙◌, arith}
+use Rattle.std.proofs.Common.{◌≡◌, inl, inr, ⊎_elim, ℕ, ◌+◌, ◌<◌, ◌≤◌, true, List, [], ◌∷◌, length, Contains, IfSome, Option, None, Some, refl, sym, ap, subst, ◌∙◌, arith}
 use Rattle.std.specs.Prelude.{◌⊎◌, Err, Ok, OnErr, OnOk, Result, is_some, unwrap_or}
 use Rattle.std.specs.Ordering.{nat_cmp}
 use Rattle.std.specs.Cmp.Lexicographic.{slice_cmp}
@@ -23,7 +23,6 @@ use Rattle.table_history.specs.TypeTree.{ColumnTrees}
 use Rattle.table_history.specs.declared.feature.Feature.{Feature}
 use Rattle.table_history.specs.declared.feature.Feature.TheVariants.{AvroName, PartitionChange, SchemaType}
 use Rattle.table_history.specs.declared.limit.LimitKind.{LimitKind}
-use Rattle.table_history.specs.declared.limit.LimitKind.TheVariants.{File, Versions}
 use Rattle.table_history.specs.declared.table.Commit.{Commit}
 use Rattle.table_history.specs.declared.table.Table.{Table}
 use Rattle.table_history.proofs.RowListLemmas.{Contains-cases, Contains-head, Contains-none, Contains-paths, Contains-tail}
@@ -32,10 +31,8 @@ use Rattle.schema_map.specs.Image.{wide_columns}
 use Rattle.schema_map.specs.declared.fault.MapError.{MapError}
 use Rattle.schema_map.specs.declared.fault.MapError.TheVariants as map_errors
 use Rattle.lake_basics.specs.Outcome.{◌>>=◌}
-use Rattle.hudi_names.specs.Time.{IsTime}
 use Rattle.hudi_timeline.specs.InstantText.{IsWritable, instant_text}
 use Rattle.hudi_timeline.specs.Instants.{json_instant}
-use Rattle.hudi_timeline.specs.Next.{IsNext}
 use Rattle.hudi_timeline.specs.declared.instant.Instant.{Instant}
 use Rattle.target_core.specs.Conditions.{CanPublish, Fits, IsPublishable}
 use Rattle.target_core.specs.Held.{are_held}

@@ -11,7 +11,6 @@ use Rattle.hudi_commit.specs.Names.{completed_path}
 use Rattle.table_history.specs.Row.{Row}
 use Rattle.table_history.specs.Rows.{HasDistinctPaths}
 use Rattle.table_history.specs.Tables.{IsRowAfter}
-use Rattle.table_history.specs.TypeTree.{ColumnTrees}
 use Rattle.table_history.specs.Words.{limit_number}
 use Rattle.table_history.specs.declared.kind.Kind.TheVariants.{Hudi}
 use Rattle.table_history.specs.declared.limit.LimitKind.{LimitKind}

@@ -2,6 +2,7 @@
 //! target, and the name of a new table.
 #![tactic(auto)]
 
+mod commit;
 mod fitting;
 mod fresh;
 mod kept;

@@ -1,4 +1,4 @@
-use Rattle.std.proofs.Common.{sym, ap, ◌∙◌}
+use Rattle.std.proofs.Common.{ap}
 use Rattle.table_history.specs.Row.{Row}
 use Rattle.target_hudi.proofs.StatLemmas.{sound_stat}
 use Rattle.target_hudi.proofs.stats.stat_of.Goals as goal

@@ -1,0 +1,271 @@
+-- What a commit leaves of the store, where it is refused before it writes, and where its instant is published.
+use Rattle.std.proofs.Common.{◌≡◌, inl, inr, ⊎_elim, ℕ, ◌+◌, ◌<◌, ◌≤◌, Bool, true, false, List, [], ◌∷◌, length, Contains, Option, Some, None, refl, sym, ap, subst, ◌∙◌, arith}
+use Rattle.std.specs.Prelude.{Err, IsErrOf, is_some}
+use Rattle.std.specs.FinMap as map
+use Rattle.std.specs.FinSet as set
+use Rattle.std.specs.Cmp.Lexicographic.{slice_cmp}
+use Rattle.std.specs.Ordering.{nat_cmp}
+use Rattle.std.proofs.lemmas.Cmp.{eq_by_cmp_equiv, nat_list_cmp_total}
+use Rattle.std.proofs.lemmas.List.{length-append}
+use Rattle.std.proofs.lemmas.Map.Keys.{IsDistinct-from_sorted}
+use Rattle.std.proofs.lemmas.Map.Made.{length-le_from_is_member}
+use Rattle.lake_basics.specs.declared.limits.TheConstants.{MAX_NAMES}
+use Rattle.lake_store.specs.Cause.{HasContest, HasFault}
+use Rattle.lake_store.specs.Disk.{Disk, Files, MayLeave, names_in}
+use Rattle.lake_store.specs.Runs.{LeavesAlone}
+use Rattle.lake_store.specs.declared.store.Store.{Ghosts}
+use Rattle.lake_store.specs.declared.store.StoreError.{StoreError}
+use Rattle.lake_store.specs.declared.store.StoreError.TheVariants as errors
+use Rattle.lake_store.proofs.DiskLaws.{is_path}
+use Rattle.lake_store.proofs.MomentLaws.{started, weaker}
+use Rattle.lake_store.proofs.OrderLaws.{names_in_listed, names_in_sorted}
+use Rattle.lake_store.proofs.RunLaws.{NowOnly, alone_by_reading, alone_of_fewer, reading_begins}
+use Rattle.table_history.specs.declared.limit.LimitKind.{LimitKind}
+use Rattle.table_history.specs.declared.limit.LimitKind.TheVariants.{Names}
+use Rattle.table_history.specs.declared.table.Commit.{Commit}
+use Rattle.table_history.proofs.RowListLemmas.{Contains-none}
+use Rattle.hudi_names.specs.declared.name.State.TheVariants as state
+use Rattle.hudi_table.specs.declared.instants.CompletedInstant.{CompletedInstant}
+use Rattle.hudi_timeline.proofs.AnyLemmas.{any_from, any_to}
+use Rattle.hudi_commit.specs.Names.{IsThere, claim_path, claims_folder, completed_name, completed_path, timeline_folder, timeline_path}
+use Rattle.hudi_commit.specs.Orderly.{IsOrderly}
+use Rattle.hudi_commit.specs.Runs.{HasNotGrown, IsBeforeOrAfter, IsCommitted, IsKept, IsOneStep, IsReady}
+use Rattle.hudi_commit.specs.Settled.{IsSettled, Stands}
+use Rattle.hudi_commit.proofs.StepLaws.{clean_settled}
+use Rattle.target_core.specs.Conditions.{CanPublish, Fits, GoesOn}
+use Rattle.target_core.specs.Folders.{MayLeaveIn, after_crash}
+use Rattle.target_core.specs.Outcome.{answer_of}
+use Rattle.target_core.specs.Publishing.{Publishes}
+use Rattle.target_core.specs.Step as step
+use Rattle.target_core.specs.Views.{Origin}
+use Rattle.target_core.specs.declared.target.TargetError.{TargetError}
+use Rattle.target_core.specs.declared.target.TargetError.TheVariants.{Contested, Limit}
+use Rattle.target_core.proofs.OneStep.{publishes_none, publishes_one}
+use Rattle.target_hudi.specs.Fitting.{Unfit}
+use Rattle.target_hudi.specs.HudiMeaning.{hudi_meaning}
+use Rattle.target_hudi.specs.Kept.{IsCounted, IsNewest, StandsFor, end_of, held_of, view_of}
+use Rattle.target_hudi.specs.OnceLemmas.{some_list}
+use Rattle.target_hudi.specs.NewInstant.{AreGiven, IsNewInstant}
+use Rattle.target_hudi.specs.Reading.{IsReached, IsSettledTarget, Reads, commits_in, completed_in}
+use Rattle.target_hudi.specs.ReadingLemmas.{alike_reads, never_pending, orderly, own_of}
+use Rattle.target_hudi.specs.SettledLemmas.{crash_carries, crash_reads, crash_settled}
+use Rattle.target_hudi.specs.Writing.{Passes, TimelineEnd}
+use Rattle.target_hudi.specs.declared.kept.HudiKept.{HudiKept}
+use Rattle.target_hudi.proofs.BesideLemmas.{AreEarlier, IsBeside, completed_behind, few, found_completed, new_one}
+use Rattle.target_hudi.proofs.KeepsLemmas.{advanced, newest_is, passes_behind}
+use Rattle.target_hudi.proofs.MomentLemmas.{AreDue, IsGrown, beside_kept, grown_after, grown_alike, reached_kept, still_before}
+use Rattle.target_hudi.proofs.PublishLemmas.{HasFolders, due, earlier, earlier_still, folders_before, folders_behind, is_before, is_behind, stands_now}
+
+-- ---- causes
+
+pub fault_too : {S : Type 0} (faults : S → ℕ) (may_fail : S → Type 0) (old new : S) (P Q : Type 0) → (Q → P) → HasFault faults may_fail old new P → HasFault faults may_fail old new Q
+fault_too faults may_fail old new P Q back h = record { later = h.later; still = h.still; rose = λ q. h.rose (back q); allowed = λ q. h.allowed (back q) }
+
+pub contest_too : {S : Type 0} (contests : S → ℕ) (may_contest : S → Type 0) (old new : S) (P Q : Type 0) → (P → Q) → (Q → P) → HasContest contests may_contest old new P → HasContest contests may_contest old new Q
+contest_too contests may_contest old new P Q to back h = record { later = h.later; still = h.still; rose = λ q. h.rose (back q); allowed = λ q. h.allowed (back q); same = λ none. h.same (λ p. none (to p)) }
+
+-- ---- answers
+
+error_same : (s t : StoreError) → IsErrOf {T = Unit {0}} (Err s) t → s ≡ t
+error_same s t is = cc
+
+answer_same : (e d : TargetError) → IsErrOf {T = Unit {0}} (Err e) d → e ≡ d
+answer_same e d is = cc
+
+only_taken : (s : StoreError) → answer_of Names MAX_NAMES s ≡ Contested → s ≡ errors.Taken
+only_taken errors.Memory is = absurd (cc)
+only_taken errors.Failed is = absurd (cc)
+only_taken (errors.TooLong n) is = absurd (cc)
+only_taken errors.Taken is = refl
+
+only_long : (s : StoreError) (which : LimitKind) (number : ℕ) → answer_of Names MAX_NAMES s ≡ Limit which number → (n : ℕ) × (s ≡ errors.TooLong n)
+only_long errors.Memory which number is = absurd (cc)
+only_long errors.Failed which number is = absurd (cc)
+only_long (errors.TooLong n) which number is = (n, refl)
+only_long errors.Taken which number is = absurd (cc)
+
+module _ (s : StoreError) (e : TargetError) (gives : e ≡ answer_of Names MAX_NAMES s) where
+  -- another writer is told as a contest, and so is nothing else
+  pub contested_error : IsErrOf {T = Unit {0}} (Err s) errors.Taken → IsErrOf {T = Unit {0}} (Err e) Contested
+  contested_error taken = ap (λ (d : TargetError). Err d) (gives ∙ ap (answer_of Names MAX_NAMES) (error_same s errors.Taken taken))
+
+  pub taken_answer : IsErrOf {T = Unit {0}} (Err e) Contested → IsErrOf {T = Unit {0}} (Err s) errors.Taken
+  taken_answer contested = ap (λ (t : StoreError). Err t) (only_taken s (sym gives ∙ answer_same e Contested contested))
+
+  -- where a number is passed, a list was too long
+  pub limited_by : (which : LimitKind) (number : ℕ) → IsErrOf {T = Unit {0}} (Err e) (Limit which number) → (n : ℕ) × IsErrOf {T = Unit {0}} (Err s) (errors.TooLong n)
+  limited_by which number limited =
+      let long = only_long s which number (sym gives ∙ answer_same e (Limit which number) limited) in
+      (long.0, ap (λ (t : StoreError). Err t) long.1)
+
+-- ---- names of claims
+
+pub fewer_claims : (old new : Files) → HasNotGrown claims_folder old new → length (names_in new claims_folder) ≤ length (names_in old claims_folder)
+fewer_claims old new fewer =
+    length-le_from_is_member (eq_by_cmp_equiv nat_list_cmp_total) (names_in new claims_folder) (names_in old claims_folder) (IsDistinct-from_sorted (slice_cmp nat_cmp) (names_in new claims_folder) (names_in_sorted new claims_folder)) (λ q is.
+    let at = any_to (is_path q) (names_in new claims_folder) is in
+    let listed = ((names_in_listed new claims_folder).members at.0).0 at.1 in
+    let still = ((names_in_listed old claims_folder).members at.0).1 (listed.0, fewer (claim_path at.0) (at.0, refl) listed.1) in
+    any_from (is_path q) (names_in old claims_folder) at.0 still at.2)
+
+-- what is passed behind the commit was passed from here on
+pub passes_ahead : (name : List ℕ) (origin : Origin) (now : ℕ) (kept next : HudiKept) (commit : Commit) (instant : List ℕ) (properties : Option (List ℕ)) (text : List ℕ) → IsNewInstant (end_of name kept) origin now kept commit instant properties text next
+    → (old new : Files) → HasNotGrown claims_folder old new → (commits : List Commit) (which : LimitKind) (number : ℕ) → Passes new (end_of name next) origin now commits which number → Passes old (end_of name kept) origin now (commit ∷ commits) which number
+passes_ahead name origin now kept next commit instant properties text v old new fewer commits which number passes = ⊎_elim
+    (λ (many : (which ≡ Names) × (number ≡ MAX_NAMES) × (MAX_NAMES < length (names_in new claims_folder))). let few_old = fewer_claims old new fewer in inl (many.0, many.1, omega (arith, many.2, few_old)))
+    (λ last. inr (passes_behind name origin now kept next commit instant properties text v commits which number last))
+    passes
+
+-- ---- nothing is done
+
+module _ {S : Type 0} (store : Ghosts S) (only_now : NowOnly store) (s : S) (told : store.tells) where
+  pub alone_none : (Kept : List ℕ → Type 0) → LeavesAlone store Kept s s
+  alone_none Kept = alone_by_reading store Kept s s (reading_begins store only_now s told)
+
+  module _ (origin : Origin) (kept : HudiKept) (commit : Commit) (stands : StandsFor kept (store.disk s).files) (settled : IsSettledTarget (store.disk s)) where
+    abbrev Left : Files → Type 0
+    Left files = step.IsBefore hudi_meaning (view_of kept) (store.disk s).files files × IsSettledTarget (after_crash files)
+
+    left_in : (image : Files) → MayLeave (store.disk s) image → MayLeaveIn timeline_folder (store.disk s) image
+    left_in image may path within clean = may path clean
+
+    left_by : (image : Files) → MayLeave (store.disk s) image → Left image
+    left_by image may = (
+      record {
+        reads = crash_reads (store.disk s) image settled (left_in image may) (view_of kept) stands.reads;
+        earlier = λ c change standing le h. crash_carries (store.disk s) image settled (left_in image may) c change standing h;
+      },
+      crash_settled (store.disk s) image settled (left_in image may),
+    )
+
+    pub publishes_nothing : (U : Type 0) → Publishes store hudi_meaning origin (view_of kept) (commit ∷ []) U false s s
+    publishes_nothing U =
+        publishes_none store hudi_meaning origin (view_of kept) commit s s told (λ c change standing le h. h) (alone_none (IsReached (store.disk s).files)) U
+        (λ _. (record { reads = stands.reads; earlier = λ c change standing le h. h }, settled))
+        (λ _. started store only_now s Left (λ t image may. left_by image may) told)
+
+-- ---- the instant is published
+
+-- the new instant, by equal texts
+pub same_instant : (end : TimelineEnd) (origin : Origin) (now : ℕ) (kept next : HudiKept) (commit : Commit) (time t text b : List ℕ) (properties p : Option (List ℕ)) → t ≡ time → p ≡ properties → b ≡ text
+    → IsNewInstant end origin now kept commit time properties text next → IsNewInstant end origin now kept commit t p b next
+same_instant end origin now kept next commit time t text b properties p at_time at_properties at_text v =
+    subst (λ (x : List ℕ). IsNewInstant end origin now kept commit x p b next) (sym at_time)
+    (subst (λ (x : Option (List ℕ)). IsNewInstant end origin now kept commit time x b next) (sym at_properties)
+    (subst (λ (x : List ℕ). IsNewInstant end origin now kept commit time properties x next) (sym at_text) v))
+
+-- a disk without dirty paths, or a settled one, is a settled target where its files say so of folders
+settled_by : (disk : Disk) → IsSettled disk → HasFolders disk.files → IsSettledTarget disk
+settled_by disk settled folders = record { timeline = settled; hive_style = folders.hive_style; url_encode = folders.url_encode }
+
+pub folders_of : (disk : Disk) → IsSettledTarget disk → HasFolders disk.files
+folders_of disk settled = record { hive_style = settled.hive_style; url_encode = settled.url_encode }
+
+clean_after : (image : Files) → HasFolders image → IsSettledTarget (after_crash image)
+clean_after image folders = settled_by (after_crash image) (clean_settled (after_crash image) (λ path. set.contains-empty (slice_cmp nat_cmp) path)) folders
+
+module _ {S : Type 0} (store : Ghosts S) (old new : S) (told : store.tells) (name : List ℕ) (origin : Origin) (now : ℕ) (kept next : HudiKept) (commit : Commit) (instant : List ℕ) (properties : Option (List ℕ)) (text : List ℕ)
+    (v : IsNewInstant (end_of name kept) origin now kept commit instant properties text next) (counted : IsCounted kept (store.disk old).files)
+    (alone : LeavesAlone store (IsKept properties instant (store.disk old).files) old new) where
+  abbrev entry : Files
+  entry = (store.disk old).files
+
+  abbrev exit : Files
+  exit = (store.disk new).files
+
+  given_first : AreDue properties entry
+  given_first = due name origin now kept next commit instant properties text v entry counted.newest
+
+  all_before : AreEarlier entry instant
+  all_before = earlier name origin now kept next commit instant properties text v entry counted.newest
+
+  beside_now : IsBeside instant entry exit
+  beside_now = beside_kept properties instant v.real entry given_first exit alone.disk.files
+
+  pub reached_alone : LeavesAlone store (IsReached entry) old new
+  reached_alone = alone_of_fewer store (IsKept properties instant entry) (IsReached entry) old new
+      (reached_kept properties instant v.real entry given_first all_before) alone
+
+  -- the instant is there
+  pub counted_now : map.get exit (completed_path instant) ≡ Some text → IsCounted next exit
+  counted_now there =
+      let more = completed_behind instant v.real entry all_before exit beside_now text there in
+      let count : commits_in exit ≡ commits_in entry + 1 = ap length more ∙ length-append (completed_in entry) (new_one instant v.real ∷ []) in
+      record {
+        commits = omega (arith, count, counted.commits, v.commits);
+        newest = subst (λ (o : Option (List ℕ)). IsNewest exit o) (sym (newest_is name origin now kept next commit instant properties text v)) (completed_in entry, new_one instant v.real, more, refl);
+      }
+
+  -- one commit more at most
+  pub few_now : commits_in exit ≤ kept.commits + 1
+  few_now =
+      let at_most = few instant v.real entry all_before exit beside_now in
+      omega (arith, at_most, counted.commits)
+
+  module _ (can : CanPublish (view_of kept) commit) (fits : Fits (Unfit (held_of kept)) kept.table.partition (commit ∷ [])) (goes : GoesOn origin.source (view_of kept)) (stands : StandsFor kept entry) (settled : IsSettledTarget (store.disk old)) where
+    abbrev folders : HasFolders entry
+    folders = folders_of (store.disk old) settled
+
+    pub orderly_before : IsOrderly entry
+    orderly_before = orderly entry (view_of kept) stands.reads
+
+    ready_by : (o : Option (List ℕ)) → AreGiven (end_of name kept) o → Reads entry (view_of kept) → IsReady o entry
+    ready_by None given (inl none) = absurd (not_first kept.newest refl counted.newest)
+      where
+        not_first : (o : Option (List ℕ)) → kept.newest ≡ o → IsNewest entry o → ⊥
+        not_first None is at = given is
+        not_first (Some time) is at = some_list at.0 at.1 [] (sym none.0.none ∙ at.2)
+    ready_by None given (inr ours) = ap is_some ours.says.holds
+    ready_by (Some bytes) given reads = λ name proper says there.
+        let none = subst (λ (n : Option (List ℕ)). IsNewest entry n) given.0 counted.newest in
+        let own = (own_of entry (view_of kept) reads).1 name (record { proper = proper; there = there; state = state.Completed; says = says }) in
+        ⊎_elim
+        (λ (done : name ≡ completed_name own.0).
+        let found = found_completed own.0 own.1 entry (subst (λ (n : List ℕ). IsThere entry (timeline_path n)) done there) in
+        Contains-none found.0 (subst (λ (l : List CompletedInstant). Contains l found.0) none found.1))
+        (λ pending. never_pending pending.0 own.0 name own.1.1.digits pending.1 says)
+        own.2
+
+    pub ready : IsReady properties entry
+    ready = ready_by properties v.given stands.reads
+
+    abbrev Either : Files → Type 0
+    Either files = step.IsBeforeOrBehind hudi_meaning origin (view_of kept) entry commit (view_of next) files
+
+    either : (files : Files) → IsBeforeOrAfter properties entry instant text files → Either files × HasFolders files
+    either files is = ⊎_elim
+        (λ before.
+        let still = still_before properties instant v.real entry given_first all_before files before in (
+          inl (is_before name origin now kept next commit instant properties text v entry counted.newest can fits goes folders stands.reads files still),
+          folders_before name origin now kept next commit instant properties text v entry counted.newest can fits goes folders stands.reads files still,
+        ))
+        (λ after.
+        let grown = grown_after properties instant v.real entry given_first text files after in (
+          inr (is_behind name origin now kept next commit instant properties text v entry counted.newest can fits goes folders stands.reads files grown),
+          folders_behind name origin now kept next commit instant properties text v entry counted.newest can fits goes folders stands.reads files grown,
+        ))
+        is
+
+    either_left : (image : Files) → IsBeforeOrAfter properties entry instant text image → Either image × IsSettledTarget (after_crash image)
+    either_left image is = let both = either image is in (both.0, clean_after image both.1)
+
+    grown_now : IsCommitted properties instant text (store.disk old) (store.disk new) → IsGrown properties instant text entry exit
+    grown_now committed = grown_alike properties instant v.real entry given_first text exit committed.stands.orderly committed.stands.alike
+
+    -- what is kept stands for the files
+    pub stands_behind : IsCommitted properties instant text (store.disk old) (store.disk new) → StandsFor next exit
+    stands_behind committed = stands_now name origin now kept next commit instant properties text v entry counted.newest can fits goes folders stands.reads exit (grown_now committed)
+
+    pub publishes_instant : (U : Type 0) (done : Bool) → (done ≡ true → IsCommitted properties instant text (store.disk old) (store.disk new)) → (U → IsOneStep store properties instant text old new)
+        → Publishes store hudi_meaning origin (view_of kept) (commit ∷ []) U done old new
+    publishes_instant U done whole one_step =
+        publishes_one store hudi_meaning origin (view_of kept) commit old new told
+        (earlier_still name origin now kept next commit instant properties text v entry counted.newest exit beside_now)
+        reached_alone U (view_of next) (advanced name origin now kept next commit instant properties text v can fits) done
+        (λ is. is_behind name origin now kept next commit instant properties text v entry counted.newest can fits goes folders stands.reads exit (grown_now (whole is)))
+        (λ u. let s = one_step u in let both = either exit s.disk in (both.0, settled_by (store.disk new) s.settled both.1))
+        (λ u. weaker store old new (IsBeforeOrAfter properties entry instant text) (λ files. Either files × IsSettledTarget (after_crash files)) either_left (λ t. (one_step u).moments) told)
+
+    -- too many claims: it reads as before
+    pub reads_unmoved : Stands entry (store.disk new) → Reads exit (view_of kept)
+    reads_unmoved same = alike_reads entry exit (view_of kept) same.orderly same.alike stands.reads

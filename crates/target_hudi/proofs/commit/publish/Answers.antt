@@ -1,0 +1,213 @@
+use Rattle.std.proofs.Common.{◌≡◌, Bool, true, false, [], ◌∷◌, sym, ap, subst, ◌∙◌}
+use Rattle.std.specs.Prelude.{is_ok}
+use Rattle.std.specs.Option.{option_copied}
+use Rattle.std.proofs.lemmas.Result.{err_from_is_err_and}
+use Rattle.lake_basics.specs.declared.limits.TheConstants.{MAX_NAMES}
+use Rattle.table_history.specs.declared.limit.LimitKind.TheVariants.{Names}
+use Rattle.target_core.specs.Outcome.{Uncontested, answer_of}
+use Rattle.target_core.specs.Publishing.{Publishes}
+use Rattle.target_core.specs.Views.{Origin}
+use Rattle.target_core.specs.declared.target.TargetError.TheVariants.{Contested}
+use Rattle.target_hudi.specs.HudiMeaning.{hudi_meaning}
+use Rattle.target_hudi.specs.Kept.{end_of, view_of}
+use Rattle.target_hudi.proofs.BesideLemmas.{free}
+use Rattle.target_hudi.proofs.KeepsLemmas.{advanced, fits_behind}
+use Rattle.target_hudi.proofs.PublishLemmas.{earlier}
+use Rattle.target_hudi.proofs.StoreLemmas.{contest_too, contested_error, counted_now, few_now, limited_by, orderly_before, passes_ahead, publishes_instant, publishes_nothing, reads_unmoved, ready, same_instant, stands_behind, taken_answer}
+use Rattle.target_hudi.proofs.commit.publish.Goals as goal
+
+pub returns-in_err-new-clause-publishes : goal.returns-in_err-new-clause-publishes
+returns-in_err-new-clause-publishes g c told stands settled =
+    let kept = c.args.kept.now in
+    let s = c.args.store.now in
+    let origin : Origin = record { source = c.args.source; table = option_copied c.args.table } in
+    let exit = err_from_is_err_and c.from_residual.result c.from_residual.ensures.1 in
+    subst (λ (done : Bool). Publishes g.S.Store hudi_meaning origin (view_of kept) (c.args.commit.now ∷ []) (Uncontested c.from_residual.result) done s s) (sym (ap is_ok exit.1))
+    (publishes_nothing g.S.Store g.met.S.Store.only_now s told origin kept c.args.commit.now stands settled (Uncontested c.from_residual.result))
+
+pub publish_commit-requires-clause-free : goal.publish_commit-requires-clause-free
+publish_commit-requires-clause-free g c told =
+    let store = g.S.Store in
+    let name = c.args.name.now in
+    let kept = c.args.kept.now in
+    let next = c.new_instant.new.kept in
+    let commit = c.args.commit.now in
+    let old = c.args.store.now in
+    let now = c.args.now_ms in
+    let instant = c.as_str.result.now in
+    let properties = option_copied c.bytes_of-properties.result in
+    let text = c.as_slice.result.now in
+    let origin : Origin = record { source = c.args.source; table = option_copied c.args.table } in
+    let v = same_instant (end_of name kept) origin now kept next commit c.in_ok-new.new.time instant c.in_ok-new.new.text text c.in_ok-new.new.properties properties c.as_str.ensures.value c.bytes_of-properties.ensures c.as_slice.ensures.value c.in_ok-new.ensures.is in
+    let files = (store.disk old).files in
+    free instant v.real files (earlier name origin now kept next commit instant properties text v files (c.requires.counted told).newest)
+
+pub returns-in-Ok-clause-view : goal.returns-in-Ok-clause-view
+returns-in-Ok-clause-view g c =
+    let name = c.args.name.now in
+    let kept = c.args.kept.now in
+    let next = c.new_instant.new.kept in
+    let commit = c.args.commit.now in
+    let now = c.args.now_ms in
+    let instant = c.as_str.result.now in
+    let properties = option_copied c.bytes_of-properties.result in
+    let text = c.as_slice.result.now in
+    let origin : Origin = record { source = c.args.source; table = option_copied c.args.table } in
+    let v = same_instant (end_of name kept) origin now kept next commit c.in_ok-new.new.time instant c.in_ok-new.new.text text c.in_ok-new.new.properties properties c.as_str.ensures.value c.bytes_of-properties.ensures c.as_slice.ensures.value c.in_ok-new.ensures.is in
+    advanced name origin now kept next commit instant properties text v c.requires.can c.requires.fits
+
+pub returns-in-Ok-clause-counted : goal.returns-in-Ok-clause-counted
+returns-in-Ok-clause-counted g c told =
+    let store = g.S.Store in
+    let name = c.args.name.now in
+    let kept = c.args.kept.now in
+    let next = c.new_instant.new.kept in
+    let commit = c.args.commit.now in
+    let old = c.args.store.now in
+    let new = c.publish_commit.new.store in
+    let now = c.args.now_ms in
+    let instant = c.as_str.result.now in
+    let properties = option_copied c.bytes_of-properties.result in
+    let text = c.as_slice.result.now in
+    let origin : Origin = record { source = c.args.source; table = option_copied c.args.table } in
+    let v = same_instant (end_of name kept) origin now kept next commit c.in_ok-new.new.time instant c.in_ok-new.new.text text c.in_ok-new.new.properties properties c.as_str.ensures.value c.bytes_of-properties.ensures c.as_slice.ensures.value c.in_ok-new.ensures.is in
+    counted_now store old new told name origin now kept next commit instant properties text v (c.requires.counted told) (c.in-Ok.ensures.kept told) (c.in-Ok.ensures.completed told)
+
+pub returns-in-Ok-clause-fits : goal.returns-in-Ok-clause-fits
+returns-in-Ok-clause-fits g c =
+    let name = c.args.name.now in
+    let kept = c.args.kept.now in
+    let next = c.new_instant.new.kept in
+    let commit = c.args.commit.now in
+    let now = c.args.now_ms in
+    let instant = c.as_str.result.now in
+    let properties = option_copied c.bytes_of-properties.result in
+    let text = c.as_slice.result.now in
+    let origin : Origin = record { source = c.args.source; table = option_copied c.args.table } in
+    let v = same_instant (end_of name kept) origin now kept next commit c.in_ok-new.new.time instant c.in_ok-new.new.text text c.in_ok-new.new.properties properties c.as_str.ensures.value c.bytes_of-properties.ensures c.as_slice.ensures.value c.in_ok-new.ensures.is in
+    fits_behind name origin now kept next commit instant properties text v c.requires.can
+
+pub returns-in-Ok-clause-stands : goal.returns-in-Ok-clause-stands
+returns-in-Ok-clause-stands g c told stands settled =
+    let store = g.S.Store in
+    let name = c.args.name.now in
+    let kept = c.args.kept.now in
+    let next = c.new_instant.new.kept in
+    let commit = c.args.commit.now in
+    let old = c.args.store.now in
+    let new = c.publish_commit.new.store in
+    let now = c.args.now_ms in
+    let instant = c.as_str.result.now in
+    let properties = option_copied c.bytes_of-properties.result in
+    let text = c.as_slice.result.now in
+    let origin : Origin = record { source = c.args.source; table = option_copied c.args.table } in
+    let v = same_instant (end_of name kept) origin now kept next commit c.in_ok-new.new.time instant c.in_ok-new.new.text text c.in_ok-new.new.properties properties c.as_str.ensures.value c.bytes_of-properties.ensures c.as_slice.ensures.value c.in_ok-new.ensures.is in
+    let counted = c.requires.counted told in
+    let alone = c.in-Ok.ensures.kept told in
+    let whole = orderly_before store old new told name origin now kept next commit instant properties text v counted alone c.requires.can c.requires.fits c.requires.source stands settled in
+    let is_ready = ready store old new told name origin now kept next commit instant properties text v counted alone c.requires.can c.requires.fits c.requires.source stands settled in
+    stands_behind store old new told name origin now kept next commit instant properties text v counted alone c.requires.can c.requires.fits c.requires.source stands settled (c.in-Ok.ensures.committed told whole is_ready)
+
+pub returns-in-Ok-clause-publishes : goal.returns-in-Ok-clause-publishes
+returns-in-Ok-clause-publishes g c told stands settled =
+    let store = g.S.Store in
+    let name = c.args.name.now in
+    let kept = c.args.kept.now in
+    let next = c.new_instant.new.kept in
+    let commit = c.args.commit.now in
+    let old = c.args.store.now in
+    let new = c.publish_commit.new.store in
+    let now = c.args.now_ms in
+    let instant = c.as_str.result.now in
+    let properties = option_copied c.bytes_of-properties.result in
+    let text = c.as_slice.result.now in
+    let origin : Origin = record { source = c.args.source; table = option_copied c.args.table } in
+    let v = same_instant (end_of name kept) origin now kept next commit c.in_ok-new.new.time instant c.in_ok-new.new.text text c.in_ok-new.new.properties properties c.as_str.ensures.value c.bytes_of-properties.ensures c.as_slice.ensures.value c.in_ok-new.ensures.is in
+    let counted = c.requires.counted told in
+    let alone = c.in-Ok.ensures.kept told in
+    let whole = orderly_before store old new told name origin now kept next commit instant properties text v counted alone c.requires.can c.requires.fits c.requires.source stands settled in
+    let is_ready = ready store old new told name origin now kept next commit instant properties text v counted alone c.requires.can c.requires.fits c.requires.source stands settled in
+    publishes_instant store old new told name origin now kept next commit instant properties text v counted alone c.requires.can c.requires.fits c.requires.source stands settled _ true
+    (λ done. c.in-Ok.ensures.committed told whole is_ready) (λ u. c.in-Ok.ensures.one_step told tt whole settled.timeline is_ready)
+
+pub returns-in-Ok-clause-ahead : goal.returns-in-Ok-clause-ahead
+returns-in-Ok-clause-ahead g c told =
+    let store = g.S.Store in
+    let name = c.args.name.now in
+    let kept = c.args.kept.now in
+    let next = c.new_instant.new.kept in
+    let commit = c.args.commit.now in
+    let old = c.args.store.now in
+    let new = c.publish_commit.new.store in
+    let now = c.args.now_ms in
+    let instant = c.as_str.result.now in
+    let properties = option_copied c.bytes_of-properties.result in
+    let text = c.as_slice.result.now in
+    let origin : Origin = record { source = c.args.source; table = option_copied c.args.table } in
+    let v = same_instant (end_of name kept) origin now kept next commit c.in_ok-new.new.time instant c.in_ok-new.new.text text c.in_ok-new.new.properties properties c.as_str.ensures.value c.bytes_of-properties.ensures c.as_slice.ensures.value c.in_ok-new.ensures.is in
+    passes_ahead name origin now kept next commit instant properties text v (store.disk old).files (store.disk new).files (c.in-Ok.ensures.not_grown told)
+
+pub returns-clause-publishes : goal.returns-clause-publishes
+returns-clause-publishes g c told stands settled =
+    let store = g.S.Store in
+    let name = c.args.name.now in
+    let kept = c.args.kept.now in
+    let next = c.new_instant.new.kept in
+    let commit = c.args.commit.now in
+    let old = c.args.store.now in
+    let new = c.publish_commit.new.store in
+    let now = c.args.now_ms in
+    let instant = c.as_str.result.now in
+    let properties = option_copied c.bytes_of-properties.result in
+    let text = c.as_slice.result.now in
+    let origin : Origin = record { source = c.args.source; table = option_copied c.args.table } in
+    let v = same_instant (end_of name kept) origin now kept next commit c.in_ok-new.new.time instant c.in_ok-new.new.text text c.in_ok-new.new.properties properties c.as_str.ensures.value c.bytes_of-properties.ensures c.as_slice.ensures.value c.in_ok-new.ensures.is in
+    let counted = c.requires.counted told in
+    let alone = c.in-Err.ensures.kept told in
+    let whole = orderly_before store old new told name origin now kept next commit instant properties text v counted alone c.requires.can c.requires.fits c.requires.source stands settled in
+    let is_ready = ready store old new told name origin now kept next commit instant properties text v counted alone c.requires.can c.requires.fits c.requires.source stands settled in
+    publishes_instant store old new told name origin now kept next commit instant properties text v counted alone c.requires.can c.requires.fits c.requires.source stands settled (c.of_list.result ≡ Contested → ⊥) false
+    (λ done. absurd (cc)) (λ u. c.in-Err.ensures.one_step told (λ taken. u (c.of_list.ensures ∙ ap (answer_of Names MAX_NAMES) taken)) whole settled.timeline is_ready)
+
+pub returns-clause-contested : goal.returns-clause-contested
+returns-clause-contested g c told stands settled contested =
+    let store = g.S.Store in
+    let name = c.args.name.now in
+    let kept = c.args.kept.now in
+    let next = c.new_instant.new.kept in
+    let commit = c.args.commit.now in
+    let old = c.args.store.now in
+    let new = c.publish_commit.new.store in
+    let now = c.args.now_ms in
+    let instant = c.as_str.result.now in
+    let properties = option_copied c.bytes_of-properties.result in
+    let text = c.as_slice.result.now in
+    let origin : Origin = record { source = c.args.source; table = option_copied c.args.table } in
+    let v = same_instant (end_of name kept) origin now kept next commit c.in_ok-new.new.time instant c.in_ok-new.new.text text c.in_ok-new.new.properties properties c.as_str.ensures.value c.bytes_of-properties.ensures c.as_slice.ensures.value c.in_ok-new.ensures.is in
+    few_now store old new told name origin now kept next commit instant properties text v (c.requires.counted told) (c.in-Err.ensures.kept told)
+
+pub returns-clause-limited : goal.returns-clause-limited
+returns-clause-limited g c told stands settled which number limited =
+    let store = g.S.Store in
+    let name = c.args.name.now in
+    let kept = c.args.kept.now in
+    let next = c.new_instant.new.kept in
+    let commit = c.args.commit.now in
+    let old = c.args.store.now in
+    let new = c.publish_commit.new.store in
+    let now = c.args.now_ms in
+    let instant = c.as_str.result.now in
+    let properties = option_copied c.bytes_of-properties.result in
+    let text = c.as_slice.result.now in
+    let origin : Origin = record { source = c.args.source; table = option_copied c.args.table } in
+    let v = same_instant (end_of name kept) origin now kept next commit c.in_ok-new.new.time instant c.in_ok-new.new.text text c.in_ok-new.new.properties properties c.as_str.ensures.value c.bytes_of-properties.ensures c.as_slice.ensures.value c.in_ok-new.ensures.is in
+    let counted = c.requires.counted told in
+    let alone = c.in-Err.ensures.kept told in
+    let whole = orderly_before store old new told name origin now kept next commit instant properties text v counted alone c.requires.can c.requires.fits c.requires.source stands settled in
+    let long = limited_by c.in-Err.error c.of_list.result c.of_list.ensures which number limited in
+    reads_unmoved store old new told name origin now kept next commit instant properties text v counted alone c.requires.can c.requires.fits c.requires.source stands settled (c.in-Err.ensures.unmoved told whole long.0 long.1)
+
+pub returns-clause-contest : goal.returns-clause-contest
+returns-clause-contest g c =
+    contest_too g.S.Store.contests g.S.Store.may_contest c.args.store.now c.publish_commit.new.store _ _
+    (λ taken. contested_error c.in-Err.error c.of_list.result c.of_list.ensures taken) (λ contested. taken_answer c.in-Err.error c.of_list.result c.of_list.ensures contested) c.in-Err.ensures.contest
