@@ -125,6 +125,7 @@ module _ (instant : List ℕ) (real : IsSomeTime instant) (old : Files) (earlier
     are_kinds = step.are_kinds;
     adds = step.adds;
     removes = step.removes;
+    only = step.only;
     marked = marked;
   }
 

@@ -266,5 +266,6 @@ module _ (instant : List ℕ) (real : IsSomeTime instant) where
             are_kinds = h.are_kinds;
             adds = h.adds;
             removes = h.removes;
+            only = h.only;
             marked = marked_still h.commit s commit_there h.marked;
           }

@@ -278,6 +278,7 @@ module _ (name : List ℕ) (origin : Origin) (now : ℕ) (kept next : HudiKept) 
           commits = sym count_now;
           newest = subst (λ (n : Option (List ℕ)). IsNewest files n) (sym (newest_is name origin now kept next commit instant properties text v)) (completed_in old, new_one instant v.real, completed_now, refl);
         };
+        at = ap (λ (o : Option Mark). option_map (λ (m : Mark). m.at) o) v.mark ∙ sym (newest_is name origin now kept next commit instant properties text v);
       }
 
       pub folders_behind : HasFolders files
