@@ -1,0 +1,4 @@
+pub mod Publishable
+pub mod UpToHead
+pub mod Unread
+pub mod Refusals

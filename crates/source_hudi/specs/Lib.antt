@@ -1,0 +1,4 @@
+pub mod Instants
+pub mod Heads
+pub mod Reading
+pub mod OwnLemmas

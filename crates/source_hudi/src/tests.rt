@@ -1,0 +1,144 @@
+//! Heads and tables of timelines in a store in memory.
+use super::*;
+use lake_basics::Text;
+use lake_store::MemoryStore;
+use source_core::{Head, Source, SourceError};
+use std::alloc::{AllocError, Global};
+use std::test::Fail;
+
+const PROPERTIES: (&str, &str) = (
+    "hoodie.properties",
+    "hoodie.table.name=t\nhoodie.table.type=COPY_ON_WRITE\nhoodie.table.version=6\n",
+);
+
+/// A commit that writes a group, and states the schema.
+const FIRST: (&str, &str) = (
+    "20240105100000000.commit",
+    "{\"partitionToWriteStats\":{\"\":[{\"fileId\":\"g1-0\",\"path\":\"g1-0_0-1-1_20240105100000000.parquet\",\"partitionPath\":\"\",\"numWrites\":5,\"fileSizeInBytes\":100}]},\"extraMetadata\":{\"schema\":\"{\\\"type\\\":\\\"record\\\",\\\"name\\\":\\\"r\\\",\\\"fields\\\":[{\\\"name\\\":\\\"id\\\",\\\"type\\\":[\\\"null\\\",\\\"long\\\"],\\\"default\\\":null}]}\"}}",
+);
+
+/// A commit that writes another group.
+const SECOND: (&str, &str) = (
+    "20240105120000000.commit",
+    "{\"partitionToWriteStats\":{\"\":[{\"fileId\":\"g2-0\",\"path\":\"g2-0_0-2-2_20240105120000000.parquet\",\"partitionPath\":\"\",\"numWrites\":7,\"fileSizeInBytes\":140}]}}",
+);
+
+/// The files in a timeline's folder, and the head with the number of rows there, or what is told.
+const TABLES: &[(&[(&str, &str)], &str)] = &[
+    (&[PROPERTIES], "there is no table"),
+    (
+        &[PROPERTIES, ("20240105100000000.inflight", "")],
+        "there is no table",
+    ),
+    (
+        &[PROPERTIES, FIRST, SECOND],
+        "t at 20240105120000000, pending none: 2 rows",
+    ),
+    (
+        &[
+            PROPERTIES,
+            FIRST,
+            ("20240105110000000.commit.requested", ""),
+            SECOND,
+        ],
+        "t at 20240105100000000, pending 20240105110000000: 1 rows",
+    ),
+    (
+        &[
+            PROPERTIES,
+            FIRST,
+            ("20240105110000000.inflight", ""),
+            ("20240105113000000.deltacommit", ""),
+            SECOND,
+        ],
+        "t at 20240105100000000, pending 20240105110000000: 1 rows",
+    ),
+    (
+        &[PROPERTIES, FIRST, ("archived/b", ""), ("archived/a", "")],
+        "t at 20240105100000000, pending none: NeedsArchive .hoodie/archived/a",
+    ),
+    (
+        &[
+            PROPERTIES,
+            ("20240105090000000.rollback", ""),
+            FIRST,
+            ("20240105110000000.deltacommit.inflight", ""),
+            ("20240105113000000.restore", ""),
+            SECOND,
+        ],
+        "t at 20240105120000000, pending none: MergeOnRead .hoodie/20240105110000000.deltacommit.inflight",
+    ),
+    (
+        &[PROPERTIES, FIRST, ("20240105090000000.compact", "")],
+        "t at 20240105100000000, pending none: UnknownAction .hoodie/20240105090000000.compact",
+    ),
+    (
+        &[PROPERTIES, SECOND],
+        "t at 20240105120000000, pending none: NoSchema .hoodie/20240105120000000.commit",
+    ),
+    (
+        &[("hoodie.properties", "a=\\ud800"), FIRST],
+        "malformed .hoodie/hoodie.properties",
+    ),
+    (&[FIRST], "malformed .hoodie/hoodie.properties"),
+];
+
+fn store_of(alloc: Global, files: &[(&str, &str)]) -> Result<MemoryStore, AllocError> {
+    let mut store = MemoryStore::new(alloc);
+    for (name, text) in files {
+        let path = format!(in alloc; ".hoodie/{name}")?;
+        store.put(path.as_str(), text.as_bytes())?;
+    }
+    Ok(store)
+}
+
+fn or_none(text: Option<&Text>) -> &str {
+    match text {
+        Some(text) => text.as_str(),
+        None => "none",
+    }
+}
+
+fn refused(alloc: Global, error: &SourceError) -> Result<String, AllocError> {
+    match error {
+        SourceError::Malformed { path } => format!(in alloc; "malformed {}", path.as_str()),
+        SourceError::Unsupported { feature, path } => {
+            format!(in alloc; "{feature:?} {}", path.as_str())
+        }
+        error => format!(in alloc; "{error}"),
+    }
+}
+
+/// The number of rows at the head, or what is told.
+fn rows_at(alloc: Global, store: &mut MemoryStore, head: &Head) -> Result<String, AllocError> {
+    match HudiSource::new().whole(alloc, store, head) {
+        Ok(table) => format!(in alloc; "{} rows", table.rows.len()),
+        Err(error) => refused(alloc, &error),
+    }
+}
+
+fn read(alloc: Global, files: &[(&str, &str)]) -> Result<String, AllocError> {
+    let mut store = store_of(alloc, files)?;
+    match HudiSource::new().head(alloc, &mut store) {
+        Ok(head) => {
+            let rows = rows_at(alloc, &mut store, &head)?;
+            format!(in alloc;
+                "{} at {}, pending {}: {}",
+                or_none(head.table.as_ref()),
+                head.position.as_str(),
+                or_none(head.pending.as_ref()),
+                rows.as_str()
+            )
+        }
+        Err(error) => refused(alloc, &error),
+    }
+}
+
+#[test]
+fn heads_and_tables_are_read(rt: HostRuntime) -> Result<(), Fail> {
+    let alloc = rt.alloc();
+    for (files, told) in TABLES {
+        assert_eq!(rt; read(alloc, files)?.as_str(), *told);
+    }
+    Ok(())
+}
