@@ -12,18 +12,11 @@ use Rattle.delta_table.specs.declared.log.Log.{Log}
 use Rattle.delta_table.specs.declared.versions.Versions.{Versions}
 use Rattle.table_history.specs.declared.feature.Feature.TheVariants.{NeedsCheckpoint}
 use Rattle.source_core.specs.Answers.{IsHeadRefusal, IsReadRefusal}
+use Rattle.source_core.proofs.Answers.{weaker}
 use Rattle.source_core.specs.declared.error.SourceError.{SourceError}
 use Rattle.source_core.specs.declared.error.SourceError.TheVariants as source
 use Rattle.source_delta.specs.Heads.{IsAbsent, IsNewest, IsTableId}
 use Rattle.source_delta.specs.Reading.{HasEach, HasManyNames, IsLastMissing, IsRefusedLog, ShowsAtHead, ShowsFromScratch, Tells}
-
-pub weaker : (P Q : SourceError → Type 0) → ((e : SourceError) → P e → Q e) → (e : SourceError) → IsReadRefusal P e → IsReadRefusal Q e
-weaker P Q to source.Memory h = tt
-weaker P Q to source.Absent h = h
-weaker P Q to (source.Malformed path) h = to (source.Malformed path) h
-weaker P Q to (source.Unsupported feature path) h = to (source.Unsupported feature path) h
-weaker P Q to (source.Limit which number) h = to (source.Limit which number) h
-weaker P Q to source.StoreFault h = tt
 
 -- ---- the names
 
@@ -160,10 +153,6 @@ pub version_within : (files : Files) (version : ℕ) → HasVersion files versio
 version_within files version there = there.1.is.named.within
 
 -- ---- from scratch
-
-pub errs : {T : Type 0} (r : Result T SourceError) (P Q : SourceError → Type 0) → ((e : SourceError) → P e → Q e) → IfErr r P → IfErr r Q
-errs (Ok x) P Q to h = tt
-errs (Err e) P Q to h = to e h
 
 module _ (files : Files) (newest : ℕ) (is : IsNewest files newest) where
   pub names_from_scratch : (e : SourceError) → IsReadRefusal (HasManyNames files) e → IsReadRefusal (ShowsFromScratch files) e

@@ -4,13 +4,12 @@ ghost use Rattle.std.specs.Prelude.{◌≡◌, ◌≢◌, ◌≤◌, ◌+◌, �
 ghost use Rattle.std.specs.Fmt.{decimal};
 ghost use Rattle.lake_basics.specs.declared.limits.TheConstants.{MAX_DELTA_VERSION};
 ghost use Rattle.lake_store.specs.Runs.{FailsBy, IsUncontestedBy, OnlyReads};
-ghost use Rattle.table_history.specs.declared.kind.Kind.TheVariants.{Delta};
 ghost use Rattle.target_core.specs.Conditions.{IsPublishable};
 ghost use Rattle.delta_table.specs.Refusals.{TellsOf};
 ghost use Rattle.delta_table.specs.declared.error.LogError.TheVariants as log;
-ghost use Rattle.source_core.specs.Answers.{IsHeadAnswer, IsHeadRefusal, IsReadRefusal};
+ghost use Rattle.source_core.specs.Answers.{IsHeadRefusal, IsReadRefusal};
 ghost use Rattle.source_core.specs.declared.error.SourceError.TheVariants.{StoreFault};
-ghost use Rattle.source_delta.specs.Heads.{IsAbsent, IsDeltaHead, IsNewest, IsTableAtHead, IsTableId};
+ghost use Rattle.source_delta.specs.Heads.{IsAbsent, IsNewest, IsTableAtHead, IsTableId};
 ghost use Rattle.source_delta.specs.Reading.{HasEach, HasManyNames, IsLastMissing, IsRefusedLog, ShowsAtHead, ShowsFromScratch, Tells};
 
 use crate::position::version_at;
@@ -19,7 +18,7 @@ use delta_log::MetaData;
 use delta_table::{LOG_FOLDER, Log, LogError, list_versions, read_log};
 use lake_basics::Text;
 use lake_store::Store;
-use source_core::{Head, SourceError, position_of};
+use source_core::{Head, Source, SourceError, position_of};
 use std::alloc::{AllocError, Global};
 use table_history::{Feature, Kind, Table};
 
@@ -175,24 +174,34 @@ impl DeltaSource {
     pub fn new() -> DeltaSource {
         DeltaSource {}
     }
+}
 
-    /// The source's format.
-    pub fn kind(&self) -> Kind
-        ensures { result ≡ Delta }
-    {
+impl Source for DeltaSource {
+    ghost use Rattle.table_history.specs.declared.kind.Kind.TheVariants.{Delta};
+    ghost use Rattle.source_delta.specs.Heads.{IsAbsent, IsDeltaHead, IsTableAtHead};
+    ghost use Rattle.source_delta.specs.Reading.{ShowsAtHead, ShowsFromScratch};
+    ghost use Rattle.source_delta.specs.OwnLemmas.{absent_own, at_head_own, from_scratch_own, head_own, table_own};
+
+    ghost kind = { λ source. Delta };
+
+    ghost is_absent = { λ source files. IsAbsent files };
+
+    ghost is_head = { λ source files head. IsDeltaHead files head };
+
+    ghost is_table = { λ source files table. IsTableAtHead files table };
+
+    ghost at_head = { λ source files e. ShowsAtHead files e };
+
+    ghost from_scratch = { λ source files e. ShowsFromScratch files e };
+
+    fn kind(&self) -> Kind {
         Kind::Delta
     }
 
     /// The newest version in the log, and the table's id, which version 0 states. It is absent
     /// exactly where no version is there. Version 0, where it is there, is judged whole; what else
     /// is wrong with the log, `whole` tells.
-    pub fn head<S: Store>(&self, alloc: Global, store: &mut S) -> Result<Head, SourceError>
-        ensures head { S.tells → IsHeadAnswer (IsAbsent (S.disk store.old).files)
-            (IsDeltaHead (S.disk store.old).files) (ShowsAtHead (S.disk store.old).files) result }
-        ensures only_reads { S.tells → OnlyReads ⟦<S as Store>⟧ store.old store.new }
-        ensures cause { FailsBy ⟦<S as Store>⟧ store.old store.new (IsErrOf result StoreFault) }
-        ensures contest { IsUncontestedBy ⟦<S as Store>⟧ store.old store.new ⊥ }
-    {
+    fn head<S: Store>(&self, alloc: Global, store: &mut S) -> Result<Head, SourceError> {
         let newest = newest_version(alloc, store)?;
         let table = table_id(alloc, store)?;
         Ok(Head {
@@ -205,25 +214,25 @@ impl DeltaSource {
     /// The table at the head, which `head` has given, read from version 0 (Delta protocol, "Action
     /// Reconciliation"). Where a version is missing, the greatest such one is told; otherwise the
     /// first version at fault.
-    pub fn whole<S: Store>(
+    fn whole<S: Store>(
         &self,
         alloc: Global,
         store: &mut S,
         head: &Head,
-    ) -> Result<Table, SourceError>
-        requires { S.tells → IsDeltaHead (S.disk store.old).files head.now }
-        ensures table { S.tells → IfOk result (IsTableAtHead (S.disk store.old).files) }
-        // The table may be published.
-        ensures sound { IfOk result IsPublishable }
-        ensures refused { S.tells
-            → IfErr result (IsReadRefusal (ShowsFromScratch (S.disk store.old).files)) }
-        ensures only_reads { S.tells → OnlyReads ⟦<S as Store>⟧ store.old store.new }
-        ensures cause { FailsBy ⟦<S as Store>⟧ store.old store.new (IsErrOf result StoreFault) }
-        ensures contest { IsUncontestedBy ⟦<S as Store>⟧ store.old store.new ⊥ }
-    {
+    ) -> Result<Table, SourceError> {
         match version_at(head.position.as_str()) {
             Some(newest) => whole_table(alloc, store, newest),
             None => Err(no_version(alloc)),
         }
     }
+
+    ghost absent_own = { λ source a b same h. absent_own a b same h };
+
+    ghost head_own = { λ source a b head same h. head_own a b head same h };
+
+    ghost table_own = { λ source a b table same h. table_own a b table same h };
+
+    ghost at_head_own = { λ source a b e same h. at_head_own a b e same h };
+
+    ghost from_scratch_own = { λ source a b e same h. from_scratch_own a b e same h };
 }

@@ -1,6 +1,7 @@
 //! Heads and tables of logs in a store in memory.
 use super::*;
 use lake_store::MemoryStore;
+use source_core::Source;
 use std::alloc::{AllocError, Global};
 use std::test::Fail;
 

@@ -2,7 +2,7 @@ use Rattle.std.proofs.Common.{ap, arith}
 use Rattle.std.specs.Prelude.{Err}
 use Rattle.delta_table.specs.declared.error.LogError.{LogError}
 use Rattle.source_delta.proofs.Refusals.{id_refused, id_stated, no_id, tells_within, told_fault}
-use Rattle.source_delta.proofs.Runs.{fails_as}
+use Rattle.source_core.proofs.Runs.{fails_as}
 use Rattle.source_delta.proofs.source.table_id.Goals as goal
 
 pub without_id-requires : goal.without_id-requires

@@ -6,8 +6,9 @@ use Rattle.delta_table.proofs.Runs.{uncontested_further}
 use Rattle.source_core.specs.Answers.{IsReadRefusal}
 use Rattle.source_delta.specs.Heads.{IsNewest, IsTableAtHead}
 use Rattle.source_delta.specs.Reading.{HasEach, IsLastMissing, IsRefusedLog}
-use Rattle.source_delta.proofs.Refusals.{errs, lacking, names_from_scratch, refused_from_scratch}
-use Rattle.source_delta.proofs.Runs.{fails_then}
+use Rattle.source_core.proofs.Answers.{errs}
+use Rattle.source_delta.proofs.Refusals.{lacking, names_from_scratch, refused_from_scratch}
+use Rattle.source_core.proofs.Runs.{fails_then}
 use Rattle.source_delta.proofs.source.whole_table.Goals as goal
 
 pub returns-in-Ok-Some-clause-refused : goal.returns-in-Ok-Some-clause-refused

@@ -9,7 +9,7 @@ use Rattle.source_core.specs.declared.head.Head.{Head}
 use Rattle.source_delta.specs.Heads.{IsAbsent, IsDeltaHead, IsTableId}
 use Rattle.source_delta.specs.Reading.{ShowsAtHead}
 use Rattle.source_delta.proofs.Refusals.{head_refused, names_shown}
-use Rattle.source_delta.proofs.source.DeltaSource.head.Goals as goal
+use Rattle.source_delta.proofs.source.DeltaSourceSource.head.Goals as goal
 
 pub returns-in_err-newest-clause-head : goal.returns-in_err-newest-clause-head
 returns-in_err-newest-clause-head g c told =
