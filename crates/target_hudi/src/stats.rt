@@ -44,7 +44,7 @@ fn stat_path(alloc: Global, path: &Text, instant: &Text) -> Result<Text, AllocEr
 }
 
 /// The write stat of a row.
-fn stat_of(alloc: Global, instant: &Text, row: &FileRow) -> Result<Stat, AllocError>
+pub(crate) fn stat_of(alloc: Global, instant: &Text, row: &FileRow) -> Result<Stat, AllocError>
     ensures is { IfOk result (λ stat. stat ≡ stat_of instant.now row.now) }
     ensures sound { IfOk result (λ stat. IsDigits instant.now → IsPath row.now.path
         → IsSoundStat stat) }
