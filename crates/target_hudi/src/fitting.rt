@@ -92,9 +92,9 @@ fn changes_partition(
     changes_kinds(alloc, partition, Some(kinds), commits)
 }
 
-/// The schema that the commit states has a text in Avro. `SchemaType` and `AvroName` come with the
-/// name of the top-level column.
-fn spells_schema(alloc: Global, commit: &Commit) -> Result<(), TargetError>
+/// Whether the schema that the commit states has a text in Avro. `SchemaType` and `AvroName` come
+/// with the name of the top-level column.
+fn schema_fits(alloc: Global, commit: &Commit) -> Result<(), TargetError>
     ensures none { OnOk result ((feature : Feature) (column : List ℕ)
         → ¬ HasSchemaFault commit.now feature column) }
     ensures fault { IfErr result (IsFaultRefusal (HasSchemaFault commit.now)) }
@@ -118,9 +118,9 @@ fn spells_schema(alloc: Global, commit: &Commit) -> Result<(), TargetError>
     }
 }
 
-/// Each row's folder carries its values. `PartitionPath` comes with the path of the first row where
-/// it doesn't.
-fn carries_values(alloc: Global, partition: &[Text], rows: &[FileRow]) -> Result<(), TargetError>
+/// Whether each row's folder carries its values. `PartitionPath` comes with the path of the first
+/// row where it doesn't.
+fn rows_fit(alloc: Global, partition: &[Text], rows: &[FileRow]) -> Result<(), TargetError>
     ensures none { OnOk result ((row : Row) → Contains rows.now row
         → ¬ IsAstray partition.now row) }
     ensures fault { IfErr result (IsFaultRefusal (IsAstrayFault partition.now rows.now)) }
@@ -136,23 +136,23 @@ fn carries_values(alloc: Global, partition: &[Text], rows: &[FileRow]) -> Result
     Ok(())
 }
 
-/// The commit has no fault by itself: first its schema is looked at, and then its rows.
-fn is_faultless(alloc: Global, partition: &[Text], commit: &Commit) -> Result<(), TargetError>
+/// Whether the commit has no fault by itself: first its schema is looked at, and then its rows.
+fn commit_fits(alloc: Global, partition: &[Text], commit: &Commit) -> Result<(), TargetError>
     ensures none { OnOk result (HasNoFault partition.now commit.now) }
     ensures fault { IfErr result (IsFaultRefusal (IsCommitFault partition.now commit.now)) }
 {
-    spells_schema(alloc, commit)?;
-    carries_values(alloc, partition, commit.change.added.as_slice())
+    schema_fits(alloc, commit)?;
+    rows_fit(alloc, partition, commit.change.added.as_slice())
 }
 
-/// None of the commits has a fault by itself.
-fn are_faultless(alloc: Global, partition: &[Text], commits: &[Commit]) -> Result<(), TargetError>
+/// Whether none of the commits has a fault by itself.
+fn commits_fit(alloc: Global, partition: &[Text], commits: &[Commit]) -> Result<(), TargetError>
     ensures none { OnOk result ((commit : Commit) → Contains commits.now commit
         → HasNoFault partition.now commit) }
     ensures fault { IfErr result (IsFaultRefusal (IsFirstFault partition.now commits.now)) }
 {
     for commit in commits {
-        is_faultless(alloc, partition, commit)?;
+        commit_fits(alloc, partition, commit)?;
     }
     Ok(())
 }
@@ -182,5 +182,5 @@ pub(crate) fn fits(
             path: Text::from_str(alloc, "")?,
         });
     }
-    are_faultless(alloc, partition, commits)
+    commits_fit(alloc, partition, commits)
 }

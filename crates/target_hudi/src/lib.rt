@@ -17,4 +17,6 @@ pub use kept::HudiKept;
 pub use target::HudiTarget;
 
 #[cfg(test)]
+mod fitting_tests;
+#[cfg(test)]
 mod tests;

@@ -17,14 +17,14 @@ returns-then-branch-clause-refusal c =
 
 pub returns-clause-fits : goal.returns-clause-fits
 returns-clause-fits c =
-    fits_as (held_of c.args.kept.now) c.args.partition.now c.args.commits.now c.are_faultless.result
+    fits_as (held_of c.args.kept.now) c.args.partition.now c.args.commits.now c.commits_fit.result
     (λ is. absurd (omega (arith, is)))
     (λ is. false≢true (sym c.if-branch.false ∙ c.in_ok-changes_partition.ensures.1 is))
-    c.are_faultless.ensures.none
+    c.commits_fit.ensures.none
 
 pub returns-clause-refusal : goal.returns-clause-refusal
 returns-clause-refusal c =
-    refused_as (held_of c.args.kept.now) c.args.partition.now c.args.commits.now c.are_faultless.result
+    refused_as (held_of c.args.kept.now) c.args.partition.now c.args.commits.now c.commits_fit.result
     (λ is. absurd (omega (arith, is)))
     (λ is. false≢true (sym c.if-branch.false ∙ c.in_ok-changes_partition.ensures.1 is))
-    c.are_faultless.ensures.fault
+    c.commits_fit.ensures.fault

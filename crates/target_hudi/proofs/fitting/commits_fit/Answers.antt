@@ -4,21 +4,21 @@ use Rattle.std.proofs.lemmas.Result.{err_from_is_err_and}
 use Rattle.table_history.specs.declared.table.Commit.{Commit}
 use Rattle.target_hudi.specs.Fitting.{HasNoFault, IsCommitFault, IsFaultRefusal, IsFirstFault}
 use Rattle.target_hudi.proofs.FittingLemmas.{all_taken, first_fault, one_more, refusal_further}
-use Rattle.target_hudi.proofs.fitting.are_faultless.Goals as goal
+use Rattle.target_hudi.proofs.fitting.commits_fit.Goals as goal
 
-pub returns-in_err-is_faultless-clause-fault : goal.returns-in_err-is_faultless-clause-fault
-returns-in_err-is_faultless-clause-fault c =
+pub returns-in_err-commit_fits-clause-fault : goal.returns-in_err-commit_fits-clause-fault
+returns-in_err-commit_fits-clause-fault c =
     let partition = c.args.partition.now in
     let commits = c.args.commits.now in
     let commit : Commit = c.commit-item.result in
     let exit = err_from_is_err_and c.from_residual.result c.from_residual.ensures.1 in
-    let refused = refusal_further (IsCommitFault partition commit) (IsFirstFault partition commits) c.in_err-is_faultless.field-0.0
+    let refused = refusal_further (IsCommitFault partition commit) (IsFirstFault partition commits) c.in_err-commit_fits.field-0.0
     (λ feature path here. first_fault partition commits c.loop-commit.commit-index commit feature path c.loop-commit-test.true c.commit-item.is c.loop-commit.invariant here)
-    c.in_err-is_faultless.ensures.fault in
+    c.in_err-commit_fits.ensures.fault in
     subst (λ r. IfErr r (IsFaultRefusal (IsFirstFault partition commits))) (sym exit.1) (subst (IsFaultRefusal (IsFirstFault partition commits)) (sym exit.2) refused)
 
 pub loop-commit-preserved : goal.loop-commit-preserved
-loop-commit-preserved c = one_more (HasNoFault c.args.partition.now) c.args.commits.now c.loop-commit.commit-index c.commit-item.result c.loop-commit-test.true c.commit-item.is c.loop-commit.invariant c.in_ok-is_faultless.ensures.none
+loop-commit-preserved c = one_more (HasNoFault c.args.partition.now) c.args.commits.now c.loop-commit.commit-index c.commit-item.result c.loop-commit-test.true c.commit-item.is c.loop-commit.invariant c.in_ok-commit_fits.ensures.none
 
 pub returns-clause-none : goal.returns-clause-none
 returns-clause-none c =

@@ -4,7 +4,7 @@ use Rattle.std.proofs.lemmas.Bool.{false≢true}
 use Rattle.table_history.specs.Row.{Row}
 use Rattle.target_hudi.specs.Fitting.{IsAstray, IsFirstAstray}
 use Rattle.target_hudi.proofs.FittingLemmas.{all_taken, astray, first_astray, not_astray, one_more}
-use Rattle.target_hudi.proofs.fitting.carries_values.Goals as goal
+use Rattle.target_hudi.proofs.fitting.rows_fit.Goals as goal
 
 pub returns-then-not-branch-clause-fault : goal.returns-then-not-branch-clause-fault
 returns-then-not-branch-clause-fault c =
