@@ -2,7 +2,7 @@
 use Rattle.std.proofs.Common.{◌≡◌, ◌≢◌, inl, inr, ⊎_elim, ℕ, List, refl, sym, ◌∙◌, ap, subst}
 use Rattle.std.specs.Prelude.{None, Some, is_some}
 use Rattle.std.specs.FinMap as map
-use Rattle.lake_store.specs.Disk.{Disk, Files, IsClean, IsDirty, IsPartlySynced, Moves, SameElsewhere, moved, removed, synced, with_file, written}
+use Rattle.lake_store.specs.Disk.{Disk, Files, IsClean, IsDirty, IsPartlySynced, Moves, SameElsewhere, moved, removed, stored, synced, with_file, written}
 use Rattle.lake_store.specs.Runs.{IsIn}
 use Rattle.lake_store.proofs.DiskLaws.{clean-synced, get-insert_here, get-insert_other, get-remove_here, get-remove_other, path_cases}
 use Rattle.hudi_names.specs.Name.{instant_of}
@@ -20,6 +20,11 @@ use Rattle.hudi_commit.proofs.StepLaws.{clean_settled, dirty_clean, removed_clea
 -- what isn't there is absent
 pub absent : (files : Files) (q : List ℕ) → (IsThere files q → ⊥) → map.get files q ≡ None
 absent files q not_there = elim (map.get files q) as (λ o. map.get files q ≡ o → o ≡ None) [ None ↦ λ is. refl | Some b ↦ λ is. absurd (not_there (ap is_some is)) ] refl
+
+-- another writer's file is there
+pub stored_there : (old new : Disk) (q p : List ℕ) → q ≡ p → (bytes : List ℕ) × (new ≡ stored old q bytes) → IsThere new.files p
+stored_there old new q p same taken =
+    ap is_some (ap (λ (d : Disk). map.get d.files p) taken.1 ∙ ap (λ (r : List ℕ). map.get (map.insert old.files r taken.0) p) same ∙ get-insert_here old.files p taken.0)
 
 -- A file has moved.
 module _ (d : Disk) (from to bytes : List ℕ) where

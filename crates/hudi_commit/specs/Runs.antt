@@ -1,5 +1,5 @@
 -- What a run of store calls makes of a timeline.
-use Rattle.std.specs.Prelude.{◌≡◌, ◌≢◌, ◌⊎◌, ℕ, List, [], Option, None, Some, Result, Ok, Err}
+use Rattle.std.specs.Prelude.{◌≡◌, ◌≢◌, ◌⊎◌, ℕ, List, [], Option, None, Some, Result, Ok, Err, IsSome}
 use Rattle.std.specs.FinMap as map
 use Rattle.lake_store.specs.Disk.{Disk, Files, IsClean, IsName, moved, removed, synced, with_file, written}
 use Rattle.lake_store.specs.Runs.{IsEachMoment, IsIn}
@@ -72,6 +72,10 @@ pub record IsCommitted (properties : Option (List ℕ)) (instant text : List ℕ
 abbrev pub NotGiven : Option (List ℕ) → List ℕ → Type 0
 NotGiven None path = Unit {0}
 NotGiven (Some properties) path = path ≢ properties_path
+
+-- Another writer's file is there: the instant's completed one, or properties where they are given.
+abbrev pub IsTakenBy : Option (List ℕ) → List ℕ → Files → Type 0
+IsTakenBy properties instant files = IsThere files (completed_path instant) ⊎ (IsSome properties × IsThere files properties_path)
 
 -- A path that the commit leaves alone: no leftover but those of completed instants, and neither the new completed file nor properties that are given.
 pub record IsKept (properties : Option (List ℕ)) (instant : List ℕ) (entry : Files) (path : List ℕ) : Type 0 where

@@ -1,5 +1,5 @@
 //! One commit, with the recovery before it.
-ghost use Rattle.std.specs.Prelude.{◌≡◌, ◌<◌, ℕ, List, IsErrOf, None, OnOk, Some, codes, length};
+ghost use Rattle.std.specs.Prelude.{◌≡◌, ◌<◌, ℕ, List, IsErrOf, IsSome, None, OnOk, Some, codes, length};
 ghost use Rattle.std.specs.Option.{option_copied};
 ghost use Rattle.std.specs.FinMap as map;
 ghost use Rattle.lake_basics.specs.declared.limits.TheConstants.{MAX_NAMES};
@@ -7,9 +7,9 @@ ghost use Rattle.lake_store.specs.Cause.{IsNotTooLong};
 ghost use Rattle.lake_store.specs.Disk.{Files, names_in};
 ghost use Rattle.lake_store.specs.Runs.{ChangesOnlyIn, FailsBy, IsContestedBy, LeavesAlone};
 ghost use Rattle.hudi_names.specs.Time.{IsSomeTime};
-ghost use Rattle.hudi_commit.specs.Names.{claims_folder, completed_path, timeline_folder};
+ghost use Rattle.hudi_commit.specs.Names.{IsThere, claims_folder, completed_path, properties_path, timeline_folder};
 ghost use Rattle.hudi_commit.specs.Orderly.{IsOrderly};
-ghost use Rattle.hudi_commit.specs.Runs.{HasNotGrown, IsCommitted, IsIdle, IsKept, IsKeptBut, IsOneStep, IsPrepared, IsReady, IsUncontested, StaysBefore};
+ghost use Rattle.hudi_commit.specs.Runs.{HasNotGrown, IsCommitted, IsIdle, IsKept, IsKeptBut, IsOneStep, IsPrepared, IsReady, IsTakenBy, IsUncontested, StaysBefore};
 ghost use Rattle.hudi_commit.specs.Settled.{IsSettled, Stands};
 
 use crate::paths::InstantPaths;
@@ -32,6 +32,9 @@ fn prepare<S: Store>(store: &mut S, properties: Option<&[u8]>) -> Result<(), Sto
         (S.disk store.new)) }
     ensures not_grown { S.tells → OnOk result (HasNotGrown claims_folder (S.disk store.old).files
         (S.disk store.new).files) }
+    ensures taken { S.tells → IsErrOf result StoreError.Taken
+        → IsSome (option_copied properties.entry)
+        × IsThere (S.disk store.new).files properties_path }
     ensures alone { S.tells → LeavesAlone ⟦<S as Store>⟧ (IsKeptBut (option_copied properties.entry))
         store.old store.new }
     ensures cause { FailsBy ⟦<S as Store>⟧ store.old store.new (IsErrOf result StoreError.Failed) }
@@ -81,6 +84,8 @@ pub fn publish_commit<S: Store>(
     ensures kept { S.tells → LeavesAlone ⟦<S as Store>⟧
         (IsKept (option_copied properties.entry) instant.now (S.disk store.old).files)
         store.old store.new }
+    ensures taken { S.tells → IsErrOf result StoreError.Taken
+        → IsTakenBy (option_copied properties.entry) instant.now (S.disk store.new).files }
     ensures folder { S.tells → ChangesOnlyIn ⟦<S as Store>⟧ timeline_folder store.old store.new }
     ensures cause { FailsBy ⟦<S as Store>⟧ store.old store.new (IsErrOf result StoreError.Failed) }
     ensures contest { IsContestedBy ⟦<S as Store>⟧ store.old store.new

@@ -3,7 +3,7 @@ ghost use Rattle.std.specs.Prelude.{◌≡◌, IsErrOf, OnOk, Some};
 ghost use Rattle.lake_store.specs.Cause.{IsNotTooLong};
 ghost use Rattle.lake_store.specs.Disk.{Files};
 ghost use Rattle.lake_store.specs.Runs.{FailsBy, IsContestedBy, LeavesAlone};
-ghost use Rattle.hudi_commit.specs.Names.{properties_path};
+ghost use Rattle.hudi_commit.specs.Names.{IsThere, properties_path};
 ghost use Rattle.hudi_commit.specs.Runs.{HasProperties, IsNoProperties, IsQuiet, IsUncontested, StaysBefore};
 ghost use Rattle.hudi_commit.specs.Settled.{Stands};
 
@@ -20,6 +20,8 @@ pub fn publish_properties<S: Store>(store: &mut S, properties: &[u8]) -> Result<
         → StaysBefore ⟦<S as Store>⟧ (Some properties.now) base store.old store.new }
     ensures published { S.tells
         → OnOk result (HasProperties properties.now (S.disk store.old) (S.disk store.new)) }
+    ensures taken { S.tells → IsErrOf result StoreError.Taken
+        → IsThere (S.disk store.new).files properties_path }
     ensures alone { S.tells → LeavesAlone ⟦<S as Store>⟧ IsNoProperties
         store.old store.new }
     ensures cause { FailsBy ⟦<S as Store>⟧ store.old store.new (IsErrOf result StoreError.Failed) }

@@ -5,7 +5,7 @@ ghost use Rattle.lake_store.specs.Cause.{IsNotTooLong};
 ghost use Rattle.lake_store.specs.Disk.{Files, with_file};
 ghost use Rattle.lake_store.specs.Runs.{FailsBy, IsContestedBy, IsUncontestedBy, LeavesAlone};
 ghost use Rattle.hudi_names.specs.Time.{IsSomeTime};
-ghost use Rattle.hudi_commit.specs.Names.{completed_path};
+ghost use Rattle.hudi_commit.specs.Names.{IsThere, completed_path};
 ghost use Rattle.hudi_commit.specs.Runs.{IsNext, IsNoFileOf, IsNotOf, IsPublished, IsUncontested, StaysAlike, StaysOrGains, announced, claimed, completed};
 ghost use Rattle.hudi_commit.specs.Settled.{IsAnnounceable, IsUnannounced, Stands};
 
@@ -65,6 +65,8 @@ pub fn complete<S: Store>(
         → OnOk result (IsPublished base paths.now bytes.now (S.disk store.old) (S.disk store.new)) }
     ensures completed { S.tells
         → OnOk result (S.disk store.new ≡ completed paths.now bytes.now (S.disk store.old)) }
+    ensures taken { S.tells → IsErrOf result StoreError.Taken
+        → IsThere (S.disk store.new).files (completed_path paths.now) }
     ensures alone { S.tells → LeavesAlone ⟦<S as Store>⟧ (IsNoFileOf paths.now)
         store.old store.new }
     ensures cause { FailsBy ⟦<S as Store>⟧ store.old store.new (IsErrOf result StoreError.Failed) }

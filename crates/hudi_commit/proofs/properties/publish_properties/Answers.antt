@@ -7,7 +7,7 @@ use Rattle.hudi_commit.specs.Names.{properties_path, staged_properties_path}
 use Rattle.hudi_commit.specs.Runs.{IsNoProperties, IsQuiet}
 use Rattle.hudi_commit.specs.Settled.{Stands}
 use Rattle.hudi_commit.proofs.AloneLaws.{alone_begun, alone_publish, alone_remove, alone_sync, alone_write}
-use Rattle.hudi_commit.proofs.PublishLaws.{bare_stands, full_base, bare_base, has_properties, has_stands, moved_has, properties_free, staged_clean, staged_here, staged_stands, written_stands}
+use Rattle.hudi_commit.proofs.PublishLaws.{bare_stands, full_base, bare_base, has_properties, has_stands, moved_has, properties_free, staged_clean, staged_here, staged_stands, stored_there, written_stands}
 use Rattle.hudi_commit.proofs.StagingLaws.{Standing, before_begun, before_on, uncontested}
 use Rattle.hudi_commit.proofs.properties.publish_properties.Goals as goal
 
@@ -134,3 +134,6 @@ publish-requires-clause-free g c = λ told. let p = c.args.properties.now in pro
 
 pub returns-clause-published : goal.returns-clause-published
 returns-clause-published g c told = let p = c.args.properties.now in on_ok_weaker c.publish.result (has_properties p (g.S.Store.disk c.args.store.now) (g.S.Store.disk c.remove.new.self) (g.S.Store.disk c.write.new.self) (g.S.Store.disk c.sync.new.self) (c.in_ok-remove.ensures.ok told) (c.in_ok-write.ensures.ok told) (c.in_ok-sync.ensures.ok told) (g.S.Store.disk c.publish.new.self)) (c.publish.ensures.ok told)
+
+pub returns-clause-taken : goal.returns-clause-taken
+returns-clause-taken g c told taken = stored_there (g.S.Store.disk c.sync.new.self) (g.S.Store.disk c.publish.new.self) properties_path properties_path refl (c.publish.ensures.taken told taken)

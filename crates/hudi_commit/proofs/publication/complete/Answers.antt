@@ -9,6 +9,7 @@ use Rattle.hudi_commit.specs.Runs.{IsNoFileOf, IsNotOf, IsPublished, announced}
 use Rattle.hudi_commit.specs.Settled.{Stands}
 use Rattle.hudi_commit.proofs.AloneLaws.{alone_publish}
 use Rattle.hudi_commit.proofs.KeepLaws.{keeps_then}
+use Rattle.hudi_commit.proofs.PublishLaws.{stored_there}
 use Rattle.hudi_commit.proofs.StagingLaws.{announced_clean, claim_here, claimed_announceable, commit_published, gains_on, has_moved_at, not_yet, still_free, uncontested_at}
 use Rattle.hudi_commit.proofs.publication.complete.Goals as goal
 
@@ -131,3 +132,8 @@ returns-clause-alone g c told =
     (λ kept. kept.leftover (inl c.claim-2.ensures))
     (λ kept. kept.completed c.completed.ensures)
     c.publish.ensures.ok c.publish.ensures.taken c.publish.ensures.err
+
+pub returns-clause-taken : goal.returns-clause-taken
+returns-clause-taken g c told taken =
+    let disk = g.S.Store.disk in
+    stored_there (disk c.announce.new.store) (disk c.publish.new.self) c.completed.result.now (completed_path c.args.paths.now) c.completed.ensures (c.publish.ensures.taken told taken)
