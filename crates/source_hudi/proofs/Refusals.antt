@@ -1,7 +1,7 @@
 -- What is told of a timeline that is refused.
-use Rattle.std.proofs.Common.{◌≡◌, ◌≢◌, ◌⊎◌, inl, inr, ℕ, List, [], ◌∷◌, Option, Some, None, codes, refl, sym, subst, ⊎_elim}
+use Rattle.std.proofs.Common.{◌≡◌, ◌⊎◌, inl, inr, ℕ, List, [], ◌∷◌, Option, Some, None, codes, refl, sym, subst, ⊎_elim}
 use Rattle.std.specs.Prelude.{MatchOption}
-use Rattle.lake_store.specs.Disk.{Files, names_in}
+use Rattle.lake_store.specs.Disk.{Files}
 use Rattle.hudi_timeline.specs.declared.table.HudiTable.{HudiTable}
 use Rattle.hudi_table.specs.Files.{SaysProperties}
 use Rattle.hudi_table.specs.Folder.{IsFirstPending, IsHead, IsPendingAt, IsReached}
@@ -19,7 +19,7 @@ use Rattle.source_core.specs.declared.error.SourceError.TheVariants as source
 use Rattle.source_core.proofs.Answers.{weaker}
 use Rattle.source_hudi.specs.Heads.{IsAbsent, IsPending}
 use Rattle.source_hudi.specs.Instants.{AreAllRead, IsArchiveEmpty, IsFirstUnread, archive_folder, feature_of, first_archived, reached_in}
-use Rattle.source_hudi.specs.Reading.{HasArchive, HasManyNames, HasNoProperties, HasRefused, HasUnread, ShowsAtHead, ShowsFromScratch, ShowsInInstants, ShowsInTimeline, ShowsUpTo, Tells}
+use Rattle.source_hudi.specs.Reading.{HasManyNames, HasNoProperties, HasRefused, ShowsAtHead, ShowsFromScratch, ShowsInInstants, ShowsInTimeline, ShowsUpTo, Tells}
 
 -- ---- the names
 

@@ -29,7 +29,7 @@ use Rattle.target_core.specs.Folders.{SameIn}
 use Rattle.target_core.specs.FolderLemmas.{names_own, same_back}
 use Rattle.source_hudi.specs.Heads.{IsAbsent, IsHudiHead, IsPending, IsTableAtHead, IsTableName, IsTableOfInstants, IsTableUpTo, IsWholeTable}
 use Rattle.source_hudi.specs.Instants.{AreAllRead, IsArchiveEmpty, IsFirstUnread, IsUnread, archive_folder, first_archived, reached_in}
-use Rattle.source_hudi.specs.Reading.{HasArchive, HasManyNames, HasNoProperties, HasRefused, HasUnread, ShowsAtHead, ShowsFromScratch, ShowsInInstants, ShowsInTimeline, ShowsUpTo}
+use Rattle.source_hudi.specs.Reading.{HasArchive, HasManyNames, HasNoProperties, HasRefused, ShowsAtHead, ShowsFromScratch, ShowsInInstants, ShowsInTimeline, ShowsUpTo}
 
 -- ---- names
 

@@ -1,4 +1,4 @@
-use Rattle.std.proofs.Common.{Some, subst}
+use Rattle.std.proofs.Common.{subst}
 use Rattle.std.specs.Prelude.{IfSome, Option}
 use Rattle.hudi_timeline.specs.Change.{IsTableOf}
 use Rattle.hudi_table.specs.declared.reading.Latest.{Latest}

@@ -1,8 +1,7 @@
-use Rattle.std.proofs.Common.{◌≡◌, ◌∙◌, List, ℕ, Option, None, subst, sym}
+use Rattle.std.proofs.Common.{◌∙◌, subst, sym}
 use Rattle.std.specs.Prelude.{IfErr, IfOk}
 use Rattle.lake_store.specs.Disk.{Disk, names_in}
 use Rattle.lake_store.proofs.RunLaws.{reading_further}
-use Rattle.table_history.specs.declared.table.Table.{Table}
 use Rattle.hudi_table.specs.Folder.{IsHead}
 use Rattle.source_core.specs.Answers.{IsReadRefusal}
 use Rattle.source_core.proofs.Answers.{errs, oks}
