@@ -17,7 +17,8 @@ use Rattle.target_core.specs.Views.{Standing, View}
 use Rattle.target_delta.specs.Names.{HasVersions, IsLeftover, IsLeftoverName, IsSettled, path_of}
 use Rattle.target_delta.specs.Reading.{IsCarried, IsMarkAt, IsOurs, Reads}
 use Rattle.target_delta.specs.NameLemmas.{name_in, never_leftover, same_behind, version_of_path}
-use Rattle.target_delta.specs.LogLemmas.{SameVersions, id_below, log_below}
+use Rattle.delta_table.specs.SameVersions.{SameVersions}
+use Rattle.target_delta.specs.LogLemmas.{id_below, log_below}
 use Rattle.target_delta.specs.ReadingLemmas.{dirty_or_clean, none_there, reads_too, version_clean}
 
 -- Every version but the one that is published is as before, and so is each name but leftovers and that version's.

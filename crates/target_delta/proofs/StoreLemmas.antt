@@ -37,7 +37,8 @@ use Rattle.target_delta.specs.declared.kept.DeltaKept.{DeltaKept}
 use Rattle.target_delta.proofs.CommitLemmas.{advanced, earlier, free_path, is_before, is_behind}
 use Rattle.target_delta.specs.CountLemmas.{count_is}
 use Rattle.target_delta.specs.KeptLemmas.{versions_of_reads}
-use Rattle.target_delta.specs.NameLemmas.{leftover_in, never_leftover, staged_leftover, version_in}
+use Rattle.delta_table.specs.SameVersions.{version_in}
+use Rattle.target_delta.specs.NameLemmas.{leftover_in, never_leftover, staged_leftover}
 use Rattle.target_delta.proofs.PublishLemmas.{IsBeside, image_beside, staged_beside, versions_now}
 use Rattle.target_delta.specs.ReadingLemmas.{crash_carries, crash_reads, crash_settled, dirty_or_clean, none_there, version_clean}
 

@@ -15,8 +15,9 @@ use Rattle.target_delta.specs.Names.{HasVersions}
 use Rattle.target_delta.specs.Reading.{IsAbsent, Reads}
 use Rattle.target_delta.specs.Writing.{LogEnd, names_ntz}
 use Rattle.target_delta.specs.declared.kept.DeltaKept.{DeltaKept}
-use Rattle.target_delta.specs.LogLemmas.{newest_below, says_too}
-use Rattle.target_delta.specs.ReadingLemmas.{one_view, own_versions, reads_own, no_commits}
+use Rattle.delta_table.specs.SameVersions.{own_versions, says_too}
+use Rattle.target_delta.specs.LogLemmas.{newest_below}
+use Rattle.target_delta.specs.ReadingLemmas.{one_view, reads_own, no_commits}
 
 one_meta : (files : Files) (version : ℕ) (c d : DeltaCommit) (m n : MetaData) → SaysCommit files version c → SaysCommit files version d → c.meta ≡ Some m → d.meta ≡ Some n → m ≡ n
 one_meta files version c d m n h k is also =

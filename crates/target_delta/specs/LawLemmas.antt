@@ -8,6 +8,7 @@ use Rattle.table_history.specs.declared.limit.LimitKind.{LimitKind}
 use Rattle.table_history.specs.declared.table.Change.{Change}
 use Rattle.table_history.specs.declared.table.Commit.{Commit}
 use Rattle.table_history.specs.declared.table.Table.{Table}
+use Rattle.delta_table.specs.SameVersions.{own_versions}
 use Rattle.delta_table.specs.Versions.{log_folder}
 use Rattle.target_core.specs.Conditions.{IsPublishable}
 use Rattle.target_core.specs.Folders.{SameIn}
@@ -23,7 +24,7 @@ use Rattle.target_delta.specs.declared.kept.DeltaKept.{DeltaKept}
 use Rattle.target_delta.specs.CountLemmas.{count_is}
 use Rattle.target_delta.specs.FitLemmas.{unfit_same}
 use Rattle.target_delta.specs.KeptLemmas.{one_end, versions_of_reads}
-use Rattle.target_delta.specs.ReadingLemmas.{own_versions, reached_carries, reached_reads, versions_too}
+use Rattle.target_delta.specs.ReadingLemmas.{reached_carries, reached_reads, versions_too}
 
 pub kept_counted : (id : List ℕ) (kept : DeltaKept) (files : Files) → StandsFor id kept files → HasVersions files kept.commits
 kept_counted id kept files stands = versions_of_reads files (view_of kept) stands.reads

@@ -13,7 +13,7 @@ use Rattle.delta_log.specs.TableBehind.{ArePartColumns, IsSchemaBehind, partitio
 use Rattle.delta_log.specs.declared.commit.DeltaCommit.{DeltaCommit}
 use Rattle.delta_log.specs.declared.commit.MetaData.{MetaData}
 use Rattle.delta_table.specs.Log.{IsLog, IsNewestPart, IsStep, SaysCommit}
-use Rattle.delta_table.specs.Versions.{HasVersion, HoldsVersion, IsVersionPath}
+use Rattle.delta_table.specs.Versions.{IsVersionPath}
 use Rattle.delta_table.proofs.PathLaws.{says_once}
 use Rattle.target_delta.specs.Reading.{KeepsId}
 
@@ -127,28 +127,7 @@ log_front files (suc n) version table lt log =
     (λ (less : version < n). log_front files n version log.0 less log.1)
     (eq-or-lt_of_le (let le : version ≤ n = omega (arith, lt) in le))
 
--- ---- other files with the same versions
-
--- The two have the same versions.
-abbrev pub SameVersions : Files → Files → Type 0
-SameVersions a b = (path : List ℕ) (version : ℕ) → IsVersionPath path version → map.get b path ≡ map.get a path
-
-module _ (a b : Files) (same : SameVersions a b) where
-  pub holds_too : (version : ℕ) (bytes : List ℕ) → HoldsVersion a version bytes → HoldsVersion b version bytes
-  holds_too version bytes h = record { path = h.path; is = h.is; there = same h.path version h.is ∙ h.there }
-
-  pub has_too : (version : ℕ) → HasVersion a version → HasVersion b version
-  has_too version h = (h.0, holds_too version h.0 h.1)
-
-  pub says_too : (version : ℕ) (c : DeltaCommit) → SaysCommit a version c → SaysCommit b version c
-  says_too version c h = record { bytes = h.bytes; holds = holds_too version h.bytes h.holds; readable = h.readable }
-
-  pub log_too : (n : ℕ) (table : Option Table) → IsLog a n table → IsLog b n table
-  log_too zero table h = h
-  log_too (suc n) table h = (h.0, log_too n h.0 h.1, h.2, says_too n h.2 h.3, h.4, h.5, h.6)
-
-pub versions_sym : (a b : Files) → SameVersions a b → SameVersions b a
-versions_sym a b same path version is = sym (same path version is)
+-- ---- other files with the same first versions
 
 -- what the newest of so many versions has there, where the two have the same versions under that number
 pub newest_below : {A : Type 0} (part : DeltaCommit → Option A) (a b : Files) (n : ℕ) (x : A) → ((path : List ℕ) (version : ℕ) → version < n → IsVersionPath path version → map.get b path ≡ map.get a path) → IsNewestPart part a n x → IsNewestPart part b n x

@@ -37,9 +37,6 @@ staged_leftover path version p = record {
   is = p.is;
 }
 
-pub version_in : (path : List ℕ) (version : ℕ) → IsVersionPath path version → IsIn log_folder path
-version_in path version p = (p.name, p.split)
-
 pub leftover_in : (path : List ℕ) → IsLeftover path → IsIn log_folder path
 leftover_in path left = (left.name, left.is)
 

@@ -1,45 +1,24 @@
 -- What is said of a Delta target's files depends on its own folder alone.
-use Rattle.std.proofs.Common.{◌≡◌, inl, inr, ℕ, suc, ◌<◌, List, [], ◌∷◌, length, Option, Some, Contains, refl, sym, ap, subst}
-use Rattle.std.specs.Prelude.{IsSome, filter_map, map}
-use Rattle.lake_store.specs.Disk.{Files, names_in}
-use Rattle.lake_store.proofs.OrderLaws.{names_in_listed, names_in_sorted}
+use Rattle.std.proofs.Common.{◌≡◌, inl, inr, ℕ, suc, ◌<◌, List, length, Option, Some, sym, ap, subst}
+use Rattle.std.specs.Prelude.{IsSome, filter_map}
+use Rattle.lake_store.specs.Disk.{Files}
 use Rattle.lake_basics.specs.declared.limits.TheConstants.{MAX_NAMES}
-use Rattle.table_history.specs.Rows.{IsInByteOrder}
 use Rattle.table_history.specs.declared.kind.Kind.{Kind}
 use Rattle.table_history.specs.declared.limit.LimitKind.{LimitKind}
 use Rattle.table_history.specs.declared.table.Table.{Table}
-use Rattle.table_history.proofs.Laws.{in_order_same}
+use Rattle.delta_table.specs.Log.{IsStep}
+use Rattle.delta_table.specs.SameVersions.{has_too, holds_too, log_too, own_versions, says_too}
 use Rattle.delta_table.specs.Versions.{log_folder}
 use Rattle.target_core.specs.Folders.{SameIn}
+use Rattle.target_core.specs.FolderLemmas.{names_own, same_back}
 use Rattle.target_delta.specs.Inspecting.{IsCrowded, IsFaulty, IsFirstFaulty, IsFirstStray, IsForeign, IsStray, IsUnmarked, PassesIn}
 use Rattle.target_delta.specs.Names.{path_of}
 use Rattle.target_delta.specs.Reading.{commits_in, version_named}
-use Rattle.target_delta.specs.LogLemmas.{has_too, holds_too, log_too, says_too}
 use Rattle.target_delta.specs.NameLemmas.{name_in}
-use Rattle.target_delta.specs.ReadingLemmas.{marked_too, own_versions, versions_too}
-
--- ---- names
-
-mapped : (xs : List (List ℕ)) → map (λ (x : List ℕ). x) xs ≡ xs
-mapped [] = refl
-mapped (x ∷ xs) = ap (λ (ys : List (List ℕ)). x ∷ ys) (mapped xs)
-
-one_order : (xs ys : List (List ℕ)) → IsInByteOrder xs → IsInByteOrder ys → ((x : List ℕ) → Contains xs x → Contains ys x) → ((x : List ℕ) → Contains ys x → Contains xs x) → xs ≡ ys
-one_order xs ys sorted too there back = in_order_same (λ (x : List ℕ). x) xs ys (subst IsInByteOrder (sym (mapped xs)) sorted) (subst IsInByteOrder (sym (mapped ys)) too) (λ x. (there x, back x))
-
-same_back : (a b : Files) → SameIn log_folder a b → SameIn log_folder b a
-same_back a b same path within = sym (same path within)
-
-names_too : (a b : Files) → SameIn log_folder a b → (name : List ℕ) → Contains (names_in a log_folder) name → Contains (names_in b log_folder) name
-names_too a b same name there =
-    let is = ((names_in_listed a log_folder).members name).0 there in
-    ((names_in_listed b log_folder).members name).1 (is.0, subst (λ (o : Option (List ℕ)). IsSome o) (sym (same (path_of name) (name_in name))) is.1)
-
-pub names_own : (a b : Files) → SameIn log_folder a b → names_in b log_folder ≡ names_in a log_folder
-names_own a b same = one_order (names_in b log_folder) (names_in a log_folder) (names_in_sorted b log_folder) (names_in_sorted a log_folder) (names_too b a (same_back a b same)) (names_too a b same)
+use Rattle.target_delta.specs.ReadingLemmas.{marked_too, versions_too}
 
 pub commits_own : (a b : Files) → SameIn log_folder a b → commits_in b ≡ commits_in a
-commits_own a b same = ap (λ (names : List (List ℕ)). length (filter_map version_named names)) (names_own a b same)
+commits_own a b same = ap (λ (names : List (List ℕ)). length (filter_map version_named names)) (names_own log_folder name_in a b same)
 
 -- ---- foreign
 
@@ -47,17 +26,17 @@ stray_own : (a b : Files) → SameIn log_folder a b → (name : List ℕ) → Is
 stray_own a b same name h = record { proper = h.proper; there = subst (λ (o : Option (List ℕ)). IsSome o) (sym (same (path_of name) (name_in name))) h.there; other = h.other }
 
 faulty_own : (a b : Files) → SameIn log_folder a b → (version : ℕ) (base : Option Table) → IsFaulty a version base → IsFaulty b version base
-faulty_own a b same version base (inl missing) = inl (λ has. missing (has_too b a (own_versions b a (same_back a b same)) version has))
+faulty_own a b same version base (inl missing) = inl (λ has. missing (has_too b a (own_versions b a (same_back log_folder a b same)) version has))
 faulty_own a b same version base (inr (e, fault, inl h)) = inr (e, fault, inl (h.0, holds_too a b (own_versions a b same) version h.0 h.1, h.2))
 faulty_own a b same version base (inr (e, fault, inr h)) = inr (e, fault, inr (h.0, says_too a b (own_versions a b same) version h.0 h.1, h.2))
 
 first_stray_own : (a b : Files) (path : List ℕ) → SameIn log_folder a b → IsFirstStray a path → IsFirstStray b path
 first_stray_own a b path same h = record {
-  versions = λ version has. h.versions version (has_too b a (own_versions b a (same_back a b same)) version has);
+  versions = λ version has. h.versions version (has_too b a (own_versions b a (same_back log_folder a b same)) version has);
   name = h.name;
   is = h.is;
   stray = stray_own a b same h.name h.stray;
-  first = λ other stray. h.first other (stray_own b a (same_back a b same) other stray);
+  first = λ other stray. h.first other (stray_own b a (same_back log_folder a b same) other stray);
 }
 
 first_faulty_own : (a b : Files) (path : List ℕ) → SameIn log_folder a b → IsFirstFaulty a path → IsFirstFaulty b path
@@ -65,7 +44,7 @@ first_faulty_own a b path same h = record {
   version = h.version;
   named = h.named;
   base = h.base;
-  log = log_too a b (own_versions a b same) h.version h.base h.log;
+  log = log_too a b (own_versions a b same) IsStep h.version h.base h.log;
   later = h.later;
   within = h.within;
   there = has_too a b (own_versions a b same) h.later h.there;
@@ -78,8 +57,8 @@ unmarked_own source a b path same h = record {
   named = h.named;
   versions = versions_too a b (own_versions a b same) (suc h.newest) h.versions;
   table = h.table;
-  log = log_too a b (own_versions a b same) (suc h.newest) (Some h.table) h.log;
-  unmarked = λ standing marked. h.unmarked standing (marked_too b a (own_versions b a (same_back a b same)) h.newest standing marked);
+  log = log_too a b (own_versions a b same) IsStep (suc h.newest) (Some h.table) h.log;
+  unmarked = λ standing marked. h.unmarked standing (marked_too b a (own_versions b a (same_back log_folder a b same)) h.newest standing marked);
 }
 
 pub foreign_own : (source : Kind) (a b : Files) (path : List ℕ) → SameIn log_folder a b → IsForeign source a path → IsForeign source b path
@@ -95,6 +74,6 @@ passes_in_own a b same version base which number (inr (is, inl h)) = inr (is, in
 passes_in_own a b same version base which number (inr (is, inr h)) = inr (is, inr (h.0, says_too a b (own_versions a b same) version h.0 h.1, h.2))
 
 pub crowded_own : (a b : Files) (which : LimitKind) (number : ℕ) → SameIn log_folder a b → IsCrowded a which number → IsCrowded b which number
-crowded_own a b which number same (inl h) = inl (h.0, h.1, subst (λ (names : List (List ℕ)). MAX_NAMES < length names) (sym (names_own a b same)) h.2)
+crowded_own a b which number same (inl h) = inl (h.0, h.1, subst (λ (names : List (List ℕ)). MAX_NAMES < length names) (sym (names_own log_folder name_in a b same)) h.2)
 crowded_own a b which number same (inr (inl h)) = inr (inl (h.0, h.1, (h.2.0, has_too a b (own_versions a b same) h.2.0 h.2.1, h.2.2)))
-crowded_own a b which number same (inr (inr h)) = inr (inr (h.0, h.1, log_too a b (own_versions a b same) h.0 h.1 h.2, passes_in_own a b same h.0 h.1 which number h.3))
+crowded_own a b which number same (inr (inr h)) = inr (inr (h.0, h.1, log_too a b (own_versions a b same) IsStep h.0 h.1 h.2, passes_in_own a b same h.0 h.1 which number h.3))

@@ -30,8 +30,10 @@ use Rattle.target_core.specs.declared.mark.Mark.{Mark}
 use Rattle.target_core.proofs.Marks.{one_mark}
 use Rattle.target_delta.specs.Names.{HasVersions, IsLeftoverName, IsReached, IsSettled, path_of}
 use Rattle.target_delta.specs.Reading.{HasMark, IsAbsent, IsCarried, IsMarkAt, IsOurs, Reads, mark_setting, setting}
-use Rattle.target_delta.specs.NameLemmas.{name_in, never_leftover, same_behind, version_in}
-use Rattle.target_delta.specs.LogLemmas.{SameTable, SameVersions, has_too, id_below, log_too, one_columns, one_table, says_too, versions_sym}
+use Rattle.delta_table.specs.Log.{IsStep}
+use Rattle.delta_table.specs.SameVersions.{SameVersions, has_too, log_too, own_versions, says_too, version_in, versions_sym}
+use Rattle.target_delta.specs.NameLemmas.{name_in, never_leftover, same_behind}
+use Rattle.target_delta.specs.LogLemmas.{SameTable, id_below, one_columns, one_table}
 
 -- ---- one of each
 
@@ -162,7 +164,7 @@ module _ (a b : Files) (same : SameVersions a b) where
 
   pub ours_too : (v : View) → IsOurs a v → IsOurs b v
   ours_too v h =
-      let log : IsLog b (suc h.newest) (Some v.table) = log_too a b same (suc h.newest) (Some v.table) h.log in
+      let log : IsLog b (suc h.newest) (Some v.table) = log_too a b same IsStep (suc h.newest) (Some v.table) h.log in
       record {
         newest = h.newest;
         count = h.count;
@@ -203,9 +205,6 @@ module _ (a b : Files) (same : SameVersions a b) where
   reads_too v names (inr h) = inr (ours_too v h)
 
 -- ---- the same folder
-
-pub own_versions : (a b : Files) → SameIn log_folder a b → SameVersions a b
-own_versions a b same path version is = same path (version_in path version is)
 
 pub reads_own : (a b : Files) (v : View) → SameIn log_folder a b → Reads a v → Reads b v
 reads_own a b v same h = reads_too a b (own_versions a b same) v (λ name there. inr (subst (λ (o : Option (List ℕ)). IsSome o) (same (path_of name) (name_in name)) there)) h
