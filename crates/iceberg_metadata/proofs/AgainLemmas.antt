@@ -1,5 +1,5 @@
 -- Metadata that was read can be written.
-use Rattle.std.proofs.Common.{◌≡◌, ◌≢◌, ℤ, negsuc, List, [], ◌∷◌, ◌++◌, map, String, Less, Bool, true, false, cond, Option, Some, None, Result, Ok, Err, All, Global, codes, refl, sym, ap, subst, ◌∙◌, is_eq, inl, inr}
+use Rattle.std.proofs.Common.{◌≡◌, ◌≢◌, ℤ, negsuc, List, [], ◌∷◌, ◌++◌, map, String, Less, Bool, true, false, cond, Option, Some, None, Result, Ok, Err, All, Global, codes, refl, sym, ap, subst, ◌∙◌, is_eq}
 use Rattle.std.proofs.lemmas.List.{append-nil}
 use Rattle.std.proofs.lemmas.List.Elements.{All-nil, All-cons}
 use Rattle.std.proofs.lemmas.Map.Keys.{sorted_head, sorted_tail, IsDistinct-cons}
@@ -26,7 +26,6 @@ use Rattle.table_history.specs.declared.limit.LimitKind.TheVariants.{Columns, De
 use Rattle.iceberg_metadata.specs.declared.error.MetadataError.{MetadataError}
 use Rattle.iceberg_metadata.specs.declared.error.MetadataError.TheVariants.{Memory, FormatVersion, Malformed, SchemaType, Transform, Renamed, PartitionType, Limit}
 use Rattle.iceberg_metadata.specs.declared.metadata.Metadata.{Metadata}
-use Rattle.iceberg_metadata.specs.Errors.{Gives}
 use Rattle.iceberg_metadata.specs.Grammar.{IsConsistent}
 use Rattle.iceberg_metadata.specs.Members.{int_in, property, current_snapshot, unless_minus_one}
 use Rattle.iceberg_metadata.specs.Schemas.{HeldSchema, SchemaReading, refusal_of, in_grammar, columns_reading, schema_reading, readable, refusals, schema_ids}

@@ -5,11 +5,11 @@ use Rattle.std.proofs.lemmas.Bool.Decides.{Decides-int_eq}
 use Rattle.serde_json.specs.Data.{Data, Items}
 use Rattle.serde_json.specs.Find.{get}
 use Rattle.lake_basics.specs.Outcome.{each}
-use Rattle.json_reading.specs.Json.{whole_member, items}
+use Rattle.json_reading.specs.Json.{items}
 use Rattle.iceberg_metadata.specs.declared.error.MetadataError.{MetadataError}
 use Rattle.iceberg_metadata.specs.declared.error.MetadataError.TheVariants.{FormatVersion, Malformed}
 use Rattle.iceberg_metadata.specs.declared.metadata.Metadata.{Metadata}
-use Rattle.iceberg_metadata.specs.Members.{text_in, whole_in, int_in, list_in, spec, snapshots, properties, current_snapshot, refs_fit}
+use Rattle.iceberg_metadata.specs.Members.{format_version, text_in, whole_in, int_in, list_in, spec, snapshots, properties, current_snapshot, refs_fit}
 use Rattle.iceberg_metadata.specs.Schemas.{HeldSchema, SchemaReading, schema_reading, readable, refusals, schema_ids}
 use Rattle.iceberg_metadata.specs.Judging.{is_consistent, members, unkept, consistent, version_two, contents}
 use Rattle.iceberg_metadata.specs.Grammar.{Says}
@@ -115,7 +115,7 @@ pub record IsFound (d : Data) (m : Metadata) (refused : List MetadataError) : Ty
 pub contents_found : (d : Data) (m : Metadata) (refused : List MetadataError) → contents d ≡ Ok (m, refused) → IsFound d m refused
 unfolding contents unkept
 contents_found d m refused is =
-    let a = bind_ok (version_two (whole_member (codes "format-version") d)) _ (m, refused) is in
+    let a = bind_ok (version_two (format_version d)) _ (m, refused) is in
     let b = bind_ok (list_in (codes "schemas") d) _ (m, refused) a.2 in
     let c = bind_ok (each schema_reading (items b.0)) _ (m, refused) b.2 in
     let e = bind_ok (members d (readable c.0)) _ (m, refused) c.2 in
@@ -129,7 +129,7 @@ contents_found d m refused is =
     (record {
       readings = c.0;
       says = record {
-        version = two_is (whole_member (codes "format-version") d) a.1;
+        version = two_is (format_version d) a.1;
         uuid = are.uuid;
         location = are.location;
         last_sequence = are.last_sequence;
@@ -161,7 +161,7 @@ contents_found d m refused is =
 pub contents_are : (d : Data) (readings : List SchemaReading) (m : Metadata) → Says d readings m → is_consistent m (schema_ids readings) ≡ true → contents d ≡ Ok (m, refusals readings)
 unfolding contents unkept
 contents_are d readings m s good =
-    bind_by (version_two (whole_member (codes "format-version") d)) _ tt _ (ap version_two s.version)
+    bind_by (version_two (format_version d)) _ tt _ (ap version_two s.version)
     (bind_by (list_in (codes "schemas") d) _ _ _ s.has_schemas
     (bind_by (each schema_reading (items s.schema_list)) _ _ _ s.schemas
     (bind_by (members d (readable readings)) _ _ _

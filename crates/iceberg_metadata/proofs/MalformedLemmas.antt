@@ -10,7 +10,7 @@ use Rattle.json_reading.specs.Json.{whole_member, whole, int, text, items, pairs
 use Rattle.iceberg_metadata.specs.declared.error.MetadataError.{MetadataError}
 use Rattle.iceberg_metadata.specs.declared.error.MetadataError.TheVariants.{FormatVersion, Malformed}
 use Rattle.iceberg_metadata.specs.declared.metadata.Metadata.{Metadata}
-use Rattle.iceberg_metadata.specs.Members.{text_in, whole_in, int_in, list_in, whole_if_any, int_if_any, text_if_any, sequence, operation, spec, spec_field, snapshot, property, snapshots, properties, current_snapshot, refs_fit}
+use Rattle.iceberg_metadata.specs.Members.{format_version, text_in, whole_in, int_in, list_in, whole_if_any, int_if_any, text_if_any, sequence, operation, spec, spec_field, snapshot, property, snapshots, properties, current_snapshot, refs_fit}
 use Rattle.iceberg_metadata.specs.Schemas.{HeldSchema, schema_reading, readable, refusals, schema_ids}
 use Rattle.iceberg_metadata.specs.Judging.{is_consistent, members, unkept, consistent, version_two, contents}
 use Rattle.iceberg_metadata.proofs.ContentLemmas.{done, fails}
@@ -126,12 +126,12 @@ unfolding unkept
 unkept_any d = chain (list_in (codes "sort-orders") d) _ (must _) (λ a. chain (int_in (codes "default-sort-order-id") d) _ (must _) (λ b. taken_any (refs_fit (get (codes "refs") d))))
 
 abbrev OtherFault : Data → MetadataError → Type 0
-OtherFault d e = (e ≡ FormatVersion) × (v : ℤ) × (whole_member (codes "format-version") d ≡ Some v) × (v ≡ pos 2 → ⊥)
+OtherFault d e = (e ≡ FormatVersion) × (v : ℤ) × (format_version d ≡ Some v) × (v ≡ pos 2 → ⊥)
 
 abbrev GrammarFault : Data → MetadataError → Type 0
-GrammarFault d e = IsFault e × ((v : ℤ) → whole_member (codes "format-version") d ≡ Some v → v ≡ pos 2)
+GrammarFault d e = IsFault e × ((v : ℤ) → format_version d ≡ Some v → v ≡ pos 2)
 
-version_fault : (d : Data) (o : Option ℤ) (e : MetadataError) → whole_member (codes "format-version") d ≡ o → version_two o ≡ Err e → GrammarFault d e ⊎ OtherFault d e
+version_fault : (d : Data) (o : Option ℤ) (e : MetadataError) → format_version d ≡ o → version_two o ≡ Err e → GrammarFault d e ⊎ OtherFault d e
 version_fault d None e is h = inl (inl (sym (err_is Malformed e h)), λ v some. absurd (cc))
 version_fault d (Some v) e is h = by (int_eq v (pos 2)) refl h
   where
@@ -162,4 +162,4 @@ contents_malformed d e h =
     ⊎_elim
     (λ first. version_fault d _ e refl first)
     (λ p. inl (rest_any d e p.2, λ v some. version_is _ v p.1 some))
-    (bind_err (version_two (whole_member (codes "format-version") d)) _ e h)
+    (bind_err (version_two (format_version d)) _ e h)

@@ -1,5 +1,5 @@
 -- What a text of metadata is read as, and the first cause why it isn't.
-use Rattle.std.proofs.Common.{◌≡◌, ◌⊎◌, ℕ, ℤ, pos, nat_lt, List, [], ◌∷◌, length, Bool, true, false, Option, Some, None, Result, Ok, Err, Contains, codes, refl, sym, ap, subst, ◌∙◌, inl, inr, ⊎_elim}
+use Rattle.std.proofs.Common.{◌≡◌, ◌⊎◌, ℕ, ℤ, pos, nat_lt, List, [], ◌∷◌, length, Bool, true, false, Option, Some, None, Result, Ok, Err, Contains, refl, sym, ap, subst, ◌∙◌, inl, inr, ⊎_elim}
 use Rattle.std.specs.Prelude.{IfOk, IfErr, OnOk}
 use Rattle.std.specs.Bool.{Decides}
 use Rattle.std.specs.List.{list_any}
@@ -8,7 +8,7 @@ use Rattle.std.proofs.lemmas.Bool.Decides.{Decides-ltb}
 use Rattle.serde_json.specs.Data.{Data}
 use Rattle.lake_basics.specs.Outcome.{◌>>=◌, required, FailsUnlessMemory}
 use Rattle.lake_basics.specs.declared.limits.TheConstants.{MAX_PARTITION_COLUMNS}
-use Rattle.json_reading.specs.Json.{json, whole_member, items}
+use Rattle.json_reading.specs.Json.{json, items}
 use Rattle.table_history.specs.First.{IsFirst, NoneOf}
 use Rattle.table_history.specs.declared.limit.LimitKind.{LimitKind}
 use Rattle.table_history.specs.declared.limit.LimitKind.TheVariants as limit
@@ -17,6 +17,7 @@ use Rattle.iceberg_metadata.specs.declared.error.MetadataError.{MetadataError}
 use Rattle.iceberg_metadata.specs.declared.error.MetadataError.TheVariants.{Memory, FormatVersion, Malformed, SchemaType, Transform, Renamed, PartitionType, Limit}
 use Rattle.iceberg_metadata.specs.declared.metadata.Metadata.{Metadata}
 use Rattle.iceberg_metadata.specs.Errors.{is_memory, Gives}
+use Rattle.iceberg_metadata.specs.Members.{format_version}
 use Rattle.iceberg_metadata.specs.Schemas.{SchemaReading, refusals, schema_ids}
 use Rattle.iceberg_metadata.specs.Paths.{default_fields}
 use Rattle.iceberg_metadata.specs.Grammar.{IsMetadataText, IsInGrammar}
@@ -107,7 +108,7 @@ module _ (bytes : List ℕ) (m : Metadata) (es : List MetadataError) (known : Is
   not_version : HasOtherVersion bytes → ⊥
   not_version v =
       let same : v.0 ≡ known.value = data_is v.0 known.value (sym v.2 ∙ known.is) in
-      v.4 (whole_is (pos 2) v.1 (sym (ap (whole_member (codes "format-version")) same ∙ found.says.version) ∙ v.3))
+      v.4 (whole_is (pos 2) v.1 (sym (ap format_version same ∙ found.says.version) ∙ v.3))
     where
       data_is : (x y : Data) → Some x ≡ Some y → x ≡ y
       data_is x y e = cc e
@@ -190,10 +191,10 @@ bad_contents bytes d e other is h = ⊎_elim malformed version (contents_malform
     data_is : (x y : Data) → Some x ≡ Some y → x ≡ y
     data_is x y s = cc s
 
-    malformed : IsFault e × ((v : ℤ) → whole_member (codes "format-version") d ≡ Some v → v ≡ pos 2) → IsFirst (HasCause bytes) causes e
-    malformed p = inr ((λ v. v.4 (p.1 v.1 (ap (whole_member (codes "format-version")) (data_is d v.0 (sym is ∙ v.2)) ∙ v.3))), inl (⊎_elim (λ m. m) (λ m. absurd (other m)) p.0, not_in))
+    malformed : IsFault e × ((v : ℤ) → format_version d ≡ Some v → v ≡ pos 2) → IsFirst (HasCause bytes) causes e
+    malformed p = inr ((λ v. v.4 (p.1 v.1 (ap format_version (data_is d v.0 (sym is ∙ v.2)) ∙ v.3))), inl (⊎_elim (λ m. m) (λ m. absurd (other m)) p.0, not_in))
 
-    version : (e ≡ FormatVersion) × (v : ℤ) × (whole_member (codes "format-version") d ≡ Some v) × (v ≡ pos 2 → ⊥) → IsFirst (HasCause bytes) causes e
+    version : (e ≡ FormatVersion) × (v : ℤ) × (format_version d ≡ Some v) × (v ≡ pos 2 → ⊥) → IsFirst (HasCause bytes) causes e
     version p = inl (p.0, (d, p.1, is, p.2, p.3))
 
 pub refused_first : (bytes : List ℕ) (e : MetadataError) → (e ≡ Memory → ⊥) → metadata_of bytes ≡ Err e → IsFirst (HasCause bytes) causes e

@@ -4,11 +4,11 @@ use Rattle.std.proofs.lemmas.List.{append_assoc, append-nil}
 use Rattle.serde_json.specs.Data.{Data, Items}
 use Rattle.serde_json.specs.View.{view, items_view}
 use Rattle.serde_json.specs.declared.value.Value.{Value}
-use Rattle.json_reading.specs.Json.{whole_member, items}
+use Rattle.json_reading.specs.Json.{items}
 use Rattle.table_history.specs.TypeTree.{ColumnTrees}
 use Rattle.iceberg_metadata.specs.declared.metadata.Metadata.{Metadata}
 use Rattle.iceberg_metadata.specs.Errors.{is_memory}
-use Rattle.iceberg_metadata.specs.Members.{list_in}
+use Rattle.iceberg_metadata.specs.Members.{format_version, list_in}
 use Rattle.iceberg_metadata.specs.Judging.{members, unkept, consistent, version_two, contents}
 use Rattle.iceberg_metadata.proofs.ContentLemmas.{done, fails}
 use Rattle.iceberg_metadata.proofs.StepLemmas.{bind_ok, bind_by, ok_is}
@@ -62,15 +62,15 @@ fails_by false e r s leads h = leads h
 readings_of : (ds : List Data) (h : HeldSchemas) → each_schema ds ≡ Ok h → (rs : List SchemaReading) × (each schema_reading ds ≡ Ok rs) × (held_schemas rs ≡ h)
 readings_of ds h is = let p = bind_ok (each schema_reading ds) _ h is in (p.0, p.1, ok_is (held_schemas p.0) h p.2)
 
-contents_refused : (d : Data) (listed : Items) (rs : List SchemaReading) (m : Metadata) (e : MetadataError) → version_two (whole_member (codes "format-version") d) ≡ done → list_in (codes "schemas") d ≡ Ok listed → each schema_reading (items listed) ≡ Ok rs
+contents_refused : (d : Data) (listed : Items) (rs : List SchemaReading) (m : Metadata) (e : MetadataError) → version_two (format_version d) ≡ done → list_in (codes "schemas") d ≡ Ok listed → each schema_reading (items listed) ≡ Ok rs
     → members d (readable rs) ≡ Ok m → unkept d ≡ done → consistent m (schema_ids rs) ≡ fails e → contents d ≡ Err e
 unfolding contents
 contents_refused d listed rs m e version list each_is is others refused =
-    bind_by (version_two (whole_member (codes "format-version") d)) _ tt _ version
+    bind_by (version_two (format_version d)) _ tt _ version
     (bind_by (list_in (codes "schemas") d) _ _ _ list
     (bind_by (each schema_reading (items listed)) _ _ _ each_is (bind_by (members d (readable rs)) _ _ _ is (bind_by (unkept d) _ tt _ others (ap (λ (r : Result (Unit {0}) MetadataError). r >>= λ u. Ok (m, refusals rs)) refused)))))
 
-pub told_inconsistent : (d : Data) (listed : Items) (h : HeldSchemas) (m : Metadata) (ids : List ℤ) (e : MetadataError) → version_two (whole_member (codes "format-version") d) ≡ done → list_in (codes "schemas") d ≡ Ok listed → each_schema (items listed) ≡ Ok h
+pub told_inconsistent : (d : Data) (listed : Items) (h : HeldSchemas) (m : Metadata) (ids : List ℤ) (e : MetadataError) → version_two (format_version d) ≡ done → list_in (codes "schemas") d ≡ Ok listed → each_schema (items listed) ≡ Ok h
     → members d h.read ≡ Ok m → unkept d ≡ done → ids ≡ h.ids → FailsUnlessMemory (is_memory e) e (consistent m ids) → FailsUnlessMemory (is_memory e) e (contents d)
 told_inconsistent d listed h m ids e version list each_is is others ids_are =
     let p = readings_of (items listed) h each_is in

@@ -1,19 +1,19 @@
 -- The JSON of metadata holds no float and is shallow.
-use Rattle.std.proofs.Common.{◌≡◌, ℕ, suc, ◌+◌, ◌*◌, ◌≤◌, max, ℤ, pos, negsuc, List, [], ◌∷◌, map, Bool, true, false, not, Option, Some, None, Ordering, Less, Equal, Greater, All, Ok, codes, refl, sym, ap, ◌∙◌, arith, nat_cmp}
+use Rattle.std.proofs.Common.{◌≡◌, ℕ, suc, ◌+◌, ◌*◌, ◌≤◌, max, ℤ, pos, negsuc, List, [], ◌∷◌, map, Bool, true, false, Option, Some, None, Less, Equal, Greater, All, Ok, codes, refl, arith, nat_cmp}
 use Rattle.std.proofs.lemmas.List.Elements.{All-head, All-tail}
 use Rattle.std.specs.Prelude.{◌||◌, unwrap_or}
 use Rattle.std.specs.Cmp.Lexicographic.{slice_cmp}
 use Rattle.std.specs.List.{AllByRecursion}
 use Rattle.std.specs.Ordering.{match_ordering}
-use Rattle.serde_json.specs.Data.{Data, number, string, array, object, Items, no_items, item, Members, no_members, member, put, depth, items_depth, members_depth}
+use Rattle.serde_json.specs.Data.{Data, string, array, object, Items, Members, no_members, member, put, depth, items_depth, members_depth}
 use Rattle.serde_json.specs.Find.{of_integer, is_float}
 use Rattle.serde_json.specs.Read.{max_depth}
 use Rattle.serde_json.specs.View.{items_of}
 use Rattle.serde_json.specs.Written.{has_float, items_have_float, members_have_float}
 use Rattle.json_reading.specs.Json.{members_with}
-use Rattle.schema_map.specs.IcebergWriting.{first_id, ids_behind, iceberg_data, iceberg_fields, iceberg_value}
+use Rattle.schema_map.specs.IcebergWriting.{first_id, ids_behind, iceberg_data, iceberg_fields}
 use Rattle.schema_map.proofs.IcebergSchema.{given_found}
-use Rattle.table_history.specs.SchemaSize.{levels, column_levels, IsWithinLimits}
+use Rattle.table_history.specs.SchemaSize.{levels, column_levels}
 use Rattle.table_history.specs.TypeTree as tree
 use Rattle.table_history.specs.TypeTree.{TypeTree, ColumnTrees, no_columns, column}
 use Rattle.iceberg_metadata.specs.Schemas.{HeldSchema}

@@ -1,6 +1,6 @@
 -- Metadata that is written, read back.
-use Rattle.std.proofs.Common.{◌≡◌, ◌≢◌, ℕ, suc, ◌+◌, ◌<◌, ◌≤◌, ◌^◌, ◌++◌, append_assoc, ◌⊎◌, inl, inr, ⊎_elim, ℤ, pos, negsuc, List, [], ◌∷◌, map, nat_lt, nat_cmp, Bool, true, false, cond, Ordering, Less, Equal, Greater, Option, Some, None, Result, Ok, Err, All, codes, refl, sym, ap, ◌∙◌, subst, arith, is_eq, FitsSigned, w32, w64, leb, ltb, length}
-use Rattle.std.proofs.lemmas.Bool.{le-leb, lt-ltb, true≢false, false≢true}
+use Rattle.std.proofs.Common.{◌≡◌, ◌≢◌, ℕ, ◌<◌, ◌^◌, ◌++◌, inr, ℤ, pos, negsuc, List, [], ◌∷◌, map, nat_lt, nat_cmp, Bool, true, false, Ordering, Less, Equal, Greater, Option, Some, None, Result, Ok, All, refl, sym, ap, ◌∙◌, subst, arith, is_eq, FitsSigned, w32, w64, length}
+use Rattle.std.proofs.lemmas.Bool.{le-leb, lt-ltb, true≢false}
 use Rattle.std.proofs.lemmas.Bool.Decides.{Decides-int_eq, Decides-ltb}
 use Rattle.std.proofs.lemmas.Int.{ints}
 use Rattle.std.proofs.lemmas.List.{append-nil}
@@ -16,23 +16,20 @@ use Rattle.std.specs.List.{AllByRecursion, list_any}
 use Rattle.std.specs.List.Sorted.{IsPermutation}
 use Rattle.std.specs.Ordering.{int_eq, match_ordering}
 use Rattle.std.specs.Str.{bytes_eq}
-use Rattle.serde_json.specs.Data.{Data, string, object, Members, no_members, member, put}
-use Rattle.serde_json.specs.Find.{get}
+use Rattle.serde_json.specs.Data.{Data, string, Members, no_members, member, put}
 use Rattle.serde_json.specs.View.{items_of}
-use Rattle.lake_basics.specs.Outcome.{◌>>=◌, each, required}
+use Rattle.lake_basics.specs.Outcome.{each}
 use Rattle.lake_basics.specs.declared.limits.TheConstants.{MAX_PARTITION_COLUMNS}
 use Rattle.json_reading.specs.Json as json_values
 use Rattle.json_reading.specs.Json.{json, whole, int, items, pairs, members_with, IsReadAgain}
-use Rattle.schema_map.specs.Iceberg.{iceberg_schema}
 use Rattle.table_history.specs.First.{NoneOf}
-use Rattle.table_history.specs.declared.limit.LimitKind.TheVariants as limit
 use Rattle.iceberg_metadata.specs.declared.error.MetadataError.{MetadataError}
-use Rattle.iceberg_metadata.specs.declared.error.MetadataError.TheVariants.{Malformed, Limit, Transform, Renamed, PartitionType}
+use Rattle.iceberg_metadata.specs.declared.error.MetadataError.TheVariants.{Malformed}
 use Rattle.iceberg_metadata.specs.declared.metadata.Metadata.{Metadata}
 use Rattle.iceberg_metadata.specs.declared.metadata.Snapshot.{Snapshot}
 use Rattle.iceberg_metadata.specs.declared.metadata.Spec.{Spec}
 use Rattle.iceberg_metadata.specs.declared.metadata.SpecField.{SpecField}
-use Rattle.iceberg_metadata.specs.Members.{spec_field, spec, snapshot, property, current_snapshot, unless_minus_one, refs_fit}
+use Rattle.iceberg_metadata.specs.Members.{spec_field, spec, snapshot, property, current_snapshot, refs_fit}
 use Rattle.iceberg_metadata.specs.Schemas.{HeldSchema, SchemaReading, schema_reading, readable, refusals, schema_ids}
 use Rattle.iceberg_metadata.specs.Grammar.{Says, IsConsistent}
 use Rattle.iceberg_metadata.specs.Paths.{default_fields, HasOtherTransform, IsRenamed, HasOtherPartition}

@@ -5,10 +5,10 @@ use Rattle.std.specs.Ordering.{int_eq}
 use Rattle.serde_json.specs.Data.{Data, Items}
 use Rattle.serde_json.specs.Find.{get}
 use Rattle.lake_basics.specs.Outcome.{each}
-use Rattle.json_reading.specs.Json.{json, whole_member, items}
+use Rattle.json_reading.specs.Json.{json, items}
 use Rattle.iceberg_metadata.specs.declared.metadata.Metadata.{Metadata}
 use Rattle.iceberg_metadata.specs.declared.metadata.Snapshot.{Snapshot}
-use Rattle.iceberg_metadata.specs.Members.{text_in, whole_in, int_in, list_in, spec, snapshots, properties, current_snapshot, refs_fit}
+use Rattle.iceberg_metadata.specs.Members.{format_version, text_in, whole_in, int_in, list_in, spec, snapshots, properties, current_snapshot, refs_fit}
 use Rattle.iceberg_metadata.specs.Schemas.{SchemaReading, schema_reading, readable, schema_ids}
 use Rattle.iceberg_metadata.specs.Location.{NamesPath}
 
@@ -16,7 +16,7 @@ use Rattle.iceberg_metadata.specs.Location.{NamesPath}
 
 -- The value has the members that table metadata must have, each of its kind; those that may be absent are of their kind where they are there. The metadata has what they say: of the schemas those that can be taken over.
 pub record Says (d : Data) (readings : List SchemaReading) (m : Metadata) : Type 0 where
-  pub version : whole_member (codes "format-version") d ≡ Some (pos 2)
+  pub version : format_version d ≡ Some (pos 2)
   pub uuid : text_in (codes "table-uuid") d ≡ Ok m.uuid
   pub location : text_in (codes "location") d ≡ Ok m.location
   pub last_sequence : whole_in (codes "last-sequence-number") d ≡ Ok m.last_sequence

@@ -8,7 +8,7 @@ use Rattle.serde_json.specs.Data.{Data}
 use Rattle.serde_json.specs.Find.{get}
 use Rattle.lake_basics.specs.Outcome.{◌>>=◌, required, each}
 use Rattle.lake_basics.specs.declared.limits.TheConstants.{MAX_PARTITION_COLUMNS}
-use Rattle.json_reading.specs.Json.{json, whole_member, items}
+use Rattle.json_reading.specs.Json.{json, items}
 use Rattle.schema_map.specs.Ids.{Path, known_id}
 use Rattle.table_history.specs.declared.limit.LimitKind.{LimitKind}
 use Rattle.table_history.specs.declared.limit.LimitKind.TheVariants as limit
@@ -16,7 +16,7 @@ use Rattle.iceberg_metadata.specs.declared.error.MetadataError.{MetadataError}
 use Rattle.iceberg_metadata.specs.declared.error.MetadataError.TheVariants.{FormatVersion, Malformed, SchemaType, Transform, Renamed, PartitionType, Limit}
 use Rattle.iceberg_metadata.specs.declared.metadata.Metadata.{Metadata}
 use Rattle.iceberg_metadata.specs.declared.metadata.SpecField.{SpecField}
-use Rattle.iceberg_metadata.specs.Members.{text_in, whole_in, int_in, list_in, spec, snapshots, properties, current_snapshot, refs_fit}
+use Rattle.iceberg_metadata.specs.Members.{format_version, text_in, whole_in, int_in, list_in, spec, snapshots, properties, current_snapshot, refs_fit}
 use Rattle.iceberg_metadata.specs.Schemas.{HeldSchema, schema_reading, readable, refusals, schema_ids}
 use Rattle.iceberg_metadata.specs.Paths.{PathId, all_path_ids, path_of, default_fields, current_schema, source_kind, sources}
 use Rattle.iceberg_metadata.specs.Location.{front_of, names_path}
@@ -84,7 +84,7 @@ version_two (Some version) = if int_eq version (pos 2) then Ok tt else Err Forma
 -- what the value says, and why schemas can't be taken over
 unfoldable pub contents : Data → Result (Metadata × List MetadataError) MetadataError
 contents d = do
-  version ← version_two (whole_member (codes "format-version") d)
+  version ← version_two (format_version d)
   listed ← list_in (codes "schemas") d
   readings ← each schema_reading (items listed)
   m ← members d (readable readings)

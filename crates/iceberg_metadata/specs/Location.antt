@@ -1,17 +1,15 @@
 -- Where a table lies, and the paths that are written in its files (Iceberg specification, "Table Metadata Fields", `location`).
-use Rattle.std.specs.Prelude.{◌≡◌, ℕ, List, [], ◌∷◌, ◌++◌, Bool, true, Option, Some, None, length, take, drop, if◌then◌else◌}
-use Rattle.std.specs.List.{list_all}
+use Rattle.std.specs.Prelude.{◌≡◌, ℕ, ◌-◌, List, [], ◌∷◌, ◌++◌, Bool, true, Option, Some, None, length, take, drop, codes, if◌then◌else◌}
 use Rattle.std.specs.Str.{bytes_eq}
-use Rattle.table_history.specs.Path.{IsPath, is_path, is_slash}
+use Rattle.table_history.specs.Path.{IsPath, is_path}
 
--- a folder without the slashes at its end
-abbrev pub without_slashes : List ℕ → List ℕ
-without_slashes [] = []
-without_slashes (b ∷ bs) = if list_all is_slash (b ∷ bs) then [] else b ∷ without_slashes bs
+-- a location without the slash at its end, if it has one there
+abbrev pub without_slash : List ℕ → List ℕ
+without_slash bs = if bytes_eq (drop (length bs - 1) bs) (codes "/") then take (length bs - 1) bs else bs
 
 -- what each path in the table begins with
 abbrev pub front_of : List ℕ → List ℕ
-front_of location = without_slashes location ++ 47 ∷ []
+front_of location = without_slash location ++ 47 ∷ []
 
 -- Where the file lies in the table's location, what is left of its name is a path.
 abbrev pub NamesPath : List ℕ → List ℕ → Type 0

@@ -1,8 +1,8 @@
 -- The members of table metadata by their kinds (Iceberg specification, "Table Metadata Fields", "Snapshots", "Partition Specs").
-use Rattle.std.specs.Prelude.{ℕ, ℤ, pos, negsuc, List, [], Bool, true, Option, Some, None, is_some, Result, Ok, Err, if◌then◌else◌, codes}
+use Rattle.std.specs.Prelude.{ℕ, ℤ, pos, negsuc, List, [], Bool, true, Option, Some, None, is_some, option_and_then, Result, Ok, Err, if◌then◌else◌, codes}
 use Rattle.std.specs.Ordering.{int_eq}
 use Rattle.serde_json.specs.Data.{Data, null, boolean, number, string, array, object, Items}
-use Rattle.serde_json.specs.Find.{get, as_array, as_object}
+use Rattle.serde_json.specs.Find.{get, as_number, as_integer, as_array, as_object}
 use Rattle.lake_basics.specs.Outcome.{◌>>=◌, required, each}
 use Rattle.json_reading.specs.Json.{whole, int, text, text_member, whole_member, int_member, list_member, items, pairs}
 use Rattle.iceberg_metadata.specs.declared.error.MetadataError.{MetadataError}
@@ -10,6 +10,15 @@ use Rattle.iceberg_metadata.specs.declared.error.MetadataError.TheVariants.{Malf
 use Rattle.iceberg_metadata.specs.declared.metadata.Snapshot.{Snapshot}
 use Rattle.iceberg_metadata.specs.declared.metadata.Spec.{Spec}
 use Rattle.iceberg_metadata.specs.declared.metadata.SpecField.{SpecField}
+
+-- ---- the version of the format
+
+-- a number that JSON spells with neither fraction nor exponent, of 64 bits, with a sign or without
+abbrev pub integer : Data → Option ℤ
+integer d = option_and_then as_integer (as_number d)
+
+abbrev pub format_version : Data → Option ℤ
+format_version d = option_and_then integer (get (codes "format-version") d)
 
 -- ---- members that must be there
 

@@ -1,18 +1,19 @@
 -- What metadata is read as, and why a text isn't read.
-use Rattle.std.specs.Prelude.{◌≡◌, ◌≢◌, ◌⊎◌, ℕ, ℤ, pos, List, [], ◌∷◌, Contains, Some, codes}
+use Rattle.std.specs.Prelude.{◌≡◌, ◌≢◌, ◌⊎◌, ℕ, ℤ, pos, List, [], ◌∷◌, Contains, Some}
 use Rattle.serde_json.specs.Data.{Data}
-use Rattle.json_reading.specs.Json.{json, whole_member}
+use Rattle.json_reading.specs.Json.{json}
 use Rattle.table_history.specs.declared.limit.LimitKind.TheVariants.{Columns, Depth, PartitionColumns}
 use Rattle.iceberg_metadata.specs.declared.error.MetadataError.{MetadataError}
 use Rattle.iceberg_metadata.specs.declared.error.MetadataError.TheVariants.{Memory, FormatVersion, Malformed, SchemaType, Transform, Renamed, PartitionType, Limit}
 use Rattle.iceberg_metadata.specs.declared.metadata.Metadata.{Metadata}
+use Rattle.iceberg_metadata.specs.Members.{format_version}
 use Rattle.iceberg_metadata.specs.Schemas.{SchemaReading, refusals}
 use Rattle.iceberg_metadata.specs.Paths.{HasOtherTransform, IsRenamed, HasOtherPartition, HasManyPartitionColumns}
 use Rattle.iceberg_metadata.specs.Grammar.{IsMetadataText, IsInGrammar}
 
 -- The text is JSON of an object whose format version is a whole number, and another one than 2.
 abbrev pub HasOtherVersion : List ℕ → Type 0
-HasOtherVersion bytes = (d : Data) × (version : ℤ) × (json bytes ≡ Some d) × (whole_member (codes "format-version") d ≡ Some version) × (version ≢ pos 2)
+HasOtherVersion bytes = (d : Data) × (version : ℤ) × (json bytes ≡ Some d) × (format_version d ≡ Some version) × (version ≢ pos 2)
 
 -- Why what a text says isn't taken over, where these are the refusals of held schemas.
 abbrev pub Shows : MetadataError → List MetadataError → Metadata → Type 0

@@ -1,5 +1,5 @@
 -- The JSON text of table metadata that is written (Iceberg specification, "Table Metadata Fields" and "JSON serialization").
-use Rattle.std.specs.Prelude.{◌≡◌, ◌≢◌, ℕ, ℤ, pos, negsuc, List, [], ◌∷◌, map, All, Option, Some, None, Ok, unwrap_or, IfSome, FitsSigned, codes}
+use Rattle.std.specs.Prelude.{◌≡◌, ◌≢◌, ℕ, ℤ, pos, negsuc, List, [], map, All, Option, Some, None, Ok, unwrap_or, IfSome, FitsSigned, codes}
 use Rattle.std.specs.Int.{w32, w64}
 use Rattle.std.specs.List.{AllByRecursion, IsDistinct}
 use Rattle.std.specs.List.Sorted.{IsPermutation}

@@ -2,7 +2,7 @@
 
 ghost use Rattle.std.specs.Prelude.{◌≡◌, map, option_map, IfOk};
 ghost use Rattle.std.specs.List.{list_all};
-ghost use Rattle.iceberg_metadata.specs.Location.{without_slashes, front_of, behind, names_path};
+ghost use Rattle.iceberg_metadata.specs.Location.{without_slash, front_of, behind, names_path};
 ghost use Rattle.iceberg_metadata.specs.IdSets.{HoldsIds};
 ghost use Rattle.iceberg_metadata.specs.Judging.{is_among, is_among_if_any, are_held, is_consistent};
 
@@ -58,21 +58,18 @@ fn has_schemas(snapshots: &[Snapshot], schemas: &BTreeSet<i64>, ids: &[i64]) -> 
 
 // ---- paths
 
-fn without_slashes(bytes: &[u8]) -> &[u8]
-    ensures { result.now ≡ without_slashes bytes.now }
+/// The location without the slash at its end.
+fn without_slash(location: &[u8]) -> &[u8]
+    ensures { result.now ≡ without_slash location.now }
 {
-    let mut end = bytes.len();
-    'slashes: while end > 0 && bytes[end - 1] == b'/' {
-        end -= 1;
-    }
-    &bytes[..end]
+    location.strip_suffix(b"/").unwrap_or(location)
 }
 
 /// What each path in the table begins with.
 fn front(alloc: Global, location: &str) -> Result<Vec<u8>, AllocError>
     ensures { IfOk result (λ f. f.items ≡ front_of location.now) }
 {
-    let mut front = Vec::from_slice(alloc, without_slashes(location.as_bytes()))?;
+    let mut front = Vec::from_slice(alloc, without_slash(location.as_bytes()))?;
     front.push(b'/')?;
     Ok(front)
 }

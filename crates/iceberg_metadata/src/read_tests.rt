@@ -123,24 +123,58 @@ const NO_PATH: &str = ",\"snapshots\":[{\"snapshot-id\":7,\"timestamp-ms\":1,\
 const ELSEWHERE: &str = ",\"snapshots\":[{\"snapshot-id\":7,\"timestamp-ms\":1,\
 \"manifest-list\":\"/v/metadata/../s.avro\"}]";
 
+const TWO_SCHEMAS: &str = "{\"type\":\"struct\",\"schema-id\":0,\"fields\":[\
+{\"id\":1,\"name\":\"a\",\"required\":false,\"type\":\"long\"}]},\
+{\"type\":\"struct\",\"schema-id\":0,\"fields\":[]}";
+
+const TWO_SPECS: &str = ",\"partition-specs\":[{\"spec-id\":0,\"fields\":[]},\
+{\"spec-id\":0,\"fields\":[]}]";
+
+const NULL_PARENT: &str = ",\"snapshots\":[{\"snapshot-id\":7,\"timestamp-ms\":1,\
+\"manifest-list\":\"/w/metadata/s.avro\",\"parent-snapshot-id\":null}]";
+
+const TWO_SLASHES: &str = ",\"location\":\"/w//\",\"snapshots\":[{\"snapshot-id\":7,\
+\"timestamp-ms\":1,\"manifest-list\":\"/w//metadata/../s.avro\"}]";
+
+const ONE_SLASH_LESS: &str = ",\"location\":\"/w//\",\"snapshots\":[{\"snapshot-id\":7,\
+\"timestamp-ms\":1,\"manifest-list\":\"/w/metadata/../s.avro\"}]";
+
 const NO_SCHEMA: &str = ",\"snapshots\":[{\"snapshot-id\":7,\"timestamp-ms\":1,\
 \"manifest-list\":\"/w/metadata/s.avro\",\"schema-id\":1}]";
 
 #[test]
 fn each_refusal_has_its_cause(rt: HostRuntime) -> Result<(), Fail> {
-    let rows: [[&str; 4]; 18] = [
+    let rows: [[&str; 4]; 26] = [
         ["read", LONG, "", ""],
         ["read", LONG, IDENTITY, SNAPSHOT],
         ["read", LONG, "", ELSEWHERE],
+        ["read", LONG, "", ONE_SLASH_LESS],
         ["read", LONG, "", ",\"current-snapshot-id\":null"],
         ["version", LONG, "", ",\"format-version\":3,\"location\":4"],
+        ["version", LONG, "", ",\"format-version\":-1"],
+        [
+            "version",
+            LONG,
+            "",
+            ",\"format-version\":9223372036854775808",
+        ],
+        [
+            "malformed",
+            LONG,
+            "",
+            ",\"format-version\":18446744073709551616",
+        ],
         ["malformed", LONG, "", ",\"format-version\":2.0"],
         ["malformed", LONG, "", ",\"current-schema-id\":1"],
         ["malformed", LONG, "", ",\"default-spec-id\":1"],
         ["malformed", LONG, "", ",\"current-snapshot-id\":7"],
         ["malformed", TIME, "", ",\"properties\":null"],
+        ["malformed", TWO_SCHEMAS, "", ""],
+        ["malformed", LONG, "", TWO_SPECS],
         ["malformed", LONG, "", TWO_SNAPSHOTS],
+        ["malformed", LONG, "", NULL_PARENT],
         ["malformed", LONG, "", NO_PATH],
+        ["malformed", LONG, "", TWO_SLASHES],
         ["malformed", LONG, "", NO_SCHEMA],
         ["type", TIME, BUCKET, ""],
         ["transform", RENAMED, BUCKET, ""],

@@ -3,10 +3,11 @@
 ghost use Rattle.std.specs.Prelude.{◌≡◌, ◌⊎◌, codes, IfOk, IfErr, OnOk, Err};
 ghost use Rattle.serde_json.specs.View.{view};
 ghost use Rattle.lake_basics.specs.Outcome.{required};
-ghost use Rattle.json_reading.specs.Json.{json, whole_member};
+ghost use Rattle.json_reading.specs.Json.{json};
 ghost use Rattle.table_history.specs.First.{IsFirst, NoneOf};
 ghost use Rattle.iceberg_metadata.specs.Errors.{Gives, GivesBy};
 ghost use Rattle.iceberg_metadata.specs.Judging.{members, unkept, consistent, version_two, contents, limit_passed, judged, metadata_of};
+ghost use Rattle.iceberg_metadata.specs.Members.{integer, format_version};
 ghost use Rattle.iceberg_metadata.specs.Reading.{HasCause, causes, IsRead};
 ghost use Rattle.iceberg_metadata.specs.Writing.{HaveOwnNames, IsWritable};
 ghost use Rattle.iceberg_metadata.specs.declared.error.MetadataError.TheVariants as errors;
@@ -21,7 +22,7 @@ use crate::metadata::{Metadata, SpecField};
 use crate::partition::{default_fields, has_other_partition, has_other_transform};
 use crate::paths::is_renamed;
 use crate::schemas::{has_limit_of_columns, has_limit_of_depth, has_schema_type, schemas_in};
-use json_reading::{read_json, whole_of};
+use json_reading::read_json;
 use lake_basics::limits::MAX_PARTITION_COLUMNS;
 use lake_basics::{Items, ReadError};
 use schema_map::Ids;
@@ -39,14 +40,25 @@ fn json_of(alloc: Global, bytes: &[u8]) -> Result<Value, MetadataError>
     }
 }
 
-/// The format version is 2.
-fn version_two(value: &Value) -> Result<(), MetadataError>
-    ensures { Gives result (version_two (whole_member (codes "format-version") (view value.now))) }
+/// The version is 2. Another whole number of 64 bits, with a sign or without, is another version.
+fn is_two(version: &Value) -> Result<(), MetadataError>
+    ensures { Gives result (version_two (integer (view version.now))) }
 {
-    match whole_of(value, "format-version") {
-        None => Err(MALFORMED),
+    match version.as_u64() {
         Some(2) => Ok(()),
         Some(_) => Err(MetadataError::FormatVersion),
+        None if version.is_i64() => Err(MetadataError::FormatVersion),
+        None => Err(MALFORMED),
+    }
+}
+
+/// The format version is 2.
+fn version_two(value: &Value) -> Result<(), MetadataError>
+    ensures { Gives result (version_two (format_version (view value.now))) }
+{
+    match value.get("format-version") {
+        None => Err(MALFORMED),
+        Some(version) => is_two(version),
     }
 }
 
