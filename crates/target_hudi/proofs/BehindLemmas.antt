@@ -30,7 +30,8 @@ use Rattle.target_core.specs.Views.{Standing, View, standing_of}
 use Rattle.target_core.specs.declared.mark.Mark.{Mark}
 use Rattle.target_hudi.specs.Reading.{HasOwnNames, HasOwnProperties, IsCarried, IsMarkAt, IsOurs, IsOwnName, commits_in, completed_in}
 use Rattle.target_hudi.specs.Steps.{IsStep}
-use Rattle.target_hudi.proofs.BesideLemmas.{AreEarlier, IsBeside, completed_behind, marked_still, new_one, reading_still}
+use Rattle.target_hudi.proofs.BesideLemmas.{IsBeside, completed_behind, marked_still, reading_still}
+use Rattle.target_hudi.proofs.TimelineLemmas.{AreEarlier, new_one}
 
 -- these bytes are read as properties of a table that this program made
 abbrev pub AreOurs : List ℕ → Type 0

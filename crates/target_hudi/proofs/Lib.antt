@@ -22,7 +22,6 @@ pub mod BehindLemmas
 pub mod BesideLemmas
 pub mod KeepsLemmas
 pub mod MomentLemmas
-pub mod PickedLemmas
 pub mod PublishLemmas
 pub mod ReadTableLemmas
 pub mod StoreLemmas

@@ -16,8 +16,10 @@ use Rattle.hudi_commit.proofs.NameLaws.{cancel, completed_no_leftover, completed
 use Rattle.hudi_commit.proofs.OpenLaws.{open_leftover}
 use Rattle.hudi_commit.proofs.OrderlyLaws.{there_none}
 use Rattle.hudi_commit.proofs.StepLaws.{in_timeline}
+use Rattle.target_hudi.specs.InstantLemmas.{named}
 use Rattle.target_hudi.specs.Reading.{IsReached, completed_in}
-use Rattle.target_hudi.proofs.BesideLemmas.{AreEarlier, IsBeside, free, here}
+use Rattle.target_hudi.proofs.BesideLemmas.{IsBeside}
+use Rattle.target_hudi.proofs.TimelineLemmas.{AreEarlier, free}
 
 -- The properties are given where nothing is completed.
 abbrev pub AreDue : Option (List ℕ) → Files → Type 0
@@ -96,8 +98,8 @@ module _ (properties : Option (List ℕ)) (instant : List ℕ) (real : IsSomeTim
 
       by : (path ≡ path_of reached.0.name) ⊎ (path ≡ properties_path) → IsKept properties instant old path
       by (inl same) =
-          let h = here old reached.0 reached.1 in
-          let says : IsInstantIn state.Completed reached.0.name = (h.name.digits, h.name.action, h.name.says) in
+          let h = named old reached.0 reached.1 in
+          let says : IsInstantIn state.Completed reached.0.name = (h.digits, h.action, h.says) in
           subst (IsKept properties instant old) (sym same) (record {
             leftover = λ left. completed_no_leftover reached.0.name h.proper says (open_leftover old (timeline_path reached.0.name) left);
             completed = λ is. there_none old (timeline_path reached.0.name) h.there (ap (λ (p : List ℕ). map.get old p) is ∙ free instant real old earlier);

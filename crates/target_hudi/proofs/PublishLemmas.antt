@@ -14,6 +14,7 @@ use Rattle.schema_map.specs.Image.{wide_columns}
 use Rattle.hudi_timeline.proofs.GroupChangeLemmas.{distinct_none}
 use Rattle.hudi_timeline.specs.declared.table.HudiTable.{HudiTable}
 use Rattle.hudi_table.specs.Files.{ReadsAs, SaysProperties}
+use Rattle.hudi_table.specs.Folder.{IsEarlier}
 use Rattle.hudi_table.specs.Reading.{IsReadingOf, table_in}
 use Rattle.hudi_table.specs.declared.instants.CompletedInstant.{CompletedInstant}
 use Rattle.hudi_table.specs.declared.properties.Properties.{Properties}
@@ -39,11 +40,11 @@ use Rattle.target_hudi.specs.ViewLemmas.{commits_read}
 use Rattle.target_hudi.specs.Writing.{mark_of}
 use Rattle.target_hudi.specs.declared.kept.HudiKept.{HudiKept}
 use Rattle.target_hudi.proofs.BehindLemmas.{AreOurs, carries_now, ours_now, own_names, own_properties}
-use Rattle.target_hudi.proofs.BesideLemmas.{AreEarlier, IsBeside, all_earlier, carried_still, completed_before, completed_behind, marked_still, new_one, properties_still, reading_still}
+use Rattle.target_hudi.proofs.BesideLemmas.{IsBeside, carried_still, completed_before, completed_behind, marked_still, properties_still, reading_still}
 use Rattle.target_hudi.proofs.KeepsLemmas.{avro_names, behind, newest_is, standing_is}
 use Rattle.target_hudi.proofs.MomentLemmas.{AreAsGiven, AreDue, AreGivenNow, IsGrown, IsStill}
-use Rattle.target_hudi.proofs.PickedLemmas.{Below}
 use Rattle.target_hudi.proofs.ReadTableLemmas.{latest_distinct, latest_wide}
+use Rattle.target_hudi.proofs.TimelineLemmas.{AreEarlier, all_earlier, new_one}
 use Rattle.target_hudi.proofs.StepLemmas.{step}
 
 -- The properties of a table with a completed instant say of folders that names and escaped values are there.
@@ -56,8 +57,8 @@ some_commits front c cs is = let count : length cs ≡ length front + 1 = ap len
 
 module _ (name : List ℕ) (origin : Origin) (now : ℕ) (kept next : HudiKept) (commit : Commit) (instant : List ℕ) (properties : Option (List ℕ)) (text : List ℕ) (v : IsNewInstant (end_of name kept) origin now kept commit instant properties text next)
     (old : Files) (newest : IsNewest old kept.newest) where
-  later_than : (last : List ℕ) → kept.newest ≡ Some last → Below last instant
-  later_than last is = subst (λ (o : Option (List ℕ)). IfSome o (λ (l : List ℕ). Below l instant)) is v.later
+  later_than : (last : List ℕ) → kept.newest ≡ Some last → IsEarlier last instant
+  later_than last is = subst (λ (o : Option (List ℕ)). IfSome o (λ (l : List ℕ). IsEarlier l instant)) is v.later
 
   -- the instants of before are all earlier
   pub earlier : AreEarlier old instant

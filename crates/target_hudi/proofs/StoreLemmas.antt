@@ -1,6 +1,6 @@
 -- What a commit leaves of the store, where it is refused before it writes, and where its instant is published.
-use Rattle.std.proofs.Common.{◌≡◌, inl, inr, ⊎_elim, ℕ, ◌+◌, ◌<◌, ◌≤◌, Bool, true, false, List, [], ◌∷◌, length, Contains, Option, Some, None, refl, sym, ap, subst, ◌∙◌, arith}
-use Rattle.std.specs.Prelude.{Err, IsErrOf, is_some}
+use Rattle.std.proofs.Common.{◌≡◌, inl, inr, ⊎_elim, ℕ, ◌≢◌, ◌+◌, ◌<◌, ◌≤◌, Bool, true, false, List, [], ◌∷◌, length, Contains, Option, Some, None, refl, sym, ap, subst, ◌∙◌, arith}
+use Rattle.std.specs.Prelude.{Err, IsErrOf, is_some, IsSome}
 use Rattle.std.specs.FinMap as map
 use Rattle.std.specs.FinSet as set
 use Rattle.std.specs.Cmp.Lexicographic.{slice_cmp}
@@ -27,15 +27,17 @@ use Rattle.table_history.proofs.RowListLemmas.{Contains-none}
 use Rattle.hudi_names.specs.declared.name.State.TheVariants as state
 use Rattle.hudi_table.specs.declared.instants.CompletedInstant.{CompletedInstant}
 use Rattle.hudi_timeline.proofs.AnyLemmas.{any_from, any_to}
-use Rattle.hudi_commit.specs.Names.{IsThere, claim_path, claims_folder, completed_name, completed_path, timeline_folder, timeline_path}
+use Rattle.hudi_timeline.specs.Written.{properties_text}
+use Rattle.hudi_commit.specs.Names.{IsThere, claim_path, claims_folder, completed_name, completed_path, properties_path, timeline_folder, timeline_path}
 use Rattle.hudi_commit.specs.Orderly.{IsOrderly}
-use Rattle.hudi_commit.specs.Runs.{HasNotGrown, IsBeforeOrAfter, IsCommitted, IsKept, IsOneStep, IsReady}
+use Rattle.hudi_commit.specs.Runs.{HasNotGrown, IsBeforeOrAfter, IsCommitted, IsKept, IsOneStep, IsReady, IsTakenBy}
 use Rattle.hudi_commit.specs.Settled.{IsSettled, Stands}
 use Rattle.hudi_commit.proofs.StepLaws.{clean_settled}
 use Rattle.target_core.specs.Conditions.{CanPublish, Fits, GoesOn}
 use Rattle.target_core.specs.Folders.{MayLeaveIn, after_crash}
 use Rattle.target_core.specs.Outcome.{answer_of}
 use Rattle.target_core.specs.Publishing.{Publishes}
+use Rattle.target_core.specs.Refusals.{IsCommitRefusal}
 use Rattle.target_core.specs.Step as step
 use Rattle.target_core.specs.Views.{Origin}
 use Rattle.target_core.specs.declared.target.TargetError.{TargetError}
@@ -45,15 +47,17 @@ use Rattle.target_hudi.specs.Fitting.{Unfit}
 use Rattle.target_hudi.specs.HudiMeaning.{hudi_meaning}
 use Rattle.target_hudi.specs.Kept.{IsCounted, IsNewest, StandsFor, end_of, held_of, view_of}
 use Rattle.target_hudi.specs.OnceLemmas.{some_list}
-use Rattle.target_hudi.specs.NewInstant.{AreGiven, IsNewInstant}
+use Rattle.target_hudi.specs.NewInstant.{AreGiven, HoldsText, IsNewInstant, IsTaken}
 use Rattle.target_hudi.specs.Reading.{IsReached, IsSettledTarget, Reads, commits_in, completed_in}
 use Rattle.target_hudi.specs.ReadingLemmas.{alike_reads, never_pending, orderly, own_of}
 use Rattle.target_hudi.specs.SettledLemmas.{crash_carries, crash_reads, crash_settled}
 use Rattle.target_hudi.specs.Writing.{Passes, TimelineEnd}
+use Rattle.target_hudi.specs.TableName.{new_pairs}
 use Rattle.target_hudi.specs.declared.kept.HudiKept.{HudiKept}
-use Rattle.target_hudi.proofs.BesideLemmas.{AreEarlier, IsBeside, completed_behind, few, found_completed, new_one}
+use Rattle.target_hudi.proofs.BesideLemmas.{IsBeside, completed_behind, few}
+use Rattle.target_hudi.proofs.TimelineLemmas.{AreEarlier, found_completed, new_one}
 use Rattle.target_hudi.proofs.KeepsLemmas.{advanced, newest_is, passes_behind}
-use Rattle.target_hudi.proofs.MomentLemmas.{AreDue, IsGrown, beside_kept, grown_after, grown_alike, reached_kept, still_before}
+use Rattle.target_hudi.proofs.MomentLemmas.{AreDue, AreGivenNow, IsGrown, beside_kept, grown_after, grown_alike, reached_kept, still_before}
 use Rattle.target_hudi.proofs.PublishLemmas.{HasFolders, due, earlier, earlier_still, folders_before, folders_behind, is_before, is_behind, stands_now}
 
 -- ---- causes
@@ -98,6 +102,17 @@ module _ (s : StoreError) (e : TargetError) (gives : e ≡ answer_of Names MAX_N
       let long = only_long s which number (sym gives ∙ answer_same e (Limit which number) limited) in
       (long.0, ap (λ (t : StoreError). Err t) long.1)
 
+  -- the refusal is that too many claims are there
+  pub refused_by : (files : Files) (end : TimelineEnd) (origin : Origin) (now : ℕ) (commit : Commit) → ((n : ℕ) → IsErrOf {T = Unit {0}} (Err s) (errors.TooLong n) → (MAX_NAMES < n) × (n ≡ length (names_in files claims_folder)))
+      → IsCommitRefusal (Passes files end origin now (commit ∷ [])) e
+  refused_by files end origin now commit long = subst (IsCommitRefusal (Passes files end origin now (commit ∷ []))) (sym gives) (by s long)
+    where
+      by : (t : StoreError) → ((n : ℕ) → IsErrOf {T = Unit {0}} (Err t) (errors.TooLong n) → (MAX_NAMES < n) × (n ≡ length (names_in files claims_folder))) → IsCommitRefusal (Passes files end origin now (commit ∷ [])) (answer_of Names MAX_NAMES t)
+      by errors.Memory far = tt
+      by errors.Failed far = tt
+      by (errors.TooLong n) far = let is = far n refl in inl (λ none. cc, refl, refl, subst (λ (k : ℕ). MAX_NAMES < k) is.1 is.0)
+      by errors.Taken far = tt
+
 -- ---- names of claims
 
 pub fewer_claims : (old new : Files) → HasNotGrown claims_folder old new → length (names_in new claims_folder) ≤ length (names_in old claims_folder)
@@ -112,7 +127,7 @@ fewer_claims old new fewer =
 pub passes_ahead : (name : List ℕ) (origin : Origin) (now : ℕ) (kept next : HudiKept) (commit : Commit) (instant : List ℕ) (properties : Option (List ℕ)) (text : List ℕ) → IsNewInstant (end_of name kept) origin now kept commit instant properties text next
     → (old new : Files) → HasNotGrown claims_folder old new → (commits : List Commit) (which : LimitKind) (number : ℕ) → Passes new (end_of name next) origin now commits which number → Passes old (end_of name kept) origin now (commit ∷ commits) which number
 passes_ahead name origin now kept next commit instant properties text v old new fewer commits which number passes = ⊎_elim
-    (λ (many : (which ≡ Names) × (number ≡ MAX_NAMES) × (MAX_NAMES < length (names_in new claims_folder))). let few_old = fewer_claims old new fewer in inl (many.0, many.1, omega (arith, many.2, few_old)))
+    (λ (many : (commits ≢ []) × (which ≡ Names) × (number ≡ MAX_NAMES) × (MAX_NAMES < length (names_in new claims_folder))). let few_old = fewer_claims old new fewer in inl (λ none. cc, many.1, many.2, omega (arith, many.3, few_old)))
     (λ last. inr (passes_behind name origin now kept next commit instant properties text v commits which number last))
     passes
 
@@ -202,10 +217,17 @@ module _ {S : Type 0} (store : Ghosts S) (old new : S) (told : store.tells) (nam
       let at_most = few instant v.real entry all_before exit beside_now in
       omega (arith, at_most, counted.commits)
 
-  module _ (can : CanPublish (view_of kept) commit) (fits : Fits (Unfit (held_of kept)) kept.table.partition (commit ∷ [])) (goes : GoesOn origin.source (view_of kept)) (stands : StandsFor kept entry) (settled : IsSettledTarget (store.disk old)) where
-    abbrev folders : HasFolders entry
-    folders = folders_of (store.disk old) settled
+  -- another writer was first
+  pub taken_now : IsTakenBy properties instant exit → IsTaken exit (end_of name kept) now
+  taken_now = ⊎_elim
+      (λ there. inl (instant, v.next_time, there))
+      (λ (given : IsSome properties × IsThere exit properties_path). inr (first_by properties v.given given.0, given.1))
+    where
+      first_by : (o : Option (List ℕ)) → AreGiven (end_of name kept) o → IsSome o → kept.newest ≡ None
+      first_by None given is = absurd (cc)
+      first_by (Some bytes) given is = given.0
 
+  module _ (stands : StandsFor kept entry) where
     pub orderly_before : IsOrderly entry
     orderly_before = orderly entry (view_of kept) stands.reads
 
@@ -229,43 +251,65 @@ module _ {S : Type 0} (store : Ghosts S) (old new : S) (told : store.tells) (nam
     pub ready : IsReady properties entry
     ready = ready_by properties v.given stands.reads
 
-    abbrev Either : Files → Type 0
-    Either files = step.IsBeforeOrBehind hudi_meaning origin (view_of kept) entry commit (view_of next) files
-
-    either : (files : Files) → IsBeforeOrAfter properties entry instant text files → Either files × HasFolders files
-    either files is = ⊎_elim
-        (λ before.
-        let still = still_before properties instant v.real entry given_first all_before files before in (
-          inl (is_before name origin now kept next commit instant properties text v entry counted.newest can fits goes folders stands.reads files still),
-          folders_before name origin now kept next commit instant properties text v entry counted.newest can fits goes folders stands.reads files still,
-        ))
-        (λ after.
-        let grown = grown_after properties instant v.real entry given_first text files after in (
-          inr (is_behind name origin now kept next commit instant properties text v entry counted.newest can fits goes folders stands.reads files grown),
-          folders_behind name origin now kept next commit instant properties text v entry counted.newest can fits goes folders stands.reads files grown,
-        ))
-        is
-
-    either_left : (image : Files) → IsBeforeOrAfter properties entry instant text image → Either image × IsSettledTarget (after_crash image)
-    either_left image is = let both = either image is in (both.0, clean_after image both.1)
-
     grown_now : IsCommitted properties instant text (store.disk old) (store.disk new) → IsGrown properties instant text entry exit
     grown_now committed = grown_alike properties instant v.real entry given_first text exit committed.stands.orderly committed.stands.alike
 
-    -- what is kept stands for the files
-    pub stands_behind : IsCommitted properties instant text (store.disk old) (store.disk new) → StandsFor next exit
-    stands_behind committed = stands_now name origin now kept next commit instant properties text v entry counted.newest can fits goes folders stands.reads exit (grown_now committed)
+    text_there : (o : Option (List ℕ)) → AreGiven (end_of name kept) o → AreGivenNow o entry exit → kept.newest ≡ None → map.get exit properties_path ≡ Some (properties_text (new_pairs name kept.table.partition))
+    text_there None given there first = absurd (given first)
+    text_there (Some bytes) given there first = there ∙ ap (λ (b : List ℕ). Some b) given.1
 
-    pub publishes_instant : (U : Type 0) (done : Bool) → (done ≡ true → IsCommitted properties instant text (store.disk old) (store.disk new)) → (U → IsOneStep store properties instant text old new)
-        → Publishes store hudi_meaning origin (view_of kept) (commit ∷ []) U done old new
-    publishes_instant U done whole one_step =
-        publishes_one store hudi_meaning origin (view_of kept) commit old new told
-        (earlier_still name origin now kept next commit instant properties text v entry counted.newest exit beside_now)
-        reached_alone U (view_of next) (advanced name origin now kept next commit instant properties text v can fits) done
-        (λ is. is_behind name origin now kept next commit instant properties text v entry counted.newest can fits goes folders stands.reads exit (grown_now (whole is)))
-        (λ u. let s = one_step u in let both = either exit s.disk in (both.0, settled_by (store.disk new) s.settled both.1))
-        (λ u. weaker store old new (IsBeforeOrAfter properties entry instant text) (λ files. Either files × IsSettledTarget (after_crash files)) either_left (λ t. (one_step u).moments) told)
+    -- what stands in the files
+    pub holds_text : IsCommitted properties instant text (store.disk old) (store.disk new) → HoldsText exit (end_of name kept) origin now commit
+    holds_text committed =
+        let grown = grown_now committed in
+        record {
+          time = instant;
+          next_time = v.next_time;
+          written = v.written;
+          is = v.is;
+          holds = grown.there ∙ ap (λ (b : List ℕ). Some b) v.text_is;
+          pending = committed.pending;
+          properties = text_there properties v.given grown.properties;
+        }
 
     -- too many claims: it reads as before
     pub reads_unmoved : Stands entry (store.disk new) → Reads exit (view_of kept)
     reads_unmoved same = alike_reads entry exit (view_of kept) same.orderly same.alike stands.reads
+
+    module _ (can : CanPublish (view_of kept) commit) (fits : Fits (Unfit (held_of kept)) kept.table.partition (commit ∷ [])) (goes : GoesOn origin.source (view_of kept)) (settled : IsSettledTarget (store.disk old)) where
+      abbrev folders : HasFolders entry
+      folders = folders_of (store.disk old) settled
+
+      abbrev Either : Files → Type 0
+      Either files = step.IsBeforeOrBehind hudi_meaning origin (view_of kept) entry commit (view_of next) files
+
+      either : (files : Files) → IsBeforeOrAfter properties entry instant text files → Either files × HasFolders files
+      either files is = ⊎_elim
+          (λ before.
+          let still = still_before properties instant v.real entry given_first all_before files before in (
+            inl (is_before name origin now kept next commit instant properties text v entry counted.newest can fits goes folders stands.reads files still),
+            folders_before name origin now kept next commit instant properties text v entry counted.newest can fits goes folders stands.reads files still,
+          ))
+          (λ after.
+          let grown = grown_after properties instant v.real entry given_first text files after in (
+            inr (is_behind name origin now kept next commit instant properties text v entry counted.newest can fits goes folders stands.reads files grown),
+            folders_behind name origin now kept next commit instant properties text v entry counted.newest can fits goes folders stands.reads files grown,
+          ))
+          is
+
+      either_left : (image : Files) → IsBeforeOrAfter properties entry instant text image → Either image × IsSettledTarget (after_crash image)
+      either_left image is = let both = either image is in (both.0, clean_after image both.1)
+
+      -- what is kept stands for the files
+      pub stands_behind : IsCommitted properties instant text (store.disk old) (store.disk new) → StandsFor next exit
+      stands_behind committed = stands_now name origin now kept next commit instant properties text v entry counted.newest can fits goes folders stands.reads exit (grown_now committed)
+
+      pub publishes_instant : (U : Type 0) (done : Bool) → (done ≡ true → IsCommitted properties instant text (store.disk old) (store.disk new)) → (U → IsOneStep store properties instant text old new)
+          → Publishes store hudi_meaning origin (view_of kept) (commit ∷ []) U done old new
+      publishes_instant U done whole one_step =
+          publishes_one store hudi_meaning origin (view_of kept) commit old new told
+          (earlier_still name origin now kept next commit instant properties text v entry counted.newest exit beside_now)
+          reached_alone U (view_of next) (advanced name origin now kept next commit instant properties text v can fits) done
+          (λ is. is_behind name origin now kept next commit instant properties text v entry counted.newest can fits goes folders stands.reads exit (grown_now (whole is)))
+          (λ u. let s = one_step u in let both = either exit s.disk in (both.0, settled_by (store.disk new) s.settled both.1))
+          (λ u. weaker store old new (IsBeforeOrAfter properties entry instant text) (λ files. Either files × IsSettledTarget (after_crash files)) either_left (λ t. (one_step u).moments) told)

@@ -1,238 +1,250 @@
--- The completed instants of a folder depend on the names of completed instants alone.
-use Rattle.std.proofs.Common.{◌≡◌, ◌⊎◌, ◌↔◌, ◌≢◌, ℕ, ◌+◌, ◌<◌, ◌&&◌, ◌==◌, Bool, true, false, not, cond, List, [], ◌∷◌, ◌++◌, take, filter_map, Contains, Option, Some, None, refl, sym, ap, subst, ◌∙◌, ⊎_elim, inl, inr, arith}
-use Rattle.std.specs.Prelude.{codes, option_and_then, option_map, suc}
+-- The completed instants of a folder's files, where one later than all others may come to them.
+use Rattle.std.proofs.Common.{◌≡◌, ⊎_elim, ℕ, ◌==◌, ◌&&◌, Bool, true, false, List, [], ◌∷◌, ◌++◌, length, map, codes, Contains, Option, Some, None, refl, sym, ap, subst, ◌∙◌}
+use Rattle.std.specs.Prelude.{is_some}
+use Rattle.std.specs.FinMap as finite
 use Rattle.std.specs.Char.{is_ascii_digit}
 use Rattle.std.specs.Cmp.Lexicographic.{slice_cmp, texts_ties}
-use Rattle.std.specs.List.{cons_option, list_all, position_or_len}
+use Rattle.std.specs.List.{AllByRecursion, list_all}
+use Rattle.std.specs.List.Sorted.{IsStrictlySortedBy}
 use Rattle.std.specs.Ordering.{is_eq, nat_cmp, ordering_reverse}
 use Rattle.std.specs.Str.{bytes_eq}
 use Rattle.std.specs.declared.cmp.Ordering.{Ordering}
 use Rattle.std.specs.declared.cmp.Ordering.TheVariants.{Less, Equal, Greater}
-use Rattle.std.proofs.lemmas.Bool.{cases_Bool, false≢true}
-use Rattle.std.proofs.lemmas.Bool.Decides.{nat_tests}
-use Rattle.std.proofs.lemmas.Cmp.{nat_list_cmp_total}
+use Rattle.std.proofs.lemmas.Bool.{and_parts, false≢true}
+use Rattle.std.proofs.lemmas.Bool.Decides.{same_from_decides}
+use Rattle.std.proofs.lemmas.Cmp.{nat_list_cmp_total, tied_itself}
+use Rattle.std.proofs.lemmas.List.Elements.{Contains-append_cases, Contains-append_left, Contains-append_right}
 use Rattle.std.proofs.lemmas.Slice.Eq.{bytes_eq-Decides}
-use Rattle.hudi_names.specs.Name.{IsInstantName, instant_of}
+use Rattle.lake_store.specs.Disk.{Files, IsName, names_in}
+use Rattle.lake_store.proofs.DiskLaws.{path_cases}
+use Rattle.lake_store.proofs.OrderLaws.{names_in_listed}
+use Rattle.table_history.specs.Rows.{IsInByteOrder}
+use Rattle.table_history.proofs.Laws.{in_order_same}
+use Rattle.table_history.proofs.RowListLemmas.{Contains-cases, Contains-head, Contains-none, Contains-one, Contains-tail, all_at}
+use Rattle.hudi_names.specs.Name.{instant_of}
+use Rattle.hudi_names.specs.Time.{IsDigits, IsSomeTime}
 use Rattle.hudi_names.specs.declared.name.Action.{Action}
 use Rattle.hudi_names.specs.declared.name.Action.TheVariants as action
 use Rattle.hudi_names.specs.declared.name.State.{State}
 use Rattle.hudi_names.specs.declared.name.State.TheVariants as state
-use Rattle.hudi_names.proofs.NameLemmas.{named_exactly}
-use Rattle.hudi_timeline.proofs.AnyLemmas.{any_from, any_none}
-use Rattle.hudi_table.specs.Instants.{completed_in, completed_of, has_name, instant_named, instant_with, instants_in, is_commit, is_done, is_replacecommit, time_of}
+use Rattle.hudi_timeline.proofs.AnyLemmas.{any_none}
+use Rattle.hudi_table.specs.Folder.{AreInOrder, IsEarlier, IsUpTo}
+use Rattle.hudi_table.specs.Instants.{has_name, is_commit, is_replacecommit, time_of}
 use Rattle.hudi_table.specs.declared.instants.CompletedInstant.{CompletedInstant}
-use Rattle.hudi_table.proofs.TimeOrder.{times_rise}
-use Rattle.hudi_table.proofs.UpLists.{Up}
-use Rattle.target_hudi.proofs.PickedLemmas.{Below, never_itself, pick_alike, pick_more, pick_same}
+use Rattle.hudi_table.proofs.FolderLaws.{order_of_folder}
+use Rattle.hudi_table.proofs.TimeOrder.{earlier_still, times_rise, up_to_itself}
+use Rattle.hudi_commit.specs.Names.{IsInstantIn, IsThere, completed_name, completed_path, timeline_folder, timeline_path}
+use Rattle.hudi_commit.proofs.NameLaws.{completed_is_name, is_instant_of}
+use Rattle.hudi_commit.proofs.OrderlyLaws.{there, there_none}
+use Rattle.target_hudi.specs.InstantLemmas.{before_dot, beside, from_name, from_there, has, in_byte_order, named, replaced}
+use Rattle.target_hudi.specs.Kept.{IsNewest}
+use Rattle.target_hudi.specs.Reading.{completed_in}
 
-abbrev Says : Type 0
-Says = ℕ × Action × State
+-- ---- the newest one
 
--- ---- one name
+up_to_last : (front : List CompletedInstant) (newest c : CompletedInstant) → AreInOrder (front ++ newest ∷ []) → Contains (front ++ newest ∷ []) c → IsUpTo c.time newest.time
+up_to_last [] newest c order within = subst (λ (d : CompletedInstant). IsUpTo d.time newest.time) (Contains-one newest c within) (up_to_itself newest.time)
+up_to_last (d ∷ front) newest c order within =
+    ⊎_elim
+    (λ (same : d ≡ c). subst (λ (e : CompletedInstant). IsUpTo e.time newest.time) same (all_at (λ (e : CompletedInstant). IsUpTo d.time e.time) (front ++ newest ∷ []) newest order.0 (Contains-append_right front (newest ∷ []) newest (Contains-head newest []))))
+    (λ later. up_to_last front newest c order.1 later)
+    (Contains-cases d (front ++ newest ∷ []) c within)
 
--- the completed commit or replacecommit that a name is of, where it is told which other names are there
-abbrev said_by : (List ℕ → Bool) → List ℕ → Says → Option CompletedInstant
-said_by has name p = cond (is_commit p.1 && is_done p.2) (Some (record { name = name; time = time_of name; is_second = is_replacecommit p.1 && has (time_of name ++ codes ".commit") })) None
+-- the completed instants are all earlier than this time
+abbrev pub AreEarlier : Files → List ℕ → Type 0
+AreEarlier files instant = (c : CompletedInstant) → Contains (completed_in files) c → IsEarlier c.time instant
 
-abbrev pub completed_by : (List ℕ → Bool) → List ℕ → Option CompletedInstant
-completed_by has name = option_and_then (said_by has name) (instant_of name)
+pub all_earlier : (files : Files) (newest : Option (List ℕ)) (instant : List ℕ) → IsNewest files newest → ((last : List ℕ) → newest ≡ Some last → IsEarlier last instant) → AreEarlier files instant
+all_earlier files None instant none later c within = absurd (Contains-none c (subst (λ (l : List CompletedInstant). Contains l c) none within))
+all_earlier files (Some last) instant is later c within =
+    let order = subst AreInOrder is.2 (order_of_folder files) in
+    let up = up_to_last is.0 is.1 c order (subst (λ (l : List CompletedInstant). Contains l c) is.2 within) in
+    earlier_still c.time is.1.time instant up (subst (λ (t : List ℕ). IsEarlier t instant) (sym is.3) (later last refl))
 
--- The name is that of this completed instant.
-pub record IsNameOf (has : List ℕ → Bool) (name : List ℕ) (c : CompletedInstant) : Type 0 where
-  pub digits : ℕ
-  pub action : Action
-  pub says : instant_of name ≡ Some (digits, action, state.Completed)
-  pub commit : is_commit action ≡ true
-  pub is : record { name = name; time = time_of name; is_second = is_replacecommit action && has (time_of name ++ codes ".commit") } ≡ c
+and_false : (b : Bool) → (b && false) ≡ false
+and_false true = refl
+and_false false = refl
 
-done_state : (s : State) → is_done s ≡ true → s ≡ state.Completed
-done_state state.Requested done = cc
-done_state state.Inflight done = cc
-done_state state.Completed done = refl
+-- ---- names in order
 
-both_true : (a b : Bool) → (a && b) ≡ true → (a ≡ true) × (b ≡ true)
-both_true true b h = (refl, h)
-both_true false b h = absurd (false≢true h)
+never_itself : (a : List ℕ) → IsEarlier a a → ⊥
+never_itself a earlier = let both : Less ≡ Equal = sym earlier ∙ tied_itself nat_list_cmp_total a in absurd (cc)
 
-module _ (has : List ℕ → Bool) (name : List ℕ) (c : CompletedInstant) where
-  from_said : (p : Says) → instant_of name ≡ Some p → said_by has name p ≡ Some c → IsNameOf has name c
-  from_said p is said = by (is_commit p.1 && is_done p.2) refl said
-    where
-      by : (b : Bool) → (is_commit p.1 && is_done p.2) ≡ b → cond b (Some (record { name = name; time = time_of name; is_second = is_replacecommit p.1 && has (time_of name ++ codes ".commit") })) None ≡ Some c → IsNameOf has name c
-      by true passes found =
-          let parts = both_true (is_commit p.1) (is_done p.2) passes in
-          record {
-            digits = p.0;
-            action = p.1;
-            says = is ∙ ap (λ (s : State). Some (p.0, p.1, s)) (done_state p.2 parts.1);
-            commit = parts.0;
-            is = cc;
-          }
-      by false fails found = absurd (cc)
+-- a name whose time is earlier comes before, where both are of commits or replacecommits
+name_before : (n m : List ℕ) (dn dm : ℕ) (an am : Action) → instant_of n ≡ Some (dn, an, state.Completed) → is_commit an ≡ true → instant_of m ≡ Some (dm, am, state.Completed) → is_commit am ≡ true
+    → IsEarlier (time_of n) (time_of m) → (o : Ordering) → slice_cmp nat_cmp n m ≡ o → IsEarlier n m
+name_before n m dn dm an am says_n commit_n says_m commit_m earlier Less is = is
+name_before n m dn dm an am says_n commit_n says_m commit_m earlier Equal is =
+    let one : n ≡ m = (bytes_eq-Decides n m).0 (texts_ties n m ∙ ap is_eq is) in
+    absurd (never_itself (time_of m) (subst (λ (t : List ℕ). IsEarlier (time_of t) (time_of m)) one earlier))
+name_before n m dn dm an am says_n commit_n says_m commit_m earlier Greater is =
+    let up = times_rise m n dm dn am an state.Completed state.Completed says_m commit_m says_n commit_n (nat_list_cmp_total.antisymm m n ∙ ap ordering_reverse is) in
+    absurd (up (nat_list_cmp_total.antisymm (time_of m) (time_of n) ∙ ap ordering_reverse earlier))
 
-  from_option : (o : Option Says) → instant_of name ≡ o → option_and_then (said_by has name) o ≡ Some c → IsNameOf has name c
-  from_option None is said = absurd (cc)
-  from_option (Some p) is said = from_said p is said
+abbrev name_in : CompletedInstant → List ℕ
+name_in c = c.name
 
-  pub name_parts : completed_by has name ≡ Some c → IsNameOf has name c
-  name_parts is = from_option (instant_of name) refl is
+all_more : (x : List ℕ) (one : CompletedInstant) (cs : List CompletedInstant) → AllByRecursion (IsEarlier x) (map name_in cs) → IsEarlier x one.name → AllByRecursion (IsEarlier x) (map name_in (cs ++ one ∷ []))
+all_more x one [] all last = (last, tt)
+all_more x one (c ∷ cs) all last = (all.0, all_more x one cs all.1 last)
 
-pub made_of : (has : List ℕ → Bool) (name : List ℕ) (digits : ℕ) (a : Action) → instant_of name ≡ Some (digits, a, state.Completed) → is_commit a ≡ true
-    → completed_by has name ≡ Some (record { name = name; time = time_of name; is_second = is_replacecommit a && has (time_of name ++ codes ".commit") })
-made_of has name digits a says commit =
-    ap (option_and_then (said_by has name)) says
-    ∙ ap (λ (b : Bool). cond (b && true) (Some (record { name = name; time = time_of name; is_second = is_replacecommit a && has (time_of name ++ codes ".commit") })) None) commit
+-- one instant more, whose name comes behind all others
+order_more : (cs : List CompletedInstant) (one : CompletedInstant) → IsInByteOrder (map name_in cs) → ((c : CompletedInstant) → Contains cs c → IsEarlier c.name one.name) → IsInByteOrder (map name_in (cs ++ one ∷ []))
+unfolding IsStrictlySortedBy
+order_more [] one order last = (tt, tt)
+order_more (c ∷ cs) one order last = (all_more c.name one cs order.0 (last c (Contains-head c cs)), order_more cs one order.1 (λ d within. last d (Contains-tail c cs d within)))
 
--- ---- the whole list
+-- ---- the new instant
 
-module _ (names : List (List ℕ)) where
-  fused_by : {X Y : Type 0} (h : List ℕ → Option X) (g : X → Option Y) (x : List ℕ) (xs : List (List ℕ)) (o : Option X) → h x ≡ o → filter_map g (filter_map h xs) ≡ filter_map (λ x. option_and_then g (h x)) xs
-      → filter_map g (cons_option (h x) (filter_map h xs)) ≡ cons_option (option_and_then g (h x)) (filter_map (λ x. option_and_then g (h x)) xs)
-  fused_by {X} {Y} h g x xs None is rest =
-      (λ i. filter_map g (cons_option (is i) (filter_map h xs))) ∙ rest ∙ (λ i. cons_option (option_and_then g (sym is i)) (filter_map (λ x. option_and_then g (h x)) xs))
-  fused_by {X} {Y} h g x xs (Some v) is rest =
-      (λ i. filter_map g (cons_option (is i) (filter_map h xs))) ∙ ap (λ (l : List Y). cons_option (g v) l) rest ∙ (λ i. cons_option (option_and_then g (sym is i)) (filter_map (λ x. option_and_then g (h x)) xs))
+module _ (instant : List ℕ) (real : IsSomeTime instant) where
+  digits : IsDigits instant
+  digits = real.1.digits
 
-  fused : {X Y : Type 0} (h : List ℕ → Option X) (g : X → Option Y) (xs : List (List ℕ)) → filter_map g (filter_map h xs) ≡ filter_map (λ x. option_and_then g (h x)) xs
-  fused h g [] = refl
-  fused h g (x ∷ xs) = fused_by h g x xs (h x) refl (fused h g xs)
+  abbrev name : List ℕ
+  name = completed_name instant
 
-  one_name : (name : List ℕ) (o : Option Says) → option_and_then (completed_of names) (option_map (λ (p : Says). instant_with names name p.1 p.2) o) ≡ option_and_then (said_by (has_name names) name) o
-  one_name name None = refl
-  one_name name (Some p) = refl
+  says : instant_of name ≡ Some (17, action.ReplaceCommit, state.Completed)
+  says = replaced instant digits
 
-  pub completed_is : completed_in names (instants_in names) ≡ filter_map (completed_by (has_name names)) names
-  completed_is = fused (instant_named names) (completed_of names) names ∙ pick_alike (λ name. option_and_then (completed_of names) (instant_named names name)) (completed_by (has_name names)) (λ name. one_name name (instant_of name)) names
+  time_is : time_of name ≡ instant
+  time_is = before_dot instant (codes "replacecommit") (and_parts (length instant == 17) (list_all is_ascii_digit instant) (is_instant_of instant digits)).1
 
--- ---- the time of a name
+  -- the completed instant of that name
+  abbrev pub new_one : CompletedInstant
+  new_one = record { name = name; time = instant; is_second = false }
 
-known : (a : Action) → is_commit a ≡ true → a ≢ action.Unknown
-known a commit e = false≢true (sym (ap is_commit e) ∙ commit)
+  -- where a file of that name is, that instant is completed
+  pub found_completed : (files : Files) → IsThere files (completed_path instant) → (c : CompletedInstant) × Contains (completed_in files) c × (c.time ≡ instant)
+  found_completed files there =
+      let c = from_there files name (completed_is_name instant digits) there 17 action.ReplaceCommit says refl in
+      (c.0, c.1, (named files c.0 c.1).time ∙ ap time_of c.2 ∙ time_is)
 
-above_dot : (c : ℕ) → is_ascii_digit c ≡ true → 46 < c
-above_dot c h = grind (arith, nat_tests)
+  abbrev replaces : Option (ℕ × Action × State) → Bool
+  replaces None = false
+  replaces (Some p) = is_replacecommit p.1
 
-take_one_more : (k : ℕ) (x : ℕ) (xs : List ℕ) → take (1 + k) (x ∷ xs) ≡ x ∷ take k xs
-take_one_more k x xs = let one : 1 + k ≡ suc k = omega arith in ap (λ n. take n (x ∷ xs)) one
+  -- no name of a completed commit is the new one
+  commit_apart : (q : List ℕ) (d : ℕ) → instant_of q ≡ Some (d, action.Commit, state.Completed) → q ≡ name → ⊥
+  commit_apart q d is same = false≢true (ap replaces (sym is ∙ ap instant_of same ∙ says))
 
-pub before_dot : (s r : List ℕ) → list_all is_ascii_digit s ≡ true → time_of (s ++ 46 ∷ r) ≡ s
-before_dot [] r ds = refl
-before_dot (x ∷ s) r ds =
-    let parts = both_true (is_ascii_digit x) (list_all is_ascii_digit s) ds in
-    let far = above_dot x parts.0 in
-    let other : (x == 46) ≡ false = grind (arith, nat_tests) in
-    let k = position_or_len (λ b. b == 46) (s ++ 46 ∷ r) in
-    ap (λ b. take (cond (not b) (1 + k) 0) (x ∷ s ++ 46 ∷ r)) other ∙ take_one_more k x (s ++ 46 ∷ r) ∙ ap (λ l. x ∷ l) (before_dot s r parts.1)
+  -- between two files that have the same completed instants but for the new one
+  module _ (a b : Files) (same : (q : List ℕ) → IsName q → IsInstantIn state.Completed q → (q ≡ name → ⊥) → finite.get b (timeline_path q) ≡ finite.get a (timeline_path q)) where
+    there_in : (q : List ℕ) → IsName q → IsInstantIn state.Completed q → (q ≡ name → ⊥) → IsThere a (timeline_path q) → IsThere b (timeline_path q)
+    there_in q proper is apart found = there a b (timeline_path q) (same q proper is apart) found
 
--- the name of a completed commit of the same time
-pub commit_beside : (name : List ℕ) (digits : ℕ) (a : Action) (s : State) → instant_of name ≡ Some (digits, a, s) → is_commit a ≡ true → instant_of (time_of name ++ codes ".commit") ≡ Some (digits, action.Commit, state.Completed)
-commit_beside name digits a s says commit =
-    let n = (named_exactly name digits a s (known a commit)).0 says in
-    let time : time_of name ≡ n.time = ap time_of n.parts.split ∙ before_dot n.time n.rest n.parts.numeral in
-    let there : IsInstantName (n.time ++ codes ".commit") digits action.Commit state.Completed = record { time = n.time; word = codes "commit"; rest = codes "commit"; parts = record { split = refl; form = n.parts.form; numeral = n.parts.numeral }; len = n.len; named = refl; says = refl } in
-    subst (λ (t : List ℕ). instant_of (t ++ codes ".commit") ≡ Some (digits, action.Commit, state.Completed)) (sym time) ((named_exactly (n.time ++ codes ".commit") digits action.Commit state.Completed (λ e. cc)).1 there)
+    has_in : (q : List ℕ) (d : ℕ) → instant_of q ≡ Some (d, action.Commit, state.Completed) → Contains (names_in a timeline_folder) q → Contains (names_in b timeline_folder) q
+    has_in q d is within =
+        let listed = ((names_in_listed a timeline_folder).members q).0 within in
+        ((names_in_listed b timeline_folder).members q).1 (listed.0, there_in q listed.0 (d, action.Commit, is) (commit_apart q d is) listed.1)
 
-abbrev done : ℕ → Action → Option Says
-done digits a = Some (digits, a, state.Completed)
+  module _ (a b : Files) (same : (q : List ℕ) → IsName q → IsInstantIn state.Completed q → (q ≡ name → ⊥) → finite.get b (timeline_path q) ≡ finite.get a (timeline_path q)) where
+    back : (q : List ℕ) → IsName q → IsInstantIn state.Completed q → (q ≡ name → ⊥) → finite.get a (timeline_path q) ≡ finite.get b (timeline_path q)
+    back q proper is apart = sym (same q proper is apart)
 
-abbrev replaces : Option Says → Bool
-replaces None = false
-replaces (Some p) = is_replacecommit p.1
+    second_in : (q : List ℕ) (d : ℕ) (act : Action) → instant_of q ≡ Some (d, act, state.Completed)
+        → (is_replacecommit act && has_name (names_in a timeline_folder) (time_of q ++ codes ".commit")) ≡ (is_replacecommit act && has_name (names_in b timeline_folder) (time_of q ++ codes ".commit"))
+    second_in q d action.ReplaceCommit is =
+        let commit = beside q d is in
+        let has_a = has (names_in a timeline_folder) (time_of q ++ codes ".commit") in
+        same_from_decides (has_name (names_in a timeline_folder) (time_of q ++ codes ".commit")) (has_name (names_in b timeline_folder) (time_of q ++ codes ".commit"))
+        (λ yes. has_in a b same (time_of q ++ codes ".commit") d commit (has_a.0 yes), λ within. has_a.1 (has_in b a back (time_of q ++ codes ".commit") d commit within))
+        (has (names_in b timeline_folder) (time_of q ++ codes ".commit"))
+    second_in q d action.Commit is = refl
+    second_in q d action.Ignored is = refl
+    second_in q d action.MergeOnRead is = refl
+    second_in q d action.Restore is = refl
+    second_in q d action.Unknown is = refl
 
-other_action : (d e : ℕ) → done d action.Commit ≡ done e action.ReplaceCommit → ⊥
-other_action d e same = false≢true (ap replaces same)
+    -- an instant of the one is one of the other
+    within_in : (c : CompletedInstant) → (c.name ≡ name → ⊥) → Contains (completed_in a) c → Contains (completed_in b) c
+    within_in c apart within =
+        let is = named a c within in
+        from_name b c (record {
+          proper = is.proper;
+          there = there_in a b same c.name is.proper (is.digits, is.action, is.says) apart is.there;
+          digits = is.digits;
+          action = is.action;
+          commit = is.commit;
+          says = is.says;
+          time = is.time;
+          second = is.second
+              ∙ ap (λ t. is_replacecommit is.action && has_name (names_in a timeline_folder) (t ++ codes ".commit")) is.time
+              ∙ second_in c.name is.digits is.action is.says
+              ∙ ap (λ t. is_replacecommit is.action && has_name (names_in b timeline_folder) (t ++ codes ".commit")) (sym is.time);
+        })
 
--- ---- names that agree
+  module _ (old : Files) (earlier : AreEarlier old instant) where
+    not_there : IsThere old (completed_path instant) → ⊥
+    not_there there =
+        let c = found_completed old there in
+        never_itself instant (subst (λ (t : List ℕ). IsEarlier t instant) c.2 (earlier c.0 c.1))
 
--- the name of a completed commit or replacecommit
-pub record IsCompletedName (name : List ℕ) : Type 0 where
-  pub digits : ℕ
-  pub action : Action
-  pub says : instant_of name ≡ Some (digits, action, state.Completed)
-  pub commit : is_commit action ≡ true
+    none_by : (o : Option (List ℕ)) → finite.get old (completed_path instant) ≡ o → finite.get old (completed_path instant) ≡ None
+    none_by None is = is
+    none_by (Some bytes) is = absurd (not_there (ap is_some is))
 
-module _ (A B : List (List ℕ)) where
-  has_by : (q : List ℕ) → (Contains A q ↔ Contains B q) → (a b : Bool) → has_name A q ≡ a → has_name B q ≡ b → a ≡ b
-  has_by q same true true is_a is_b = refl
-  has_by q same false false is_a is_b = refl
-  has_by q same true false is_a is_b =
-      let none : has_name A q ≡ false = any_none (bytes_eq q) A (λ x there here. let one : q ≡ x = (bytes_eq-Decides q x).0 here in false≢true (sym is_b ∙ any_from (bytes_eq q) B x (subst (λ (y : List ℕ). Contains B y) one (same.0 (subst (λ (y : List ℕ). Contains A y) (sym one) there))) here)) in
-      sym is_a ∙ none
-  has_by q same false true is_a is_b =
-      let none : has_name B q ≡ false = any_none (bytes_eq q) B (λ x there here. let one : q ≡ x = (bytes_eq-Decides q x).0 here in false≢true (sym is_a ∙ any_from (bytes_eq q) A x (subst (λ (y : List ℕ). Contains A y) one (same.1 (subst (λ (y : List ℕ). Contains B y) (sym one) there))) here)) in
-      sym none ∙ is_b
+    -- nothing of that name is there
+    pub free : finite.get old (completed_path instant) ≡ None
+    free = none_by (finite.get old (completed_path instant)) refl
 
-  has_same : (q : List ℕ) → (Contains A q ↔ Contains B q) → has_name A q ≡ has_name B q
-  has_same q same = has_by q same (has_name A q) (has_name B q) refl refl
+    -- it has another name than those before
+    pub apart_old : (c : CompletedInstant) → Contains (completed_in old) c → c.name ≡ name → ⊥
+    apart_old c within same = not_there (subst (λ (n : List ℕ). IsThere old (timeline_path n)) same (named old c within).there)
 
-  -- a name is of the same completed instant, where each completed commit is among both
-  module _ (commits : (q : List ℕ) (digits : ℕ) → instant_of q ≡ Some (digits, action.Commit, state.Completed) → Contains A q ↔ Contains B q) where
-    said_same : (name : List ℕ) (p : Says) → instant_of name ≡ Some p → said_by (has_name A) name p ≡ said_by (has_name B) name p
-    said_same name p is = by (is_commit p.1) refl
-      where
-        by : (b : Bool) → is_commit p.1 ≡ b → said_by (has_name A) name p ≡ said_by (has_name B) name p
-        by true commit = ap (λ (h : Bool). cond (is_commit p.1 && is_done p.2) (Some (record { name = name; time = time_of name; is_second = is_replacecommit p.1 && h })) None) (has_same (time_of name ++ codes ".commit") (commits (time_of name ++ codes ".commit") p.0 (commit_beside name p.0 p.1 p.2 is commit)))
-        by false other = ap (λ (b : Bool). cond (b && is_done p.2) (Some (record { name = name; time = time_of name; is_second = is_replacecommit p.1 && has_name A (time_of name ++ codes ".commit") })) None) other ∙ sym (ap (λ (b : Bool). cond (b && is_done p.2) (Some (record { name = name; time = time_of name; is_second = is_replacecommit p.1 && has_name B (time_of name ++ codes ".commit") })) None) other)
+    -- and no commit of its time
+    no_commit : Contains (names_in old timeline_folder) (time_of name ++ codes ".commit") → ⊥
+    no_commit within =
+        let q = time_of name ++ codes ".commit" in
+        let listed = ((names_in_listed old timeline_folder).members q).0 within in
+        let c = from_there old q listed.0 listed.1 17 action.Commit (beside name 17 says) refl in
+        let time : c.0.time ≡ instant = (named old c.0 c.1).time ∙ ap time_of c.2 ∙ ap (λ (t : List ℕ). time_of (t ++ codes ".commit")) time_is ∙ before_dot instant (codes "commit") (and_parts (length instant == 17) (list_all is_ascii_digit instant) (is_instant_of instant digits)).1 in
+        never_itself instant (subst (λ (t : List ℕ). IsEarlier t instant) time (earlier c.0 c.1))
 
-    option_same : (name : List ℕ) (o : Option Says) → instant_of name ≡ o → option_and_then (said_by (has_name A) name) o ≡ option_and_then (said_by (has_name B) name) o
-    option_same name None is = refl
-    option_same name (Some p) is = said_same name p is
+    -- files in which that instant may be there too
+    module _ (new : Files) (same : (q : List ℕ) → IsName q → IsInstantIn state.Completed q → (q ≡ name → ⊥) → finite.get new (timeline_path q) ≡ finite.get old (timeline_path q)) where
+      again : (q : List ℕ) → IsName q → IsInstantIn state.Completed q → (q ≡ name → ⊥) → finite.get old (timeline_path q) ≡ finite.get new (timeline_path q)
+      again q proper is apart = sym (same q proper is apart)
 
-    by_same : (name : List ℕ) → completed_by (has_name A) name ≡ completed_by (has_name B) name
-    by_same name = option_same name (instant_of name) refl
+      -- it isn't there
+      pub completed_alike : finite.get new (completed_path instant) ≡ None → completed_in new ≡ completed_in old
+      completed_alike none = in_order_same name_in (completed_in new) (completed_in old) (in_byte_order new) (in_byte_order old) (λ c. (
+        λ within. within_in new old again c (λ here. there_none new (completed_path instant) (subst (λ (n : List ℕ). IsThere new (timeline_path n)) here (named new c within).there) none) within,
+        λ within. within_in old new same c (apart_old c within) within,
+      ))
 
-  module _ (up_a : Up Below A) (up_b : Up Below B) where
-    -- lists with the same names of completed instants
-    pub same_completed : ((q : List ℕ) → IsCompletedName q → Contains A q ↔ Contains B q) → completed_in B (instants_in B) ≡ completed_in A (instants_in A)
-    same_completed same =
-        completed_is B
-        ∙ sym (pick_same (completed_by (has_name B)) A B up_a up_b (λ z c is. let n = name_parts (has_name B) z c is in same z (record { digits = n.digits; action = n.action; says = n.says; commit = n.commit })))
-        ∙ sym (pick_alike (completed_by (has_name A)) (completed_by (has_name B)) (by_same (λ q digits says. same q (record { digits = digits; action = action.Commit; says = says; commit = refl }))) A)
-        ∙ sym (completed_is A)
+      none_beside : has_name (names_in new timeline_folder) (time_of name ++ codes ".commit") ≡ false
+      none_beside = any_none (bytes_eq (time_of name ++ codes ".commit")) (names_in new timeline_folder) (λ x within here.
+          let one : time_of name ++ codes ".commit" ≡ x = (bytes_eq-Decides (time_of name ++ codes ".commit") x).0 here in
+          no_commit (has_in new old again (time_of name ++ codes ".commit") 17 (beside name 17 says) (subst (Contains (names_in new timeline_folder)) (sym one) within)))
 
-    -- a replacecommit more, which is later than all others
-    module _ (n : List ℕ) (digits : ℕ) (says : instant_of n ≡ Some (digits, action.ReplaceCommit, state.Completed)) (there : Contains B n)
-        (earlier : (q : List ℕ) → IsCompletedName q → Contains A q → Below (time_of q) (time_of n))
-        (same : (q : List ℕ) → IsCompletedName q → (q ≡ n → ⊥) → Contains A q ↔ Contains B q) where
-      below_by : (q : List ℕ) → IsCompletedName q → Contains A q → (o : Ordering) → slice_cmp nat_cmp q n ≡ o → Below q n
-      below_by q is within Less e = e
-      below_by q is within Equal e =
-          let one : q ≡ n = (bytes_eq-Decides q n).0 (texts_ties q n ∙ ap is_eq e) in
-          absurd (never_itself (time_of n) (subst (λ (t : List ℕ). Below (time_of t) (time_of n)) one (earlier q is within)))
-      below_by q is within Greater e =
-          let turned : Below n q = nat_list_cmp_total.antisymm n q ∙ ap ordering_reverse e in
-          let up = times_rise n q digits is.digits action.ReplaceCommit is.action state.Completed state.Completed says refl is.says is.commit turned in
-          absurd (up (nat_list_cmp_total.antisymm (time_of n) (time_of q) ∙ ap ordering_reverse (earlier q is within)))
+      only_one : (c : CompletedInstant) → c.name ≡ name → Contains (completed_in new) c → new_one ≡ c
+      only_one c here within =
+          let is = named new c within in
+          let time : c.time ≡ instant = is.time ∙ ap time_of here ∙ time_is in
+          let none = ap (λ (t : List ℕ). has_name (names_in new timeline_folder) (t ++ codes ".commit")) (time ∙ sym time_is) ∙ none_beside in
+          let second : c.is_second ≡ false = is.second ∙ ap (λ (b : Bool). is_replacecommit is.action && b) none ∙ and_false (is_replacecommit is.action) in
+          (λ i. record { name = sym here i; time = sym time i; is_second = sym second i })
 
-      commits_same : (q : List ℕ) (d : ℕ) → instant_of q ≡ Some (d, action.Commit, state.Completed) → Contains A q ↔ Contains B q
-      commits_same q d is = same q (record { digits = d; action = action.Commit; says = is; commit = refl })
-          (λ here. other_action d digits (sym is ∙ ap instant_of here ∙ says))
+      one_within : IsThere new (completed_path instant) → Contains (completed_in new) new_one
+      one_within there =
+          let c = from_there new name (completed_is_name instant digits) there 17 action.ReplaceCommit says refl in
+          subst (Contains (completed_in new)) (sym (only_one c.0 c.2 c.1)) c.1
 
-      -- no commit of its time is there
-      no_commit : has_name B (time_of n ++ codes ".commit") ≡ false
-      no_commit =
-          let q = time_of n ++ codes ".commit" in
-          let is = commit_beside n digits action.ReplaceCommit state.Completed says refl in
-          let named : IsCompletedName q = record { digits = digits; action = action.Commit; says = is; commit = refl } in
-          let parts = (named_exactly n digits action.ReplaceCommit state.Completed (λ e. cc)).0 says in
-          let time : time_of q ≡ time_of n = ap (λ (t : List ℕ). time_of (t ++ codes ".commit")) (ap time_of parts.parts.split ∙ before_dot parts.time parts.rest parts.parts.numeral) ∙ before_dot parts.time (codes "commit") parts.parts.numeral ∙ sym (ap time_of parts.parts.split ∙ before_dot parts.time parts.rest parts.parts.numeral) in
-          any_none (bytes_eq q) B (λ x within here.
-          let one : q ≡ x = (bytes_eq-Decides q x).0 here in
-          let old : Contains A q = (commits_same q digits is).1 (subst (λ (y : List ℕ). Contains B y) (sym one) within) in
-          never_itself (time_of n) (subst (λ (t : List ℕ). Below t (time_of n)) time (earlier q named old)))
+      before_one : (c : CompletedInstant) → Contains (completed_in old) c → IsEarlier c.name name
+      before_one c within =
+          let is = named old c within in
+          let time : IsEarlier (time_of c.name) (time_of name) = (λ i. slice_cmp nat_cmp (sym is.time i) (time_is i)) ∙ earlier c within in
+          name_before c.name name is.digits 17 is.action action.ReplaceCommit is.says is.commit says refl time (slice_cmp nat_cmp c.name name) refl
 
-      name_cases : (z : List ℕ) → (z ≡ n) ⊎ (z ≡ n → ⊥)
-      name_cases z = ⊎_elim (λ yes. inl ((bytes_eq-Decides z n).0 yes)) (λ no. inr (λ here. false≢true (sym no ∙ (bytes_eq-Decides z n).1 here))) (cases_Bool (bytes_eq z n))
-
-      abbrev one_more : CompletedInstant
-      one_more = record { name = n; time = time_of n; is_second = false }
-
-      pub more_completed : completed_in B (instants_in B) ≡ completed_in A (instants_in A) ++ one_more ∷ []
-      more_completed =
-          let made : completed_by (has_name B) n ≡ Some one_more = made_of (has_name B) n digits action.ReplaceCommit says refl ∙ ap (λ (b : Bool). Some (record { name = n; time = time_of n; is_second = b })) no_commit in
-          completed_is B
-          ∙ pick_more (completed_by (has_name B)) A B n one_more up_a up_b made there
-          (λ z c is within. let m = name_parts (has_name B) z c is in below_by z (record { digits = m.digits; action = m.action; says = m.says; commit = m.commit }) within (slice_cmp nat_cmp z n) refl)
-          (λ z c is apart. let m = name_parts (has_name B) z c is in same z (record { digits = m.digits; action = m.action; says = m.says; commit = m.commit }) apart)
-          name_cases
-          ∙ ap (λ (l : List CompletedInstant). l ++ one_more ∷ []) (sym (pick_alike (completed_by (has_name A)) (completed_by (has_name B)) (by_same commits_same) A) ∙ sym (completed_is A))
+      -- it is there
+      pub completed_more : IsThere new (completed_path instant) → completed_in new ≡ completed_in old ++ new_one ∷ []
+      completed_more there = in_order_same name_in (completed_in new) (completed_in old ++ new_one ∷ []) (in_byte_order new) (order_more (completed_in old) new_one (in_byte_order old) before_one) (λ c. (
+        λ within. ⊎_elim
+            (λ (here : c.name ≡ name). Contains-append_right (completed_in old) (new_one ∷ []) c (subst (Contains (new_one ∷ [])) (only_one c here within) (Contains-head new_one [])))
+            (λ apart. Contains-append_left (completed_in old) (new_one ∷ []) c (within_in new old again c apart within))
+            (path_cases c.name name),
+        λ within. ⊎_elim
+            (λ before. within_in old new same c (apart_old c before) before)
+            (λ last. subst (Contains (completed_in new)) (Contains-one new_one c last) (one_within there))
+            (Contains-append_cases (completed_in old) (new_one ∷ []) c within),
+      ))

@@ -136,7 +136,7 @@ module _ (files : Files) where
   sorted [] up = tt
   sorted (c ∷ cs) up = (sorted_all c.name cs up.0, sorted cs up.1)
 
-  in_byte_order : IsInByteOrder (map (λ (d : CompletedInstant). d.name) (completed_in files))
+  pub in_byte_order : IsInByteOrder (map (λ (d : CompletedInstant). d.name) (completed_in files))
   in_byte_order =
       let up = sorted_up (slice_cmp nat_cmp) names (names_in_sorted files timeline_folder) in
       sorted (completed_in files) (up_picked (completed_of names) (λ (i j : InstantName). IsBefore i.name j.name) (λ (c d : CompletedInstant). IsBefore c.name d.name) completed_rise (instants_in names)
@@ -160,7 +160,8 @@ replaced digits is =
 above_dot : (c : ℕ) → is_ascii_digit c ≡ true → (c == 46) ≡ false
 above_dot c is = grind (arith, nat_tests)
 
-before_dot : (digits rest : List ℕ) → list_all is_ascii_digit digits ≡ true → before_first (λ b. b == 46) (digits ++ 46 ∷ rest) ≡ digits
+-- what stands before the first dot
+pub before_dot : (digits rest : List ℕ) → list_all is_ascii_digit digits ≡ true → before_first (λ b. b == 46) (digits ++ 46 ∷ rest) ≡ digits
 before_dot [] rest all = refl
 before_dot (c ∷ digits) rest all =
     let parts = and_parts (is_ascii_digit c) (list_all is_ascii_digit digits) all in
@@ -185,7 +186,7 @@ same_sym a b same = record { completed = λ name proper is. sym (same.completed 
 pub there_too : (a b : Files) → IsSameTimeline a b → (name : List ℕ) → IsName name → IsInstantIn state.Completed name → IsThere a (path_of name) → IsThere b (path_of name)
 there_too a b same name proper is found = there a b (path_of name) (same.completed name proper is) found
 
-has : (names : List (List ℕ)) (name : List ℕ) → Decides (has_name names name) (Contains names name)
+pub has : (names : List (List ℕ)) (name : List ℕ) → Decides (has_name names name) (Contains names name)
 has names name = (λ is. Contains-from_any (λ x y same. (bytes_eq-Decides x y).0 same) name names is, λ within. any_from (bytes_eq name) names name within ((bytes_eq-Decides name name).1 refl))
 
 in_folder_too : (a b : Files) → IsSameTimeline a b → (name : List ℕ) → IsInstantIn state.Completed name → Contains (names_in a timeline_folder) name → Contains (names_in b timeline_folder) name

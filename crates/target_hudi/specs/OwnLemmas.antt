@@ -60,7 +60,7 @@ claims_own : (a b : Files) → SameIn timeline_folder a b → names_in b claims_
 claims_own a b same = names_own claims_folder (λ name. in_timeline _) a b same
 
 pub passes_own : (a b : Files) (end : TimelineEnd) (origin : Origin) (now : ℕ) (commits : List Commit) (which : LimitKind) (number : ℕ) → SameIn timeline_folder a b → Passes a end origin now commits which number → Passes b end origin now commits which number
-passes_own a b end origin now commits which number same (inl h) = inl (h.0, h.1, subst (λ (names : List (List ℕ)). MAX_NAMES < length names) (sym (claims_own a b same)) h.2)
+passes_own a b end origin now commits which number same (inl h) = inl (h.0, h.1, h.2, subst (λ (names : List (List ℕ)). MAX_NAMES < length names) (sym (claims_own a b same)) h.3)
 passes_own a b end origin now commits which number same (inr h) = inr h
 
 -- ---- files

@@ -1,5 +1,5 @@
 -- The instant that is written for a change, and which numbers it passes.
-use Rattle.std.specs.Prelude.{◌≡◌, ◌↔◌, ◌⊎◌, ℕ, ◌<◌, ℤ, List, [], ◌∷◌, ◌++◌, length, codes, Contains, Option, None, Err, Ok, Some, unwrap_or}
+use Rattle.std.specs.Prelude.{◌≡◌, ◌≢◌, ◌↔◌, ◌⊎◌, ℕ, ◌<◌, ℤ, List, [], ◌∷◌, ◌++◌, length, codes, Contains, Option, None, Err, Ok, Some, unwrap_or}
 use Rattle.std.specs.List.Sorted.{IsStrictlySortedBy}
 use Rattle.serde_json.specs.Written.{compact_text}
 use Rattle.lake_basics.specs.declared.limits.TheConstants.{MAX_FILE_BYTES, MAX_NAMES}
@@ -135,8 +135,8 @@ PassesLast end origin now [] which number = ⊥
 PassesLast end origin now (commit ∷ []) which number = PassesAt end origin now commit which number
 PassesLast end origin now (commit ∷ (next ∷ commits)) which number = (instant : List ℕ) × IsNextInstant end now instant × PassesLast (end_behind end instant commit) origin now (next ∷ commits) which number
 
--- The same, or the folder of claims, which recovery lists, has too many names.
+-- The same, or the folder of claims, which recovery lists before a commit, has too many names.
 abbrev pub Passes : Files → TimelineEnd → Origin → ℕ → List Commit → LimitKind → ℕ → Type 0
 Passes files end origin now commits which number =
-    ((which ≡ Names) × (number ≡ MAX_NAMES) × (MAX_NAMES < length (names_in files claims_folder)))
+    ((commits ≢ []) × (which ≡ Names) × (number ≡ MAX_NAMES) × (MAX_NAMES < length (names_in files claims_folder)))
     ⊎ PassesLast end origin now commits which number

@@ -14,6 +14,7 @@ ghost use Rattle.target_core.specs.Views.{IsAdvanced};
 ghost use Rattle.target_hudi.specs.Fitting.{Unfit};
 ghost use Rattle.target_hudi.specs.HudiMeaning.{hudi_meaning, image};
 ghost use Rattle.target_hudi.specs.Kept.{IsCounted, StandsFor, end_of, held_of, view_of};
+ghost use Rattle.target_hudi.specs.NewInstant.{HoldsText, IsTaken};
 ghost use Rattle.target_hudi.specs.Reading.{IsSettledTarget, Reads, commits_in};
 ghost use Rattle.target_hudi.specs.Writing.{Passes};
 
@@ -70,9 +71,14 @@ pub(crate) fn publish<S: Store>(
         (record { source = source; table = option_copied table.entry })
         (view_of kept.old) (commit.now ∷ [])
         (Uncontested result) (is_ok result) store.old store.new }
+    ensures writes { S.tells → StandsFor kept.old (S.disk store.old).files
+        → OnOk result (HoldsText (S.disk store.new).files (end_of name.now kept.old)
+        (record { source = source; table = option_copied table.entry }) now_ms commit.now) }
     ensures contested { S.tells → StandsFor kept.old (S.disk store.old).files
         → IsSettledTarget (S.disk store.old) → IsErrOf result TargetError.Contested
         → commits_in (S.disk store.new).files ≤ kept.old.commits + 1 }
+    ensures taken { S.tells → IsErrOf result TargetError.Contested
+        → IsTaken (S.disk store.new).files (end_of name.now kept.old) now_ms }
     ensures refusal { S.tells → IfErr result (IsCommitRefusal (Passes (S.disk store.old).files
         (end_of name.now kept.old) (record { source = source; table = option_copied table.entry })
         now_ms (commit.now ∷ []))) }

@@ -10,10 +10,10 @@ use Rattle.target_core.specs.Views.{Origin}
 use Rattle.target_core.specs.declared.target.TargetError.TheVariants.{Contested}
 use Rattle.target_hudi.specs.HudiMeaning.{hudi_meaning}
 use Rattle.target_hudi.specs.Kept.{end_of, view_of}
-use Rattle.target_hudi.proofs.BesideLemmas.{free}
+use Rattle.target_hudi.proofs.TimelineLemmas.{free}
 use Rattle.target_hudi.proofs.KeepsLemmas.{advanced, fits_behind}
 use Rattle.target_hudi.proofs.PublishLemmas.{earlier}
-use Rattle.target_hudi.proofs.StoreLemmas.{contest_too, contested_error, counted_now, few_now, limited_by, orderly_before, passes_ahead, publishes_instant, publishes_nothing, reads_unmoved, ready, same_instant, stands_behind, taken_answer}
+use Rattle.target_hudi.proofs.StoreLemmas.{contest_too, contested_error, counted_now, few_now, holds_text, limited_by, orderly_before, passes_ahead, publishes_instant, publishes_nothing, reads_unmoved, ready, refused_by, same_instant, stands_behind, taken_answer, taken_now}
 use Rattle.target_hudi.proofs.commit.publish.Goals as goal
 
 pub returns-in_err-new-clause-publishes : goal.returns-in_err-new-clause-publishes
@@ -104,9 +104,9 @@ returns-in-Ok-clause-stands g c told stands settled =
     let v = same_instant (end_of name kept) origin now kept next commit c.in_ok-new.new.time instant c.in_ok-new.new.text text c.in_ok-new.new.properties properties c.as_str.ensures.value c.bytes_of-properties.ensures c.as_slice.ensures.value c.in_ok-new.ensures.is in
     let counted = c.requires.counted told in
     let alone = c.in-Ok.ensures.kept told in
-    let whole = orderly_before store old new told name origin now kept next commit instant properties text v counted alone c.requires.can c.requires.fits c.requires.source stands settled in
-    let is_ready = ready store old new told name origin now kept next commit instant properties text v counted alone c.requires.can c.requires.fits c.requires.source stands settled in
-    stands_behind store old new told name origin now kept next commit instant properties text v counted alone c.requires.can c.requires.fits c.requires.source stands settled (c.in-Ok.ensures.committed told whole is_ready)
+    let whole = orderly_before store old new told name origin now kept next commit instant properties text v counted alone stands in
+    let is_ready = ready store old new told name origin now kept next commit instant properties text v counted alone stands in
+    stands_behind store old new told name origin now kept next commit instant properties text v counted alone stands c.requires.can c.requires.fits c.requires.source settled (c.in-Ok.ensures.committed told whole is_ready)
 
 pub returns-in-Ok-clause-publishes : goal.returns-in-Ok-clause-publishes
 returns-in-Ok-clause-publishes g c told stands settled =
@@ -125,10 +125,31 @@ returns-in-Ok-clause-publishes g c told stands settled =
     let v = same_instant (end_of name kept) origin now kept next commit c.in_ok-new.new.time instant c.in_ok-new.new.text text c.in_ok-new.new.properties properties c.as_str.ensures.value c.bytes_of-properties.ensures c.as_slice.ensures.value c.in_ok-new.ensures.is in
     let counted = c.requires.counted told in
     let alone = c.in-Ok.ensures.kept told in
-    let whole = orderly_before store old new told name origin now kept next commit instant properties text v counted alone c.requires.can c.requires.fits c.requires.source stands settled in
-    let is_ready = ready store old new told name origin now kept next commit instant properties text v counted alone c.requires.can c.requires.fits c.requires.source stands settled in
-    publishes_instant store old new told name origin now kept next commit instant properties text v counted alone c.requires.can c.requires.fits c.requires.source stands settled _ true
+    let whole = orderly_before store old new told name origin now kept next commit instant properties text v counted alone stands in
+    let is_ready = ready store old new told name origin now kept next commit instant properties text v counted alone stands in
+    publishes_instant store old new told name origin now kept next commit instant properties text v counted alone stands c.requires.can c.requires.fits c.requires.source settled _ true
     (λ done. c.in-Ok.ensures.committed told whole is_ready) (λ u. c.in-Ok.ensures.one_step told tt whole settled.timeline is_ready)
+
+pub returns-in-Ok-clause-writes : goal.returns-in-Ok-clause-writes
+returns-in-Ok-clause-writes g c told stands =
+    let store = g.S.Store in
+    let name = c.args.name.now in
+    let kept = c.args.kept.now in
+    let next = c.new_instant.new.kept in
+    let commit = c.args.commit.now in
+    let old = c.args.store.now in
+    let new = c.publish_commit.new.store in
+    let now = c.args.now_ms in
+    let instant = c.as_str.result.now in
+    let properties = option_copied c.bytes_of-properties.result in
+    let text = c.as_slice.result.now in
+    let origin : Origin = record { source = c.args.source; table = option_copied c.args.table } in
+    let v = same_instant (end_of name kept) origin now kept next commit c.in_ok-new.new.time instant c.in_ok-new.new.text text c.in_ok-new.new.properties properties c.as_str.ensures.value c.bytes_of-properties.ensures c.as_slice.ensures.value c.in_ok-new.ensures.is in
+    let counted = c.requires.counted told in
+    let alone = c.in-Ok.ensures.kept told in
+    let whole = orderly_before store old new told name origin now kept next commit instant properties text v counted alone stands in
+    let is_ready = ready store old new told name origin now kept next commit instant properties text v counted alone stands in
+    holds_text store old new told name origin now kept next commit instant properties text v counted alone stands (c.in-Ok.ensures.committed told whole is_ready)
 
 pub returns-in-Ok-clause-ahead : goal.returns-in-Ok-clause-ahead
 returns-in-Ok-clause-ahead g c told =
@@ -164,9 +185,9 @@ returns-clause-publishes g c told stands settled =
     let v = same_instant (end_of name kept) origin now kept next commit c.in_ok-new.new.time instant c.in_ok-new.new.text text c.in_ok-new.new.properties properties c.as_str.ensures.value c.bytes_of-properties.ensures c.as_slice.ensures.value c.in_ok-new.ensures.is in
     let counted = c.requires.counted told in
     let alone = c.in-Err.ensures.kept told in
-    let whole = orderly_before store old new told name origin now kept next commit instant properties text v counted alone c.requires.can c.requires.fits c.requires.source stands settled in
-    let is_ready = ready store old new told name origin now kept next commit instant properties text v counted alone c.requires.can c.requires.fits c.requires.source stands settled in
-    publishes_instant store old new told name origin now kept next commit instant properties text v counted alone c.requires.can c.requires.fits c.requires.source stands settled (c.of_list.result ≡ Contested → ⊥) false
+    let whole = orderly_before store old new told name origin now kept next commit instant properties text v counted alone stands in
+    let is_ready = ready store old new told name origin now kept next commit instant properties text v counted alone stands in
+    publishes_instant store old new told name origin now kept next commit instant properties text v counted alone stands c.requires.can c.requires.fits c.requires.source settled (c.of_list.result ≡ Contested → ⊥) false
     (λ done. absurd (cc)) (λ u. c.in-Err.ensures.one_step told (λ taken. u (c.of_list.ensures ∙ ap (answer_of Names MAX_NAMES) taken)) whole settled.timeline is_ready)
 
 pub returns-clause-contested : goal.returns-clause-contested
@@ -203,9 +224,32 @@ returns-clause-limited g c told stands settled which number limited =
     let v = same_instant (end_of name kept) origin now kept next commit c.in_ok-new.new.time instant c.in_ok-new.new.text text c.in_ok-new.new.properties properties c.as_str.ensures.value c.bytes_of-properties.ensures c.as_slice.ensures.value c.in_ok-new.ensures.is in
     let counted = c.requires.counted told in
     let alone = c.in-Err.ensures.kept told in
-    let whole = orderly_before store old new told name origin now kept next commit instant properties text v counted alone c.requires.can c.requires.fits c.requires.source stands settled in
+    let whole = orderly_before store old new told name origin now kept next commit instant properties text v counted alone stands in
     let long = limited_by c.in-Err.error c.of_list.result c.of_list.ensures which number limited in
-    reads_unmoved store old new told name origin now kept next commit instant properties text v counted alone c.requires.can c.requires.fits c.requires.source stands settled (c.in-Err.ensures.unmoved told whole long.0 long.1)
+    reads_unmoved store old new told name origin now kept next commit instant properties text v counted alone stands (c.in-Err.ensures.unmoved told whole long.0 long.1)
+
+pub returns-clause-taken : goal.returns-clause-taken
+returns-clause-taken g c told contested =
+    let store = g.S.Store in
+    let name = c.args.name.now in
+    let kept = c.args.kept.now in
+    let next = c.new_instant.new.kept in
+    let commit = c.args.commit.now in
+    let old = c.args.store.now in
+    let new = c.publish_commit.new.store in
+    let now = c.args.now_ms in
+    let instant = c.as_str.result.now in
+    let properties = option_copied c.bytes_of-properties.result in
+    let text = c.as_slice.result.now in
+    let origin : Origin = record { source = c.args.source; table = option_copied c.args.table } in
+    let v = same_instant (end_of name kept) origin now kept next commit c.in_ok-new.new.time instant c.in_ok-new.new.text text c.in_ok-new.new.properties properties c.as_str.ensures.value c.bytes_of-properties.ensures c.as_slice.ensures.value c.in_ok-new.ensures.is in
+    taken_now store old new told name origin now kept next commit instant properties text v (c.requires.counted told) (c.in-Err.ensures.kept told) (c.in-Err.ensures.taken told (taken_answer c.in-Err.error c.of_list.result c.of_list.ensures contested))
+
+pub returns-clause-refusal : goal.returns-clause-refusal
+returns-clause-refusal g c told =
+    let origin : Origin = record { source = c.args.source; table = option_copied c.args.table } in
+    refused_by c.in-Err.error c.of_list.result c.of_list.ensures (g.S.Store.disk c.args.store.now).files (end_of c.args.name.now c.args.kept.now) origin c.args.now_ms c.args.commit.now
+    (λ n long. let is = c.in-Err.ensures.too_long n long in (is.0, is.1 told))
 
 pub returns-clause-contest : goal.returns-clause-contest
 returns-clause-contest g c =

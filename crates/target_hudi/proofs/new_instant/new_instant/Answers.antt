@@ -3,8 +3,6 @@ use Rattle.std.specs.Prelude.{IfErr}
 use Rattle.std.specs.Option.{option_copied}
 use Rattle.std.proofs.lemmas.Result.{err_from_is_err_and}
 use Rattle.table_history.specs.Row.{Row}
-use Rattle.table_history.specs.Tables.{IsAfter}
-use Rattle.table_history.specs.declared.table.Table.{Table}
 use Rattle.hudi_names.specs.Time.{IsTime}
 use Rattle.target_core.specs.Held.{are_held}
 use Rattle.target_core.specs.Views.{Origin}
