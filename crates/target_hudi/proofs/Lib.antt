@@ -26,3 +26,5 @@ pub mod PublishLemmas
 pub mod ReadTableLemmas
 pub mod StoreLemmas
 pub mod TimelineLemmas
+pub mod OwnNameLemmas
+pub mod SeenLemmas

@@ -21,3 +21,4 @@ pub mod AlikeLemmas
 pub mod OwnLemmas
 pub mod FaultLemmas
 pub mod InspectLemmas
+pub mod InspectSteps

@@ -5,11 +5,14 @@
 mod commit;
 mod fitting;
 mod fresh;
+mod inspect;
 mod kept;
 mod new_instant;
+mod own_names;
 mod properties;
 mod replaced;
 mod stats;
+mod stop;
 mod target;
 mod written;
 
@@ -18,5 +21,6 @@ pub use target::HudiTarget;
 
 #[cfg(test)]
 mod fitting_tests;
+mod inspect_tests;
 #[cfg(test)]
 mod tests;
