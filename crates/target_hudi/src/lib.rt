@@ -1,5 +1,4 @@
-//! A Hudi table as the target of a sync, begun: what the files of a Hudi timeline stand for as a
-//! target, and the name of a new table.
+//! A Hudi table as the target of a sync.
 #![tactic(auto)]
 
 mod commit;
