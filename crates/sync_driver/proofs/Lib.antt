@@ -1,6 +1,16 @@
+pub mod Applying
+pub mod Commanding
 pub mod Commands
+pub mod Counting
+pub mod Finding
+pub mod Following
 pub mod Locations
+pub mod Planning
+pub mod Refusing
+pub mod Saying
 pub mod Shows
 pub mod Spellings
+pub mod Standing
 pub mod StepLaws
+pub mod Syncing
 pub mod Vacancy

@@ -1,9 +1,10 @@
 -- The lines that commands print.
-use Rattle.std.specs.Prelude.{ℕ, ◌==◌, length, List, [], ◌++◌, codes, Option, Some, None, if◌then◌else◌}
+use Rattle.std.specs.Prelude.{ℕ, Bool, ◌==◌, length, List, [], ◌++◌, codes, Option, Some, None, if◌then◌else◌}
 use Rattle.std.specs.Fmt.{decimal}
 use Rattle.table_history.specs.declared.kind.Kind.{Kind}
 use Rattle.table_history.specs.Words.{kind_word, feature_word, limit_word}
 use Rattle.table_lines.specs.Lines.{line}
+use Rattle.sync_driver.specs.declared.apply.Report.{Report}
 use Rattle.sync_driver.specs.declared.status.Side.{Side}
 use Rattle.sync_driver.specs.declared.status.Side.TheVariants.{Source, Target}
 use Rattle.sync_driver.specs.declared.status.Status.{Status}
@@ -37,6 +38,19 @@ refusal_line SinkFault = []
 refusal_line (Behind target at head) = line (kind_word target ++ (codes ": status 11: Behind " ++ (position_word at ++ (codes " of " ++ head))))
 refusal_line (Differs target path) = line (kind_word target ++ (codes ": status 12: Differs " ++ path))
 refusal_line Later = line (codes "status 13: Later")
+
+-- the line of a commit that is pending behind the source's head, where there is one
+abbrev pub pending_line : Option (List ℕ) → List ℕ
+pending_line None = []
+pending_line (Some instant) = line (codes "source pending " ++ instant)
+
+-- how a target was brought to the head: in one commit with the whole table, or from commit to commit
+abbrev pub way_word : Bool → List ℕ
+way_word full = if full then codes "full" else codes "incremental"
+
+-- the line of a target that is done
+abbrev pub report_line : Kind → Report → List ℕ
+report_line target report = line (kind_word target ++ (codes ": " ++ (way_word report.full ++ (codes ", published " ++ (decimal report.published ++ (codes ", files " ++ (decimal report.files ++ (codes ", at " ++ report.at))))))))
 
 -- the line of a target that took one commit with the whole table of so many files at a position
 abbrev pub full_line : Kind → ℕ → List ℕ → List ℕ

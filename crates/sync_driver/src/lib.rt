@@ -1,20 +1,29 @@
 //! The commands of the bridge, over any store, clock and sink.
 #![tactic(auto)]
 
+mod apply;
+mod cause;
+mod command;
 mod first;
 mod hudi;
 mod line;
 mod paths;
+mod plan;
 mod publish;
 mod refusal;
-mod show;
+mod showing;
 mod source;
 mod status;
+mod sync;
 mod tell;
 mod top;
 mod words;
 
+pub use apply::{Report, apply_one};
+pub use plan::{Mode, Plan};
+pub use showing::show;
 pub use status::{Side, Status};
+pub use sync::sync_one;
 pub use top::{refuse_words, run};
 
 #[cfg(test)]

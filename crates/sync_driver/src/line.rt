@@ -1,10 +1,11 @@
 //! The lines that commands print.
-ghost use Rattle.std.specs.Prelude.{◌≡◌, ◌++◌, IfOk, codes, string_bytes};
+ghost use Rattle.std.specs.Prelude.{◌≡◌, ◌++◌, IfOk, Some, codes, string_bytes};
 ghost use Rattle.std.specs.Fmt.{decimal};
 ghost use Rattle.table_history.specs.Words.{kind_word, feature_word, limit_word};
 ghost use Rattle.table_lines.specs.Lines.{line};
-ghost use Rattle.sync_driver.specs.Lines.{side_word, position_word, path_part, refusal_line, full_line};
+ghost use Rattle.sync_driver.specs.Lines.{side_word, position_word, path_part, full_line, pending_line, refusal_line, report_line, way_word};
 
+use crate::apply::Report;
 use crate::status::{Side, Status};
 use lake_store::Text;
 use std::alloc::{AllocError, Global};
@@ -158,5 +159,37 @@ pub(crate) fn full_line(
 {
     let target = target.word();
     let text = format!(in alloc; "{target}: full, published 1, files {files}, at {at}")?;
+    line_of_text(alloc, text.as_str())
+}
+
+/// The line of a commit that is pending behind the source's head.
+pub(crate) fn pending_line(alloc: Global, instant: &Text) -> Result<Vec<u8>, AllocError>
+    ensures { IfOk result (λ bytes. bytes.items ≡ pending_line (Some instant.now)) }
+{
+    let instant = instant.as_str();
+    let text = format!(in alloc; "source pending {instant}")?;
+    line_of_text(alloc, text.as_str())
+}
+
+fn word_of_way(full: bool) -> &'static str
+    ensures { result.now ≡ way_word full }
+{
+    if full { "full" } else { "incremental" }
+}
+
+/// The line of a target that is done.
+pub(crate) fn report_line(
+    alloc: Global,
+    target: Kind,
+    report: &Report,
+) -> Result<Vec<u8>, AllocError>
+    ensures { IfOk result (λ bytes. bytes.items ≡ report_line target report.now) }
+{
+    let target = target.word();
+    let way = word_of_way(report.full);
+    let published = report.published;
+    let files = report.files;
+    let at = report.at.as_str();
+    let text = format!(in alloc; "{target}: {way}, published {published}, files {files}, at {at}")?;
     line_of_text(alloc, text.as_str())
 }

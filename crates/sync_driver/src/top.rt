@@ -10,11 +10,14 @@ ghost use Rattle.sync_driver.specs.declared.status.Status.TheVariants.{Usage};
 use crate::first::first_sync;
 use crate::line::full_line;
 use crate::refusal::Refusal;
-use crate::show::show_delta;
+use crate::showing::show;
 use crate::status::Status;
 use crate::tell::{put_line, refuse};
 use crate::words::{Form, command_of};
 use lake_store::{Clock, Sink, Store};
+use source_core::Source;
+use source_delta::DeltaSource;
+use source_hudi::HudiSource;
 use std::alloc::Global;
 use table_history::Kind;
 
@@ -63,11 +66,14 @@ fn is_first_sync(form: Form) -> bool
     matches!(form, Form::Sync(Kind::Delta, Kind::Hudi, None))
 }
 
-/// Whether the form shows Delta.
-fn shows_delta(form: Form) -> bool
-    ensures { IsTrue result ↔ (form ≡ Show Delta) }
+/// Whether the form shows a table of this format.
+fn shows(form: Form, kind: Kind) -> bool
+    ensures { IsTrue result ↔ (form ≡ Show kind) }
 {
-    matches!(form, Form::Show(Kind::Delta))
+    match form {
+        Form::Show(source) => source == kind,
+        _ => false,
+    }
 }
 
 /// Does what the words ask for, puts its line out, and answers how it ended. The first word is the
@@ -79,7 +85,8 @@ pub fn run<S: Store, C: Clock, O: Sink>(
     clock: &mut C,
     out: &mut O,
 ) -> Status
-    ensures { Command ⟦<S as Store>⟧ ⟦<O as Sink>⟧ words.now store.old store.new out.old out.new result }
+    ensures { Command ⟦<S as Store>⟧ ⟦<O as Sink>⟧ ⟦<DeltaSource as Source>⟧ ⟦<HudiSource as Source>⟧
+        words.now store.old store.new out.old out.new result }
 {
     let Some(command) = command_of(words) else {
         return refuse(alloc, out, Status::Usage);
@@ -88,8 +95,11 @@ pub fn run<S: Store, C: Clock, O: Sink>(
         let answer = first_sync(alloc, command.location, store, clock.now_ms());
         return finish(alloc, out, answer);
     }
-    if shows_delta(command.form) {
-        return show_delta(alloc, store, out);
+    if shows(command.form, Kind::Delta) {
+        return show(alloc, &DeltaSource::new(), store, out);
+    }
+    if shows(command.form, Kind::Hudi) {
+        return show(alloc, &HudiSource::new(), store, out);
     }
     refuse(alloc, out, Status::Later)
 }

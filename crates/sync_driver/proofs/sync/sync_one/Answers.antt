@@ -1,0 +1,52 @@
+use Rattle.std.proofs.Common.{◌≡◌, ◌∙◌, Some, Err, sym, ap, subst}
+use Rattle.lake_store.specs.Disk.{Disk}
+use Rattle.source_core.specs.declared.error.SourceError.{SourceError}
+use Rattle.source_core.specs.declared.error.SourceError.TheVariants.{StoreFault}
+use Rattle.sync_driver.specs.Answered.{IsSync}
+use Rattle.sync_driver.specs.Sources.{source_meaning}
+use Rattle.sync_driver.specs.Targets.{target_facts}
+use Rattle.sync_driver.specs.declared.status.Status.{Status}
+use Rattle.sync_driver.proofs.Counting.{fails_as}
+use Rattle.sync_driver.proofs.Finding.{head_refused}
+use Rattle.sync_driver.proofs.Following.{sync_behind}
+use Rattle.sync_driver.proofs.Syncing.{Laws}
+use Rattle.sync_driver.proofs.sync.sync_one.Goals as goal
+
+pub sync_from-requires-clause-head : goal.sync_from-requires-clause-head
+sync_from-requires-clause-head g c told = subst (λ (d : Disk). g.F.Source.is_head c.args.source.now d.files c.in-Ok.head) (sym (c.in-Ok.ensures.only_reads told).disk) (c.in-Ok.ensures.head told).1
+
+pub sync_from-requires-clause-there : goal.sync_from-requires-clause-there
+sync_from-requires-clause-there g c told = subst (λ (d : Disk). ¬ g.F.Source.is_absent c.args.source.now d.files) (sym (c.in-Ok.ensures.only_reads told).disk) (c.in-Ok.ensures.head told).0
+
+pub returns-in-Ok : goal.returns-in-Ok
+returns-in-Ok g c =
+    let store = g.S.Store in
+    let t = c.args.target.now in
+    let f = c.args.source.now in
+    let old = c.args.store.now in
+    let laws : Laws g.F.Source f g.T.Target t = record {
+      source_own = record { head_own = g.met.F.Source.head_own f; table_own = g.met.F.Source.table_own f };
+      views = record { one_view = g.met.T.Target.one_view t; absent_any = g.met.T.Target.absent_any t; published = g.met.T.Target.published t };
+      crash = record { reads = g.met.T.Target.crash_reads t; carries = g.met.T.Target.crash_carries t; settled = g.met.T.Target.crash_settled t };
+      kept_view = g.met.T.Target.kept_view t;
+      not_foreign = g.met.T.Target.not_foreign t;
+    } in
+    sync_behind store (source_meaning g.F.Source f) (target_facts g.T.Target t) laws.source_own laws.views laws.crash c.args.mode c.args.now_ms old c.head.new.store c.sync_from.new.store
+    c.in-Ok.ensures.only_reads _ _ c.in-Ok.ensures.cause c.in-Ok.ensures.contest (Some c.sync_from.result) c.sync_from.ensures
+
+pub returns-in-Err : goal.returns-in-Err
+returns-in-Err g c =
+    let store = g.S.Store in
+    let t = c.args.target.now in
+    let f = c.args.source.now in
+    let old = c.args.store.now in
+    let laws : Laws g.F.Source f g.T.Target t = record {
+      source_own = record { head_own = g.met.F.Source.head_own f; table_own = g.met.F.Source.table_own f };
+      views = record { one_view = g.met.T.Target.one_view t; absent_any = g.met.T.Target.absent_any t; published = g.met.T.Target.published t };
+      crash = record { reads = g.met.T.Target.crash_reads t; carries = g.met.T.Target.crash_carries t; settled = g.met.T.Target.crash_settled t };
+      kept_view = g.met.T.Target.kept_view t;
+      not_foreign = g.met.T.Target.not_foreign t;
+    } in
+    subst (λ (s : Status). IsSync store (source_meaning g.F.Source f) (target_facts g.T.Target t) c.args.mode c.args.now_ms old c.head.new.store (Some (Err s))) (sym c.status_of_source.ensures)
+    (head_refused store g.met.S.Store.only_now g.F.Source f g.T.Target t laws (g.met.T.Target.one_path t) c.args.mode c.args.now_ms old c.head.new.store c.in-Err.error c.in-Err.ensures.only_reads
+    (fails_as store.faults store.may_fail old c.head.new.store _ (c.in-Err.error ≡ StoreFault) (λ is. ap (λ (x : SourceError). Err x) is) c.in-Err.ensures.cause) c.in-Err.ensures.contest c.in-Err.ensures.head)
