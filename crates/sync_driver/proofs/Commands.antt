@@ -7,14 +7,18 @@ use Rattle.source_core.specs.declared.source.Source as sources
 use Rattle.source_delta.specs.declared.source.DeltaSource.{DeltaSource}
 use Rattle.source_hudi.specs.declared.source.HudiSource.{HudiSource}
 use Rattle.table_history.specs.declared.kind.Kind.TheVariants.{Delta, Hudi}
-use Rattle.sync_driver.specs.Answers.{Command, IsServed, line_of, status_of}
-use Rattle.sync_driver.specs.Firsts.{IsFirstSync}
+use Rattle.table_history.specs.declared.kind.Kind.{Kind}
+use Rattle.target_core.specs.declared.target.Target as targets
+use Rattle.target_hudi.specs.declared.kept.HudiKept.{HudiKept}
+use Rattle.target_hudi.specs.declared.target.HudiTarget.{HudiTarget}
+use Rattle.sync_driver.specs.Answers.{Brings, Command, IsServed, to_hudi}
+use Rattle.sync_driver.specs.declared.plan.Mode.{Mode}
+use Rattle.sync_driver.specs.declared.plan.Mode.TheVariants as modes
 use Rattle.sync_driver.specs.Forms.{Words, IsCommand, IsNoCommand, Spells, verb_word}
 use Rattle.sync_driver.specs.Lines.{refusal_line}
 use Rattle.sync_driver.specs.Shown.{Shows}
 use Rattle.sync_driver.specs.Sources.{source_meaning}
 use Rattle.sync_driver.specs.Tellings.{Tells}
-use Rattle.sync_driver.specs.declared.refusal.Refusal.{Refusal}
 use Rattle.sync_driver.specs.declared.status.Status.{Status}
 use Rattle.sync_driver.specs.declared.status.Status.TheVariants.{Usage, Later}
 use Rattle.sync_driver.specs.declared.words.Verb.TheVariants as verb
@@ -52,12 +56,23 @@ one_form words (Show f) (Full g s None) is other = let e : 3 ≡ 4 = sym is.0 �
 one_form words (Show f) (Full g s (Some w)) is other = let e : 3 ≡ 5 = sym is.0 ∙ other.0.0 in absurd (omega (arith, e))
 one_form words (Show f) (Show g) is other = let a : Some f ≡ Some g = sym is.2 ∙ other.2 in cc
 
-module _ {S O : Type 0} (store : Ghosts S) (sink : sinks.Ghosts O) (delta : sources.Ghosts DeltaSource) (hudi : sources.Ghosts HudiSource) (words : Words) (old : S) (out_old out_new : O) (status : Status) where
-  pub no_command : IsNoCommand words → Tells sink out_old out_new (refusal_line Usage) Usage status → Command store sink delta hudi words old old out_old out_new status
+-- the two ways have forms of their own
+one_mode : (a b : Mode) → to_hudi a ≡ to_hudi b → a ≡ b
+one_mode modes.Sync modes.Sync is = refl
+one_mode modes.Sync modes.Full is = cc is
+one_mode modes.Full modes.Sync is = cc is
+one_mode modes.Full modes.Full is = refl
+
+not_shown : (mode : Mode) (kind : Kind) → to_hudi mode ≡ Show kind → ⊥
+not_shown modes.Sync kind is = cc is
+not_shown modes.Full kind is = cc is
+
+module _ {S O : Type 0} (store : Ghosts S) (sink : sinks.Ghosts O) (delta : sources.Ghosts DeltaSource) (hudi : sources.Ghosts HudiSource) (target : targets.Ghosts HudiTarget HudiKept) (words : Words) (old : S) (out_old out_new : O) (status : Status) where
+  pub no_command : IsNoCommand words → Tells sink out_old out_new (refusal_line Usage) Usage status → Command store sink delta hudi target words old old out_old out_new status
   no_command none told = record {
     usage = λ no. (told, refl);
     later = λ place form is other. absurd (none place form is);
-    served = λ place is. absurd (none place (Sync Delta Hudi None) is);
+    brought = λ place mode is. absurd (none place (to_hudi mode) is);
     delta_shown = λ place is. absurd (none place (Show Delta) is);
     hudi_shown = λ place is. absurd (none place (Show Hudi) is);
   }
@@ -66,39 +81,46 @@ module _ {S O : Type 0} (store : Ghosts S) (sink : sinks.Ghosts O) (delta : sour
     same : (p : List ℕ) (other : Form) → IsCommand words p other → form ≡ other
     same p other spelled = one_form words form other is.1 spelled.1
 
-    pub other_command : (IsServed form → ⊥) → Tells sink out_old out_new (refusal_line Later) Later status → Command store sink delta hudi words old old out_old out_new status
+    same_place : (p : List ℕ) (other : Form) → IsCommand words p other → place ≡ p
+    same_place p other spelled = let one : Some place ≡ Some p = sym is.0.0 ∙ spelled.0.0 in cc one
+
+    pub other_command : (IsServed form → ⊥) → Tells sink out_old out_new (refusal_line Later) Later status → Command store sink delta hudi target words old old out_old out_new status
     other_command other told = record {
       usage = λ no. absurd (no place form is);
       later = λ p f spelled unserved. (told, refl);
-      served = λ p spelled. absurd (other (inl (same p (Sync Delta Hudi None) spelled)));
+      brought = λ p mode spelled. absurd (other (inl (mode, same p (to_hudi mode) spelled)));
       delta_shown = λ p spelled. absurd (other (inr (inl (same p (Show Delta) spelled))));
       hudi_shown = λ p spelled. absurd (other (inr (inr (same p (Show Hudi) spelled))));
     }
 
-    pub served_command : form ≡ Sync Delta Hudi None → (new : S) (answer : Result ℕ Refusal) → IsFirstSync store old new answer → Tells sink out_old out_new (line_of answer) (status_of answer) status
-        → Command store sink delta hudi words old new out_old out_new status
-    served_command here new answer sync told = record {
+    pub brought_command : (mode : Mode) → form ≡ to_hudi mode → (new : S) (now : ℕ) → Brings store sink delta target place mode now old new out_old out_new status → Command store sink delta hudi target words old new out_old out_new status
+    brought_command mode here new now brings = record {
       usage = λ no. absurd (no place form is);
-      later = λ p f spelled unserved. absurd (unserved (inl (sym (same p f spelled) ∙ here)));
-      served = λ p spelled. (answer, sync, told);
-      delta_shown = λ p spelled. let e : Sync Delta Hudi None ≡ Show Delta = sym here ∙ same p (Show Delta) spelled in absurd (cc e);
-      hudi_shown = λ p spelled. let e : Sync Delta Hudi None ≡ Show Hudi = sym here ∙ same p (Show Hudi) spelled in absurd (cc e);
+      later = λ p f spelled unserved. absurd (unserved (inl (mode, sym (same p f spelled) ∙ here)));
+      brought = λ p other spelled.
+          let one : mode ≡ other = one_mode mode other (sym here ∙ same p (to_hudi other) spelled) in (
+            now,
+            subst (λ (q : List ℕ). Brings store sink delta target q other now old new out_old out_new status) (same_place p (to_hudi other) spelled)
+                (subst (λ (m : Mode). Brings store sink delta target place m now old new out_old out_new status) one brings),
+          );
+      delta_shown = λ p spelled. absurd (not_shown mode Delta (sym here ∙ same p (Show Delta) spelled));
+      hudi_shown = λ p spelled. absurd (not_shown mode Hudi (sym here ∙ same p (Show Hudi) spelled));
     }
 
-    pub delta_command : form ≡ Show Delta → (new : S) (source : DeltaSource) → Shows store sink (source_meaning delta source) old new out_old out_new status → Command store sink delta hudi words old new out_old out_new status
+    pub delta_command : form ≡ Show Delta → (new : S) (source : DeltaSource) → Shows store sink (source_meaning delta source) old new out_old out_new status → Command store sink delta hudi target words old new out_old out_new status
     delta_command here new source shows = record {
       usage = λ no. absurd (no place form is);
       later = λ p f spelled unserved. absurd (unserved (inr (inl (sym (same p f spelled) ∙ here))));
-      served = λ p spelled. let e : Show Delta ≡ Sync Delta Hudi None = sym here ∙ same p (Sync Delta Hudi None) spelled in absurd (cc e);
+      brought = λ p mode spelled. absurd (not_shown mode Delta (sym (same p (to_hudi mode) spelled) ∙ here));
       delta_shown = λ p spelled. (source, shows);
       hudi_shown = λ p spelled. let e : Show Delta ≡ Show Hudi = sym here ∙ same p (Show Hudi) spelled in absurd (cc e);
     }
 
-    pub hudi_command : form ≡ Show Hudi → (new : S) (source : HudiSource) → Shows store sink (source_meaning hudi source) old new out_old out_new status → Command store sink delta hudi words old new out_old out_new status
+    pub hudi_command : form ≡ Show Hudi → (new : S) (source : HudiSource) → Shows store sink (source_meaning hudi source) old new out_old out_new status → Command store sink delta hudi target words old new out_old out_new status
     hudi_command here new source shows = record {
       usage = λ no. absurd (no place form is);
       later = λ p f spelled unserved. absurd (unserved (inr (inr (sym (same p f spelled) ∙ here))));
-      served = λ p spelled. let e : Show Hudi ≡ Sync Delta Hudi None = sym here ∙ same p (Sync Delta Hudi None) spelled in absurd (cc e);
+      brought = λ p mode spelled. absurd (not_shown mode Hudi (sym (same p (to_hudi mode) spelled) ∙ here));
       delta_shown = λ p spelled. let e : Show Hudi ≡ Show Delta = sym here ∙ same p (Show Delta) spelled in absurd (cc e);
       hudi_shown = λ p spelled. (source, shows);
     }

@@ -11,6 +11,4 @@ pub mod Saying
 pub mod Shows
 pub mod Spellings
 pub mod Standing
-pub mod StepLaws
 pub mod Syncing
-pub mod Vacancy

@@ -1,6 +1,5 @@
 -- The slashes at a place's end.
-use Rattle.std.proofs.Common.{◌≡◌, ◌≢◌, ℕ, ◌+◌, ◌<◌, ◌==◌, ◌++◌, List, [], ◌∷◌, length, take, get_or, false, refl, sym, ap, ◌∙◌, arith}
-use Rattle.std.proofs.lemmas.List.{take_more}
+use Rattle.std.proofs.Common.{◌≡◌, ◌≢◌, ℕ, ◌+◌, ◌<◌, ◌==◌, ◌++◌, List, [], ◌∷◌, length, Bool, true, false, refl, sym, ap, ◌∙◌, arith}
 use Rattle.std.proofs.lemmas.Bool.Decides.{nat_tests}
 use Rattle.sync_driver.specs.Forms.{before, location}
 
@@ -9,18 +8,30 @@ location-append_slash : (xs : List ℕ) → location (xs ++ 47 ∷ []) ≡ locat
 location-append_slash [] = refl
 location-append_slash (x ∷ xs) = ap (before x) (location-append_slash xs)
 
-before_longer : (x b : ℕ) (xs : List ℕ) → before x (xs ++ b ∷ []) ≡ x ∷ (xs ++ b ∷ [])
-before_longer x b [] = refl
-before_longer x b (y ∷ ys) = refl
+-- a text that ends with no slash is a location
+pub location_whole : (xs : List ℕ) → ((front : List ℕ) → xs ≡ front ++ 47 ∷ [] → ⊥) → location xs ≡ xs
+location_whole [] none = refl
+location_whole (x ∷ []) none = last (x == 47) refl
+  where
+    last : (b : Bool) → (x == 47) ≡ b → before x [] ≡ x ∷ []
+    last false is = rw is refl
+    last true is = let same : x ≡ 47 = grind (arith, nat_tests) in absurd (none [] (ap (λ (c : ℕ). c ∷ []) same))
+location_whole (x ∷ y ∷ xs) none = ap (before x) (location_whole (y ∷ xs) (λ front is. none (x ∷ front) (ap (λ (l : List ℕ). x ∷ l) is)))
 
-location-append_other : (xs : List ℕ) (b : ℕ) → (b == 47) ≡ false → location (xs ++ b ∷ []) ≡ xs ++ b ∷ []
-location-append_other [] b other = rw other refl
-location-append_other (x ∷ xs) b other = ap (before x) (location-append_other xs b other) ∙ before_longer x b xs
+pub location_shorter : (place left shorter : List ℕ) → location place ≡ location left → left ≡ shorter ++ 47 ∷ [] → location place ≡ location shorter
+location_shorter place left shorter so_far is = so_far ∙ ap location is ∙ location-append_slash shorter
 
-pub location_of_more : (xs : List ℕ) (i : ℕ) → i < length xs → get_or xs i 0 ≢ 47 → take (i + 1) xs ≡ location (take (i + 1) xs)
-location_of_more xs i lt other =
-    let test : (get_or xs i 0 == 47) ≡ false = grind (arith, nat_tests) in
-    rw (take_more xs i 0 lt) (sym (location-append_other (take i xs) (get_or xs i 0) test))
-
-pub location_of_slash : (xs : List ℕ) (i : ℕ) → i < length xs → get_or xs i 0 ≡ 47 → location (take i xs) ≡ location (take (i + 1) xs)
-location_of_slash xs i lt slash = rw (take_more xs i 0 lt, slash) (sym (location-append_slash (take i xs)))
+-- a location ends with no slash
+pub location_ends : (place front : List ℕ) → location place ≡ front ++ 47 ∷ [] → ⊥
+location_ends [] [] is = cc is
+location_ends [] (c ∷ front) is = cc is
+location_ends (b ∷ bs) front is = behind b (location bs) (location_ends bs) (b == 47) refl front is
+  where
+    behind : (b : ℕ) (left : List ℕ) → ((front : List ℕ) → left ≡ front ++ 47 ∷ [] → ⊥) → (t : Bool) → (b == 47) ≡ t → (front : List ℕ) → before b left ≡ front ++ 47 ∷ [] → ⊥
+    behind b [] none true slash [] is = let e : before b [] ≡ [] = rw slash refl in let no : [] ≡ 47 ∷ [] = sym e ∙ is in cc no
+    behind b [] none true slash (c ∷ front) is = let e : before b [] ≡ [] = rw slash refl in let no : [] ≡ c ∷ (front ++ 47 ∷ []) = sym e ∙ is in cc no
+    behind b [] none false slash [] is = let e : before b [] ≡ b ∷ [] = rw slash refl in let same : b ∷ [] ≡ 47 ∷ [] = sym e ∙ is in let byte : b ≡ 47 = cc same in let test : (b == 47) ≡ true = grind (arith, nat_tests) in cc (sym slash ∙ test)
+    behind b [] none false slash (c ∷ []) is = let e : before b [] ≡ b ∷ [] = rw slash refl in let no : b ∷ [] ≡ c ∷ 47 ∷ [] = sym e ∙ is in cc no
+    behind b [] none false slash (c ∷ d ∷ front) is = let e : before b [] ≡ b ∷ [] = rw slash refl in let no : b ∷ [] ≡ c ∷ d ∷ (front ++ 47 ∷ []) = sym e ∙ is in cc no
+    behind b (x ∷ xs) none t slash [] is = cc is
+    behind b (x ∷ xs) none t slash (c ∷ front) is = none front (let same : b ∷ x ∷ xs ≡ c ∷ (front ++ 47 ∷ []) = is in cc same)

@@ -51,7 +51,3 @@ way_word full = if full then codes "full" else codes "incremental"
 -- the line of a target that is done
 abbrev pub report_line : Kind → Report → List ℕ
 report_line target report = line (kind_word target ++ (codes ": " ++ (way_word report.full ++ (codes ", published " ++ (decimal report.published ++ (codes ", files " ++ (decimal report.files ++ (codes ", at " ++ report.at))))))))
-
--- the line of a target that took one commit with the whole table of so many files at a position
-abbrev pub full_line : Kind → ℕ → List ℕ → List ℕ
-full_line target files at = line (kind_word target ++ (codes ": full, published 1, files " ++ (decimal files ++ (codes ", at " ++ at))))

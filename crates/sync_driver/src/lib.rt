@@ -4,15 +4,9 @@
 mod apply;
 mod cause;
 mod command;
-mod first;
-mod hudi;
 mod line;
-mod paths;
 mod plan;
-mod publish;
-mod refusal;
 mod showing;
-mod source;
 mod status;
 mod sync;
 mod tell;

@@ -3,7 +3,7 @@ ghost use Rattle.std.specs.Prelude.{◌≡◌, ◌++◌, IfOk, Some, codes, stri
 ghost use Rattle.std.specs.Fmt.{decimal};
 ghost use Rattle.table_history.specs.Words.{kind_word, feature_word, limit_word};
 ghost use Rattle.table_lines.specs.Lines.{line};
-ghost use Rattle.sync_driver.specs.Lines.{side_word, position_word, path_part, full_line, pending_line, refusal_line, report_line, way_word};
+ghost use Rattle.sync_driver.specs.Lines.{side_word, position_word, path_part, pending_line, refusal_line, report_line, way_word};
 
 use crate::apply::Report;
 use crate::status::{Side, Status};
@@ -146,20 +146,6 @@ pub(crate) fn line_of_refusal(alloc: Global, status: &Status) -> Result<Vec<u8>,
         Status::Differs { target, path } => differs_line(alloc, *target, path),
         Status::Later => line_of_text(alloc, "status 13: Later"),
     }
-}
-
-/// The line of a target that took one commit with the whole table of so many files.
-pub(crate) fn full_line(
-    alloc: Global,
-    target: Kind,
-    files: usize,
-    at: &str,
-) -> Result<Vec<u8>, AllocError>
-    ensures { IfOk result (λ bytes. bytes.items ≡ full_line target files at.now) }
-{
-    let target = target.word();
-    let text = format!(in alloc; "{target}: full, published 1, files {files}, at {at}")?;
-    line_of_text(alloc, text.as_str())
 }
 
 /// The line of a commit that is pending behind the source's head.

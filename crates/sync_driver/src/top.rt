@@ -1,18 +1,17 @@
 //! The top call.
-ghost use Rattle.std.specs.Prelude.{◌≡◌, ◌↔◌, IsTrue, None, Ok};
-ghost use Rattle.sync_driver.specs.Answers.{Command, line_of, status_of, status_of_refusal};
-ghost use Rattle.table_history.specs.declared.kind.Kind.TheVariants.{Delta, Hudi};
+ghost use Rattle.std.specs.Prelude.{◌≡◌, ◌↔◌, ◌<◌, ◌^◌, ◌++◌, ◌∷◌, ℕ, List, [], IsTrue, MatchOption};
+ghost use Rattle.sync_driver.specs.Answers.{Brings, Command, to_hudi};
 ghost use Rattle.sync_driver.specs.Lines.{refusal_line};
 ghost use Rattle.sync_driver.specs.Tellings.{Tells};
-ghost use Rattle.sync_driver.specs.declared.words.Form.TheVariants.{Show, Sync};
+ghost use Rattle.sync_driver.specs.declared.plan.Mode.{Mode};
 ghost use Rattle.sync_driver.specs.declared.status.Status.TheVariants.{Usage};
+ghost use Rattle.sync_driver.specs.declared.words.Form.TheVariants.{Show};
 
-use crate::first::first_sync;
-use crate::line::full_line;
-use crate::refusal::Refusal;
+use crate::command::sync_target;
+use crate::plan::Mode;
 use crate::showing::show;
 use crate::status::Status;
-use crate::tell::{put_line, refuse};
+use crate::tell::refuse;
 use crate::words::{Form, command_of};
 use lake_store::{Clock, Sink, Store};
 use source_core::Source;
@@ -20,6 +19,8 @@ use source_delta::DeltaSource;
 use source_hudi::HudiSource;
 use std::alloc::Global;
 use table_history::Kind;
+use target_core::Target;
+use target_hudi::HudiTarget;
 
 /// Answers words that are no form.
 pub fn refuse_words<O: Sink>(alloc: Global, out: &mut O) -> Status
@@ -28,42 +29,16 @@ pub fn refuse_words<O: Sink>(alloc: Global, out: &mut O) -> Status
     refuse(alloc, out, Status::Usage)
 }
 
-fn status_of_refusal(refusal: Refusal) -> Status
-    ensures { result ≡ status_of_refusal refusal }
+/// How the form brings a Hudi table to the head of a Delta table, if it does.
+fn mode_to_hudi(form: Form) -> Option<Mode>
+    ensures { MatchOption result ((mode : Mode) → form ≡ to_hudi mode → ⊥)
+        (λ mode. form ≡ to_hudi mode) }
 {
-    match refusal {
-        Refusal::Memory => Status::Memory,
-        Refusal::Absent => Status::Absent,
-        Refusal::Later => Status::Later,
-        Refusal::Contested => Status::Contested { target: Kind::Hudi },
-        Refusal::StoreFault => Status::StoreFault,
+    match form {
+        Form::Sync(Kind::Delta, Kind::Hudi, None) => Some(Mode::Sync),
+        Form::Full(Kind::Delta, Kind::Hudi, None) => Some(Mode::Full),
+        _ => None,
     }
-}
-
-fn finish_full<O: Sink>(alloc: Global, out: &mut O, files: usize) -> Status
-    ensures { Tells ⟦<O as Sink>⟧ out.old out.new (line_of (Ok files)) (status_of (Ok files)) result }
-{
-    match full_line(alloc, Kind::Hudi, files, "0") {
-        Ok(line) => put_line(out, &line, Status::Done),
-        Err(_) => Status::Memory,
-    }
-}
-
-/// Puts the line of a first sync out, and answers how it ended.
-fn finish<O: Sink>(alloc: Global, out: &mut O, answer: Result<usize, Refusal>) -> Status
-    ensures { Tells ⟦<O as Sink>⟧ out.old out.new (line_of answer) (status_of answer) result }
-{
-    match answer {
-        Ok(files) => finish_full(alloc, out, files),
-        Err(refusal) => refuse(alloc, out, status_of_refusal(refusal)),
-    }
-}
-
-/// Whether the form is a sync from Delta to Hudi.
-fn is_first_sync(form: Form) -> bool
-    ensures { IsTrue result ↔ (form ≡ Sync Delta Hudi None) }
-{
-    matches!(form, Form::Sync(Kind::Delta, Kind::Hudi, None))
 }
 
 /// Whether the form shows a table of this format.
@@ -76,6 +51,35 @@ fn shows(form: Form, kind: Kind) -> bool
     }
 }
 
+/// Brings the Hudi table at this location to the head of the Delta table there.
+fn sync_to_hudi<S: Store, O: Sink>(
+    alloc: Global,
+    location: &str,
+    store: &mut S,
+    mode: Mode,
+    now_ms: u64,
+    out: &mut O,
+) -> Status
+    requires now { now_ms < 2 ^ 63 }
+    requires location { (front : List ℕ) → location.now ≡ front ++ 47 ∷ [] → ⊥ }
+    ensures { Brings ⟦<S as Store>⟧ ⟦<O as Sink>⟧ ⟦<DeltaSource as Source>⟧
+        ⟦<HudiTarget as Target>⟧ location.now mode now_ms store.old store.new out.old out.new
+        result }
+{
+    match HudiTarget::new(alloc, location) {
+        Ok(target) => sync_target(
+            alloc,
+            &DeltaSource::new(),
+            &target,
+            store,
+            mode,
+            now_ms,
+            out,
+        ),
+        Err(_) => Status::Memory,
+    }
+}
+
 /// Does what the words ask for, puts its line out, and answers how it ended. The first word is the
 /// table's place, and the others are a form.
 pub fn run<S: Store, C: Clock, O: Sink>(
@@ -85,15 +89,15 @@ pub fn run<S: Store, C: Clock, O: Sink>(
     clock: &mut C,
     out: &mut O,
 ) -> Status
-    ensures { Command ⟦<S as Store>⟧ ⟦<O as Sink>⟧ ⟦<DeltaSource as Source>⟧ ⟦<HudiSource as Source>⟧
-        words.now store.old store.new out.old out.new result }
+    ensures { Command ⟦<S as Store>⟧ ⟦<O as Sink>⟧ ⟦<DeltaSource as Source>⟧
+        ⟦<HudiSource as Source>⟧ ⟦<HudiTarget as Target>⟧ words.now store.old store.new out.old
+        out.new result }
 {
     let Some(command) = command_of(words) else {
         return refuse(alloc, out, Status::Usage);
     };
-    if is_first_sync(command.form) {
-        let answer = first_sync(alloc, command.location, store, clock.now_ms());
-        return finish(alloc, out, answer);
+    if let Some(mode) = mode_to_hudi(command.form) {
+        return sync_to_hudi(alloc, command.location, store, mode, clock.now_ms(), out);
     }
     if shows(command.form, Kind::Delta) {
         return show(alloc, &DeltaSource::new(), store, out);

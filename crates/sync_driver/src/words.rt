@@ -1,5 +1,6 @@
 //! The words of a command: the table's place, and one form.
-ghost use Rattle.std.specs.Prelude.{◌≡◌, ℕ, List, MatchOption, Some};
+ghost use Rattle.std.specs.Prelude.{◌≡◌, ◌++◌, ◌∷◌, ℕ, List, [], IfSome, MatchOption, Some};
+ghost use Rattle.std.specs.Str.{IsUtf8};
 ghost use Rattle.std.specs.Option.{option_map};
 ghost use Rattle.table_history.specs.declared.kind.Kind.{Kind};
 ghost use Rattle.sync_driver.specs.declared.words.Verb.{Verb};
@@ -113,30 +114,40 @@ pub(crate) fn form_of(words: &[String]) -> Option<Form>
     }
 }
 
+/// What is left of a text without the slash at its end, if it has one.
+fn without_slash(text: &str) -> Option<&str>
+    ensures text { IfSome result (λ left. IsUtf8 left.now) }
+    ensures split { MatchOption result ((front : List ℕ) → text.now ≡ front ++ 47 ∷ [] → ⊥)
+        (λ left. text.now ≡ left.now ++ 47 ∷ []) }
+{
+    text.strip_suffix('/')
+}
+
 /// The place without the slashes at its end.
-fn location_of(place: &[u8]) -> &[u8]
+fn location_of(place: &str) -> &str
     ensures { result.now ≡ location place.now }
 {
-    let mut length = 0;
-    for (i, byte) in place.iter().enumerate() {
-        if *byte != b'/' {
-            length = i + 1;
-        }
+    let mut left = place;
+    for _ in 0..place.len() {
+        let Some(shorter) = without_slash(left) else {
+            return left;
+        };
+        left = shorter;
     }
-    &place[..length]
+    left
 }
 
 /// What the words ask for, and of which table.
 #[derive(Clone, Copy, Debug)]
 pub(crate) struct Command<'a> {
-    pub(crate) location: &'a [u8],
+    pub(crate) location: &'a str,
     pub(crate) form: Form,
 }
 
-fn location_in(words: &[String]) -> Option<&[u8]>
+fn location_in(words: &[String]) -> Option<&str>
     ensures { MatchOption result ((place : List ℕ) → NamesPlace words.now place → ⊥) (λ place. NamesPlace words.now place.now) }
 {
-    let location = location_of(word_at(words, 0)?.as_bytes());
+    let location = location_of(word_at(words, 0)?);
     if location.is_empty() || location.len() > MAX_LOCATION {
         return None;
     }

@@ -1,16 +1,17 @@
-use Rattle.std.proofs.Common.{◌∙◌, arith}
-use Rattle.sync_driver.proofs.Locations.{location_of_more, location_of_slash}
+use Rattle.std.proofs.Common.{◌≡◌, ◌+◌, ◌∷◌, ◌++◌, ℕ, List, [], length, sym, ap, ◌∙◌, arith}
+use Rattle.std.proofs.Math.ListN.{length-append}
+use Rattle.sync_driver.specs.Forms.{location}
+use Rattle.sync_driver.proofs.Locations.{location_shorter, location_whole}
 use Rattle.sync_driver.proofs.words.location_of.Goals as goal
-use Rattle.sync_driver.proofs.words.location_of.Goals.{then-byte-ne47, else-byte-ne47}
 
-pub loop-i-preserved : goal.loop-i-preserved
-loop-i-preserved c = elim c.if-byte-ne47.branch [
-  | then-byte-ne47 w ↦ record {
-    short = omega arith;
-    same = rw (w.length-is) (location_of_more c.args.place.now c.loop-i.i c.loop-i-test.true w.if-byte-ne47.true);
-  }
-  | else-byte-ne47 w ↦ record {
-    short = omega arith;
-    same = rw (w.length-is) (c.loop-i.invariant.same ∙ location_of_slash c.args.place.now c.loop-i.i c.loop-i-test.true w.if-byte-ne47.false);
-  }
-]
+pub loop-preserved : goal.loop-preserved
+loop-preserved c =
+    let left = c.loop.left.now in
+    let shorter = c.in-Some.shorter.now in
+    let is = c.in-Some.ensures.split in
+    let count = ap (λ (l : List ℕ). length l) is ∙ length-append shorter (47 ∷ []) in
+    let so_far = c.loop.invariant.2 in
+    (c.in-Some.ensures.text, location_shorter c.args.place.now left shorter c.loop.invariant.1 is, omega (arith, count, so_far))
+
+pub returns-in_default : goal.returns-in_default
+returns-in_default c = sym (c.loop.invariant.1 ∙ location_whole c.loop.left.now c.in_default.ensures.split)

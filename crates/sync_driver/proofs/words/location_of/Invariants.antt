@@ -1,6 +1,8 @@
-use Rattle.std.proofs.Common.{◌≡◌, ◌≤◌, take}
+use Rattle.std.proofs.Common.{◌≡◌, ℕ, ◌+◌, ◌≤◌, length}
+use denote.Text.{Utf8}
+use denote.Shadow.{shadow}
 use Rattle.sync_driver.specs.Forms.{location}
 use Rattle.sync_driver.proofs.words.location_of.Given as goal
 
-abbrev pub invariant-loop-i : goal.invariant-loop-i
-invariant-loop-i l = record { short : l.length ≤ l.i; same : take l.length l.place ≡ location (take l.i l.place) }
+abbrev pub invariant-loop : goal.invariant-loop
+invariant-loop l = shadow (Utf8 l.left) × (location l.place ≡ location l.left) × (length l.left + l.counter ≤ length l.place)
