@@ -1,6 +1,6 @@
 -- What applying a plan leaves, by how it ends.
-use Rattle.std.proofs.Common.{◌≡◌, ◌⊎◌, inl, inr, ◌+◌, ◌<◌, ◌≤◌, ℕ, Bool, true, false, List, [], ◌∷◌, length, take, refl, sym, ap, subst, ◌∙◌, arith}
-use Rattle.std.specs.Prelude.{Result, Ok, Err, IsErrOf, is_ok}
+use Rattle.std.proofs.Common.{◌≡◌, inl, inr, ◌+◌, ◌<◌, ◌≤◌, ℕ, Bool, true, false, List, [], ◌∷◌, length, take, refl, ap, subst}
+use Rattle.std.specs.Prelude.{Result, Ok, Err, IsErrOf}
 use Rattle.lake_store.specs.Disk.{Disk, Files}
 use Rattle.lake_store.specs.Runs.{ChangesOnlyIn, FailsBy, IsContestedBy, IsOutside, OnlyReads}
 use Rattle.lake_store.specs.declared.store.Store.{Ghosts}
@@ -12,7 +12,6 @@ use Rattle.table_history.specs.declared.table.Change.{Change}
 use Rattle.table_history.specs.declared.table.Commit.{Commit}
 use Rattle.target_core.specs.Conditions.{GoesOn}
 use Rattle.target_core.specs.Folders.{MayLeaveIn, after_crash, folder_of}
-use Rattle.target_core.specs.Gained.{StillCarries}
 use Rattle.target_core.specs.Meaning.{Meaning}
 use Rattle.target_core.specs.Outcome.{Uncontested}
 use Rattle.target_core.specs.Progress.{IsRefusedAt}

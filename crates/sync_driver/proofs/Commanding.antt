@@ -1,20 +1,19 @@
 -- What a sync of one target tells, by how it ends.
-use Rattle.std.proofs.Common.{◌≡◌, ◌⊎◌, ◌++◌, ℕ, List, Option, Some, None, inl, inr, ⊎_elim, refl, sym, ap, subst, ◌∙◌}
-use Rattle.std.specs.Prelude.{Result, Ok, Err}
+use Rattle.std.proofs.Common.{◌≡◌, ◌⊎◌, ◌++◌, ℕ, List, Option, Some, None, inl, inr, ⊎_elim, ◌∙◌}
+use Rattle.std.specs.Prelude.{Ok, Err}
 use Rattle.lake_store.specs.Cause.{HasContest, Rose}
 use Rattle.lake_store.specs.Runs.{ChangesOnlyIn, FailsBy, IsOutside, IsUncontestedBy, OnlyReads}
 use Rattle.lake_store.specs.declared.sink.Sink as sinks
 use Rattle.lake_store.specs.declared.store.Store.{Ghosts}
 use Rattle.lake_store.proofs.RunLaws.{alone_by_reading}
 use Rattle.target_core.specs.Folders.{folder_of}
-use Rattle.sync_driver.specs.Answered.{Answer, CanSync, IsComplete, IsSync}
+use Rattle.sync_driver.specs.Answered.{Answer, IsComplete, IsSync}
 use Rattle.sync_driver.specs.Applied.{status_of_source}
 use Rattle.sync_driver.specs.Commands.{IsPending, Syncs, answer_line, answer_status}
 use Rattle.sync_driver.specs.Lines.{pending_line}
 use Rattle.sync_driver.specs.Sources.{SourceMeaning}
 use Rattle.sync_driver.specs.Targets.{TargetFacts}
 use Rattle.sync_driver.specs.Tellings.{Tells}
-use Rattle.sync_driver.specs.declared.apply.Report.{Report}
 use Rattle.sync_driver.specs.declared.plan.Mode.{Mode}
 use Rattle.sync_driver.specs.declared.status.Status.{Status}
 use Rattle.sync_driver.specs.declared.status.Status.TheVariants as status

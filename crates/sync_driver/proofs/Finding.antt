@@ -1,7 +1,6 @@
 -- How a sync of one target ends, by what inspecting the target found and by what reading the source gave.
-use Rattle.std.proofs.Common.{◌≡◌, ◌⊎◌, inl, inr, ℕ, Bool, true, false, List, [], ◌∷◌, Option, Some, None, refl, sym, ap, subst, ◌∙◌}
-use Rattle.std.specs.Prelude.{Result, Ok, Err, IsErrOf, is_some}
-use Rattle.lake_store.specs.Cause.{HasNoContest}
+use Rattle.std.proofs.Common.{◌≡◌, inl, inr, ℕ, true, List, [], ◌∷◌, Option, Some, None, refl, sym, ap, subst, ◌∙◌}
+use Rattle.std.specs.Prelude.{Result, Err, IsErrOf, is_some}
 use Rattle.lake_store.specs.Disk.{Disk, Files}
 use Rattle.lake_store.specs.Runs.{FailsBy, IsUncontestedBy, OnlyReads}
 use Rattle.lake_store.specs.declared.store.Store.{Ghosts}
@@ -12,14 +11,11 @@ use Rattle.source_core.specs.declared.error.SourceError.TheVariants as source_er
 use Rattle.source_core.specs.declared.head.Head.{Head}
 use Rattle.source_core.specs.declared.source.Source as sources
 use Rattle.table_history.specs.TypeTree.{ColumnTrees}
-use Rattle.table_history.specs.declared.table.Change.{Change}
 use Rattle.table_history.specs.declared.kind.Kind.{Kind}
 use Rattle.table_history.specs.declared.table.Commit.{Commit}
-use Rattle.table_history.specs.declared.table.Table.{Table}
 use Rattle.target_core.specs.Conditions.{CanPublish, CanPublishAll, GoesOn}
-use Rattle.target_core.specs.Folders.{MayLeaveIn, SameIn, after_crash, folder_of}
 use Rattle.target_core.specs.TargetMeanings.{meaning}
-use Rattle.target_core.specs.Views.{IsOfSource, IsPublished, IsUnpublished, Origin, Standing, View, absent}
+use Rattle.target_core.specs.Views.{Origin, View, absent}
 use Rattle.target_core.specs.declared.target.Target as targets
 use Rattle.target_core.specs.declared.target.TargetError.{TargetError}
 use Rattle.sync_driver.specs.Answered.{IsLookRefusal, IsOurs, IsSync}

@@ -1,8 +1,8 @@
 -- A sync behind a run that only read.
-use Rattle.std.proofs.Common.{◌≡◌, ◌⊎◌, ℕ, List, Option, Some, Result, Ok, Err, None, refl, sym, ap, subst, ◌∙◌, ◌≤◌, inl, inr, arith}
+use Rattle.std.proofs.Common.{◌≡◌, ◌⊎◌, ℕ, Some, Ok, Err, None, sym, subst, ◌≤◌, inl, inr, arith}
 use Rattle.lake_store.specs.Cause.{Rose}
-use Rattle.lake_store.specs.Disk.{Disk, Files, IsClean, MayLeave}
-use Rattle.lake_store.specs.Runs.{ChangesOnlyIn, FailsBy, IsContestedBy, IsIn, IsOutside, IsUncontestedBy, OnlyReads}
+use Rattle.lake_store.specs.Disk.{Disk, Files}
+use Rattle.lake_store.specs.Runs.{ChangesOnlyIn, FailsBy, IsOutside, IsUncontestedBy, OnlyReads}
 use Rattle.lake_store.specs.declared.store.Store.{Ghosts}
 use Rattle.lake_store.proofs.RunLaws.{alone_by_reading, alone_further, reading_further}
 use Rattle.target_core.specs.Folders.{folder_of}

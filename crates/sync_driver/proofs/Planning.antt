@@ -1,23 +1,22 @@
 -- A plan of one commit to the source's head.
-use Rattle.std.proofs.Common.{◌≡◌, ◌⊎◌, inl, inr, ⊎_elim, ◌<◌, ◌≤◌, ℕ, List, length, Contains, Option, Some, None, refl, sym, ap, subst, ◌∙◌, arith}
-use Rattle.std.specs.Prelude.{unwrap_or, []}
+use Rattle.std.proofs.Common.{◌≡◌, ◌⊎◌, inl, inr, ⊎_elim, ◌<◌, ◌≤◌, ℕ, List, length, Contains, Option, Some, None, refl, sym, ap, subst, ◌∙◌}
+use Rattle.std.specs.Prelude.{unwrap_or}
 use Rattle.std.specs.List.{IsDistinct}
 use Rattle.std.specs.Str.{bytes_eq}
 use Rattle.lake_basics.specs.declared.limits.TheConstants.{MAX_LIVE_FILES, MAX_PARTITION_COLUMNS}
 use Rattle.lake_store.specs.Disk.{Files}
 use Rattle.table_history.specs.History.{FitColumns}
-use Rattle.table_history.specs.Row.{Row}
 use Rattle.table_history.specs.Rows.{SameRows}
 use Rattle.table_history.specs.SchemaSize.{IsWithinLimits}
 use Rattle.table_history.specs.Sound.{IsSound}
-use Rattle.table_history.specs.Tables.{CanApply, IsAfter, LeadsTo}
+use Rattle.table_history.specs.Tables.{IsAfter, LeadsTo}
 use Rattle.table_history.specs.TypeTree.{ColumnTrees}
 use Rattle.table_history.specs.declared.kind.Kind.{Kind}
 use Rattle.table_history.specs.declared.table.Change.{Change}
 use Rattle.table_history.specs.declared.table.Table.{Table}
 use Rattle.table_history.proofs.Laws.{same_rows_length}
 use Rattle.target_core.specs.Conditions.{HasKind, IsPublishable}
-use Rattle.target_core.specs.Views.{IsOfSource, IsPublished, IsUnpublished, Standing, View, absent}
+use Rattle.target_core.specs.Views.{IsOfSource, IsPublished, IsUnpublished, View, absent}
 use Rattle.sync_driver.specs.Plans.{IsFound, IsFoundOurs, IsStartOf}
 use Rattle.sync_driver.specs.Targets.{IsStart}
 

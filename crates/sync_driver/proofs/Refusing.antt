@@ -1,5 +1,5 @@
 -- Why a sync of one target is refused, and which answer comes first.
-use Rattle.std.proofs.Common.{◌≡◌, ◌⊎◌, inl, inr, ⊎_elim, ◌<◌, ℕ, List, [], ◌∷◌, length, take, Some, None, refl, sym, ap, subst, ◌∙◌, arith}
+use Rattle.std.proofs.Common.{◌≡◌, ◌⊎◌, inl, inr, ℕ, List, Some, None, refl, sym, ap, subst, ◌∙◌}
 use Rattle.lake_store.specs.Disk.{Files}
 use Rattle.source_core.specs.Answers.{IsHeadRefusal, IsReadRefusal}
 use Rattle.source_core.specs.declared.error.SourceError.{SourceError}

@@ -1,5 +1,5 @@
 -- How what a command tells goes on from line to line.
-use Rattle.std.proofs.Common.{◌≡◌, ◌≢◌, ◌⊎◌, ◌++◌, ◌∷◌, ◌+◌, ◌≤◌, List, [], ℕ, length, map, suc, take, inl, inr, ⊎_elim, refl, sym, ap, subst, ◌∙◌, append_assoc, arith}
+use Rattle.std.proofs.Common.{◌≡◌, ◌≢◌, ◌++◌, ◌∷◌, ◌+◌, ◌≤◌, List, [], ℕ, length, map, suc, take, inl, inr, ⊎_elim, refl, sym, ap, subst, ◌∙◌, append_assoc, arith}
 use Rattle.std.proofs.Math.Seq.{take-length}
 use Rattle.std.proofs.lemmas.List.{append-nil}
 use Rattle.std.specs.Prelude.{IsErrOf, OnErr, OnOk, Result, Ok, Err}
@@ -13,7 +13,7 @@ use Rattle.table_history.specs.declared.table.Table.{Table}
 use Rattle.table_lines.specs.Lines.{line, printed}
 use Rattle.table_lines.specs.TableLines.{lines_over}
 use Rattle.sync_driver.specs.Shown.{put_status}
-use Rattle.sync_driver.specs.Tellings.{IsSaid, Puts, Tells, cut_of_put}
+use Rattle.sync_driver.specs.Tellings.{Puts, Tells, cut_of_put}
 use Rattle.sync_driver.specs.declared.status.Status.{Status}
 use Rattle.sync_driver.specs.declared.status.Status.TheVariants.{Done, Memory, SinkFault}
 

@@ -1,6 +1,5 @@
 -- Where a target stands behind a plan of one commit, and that a source stays as it is.
-use Rattle.std.proofs.Common.{◌≡◌, ◌⊎◌, inl, inr, ⊎_elim, ℕ, zero, suc, ◌+◌, ◌<◌, ◌≤◌, Bool, true, false, List, [], ◌∷◌, length, take, Contains, Option, Some, None, refl, sym, ap, subst, ◌∙◌, arith}
-use Rattle.std.specs.Prelude.{slice_get}
+use Rattle.std.proofs.Common.{◌≡◌, ◌⊎◌, inl, inr, ⊎_elim, ℕ, zero, suc, ◌+◌, ◌<◌, ◌≤◌, Bool, true, List, [], ◌∷◌, Contains, Option, Some, refl, sym, ap, subst, ◌∙◌, arith}
 use Rattle.lake_store.specs.Disk.{Disk, Files, IsClean, MayLeave}
 use Rattle.lake_store.specs.Runs.{ChangesOnlyIn, IsEachMoment, IsIn, IsOutside, KeepsImage, LeavesAlone, OnlyReads}
 use Rattle.lake_store.specs.declared.store.Store.{Ghosts}
@@ -9,9 +8,8 @@ use Rattle.lake_store.proofs.RunLaws.{NowOnly, alone_by_reading, alone_further}
 use Rattle.source_core.specs.declared.head.Head.{Head}
 use Rattle.table_history.specs.Row.{Row}
 use Rattle.table_history.specs.Rows.{SameRows}
-use Rattle.table_history.specs.Tables.{IsDiff, IsRowAfter, LeadsTo}
+use Rattle.table_history.specs.Tables.{LeadsTo}
 use Rattle.table_history.specs.TypeTree.{ColumnTrees}
-use Rattle.table_history.specs.declared.table.Change.{Change}
 use Rattle.table_history.specs.declared.kind.Kind.{Kind}
 use Rattle.table_history.specs.declared.table.Commit.{Commit}
 use Rattle.table_history.specs.declared.table.Table.{Table}
@@ -20,7 +18,7 @@ use Rattle.target_core.specs.Folders.{SameIn, after_crash, folder_of}
 use Rattle.target_core.specs.Gained.{Gained, GainedSome, StillCarries}
 use Rattle.target_core.specs.Meaning.{Meaning}
 use Rattle.target_core.specs.Publishing.{LeavesSome, Publishes}
-use Rattle.target_core.specs.Views.{IsAdvanced, IsAdvancedAll, IsPublished, IsSchemaAfter, IsUnpublished, SameView, Standing, View, absent, standing_at}
+use Rattle.target_core.specs.Views.{IsAdvancedAll, IsPublished, IsSchemaAfter, IsUnpublished, SameView, View, absent, standing_at}
 use Rattle.target_core.proofs.Apart.{folders_apart}
 use Rattle.target_core.proofs.Same.{same_refl, same_sym, same_trans}
 use Rattle.sync_driver.specs.Dues.{Due, IsChangeTo}

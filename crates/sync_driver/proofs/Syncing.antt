@@ -1,9 +1,8 @@
 -- What a sync of one target answers and leaves, by how it ends.
-use Rattle.std.proofs.Common.{◌≡◌, ◌⊎◌, inl, inr, ⊎_elim, ◌+◌, ◌<◌, ℕ, zero, suc, Bool, true, false, List, [], ◌∷◌, length, take, Option, Some, None, refl, sym, ap, subst, ◌∙◌, arith}
+use Rattle.std.proofs.Common.{◌≡◌, ◌⊎◌, inl, inr, ⊎_elim, ℕ, zero, suc, Bool, true, List, [], ◌∷◌, length, Option, Some, None, refl, sym, ap, subst, ◌∙◌, arith}
 use Rattle.std.specs.Prelude.{Result, Ok, Err, IsErrOf, is_ok}
-use Rattle.lake_store.specs.Cause.{HasContest, HasFault, HasNoContest}
-use Rattle.lake_store.specs.Disk.{Disk, Files, IsClean}
-use Rattle.lake_store.specs.Runs.{ChangesOnlyIn, FailsBy, IsContestedBy, IsIn, IsOutside, IsUncontestedBy, OnlyReads}
+use Rattle.lake_store.specs.Disk.{Disk, Files}
+use Rattle.lake_store.specs.Runs.{ChangesOnlyIn, FailsBy, IsOutside, IsUncontestedBy, OnlyReads}
 use Rattle.lake_store.specs.declared.store.Store.{Ghosts}
 use Rattle.lake_store.proofs.RunLaws.{NowOnly, alone_by_reading, alone_further, reading_further}
 use Rattle.source_core.specs.declared.head.Head.{Head}
@@ -18,23 +17,20 @@ use Rattle.target_core.specs.Conditions.{GoesOn}
 use Rattle.target_core.specs.Folders.{folder_of}
 use Rattle.target_core.specs.Gained.{Gained}
 use Rattle.target_core.specs.Outcome.{Uncontested}
-use Rattle.target_core.specs.Publishing.{Publishes}
 use Rattle.target_core.specs.TargetMeanings.{meaning}
-use Rattle.target_core.specs.Views.{IsOfSource, IsUnpublished, Origin, Standing, View}
+use Rattle.target_core.specs.Views.{IsOfSource, IsUnpublished, Origin, View}
 use Rattle.target_core.specs.declared.target.Target as targets
 use Rattle.target_core.specs.declared.target.TargetError.{TargetError}
 use Rattle.target_core.specs.declared.target.TargetError.TheVariants as target_error
-use Rattle.sync_driver.specs.Answered.{CameBefore, CanSync, IsAbsence, IsCaused, IsComplete, IsContest, IsDone, IsOneInFull, IsOurs, IsPassed, IsReady, IsRefusal, IsReport, IsReported, IsSync, IsUndisturbed, IsUnfit}
-use Rattle.sync_driver.specs.Applied.{Applies, IsApplyRefusal, IsReportOf, IsTold, PassesIn, answer_of_target, position_at, status_of_target}
+use Rattle.sync_driver.specs.Answered.{CameBefore, CanSync, IsAbsence, IsCaused, IsComplete, IsContest, IsDone, IsOneInFull, IsOurs, IsPassed, IsReady, IsRefusal, IsReported, IsSync, IsUndisturbed, IsUnfit}
+use Rattle.sync_driver.specs.Applied.{Applies, PassesIn, answer_of_target, position_at, status_of_target}
 use Rattle.sync_driver.specs.Dues.{Due, IsChangeTo}
-use Rattle.sync_driver.specs.Plans.{IsFullPlan}
-use Rattle.sync_driver.specs.Sources.{SourceMeaning, origin_of, source_meaning}
-use Rattle.sync_driver.specs.Synced.{IsAtHead, Synced}
-use Rattle.sync_driver.specs.Targets.{Begins, IsKept, IsStart, TargetFacts, target_facts}
+use Rattle.sync_driver.specs.Sources.{origin_of, source_meaning}
+use Rattle.sync_driver.specs.Synced.{Synced}
+use Rattle.sync_driver.specs.Targets.{Begins, IsKept, IsStart, target_facts}
 use Rattle.sync_driver.specs.declared.apply.Report.{Report}
 use Rattle.sync_driver.specs.declared.plan.Mode.{Mode}
 use Rattle.sync_driver.specs.declared.plan.Mode.TheVariants as modes
-use Rattle.sync_driver.specs.declared.plan.Plan.{Plan}
 use Rattle.sync_driver.specs.declared.status.Status.{Status}
 use Rattle.sync_driver.specs.declared.status.Status.TheVariants as status
 use Rattle.sync_driver.proofs.Applying.{CrashLaws, goes_on_start}

@@ -1,4 +1,4 @@
-use Rattle.std.proofs.Common.{◌≡◌, ℕ, true, false, List, Option, Result, Ok, Err, inl, inr, refl, sym, ap, subst, ◌∙◌}
+use Rattle.std.proofs.Common.{◌≡◌, ℕ, true, false, List, Option, Result, Err, sym, ap, subst, ◌∙◌}
 use Rattle.std.proofs.lemmas.Result.{err_from_is_err_and}
 use Rattle.std.specs.Option.{option_copied}
 use Rattle.std.specs.Prelude.{length}
@@ -11,7 +11,7 @@ use Rattle.target_core.specs.Refusals.{IsFitsRefusal}
 use Rattle.target_core.specs.TargetMeanings.{meaning}
 use Rattle.target_core.specs.Views.{IsAdvancedAll, Origin}
 use Rattle.target_core.specs.declared.target.TargetError.{TargetError}
-use Rattle.target_core.specs.declared.target.TargetError.TheVariants.{Memory, Contested}
+use Rattle.target_core.specs.declared.target.TargetError.TheVariants.{Contested}
 use Rattle.sync_driver.specs.Applied.{Applies, IsReportOf}
 use Rattle.sync_driver.specs.declared.apply.Report.{Report}
 use Rattle.sync_driver.proofs.Applying.{applies_all, applies_refused, applies_unfit, applies_untold, columns_fit, goes_on_start}

@@ -1,16 +1,14 @@
-use Rattle.std.proofs.Common.{◌≡◌, ◌∙◌, ℕ, List, None, Some, Result, Err, inl, inr, refl, sym, ap, subst}
+use Rattle.std.proofs.Common.{◌≡◌, None, Some, Err, inl, inr, refl, sym, ap, subst}
 use Rattle.lake_store.specs.Disk.{Disk}
 use Rattle.source_core.specs.declared.error.SourceError.{SourceError}
 use Rattle.source_core.specs.declared.error.SourceError.TheVariants.{StoreFault}
 use Rattle.table_history.specs.declared.kind.Kind.{Kind}
-use Rattle.sync_driver.specs.Answered.{Answer, IsSync}
 use Rattle.sync_driver.specs.Applied.{status_of_source}
 use Rattle.sync_driver.specs.Commands.{answer_line, answer_status}
 use Rattle.sync_driver.specs.Lines.{pending_line, refusal_line}
 use Rattle.sync_driver.specs.Sources.{source_meaning}
 use Rattle.sync_driver.specs.Targets.{target_facts}
 use Rattle.sync_driver.specs.Tellings.{Tells}
-use Rattle.sync_driver.specs.declared.apply.Report.{Report}
 use Rattle.sync_driver.specs.declared.status.Status.{Status}
 use Rattle.sync_driver.specs.declared.status.Status.TheVariants.{Done}
 use Rattle.sync_driver.proofs.Commanding.{sync_none, syncs}

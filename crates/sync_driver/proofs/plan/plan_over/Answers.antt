@@ -1,4 +1,4 @@
-use Rattle.std.proofs.Common.{List, refl, sym, subst, ◌∙◌}
+use Rattle.std.proofs.Common.{refl, subst, ◌∙◌}
 use Rattle.table_history.specs.Tables.{CanApply, LeadsTo}
 use Rattle.table_history.specs.declared.table.Commit.{Commit}
 use Rattle.table_history.specs.declared.table.Table.{Table}

@@ -1,11 +1,9 @@
-use Rattle.std.proofs.Common.{◌≡◌, ◌⊎◌, ℕ, List, Some, Result, Ok, Err, inl, inr, refl, sym, ap, subst}
-use Rattle.std.specs.Prelude.{IfErr, IfOk}
-use Rattle.source_core.specs.Answers.{IsReadRefusal}
+use Rattle.std.proofs.Common.{◌≡◌, Some, Err, inr, ap, subst}
+use Rattle.std.specs.Prelude.{IfOk}
 use Rattle.source_core.specs.declared.error.SourceError.{SourceError}
 use Rattle.source_core.specs.declared.error.SourceError.TheVariants.{StoreFault}
 use Rattle.table_history.specs.declared.kind.Kind.{Kind}
 use Rattle.table_lines.specs.TableLines.{AreTableLines}
-use Rattle.sync_driver.specs.Applied.{status_of_source}
 use Rattle.sync_driver.specs.Lines.{refusal_line}
 use Rattle.sync_driver.specs.Sources.{source_meaning}
 use Rattle.sync_driver.specs.Tellings.{Tells}

@@ -1,10 +1,9 @@
-use Rattle.std.proofs.Common.{◌≡◌, ◌∙◌, ℕ, true, false, List, Option, Some, Result, Err, sym, ap, subst}
+use Rattle.std.proofs.Common.{◌≡◌, ◌∙◌, true, false, Some, Result, Err, sym, ap, subst}
 use Rattle.std.proofs.lemmas.Result.{err_from_is_err_and}
 use Rattle.lake_store.specs.Disk.{Disk}
 use Rattle.source_core.specs.declared.error.SourceError.{SourceError}
 use Rattle.source_core.specs.declared.error.SourceError.TheVariants.{StoreFault}
 use Rattle.table_history.specs.declared.kind.Kind.{Kind}
-use Rattle.target_core.specs.declared.target.TargetError.{TargetError}
 use Rattle.sync_driver.specs.Answered.{IsLookRefusal, IsSync}
 use Rattle.sync_driver.specs.Plans.{IsFound, IsFoundOurs}
 use Rattle.sync_driver.specs.Sources.{source_meaning}

@@ -1,4 +1,4 @@
-use Rattle.std.proofs.Common.{◌≡◌, ◌∙◌, Some, Err, sym, ap, subst}
+use Rattle.std.proofs.Common.{◌≡◌, Some, Err, sym, ap, subst}
 use Rattle.lake_store.specs.Disk.{Disk}
 use Rattle.source_core.specs.declared.error.SourceError.{SourceError}
 use Rattle.source_core.specs.declared.error.SourceError.TheVariants.{StoreFault}

@@ -1,4 +1,4 @@
-use Rattle.std.proofs.Common.{◌≡◌, ◌∙◌, ℕ, List, [], Result, Some, sym, ap, subst}
+use Rattle.std.proofs.Common.{◌≡◌, ◌∙◌, ℕ, List, Result, Some, sym, ap, subst}
 use Rattle.std.specs.Prelude.{codes, ◌++◌}
 use Rattle.sync_driver.specs.Lines.{pending_line}
 use Rattle.sync_driver.specs.Tellings.{Puts, cut_of_put}
