@@ -1,5 +1,5 @@
 -- What each kind of words makes of a command.
-use Rattle.std.proofs.Common.{◌≡◌, ℕ, List, get_or, refl, inl, inr, sym, ◌∙◌, ap, arith}
+use Rattle.std.proofs.Common.{◌≡◌, ℕ, List, get_or, refl, inl, inr, sym, ◌∙◌, ap, subst, arith}
 use Rattle.std.specs.Prelude.{Option, Some, None, Result}
 use Rattle.lake_store.specs.declared.store.Store.{Ghosts}
 use Rattle.lake_store.specs.declared.sink.Sink as sinks

@@ -1,5 +1,6 @@
 -- The slashes at a place's end.
-use Rattle.std.proofs.Common.{◌≡◌, ◌≢◌, ℕ, ◌+◌, ◌<◌, ◌==◌, ◌++◌, List, [], ◌∷◌, length, Bool, true, false, refl, sym, ap, ◌∙◌, arith}
+use Rattle.std.proofs.Common.{◌≡◌, ◌≢◌, ℕ, ◌+◌, ◌<◌, ◌==◌, ◌++◌, List, [], ◌∷◌, length, Bool, true, false, Option, Some, None, refl, sym, ap, ◌∙◌, arith}
+use Rattle.std.specs.Option.{option_map}
 use Rattle.std.proofs.lemmas.Bool.Decides.{nat_tests}
 use Rattle.sync_driver.specs.Forms.{before, location}
 
@@ -22,7 +23,7 @@ pub location_shorter : (place left shorter : List ℕ) → location place ≡ lo
 location_shorter place left shorter so_far is = so_far ∙ ap location is ∙ location-append_slash shorter
 
 -- a location ends with no slash
-pub location_ends : (place front : List ℕ) → location place ≡ front ++ 47 ∷ [] → ⊥
+location_ends : (place front : List ℕ) → location place ≡ front ++ 47 ∷ [] → ⊥
 location_ends [] [] is = cc is
 location_ends [] (c ∷ front) is = cc is
 location_ends (b ∷ bs) front is = behind b (location bs) (location_ends bs) (b == 47) refl front is
@@ -35,3 +36,7 @@ location_ends (b ∷ bs) front is = behind b (location bs) (location_ends bs) (b
     behind b [] none false slash (c ∷ d ∷ front) is = let e : before b [] ≡ b ∷ [] = rw slash refl in let no : b ∷ [] ≡ c ∷ d ∷ (front ++ 47 ∷ []) = sym e ∙ is in cc no
     behind b (x ∷ xs) none t slash [] is = cc is
     behind b (x ∷ xs) none t slash (c ∷ front) is = none front (let same : b ∷ x ∷ xs ≡ c ∷ (front ++ 47 ∷ []) = is in cc same)
+
+pub place_ends : (word : Option (List ℕ)) (place : List ℕ) → option_map location word ≡ Some place → (front : List ℕ) → place ≡ front ++ 47 ∷ [] → ⊥
+place_ends None place named front is = cc named
+place_ends (Some word) place named front is = let same : location word ≡ place = cc named in location_ends word front (same ∙ is)
