@@ -1,5 +1,5 @@
 -- Which names of instants in a timeline's folder are own, by what is read of them.
-use Rattle.std.proofs.Common.{◌≡◌, ◌≢◌, ◌⊎◌, inl, inr, ⊎_elim, ◌==◌, ℕ, ◌+◌, ◌<◌, Bool, true, false, not, ◌&&◌, cond, List, [], ◌∷◌, ◌++◌, take, Contains, ◌↔◌, MatchOption, Option, Some, None, refl, sym, ap, subst, ◌∙◌, arith}
+use Rattle.std.proofs.Common.{◌≡◌, ◌≢◌, ◌⊎◌, inl, inr, ⊎_elim, ◌==◌, ℕ, ◌+◌, Bool, true, false, not, cond, List, [], ◌∷◌, ◌++◌, take, Contains, ◌↔◌, MatchOption, Option, Some, None, refl, sym, ap, subst, ◌∙◌, arith}
 use Rattle.std.specs.Prelude.{ℤ, codes, is_some, option_map, suc}
 use Rattle.std.specs.Char.{is_ascii_digit}
 use Rattle.std.specs.Cmp.Lexicographic.{slice_cmp}
@@ -16,7 +16,7 @@ use Rattle.std.proofs.lemmas.Slice.Eq.{bytes_eq-Decides}
 use Rattle.lake_store.specs.Disk.{Files, IsName, names_in}
 use Rattle.lake_store.proofs.OrderLaws.{names_in_listed, names_in_sorted}
 use Rattle.table_history.proofs.RowListLemmas.{Contains-cases, all_at}
-use Rattle.hudi_names.specs.Name.{IsInstantName, IsRestOf, instant_of}
+use Rattle.hudi_names.specs.Name.{IsRestOf, instant_of}
 use Rattle.hudi_names.specs.Time.{IsDigits, IsSomeTime, IsTime}
 use Rattle.hudi_names.specs.declared.name.Action.{Action}
 use Rattle.hudi_names.specs.declared.name.Action.TheVariants.{ReplaceCommit, Unknown}
@@ -30,7 +30,7 @@ use Rattle.hudi_table.specs.declared.instants.InstantName.{InstantName}
 use Rattle.hudi_table.proofs.FolderLaws.{SaysOf, instant_says}
 use Rattle.hudi_table.proofs.UpLists.{Up, picked, sorted_up, up_picked}
 use Rattle.hudi_commit.specs.Names.{Inflight, IsThere, Requested, Stage, claim_path, claims_folder, completed_name, completed_path, pending_name, timeline_folder, timeline_path}
-use Rattle.hudi_commit.proofs.NameLaws.{completed_is_name, is_instant_of, pending_instant, state_of}
+use Rattle.hudi_commit.proofs.NameLaws.{completed_is_name, is_instant_of}
 use Rattle.target_hudi.specs.Inspecting.{IsFirstForeignName, LooksUpClaims}
 use Rattle.target_hudi.specs.InspectSteps.{HasOwnForm, IsOwnInstant}
 use Rattle.target_hudi.specs.Reading.{HasOwnNames, HasOwnProperties, IsOwnName, NamesInstant}

@@ -1,42 +1,31 @@
 -- What the steps of inspecting find, taken together.
-use Rattle.std.proofs.Common.{◌≡◌, ◌≢◌, ◌⊎◌, inl, inr, ⊎_elim, ℕ, suc, pos, ◌+◌, ◌-◌, ◌<◌, ◌≤◌, ◌&&◌, Bool, true, false, cond, List, [], ◌∷◌, ◌++◌, length, filter, Contains, Option, Some, None, refl, sym, ap, subst, ◌∙◌, arith}
-use Rattle.std.specs.Prelude.{codes, IfErr, IfOk, IfSome, IsSome, Result, Ok, Err, is_some, option_map, slice_get}
+use Rattle.std.proofs.Common.{◌≡◌, ◌≢◌, ◌⊎◌, inl, inr, ⊎_elim, ℕ, suc, ◌+◌, ◌-◌, ◌&&◌, Bool, true, false, cond, List, [], ◌∷◌, ◌++◌, length, filter, Contains, Option, Some, None, refl, sym, ap, subst, ◌∙◌, arith}
+use Rattle.std.specs.Prelude.{codes, IfErr, IfOk, IfSome, IsSome, Result, Ok, Err, option_map, slice_get}
 use Rattle.std.specs.FinMap as map
 use Rattle.std.specs.List.{filter_map}
-use Rattle.std.specs.Option.{ForSome, option_and_then}
+use Rattle.std.specs.Option.{ForSome}
 use Rattle.std.proofs.lemmas.List.{length-append}
 use Rattle.std.proofs.lemmas.List.Elements.{Contains-append_cases, Contains-append_right}
 use Rattle.lake_basics.specs.Outcome.{◌>>=◌, each}
-use Rattle.lake_basics.specs.declared.limits.TheConstants.{MAX_COMMITS, MAX_NAMES}
 use Rattle.lake_store.specs.Disk.{Files, names_in}
-use Rattle.table_history.specs.History.{IsOfType, column_type}
-use Rattle.table_history.specs.TypeTree.{TypeTree}
 use Rattle.table_history.specs.declared.feature.Feature.{Feature}
 use Rattle.table_history.specs.declared.kind.Kind.{Kind}
 use Rattle.table_history.specs.declared.limit.LimitKind.{LimitKind}
-use Rattle.table_history.specs.declared.limit.LimitKind.TheVariants as limit
-use Rattle.table_history.specs.declared.row.PartValue.{PartValue}
-use Rattle.table_history.specs.declared.row.PartValue.TheVariants as value
 use Rattle.table_history.specs.declared.table.Table.{Table}
 use Rattle.table_history.proofs.RowListLemmas.{Contains-head, Contains-one}
-use Rattle.partition_map.specs.Kind.{IsOfKind, part_kind_of}
-use Rattle.partition_map.specs.declared.kind.PartKind.{PartKind}
-use Rattle.partition_map.specs.declared.kind.PartKind.TheVariants as kind
-use Rattle.partition_map.proofs.Laws.{kind_of_type}
 use Rattle.hudi_names.specs.Time.{IsSomeTime}
 use Rattle.hudi_timeline.specs.Change.{IsTableOf}
-use Rattle.hudi_timeline.specs.Instants.{json_instant}
 use Rattle.hudi_timeline.specs.Pairs.{in_order, is_filled, pair_at, pair_of, properties_of, required_at}
 use Rattle.hudi_timeline.specs.Lines.{logical_lines}
-use Rattle.hudi_timeline.specs.TableProperties.{checked_table, first_feature, table_of, unless_shown}
+use Rattle.hudi_timeline.specs.TableProperties.{first_feature, table_of, unless_shown}
 use Rattle.hudi_timeline.specs.declared.error.HudiError.{HudiError}
 use Rattle.hudi_timeline.specs.declared.error.HudiError.TheVariants as hudi
 use Rattle.hudi_timeline.specs.declared.instant.Instant.{Instant}
 use Rattle.hudi_timeline.specs.declared.table.HudiTable.{HudiTable}
-use Rattle.hudi_table.specs.Files.{HasFault, HoldsFile, ReadsAs, SaysInstant, SaysProperties}
-use Rattle.hudi_table.specs.Instants.{IsOfNames, completed_of, instants_in, is_commit, is_done, is_second, path_of, timeline_of}
+use Rattle.hudi_table.specs.Files.{HasFault}
+use Rattle.hudi_table.specs.Instants.{IsOfNames, completed_of, instants_in, is_commit, is_done, is_second, path_of}
 use Rattle.hudi_table.specs.Reading.{IsNextHere, IsReadingOf, table_in}
-use Rattle.hudi_table.specs.Refusals.{IsFileRefusal, IsListRefusal, IsPropertyFault, IsStepRefusal}
+use Rattle.hudi_table.specs.Refusals.{IsFileRefusal, IsPropertyFault, IsStepRefusal}
 use Rattle.hudi_table.specs.declared.error.TimelineError.{TimelineError}
 use Rattle.hudi_table.specs.declared.error.TimelineError.TheVariants as timeline
 use Rattle.hudi_table.specs.declared.instants.CompletedInstant.{CompletedInstant}
@@ -55,51 +44,26 @@ use Rattle.target_core.specs.Conditions.{IsPublishable}
 use Rattle.target_core.specs.Held.{are_held}
 use Rattle.target_core.specs.Mark.{IsMarkText}
 use Rattle.target_core.specs.Refusals.{IsInspectRefusal}
-use Rattle.target_core.specs.Views.{IsOfSource, Standing, View, standing_of}
+use Rattle.target_core.specs.Views.{IsOfSource, Standing, standing_of}
 use Rattle.target_core.specs.declared.mark.Mark.{Mark}
 use Rattle.target_core.specs.declared.target.TargetError.{TargetError}
 use Rattle.target_core.specs.declared.target.TargetError.TheVariants as target
 use Rattle.target_core.proofs.HeldRows.{are_held_by}
-use Rattle.target_hudi.specs.Inspecting.{HasForeignProperties, IsCrowded, IsFault, IsFaulty, IsForeign, IsReadUpTo, PassesIn}
-use Rattle.target_hudi.specs.InspectSteps.{AllMarked, HasManyClaims, HasOwnForm, IsFound, IsInstantStop, IsKeptOf, IsMarkOf, IsMarkOfLast, IsNameStop, IsNextOurs, IsOfStop, IsOthersStop, IsOurReading, IsOwnInstant, IsOwnTimeline, IsProperties, IsSoundNewest, IsStop, IsStopIn, is_missing, latest_in, stop_at, stop_of}
-use Rattle.target_hudi.specs.Kept.{IsCounted, IsNewest, StandsFor, view_of}
-use Rattle.target_hudi.specs.Reading.{HasOwnNames, HasOwnProperties, IsAbsent, IsMarkAt, IsOurs, NamesInstant, commits_in, completed_in}
+use Rattle.target_hudi.specs.Inspecting.{IsCrowded, IsFaulty, IsForeign, IsReadUpTo, PassesIn}
+use Rattle.target_hudi.specs.InspectSteps.{AllMarked, HasManyClaims, HasOwnForm, IsInstantStop, IsKeptOf, IsMarkOf, IsNameStop, IsNextOurs, IsOurReading, IsOwnInstant, IsOwnTimeline, IsProperties, IsSoundNewest, IsStop, IsStopIn, is_missing, latest_in, stop_of}
+use Rattle.target_hudi.specs.Kept.{IsNewest, StandsFor, view_of}
+use Rattle.target_hudi.specs.Reading.{HasOwnProperties, IsAbsent, IsMarkAt, IsOurs, NamesInstant, commits_in, completed_in}
 use Rattle.target_hudi.specs.declared.inspect.Newest.{Newest}
 use Rattle.target_hudi.specs.declared.kept.HudiKept.{HudiKept}
 use Rattle.target_hudi.specs.declared.stop.Stop.{Stop}
 use Rattle.target_hudi.specs.declared.stop.Stop.TheVariants as stop
-use Rattle.target_hudi.specs.OnceLemmas.{one_instant, one_place, some_list}
+use Rattle.target_hudi.specs.OnceLemmas.{one_instant, one_place}
 use Rattle.target_hudi.proofs.OwnNameLemmas.{first_foreign, instant_at, looks_up, names_instant}
 
 -- ---- stops
 
-pub stop_few : (e : TimelineError) → IsOfStop (stop_of e)
-stop_few timeline.Memory = tt
-stop_few timeline.StoreFault = tt
-stop_few timeline.ManyNames = tt
-stop_few timeline.ManyCommits = tt
-stop_few (timeline.Missing path) = tt
-stop_few (timeline.Large path) = tt
-stop_few (timeline.Refused path hudi.Memory) = tt
-stop_few (timeline.Refused path (hudi.Malformed line)) = tt
-stop_few (timeline.Refused path (hudi.Unsupported feature)) = tt
-stop_few (timeline.Refused path (hudi.Limit which)) = tt
-
--- a stop is the store's fault where the error is
-pub stop_fault : (e : TimelineError) → stop_of e ≡ stop.Refused target.StoreFault → e ≡ timeline.StoreFault
-stop_fault timeline.Memory is = cc
-stop_fault timeline.StoreFault is = refl
-stop_fault timeline.ManyNames is = cc
-stop_fault timeline.ManyCommits is = cc
-stop_fault (timeline.Missing path) is = cc
-stop_fault (timeline.Large path) is = cc
-stop_fault (timeline.Refused path hudi.Memory) is = cc
-stop_fault (timeline.Refused path (hudi.Malformed line)) is = cc
-stop_fault (timeline.Refused path (hudi.Unsupported feature)) is = cc
-stop_fault (timeline.Refused path (hudi.Limit which)) is = cc
-
 -- one refusal for another's numbers
-pub refused_further : (P Q : LimitKind → ℕ → Type 0) → ((which : LimitKind) (number : ℕ) → P which number → Q which number) → (e : TargetError) → IsInspectRefusal P e → IsInspectRefusal Q e
+refused_further : (P Q : LimitKind → ℕ → Type 0) → ((which : LimitKind) (number : ℕ) → P which number → Q which number) → (e : TargetError) → IsInspectRefusal P e → IsInspectRefusal Q e
 refused_further P Q further target.Memory refused = tt
 refused_further P Q further target.StoreFault refused = tt
 refused_further P Q further target.Contested refused = refused
@@ -109,20 +73,6 @@ refused_further P Q further (target.Unsupported feature path) refused = refused
 stop_further : (F G : List ℕ → Type 0) (P Q : LimitKind → ℕ → Type 0) → ((path : List ℕ) → F path → G path) → ((which : LimitKind) (number : ℕ) → P which number → Q which number) → (s : Stop) → IsStop F P s → IsStop G Q s
 stop_further F G P Q foreign crowded (stop.Refused e) is = refused_further P Q crowded e is
 stop_further F G P Q foreign crowded (stop.Foreign path) is = foreign path is
-
-pub few_of : (F : List ℕ → Type 0) (P : LimitKind → ℕ → Type 0) (s : Stop) → IsStop F P s → IsOfStop s
-few_of F P s is = stop_further F (λ path. Unit {0}) P (λ which number. Unit {0}) (λ path h. tt) (λ which number h. tt) s is
-
--- ---- the list of the timeline
-
-pub list_stop : (source : Kind) (files : Files) (e : TimelineError) → IsListRefusal files e → IsStopIn source files (stop_of e)
-list_stop source files timeline.Memory refused = tt
-list_stop source files timeline.StoreFault refused = tt
-list_stop source files timeline.ManyNames refused = inl (refl, refl, refused)
-list_stop source files timeline.ManyCommits refused = absurd refused
-list_stop source files (timeline.Missing path) refused = absurd refused
-list_stop source files (timeline.Large path) refused = absurd refused
-list_stop source files (timeline.Refused path e) refused = absurd refused
 
 -- ---- properties
 
@@ -184,10 +134,6 @@ module _ (source : Kind) (files : Files) where
   properties_stop (timeline.Refused path (hudi.Unsupported feature)) refused lacks = inl (refused.0, inr (refused.1.0, refused.1.1, inl (hudi.Unsupported feature, tt, refused.1.2)))
   properties_stop (timeline.Refused path (hudi.Limit which)) refused lacks = absurd (properties_fault refused.1.0 which refused.1.2)
 
-  -- they are another's
-  pub others_properties : (p : Properties) (path : List ℕ) → SaysProperties files p → p.table.ours ≡ false → path ≡ properties_path → IsForeign source files path
-  others_properties p path says others is = inl (is, inr (says.bytes, says.holds, inr (p, says.read, others)))
-
   -- ---- names
 
   module _ (front : List InstantName) (i : InstantName) (behind : List InstantName) (split : instants_in (names_in files timeline_folder) ≡ front ++ i ∷ behind) (own : (j : InstantName) → Contains front j → IsOwnInstant files j) where
@@ -221,18 +167,6 @@ module _ (source : Kind) (files : Files) where
   module _ (p : Properties) (c : CompletedInstant) (latest : Option Latest) (next : Latest) (here : IsNextHere files External p.table c (table_in latest) next) where
     stated : next.mark ≡ here.here.instant.mark
     stated = here.mark ∙ here.here.mark
-
-    pub mark_at : (mark : Mark) → IsMarkOf next c mark → IsMarkAt files c (standing_of mark)
-    mark_at mark of = record {
-      instant = here.here.instant;
-      says = here.here.says;
-      text = of.text;
-      stated = sym stated ∙ of.stated;
-      mark = mark;
-      reads = of.reads;
-      at = of.at;
-      is = refl;
-    }
 
     mark_of_at : (standing : Standing) (at : IsMarkAt files c standing) → IsMarkOf next c at.mark
     mark_of_at standing at = record {
@@ -277,9 +211,6 @@ module _ (source : Kind) (files : Files) where
       none c there = let lt = there.1 in absurd (omega arith)
 
   -- ---- what is found
-
-  pub absent_found : (p : Properties) (cs : List CompletedInstant) → IsOwnTimeline files p cs → IsOurReading source files p cs None → IsAbsent files
-  absent_found p cs own read = record { properties = own.properties; names = own.names; none = sym own.are ∙ read.read }
 
   newest_in : (o : Option (List ℕ)) (front : List CompletedInstant) (c : CompletedInstant) → o ≡ Some c.time → completed_in files ≡ front ++ c ∷ [] → IsNewest files o
   newest_in None front c is split = cc
@@ -392,16 +323,6 @@ properties_needless files none missing = record {
     none_some : (o : Option (List ℕ)) (b : List ℕ) → o ≡ None → o ≡ Some b → ⊥
     none_some o b none some = let both : None ≡ Some b = sym none ∙ some in cc
 
--- properties of this program
-pub properties_own : (files : Files) (p : Properties) → SaysProperties files p → p.table.ours ≡ true → HasOwnProperties files
-properties_own files p says ours = record {
-  own = λ bytes holds. (p, subst (λ (b : List ℕ). ReadsAs b p) (bytes_once (map.get files properties_path) says.bytes bytes says.holds holds) says.read, ours);
-  there = λ lacks. lacks.5 (ap is_some says.holds);
-}
-  where
-    bytes_once : (o : Option (List ℕ)) (m n : List ℕ) → o ≡ Some m → o ≡ Some n → m ≡ n
-    bytes_once o m n first second = let both : Some m ≡ Some n = sym first ∙ second in cc
-
 -- ---- the last of a list
 
 pub last_split : (cs : List CompletedInstant) (c : CompletedInstant) → slice_get cs (length cs - 1) ≡ Some c → (front : List CompletedInstant) × (cs ≡ front ++ c ∷ [])
@@ -418,17 +339,6 @@ pub last_within : (cs : List CompletedInstant) (c : CompletedInstant) → slice_
 last_within cs c is =
     let split = last_split cs c is in
     subst (λ (l : List CompletedInstant). Contains l c) (sym split.1) (Contains-append_right split.0 (c ∷ []) c (Contains-head c []))
-
-pub no_last : (cs : List CompletedInstant) → slice_get cs (length cs - 1) ≡ None → cs ≡ []
-no_last [] is = refl
-no_last (x ∷ []) is = cc
-no_last (x ∷ y ∷ cs) is = absurd (none (no_last (y ∷ cs) (ap (λ k. slice_get (x ∷ y ∷ cs) k) (sym shorter) ∙ is)))
-  where
-    shorter : length (x ∷ y ∷ cs) - 1 ≡ suc (length (y ∷ cs) - 1)
-    shorter = omega arith
-
-    none : y ∷ cs ≡ [] → ⊥
-    none e = cc
 
 -- ---- what is true of what is kept
 
@@ -483,10 +393,6 @@ module _ (files : Files) (instants : List InstantName) (listed : instants ≡ in
   pub unread_stops : (source : Kind) (e : TimelineError) (r : Result (Option Properties) Stop) → IsFileRefusal files properties_name (IsPropertyFault files) e → IfErr r (λ s. (s ≡ stop_of e) × (is_missing e ≡ true → instants ≢ [])) → IfErr r (IsStopIn source files)
   unread_stops source e (Ok found) refused told = tt
   unread_stops source e (Err s) refused told = subst (IsStopIn source files) (sym told.0) (properties_stop source files e refused (lacking_path e refused told.1))
-
-pub others_stop : (source : Kind) (files : Files) (p : Properties) (s : Stop) → SaysProperties files p → IsOthersStop p.table.ours s → IsStopIn source files s
-others_stop source files p (stop.Refused e) says is = subst (IsInspectRefusal (IsCrowded source files)) (sym is) tt
-others_stop source files p (stop.Foreign path) says is = others_properties source files p path says is.0 is.1
 
 -- without an instant's name nothing is published
 pub empty_absent : (files : Files) → HasOwnProperties files → instants_in (names_in files timeline_folder) ≡ [] → IsAbsent files

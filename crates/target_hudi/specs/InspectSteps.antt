@@ -1,6 +1,6 @@
 -- What the steps of inspecting a Hudi target find, and why they stop.
-use Rattle.std.specs.Prelude.{◌≡◌, ◌≢◌, Bool, false, ℕ, ◌<◌, ◌≤◌, true, List, [], ◌∷◌, ◌++◌, length, Contains, Option, None, Some, option_map, IfSome}
-use Rattle.lake_basics.specs.declared.limits.TheConstants.{MAX_COMMITS, MAX_NAMES}
+use Rattle.std.specs.Prelude.{◌≡◌, Bool, false, ℕ, ◌<◌, true, List, [], ◌∷◌, ◌++◌, length, Contains, Option, None, Some, option_map}
+use Rattle.lake_basics.specs.declared.limits.TheConstants.{MAX_NAMES}
 use Rattle.lake_store.specs.Disk.{Files, names_in}
 use Rattle.table_history.specs.Words.{limit_number}
 use Rattle.table_history.specs.declared.kind.Kind.{Kind}
@@ -25,7 +25,7 @@ use Rattle.hudi_table.specs.declared.reading.Naming.TheVariants.{External}
 use Rattle.hudi_commit.specs.Names.{IsThere, claim_path, claims_folder, properties_path, timeline_path}
 use Rattle.target_core.specs.Conditions.{IsPublishable}
 use Rattle.target_core.specs.Mark.{IsMarkText}
-use Rattle.target_core.specs.Refusals.{IsInspectRefusal, IsOfInspect}
+use Rattle.target_core.specs.Refusals.{IsInspectRefusal}
 use Rattle.target_core.specs.Views.{IsOfSource, Standing, standing_of}
 use Rattle.target_core.specs.declared.mark.Mark.{Mark}
 use Rattle.target_core.specs.declared.target.TargetError.TheVariants as target

@@ -20,6 +20,7 @@ pub use target::HudiTarget;
 
 #[cfg(test)]
 mod fitting_tests;
+#[cfg(test)]
 mod inspect_tests;
 #[cfg(test)]
 mod tests;

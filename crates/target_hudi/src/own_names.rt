@@ -51,7 +51,7 @@ fn has_name(names: &[Text], name: &Text) -> bool
     names.binary_search(name).is_ok()
 }
 
-/// The names of the claims, which are listed once.
+/// The names of the claims, where they were listed, or else as they are listed now.
 fn claims_or_list<S: Store>(
     alloc: Global,
     store: &mut S,
@@ -112,8 +112,8 @@ fn check_name<S: Store>(
 }
 
 /// Looks at the names of a timeline's instants, in byte order. Each must be that of a replacecommit
-/// at 17 digits that spell a real day and time, and claimed where it is pending. The claims are
-/// listed where the first such name is pending.
+/// at 17 digits that spell a real day and time, and claimed where it is pending and not completed.
+/// The claims are listed once, and only where a name needs one.
 pub(crate) fn check_names<S: Store>(
     alloc: Global,
     store: &mut S,

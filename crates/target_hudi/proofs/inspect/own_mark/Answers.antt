@@ -1,4 +1,3 @@
-use Rattle.std.proofs.Common.{ℕ}
 use Rattle.target_hudi.proofs.SeenLemmas.{no_mark}
 use Rattle.target_hudi.proofs.inspect.own_mark.Goals as goal
 

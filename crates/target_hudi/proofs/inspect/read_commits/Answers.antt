@@ -1,7 +1,6 @@
-use Rattle.std.proofs.Common.{◌≡◌, ◌-◌, Some, List, length, slice_get, ap, subst, sym, ℕ}
+use Rattle.std.proofs.Common.{◌≡◌, ◌-◌, Some, List, length, slice_get, subst, sym, ℕ}
 use Rattle.target_core.specs.Conditions.{IsPublishable}
 use Rattle.hudi_names.specs.Time.{IsSomeTime}
-use Rattle.table_history.specs.declared.table.Table.{Table}
 use Rattle.target_hudi.specs.InspectSteps.{IsKeptOf}
 use Rattle.target_hudi.proofs.SeenLemmas.{held_table, kept_found, kept_source, last_split, last_within, publishable}
 use Rattle.target_hudi.proofs.inspect.read_commits.Goals as goal

@@ -15,7 +15,7 @@ use Rattle.target_hudi.specs.InspectSteps.{IsInstantStop, IsNextOurs, IsOurReadi
 use Rattle.target_hudi.specs.InstantLemmas.{named}
 use Rattle.target_hudi.specs.declared.inspect.Newest.{Newest}
 use Rattle.target_hudi.specs.declared.stop.Stop.{Stop}
-use Rattle.target_hudi.proofs.SeenLemmas.{instant_stop, read_more, read_none}
+use Rattle.target_hudi.proofs.SeenLemmas.{instant_stop, read_more}
 use Rattle.target_hudi.proofs.inspect.read_instants.Goals as goal
 
 -- the list about one of its items

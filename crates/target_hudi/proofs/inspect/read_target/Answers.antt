@@ -4,13 +4,13 @@ use Rattle.std.proofs.lemmas.Result.{err_from_is_err_and}
 use Rattle.lake_store.specs.Disk.{Disk, names_in}
 use Rattle.lake_store.proofs.RunLaws as runs
 use Rattle.hudi_table.specs.Files.{SaysProperties}
-use Rattle.hudi_table.specs.Instants.{instants_in, timeline_of}
+use Rattle.hudi_table.specs.Instants.{instants_in}
 use Rattle.hudi_table.specs.declared.instants.CompletedInstant.{CompletedInstant}
 use Rattle.hudi_table.specs.declared.instants.InstantName.{InstantName}
 use Rattle.hudi_table.specs.declared.timeline.Timeline.{Timeline}
 use Rattle.hudi_commit.specs.Names.{timeline_folder}
 use Rattle.target_hudi.specs.InspectSteps.{IsFound, IsOwnTimeline, IsStopIn}
-use Rattle.target_hudi.specs.Reading.{HasOwnNames, HasOwnProperties, completed_in}
+use Rattle.target_hudi.specs.Reading.{HasOwnNames, HasOwnProperties}
 use Rattle.target_hudi.specs.declared.kept.HudiKept.{HudiKept}
 use Rattle.target_hudi.specs.declared.stop.Stop.{Stop}
 use Rattle.target_hudi.proofs.SeenLemmas.{empty_absent, real_times}
