@@ -28,3 +28,4 @@ pub mod StoreLemmas
 pub mod TimelineLemmas
 pub mod OwnNameLemmas
 pub mod SeenLemmas
+pub mod ForeignLemmas

@@ -22,3 +22,4 @@ pub mod OwnLemmas
 pub mod FaultLemmas
 pub mod InspectLemmas
 pub mod InspectSteps
+pub mod Laws

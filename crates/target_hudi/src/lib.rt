@@ -6,6 +6,7 @@ mod fitting;
 mod fresh;
 mod inspect;
 mod kept;
+mod laws;
 mod new_instant;
 mod own_names;
 mod properties;
@@ -16,6 +17,7 @@ mod target;
 mod written;
 
 pub use kept::HudiKept;
+pub use laws::timeline_laws;
 pub use target::HudiTarget;
 
 #[cfg(test)]
