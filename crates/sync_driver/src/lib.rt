@@ -21,6 +21,18 @@ pub use sync::sync_one;
 pub use top::{refuse_words, run};
 
 #[cfg(test)]
+mod delta_target_tests;
+#[cfg(test)]
+mod fixtures;
+#[cfg(test)]
+mod hostile_tests;
+#[cfg(test)]
+mod hudi_target_tests;
+#[cfg(test)]
+mod show_hudi_tests;
+#[cfg(test)]
 mod show_tests;
+#[cfg(test)]
+mod stop_tests;
 #[cfg(test)]
 mod tests;
