@@ -1,5 +1,5 @@
 -- What a file of Avro values gives, from what reading it as a container gave.
-use Rattle.std.proofs.Common.{◌≡◌, ℕ, ◌⊎◌, inl, inr, ◌≤◌, ◌+◌, List, [], ◌∷◌, length, map, Bool, true, false, Result, Ok, Err, IfOk, IfErr, MatchResult, refl, sym, ap, ◌∙◌, subst, arith}
+use Rattle.std.proofs.Common.{◌≡◌, ℕ, ◌⊎◌, inl, inr, ◌≤◌, List, [], ◌∷◌, length, map, Bool, true, false, Result, Ok, Err, IfOk, IfErr, MatchResult, refl, sym, ap, ◌∙◌, subst, arith}
 use Rattle.std.specs.Result.{ForOk}
 use Rattle.lake_basics.specs.Outcome.{GivesUnlessMemory, FailsUnlessMemory}
 use Rattle.avro_schema.specs.Tree.{SchemaTree, tree_of}
@@ -9,7 +9,7 @@ use Rattle.avro_container.specs.Laws.{IsRefused, IsThat}
 use Rattle.avro_container.specs.declared.container.Container.{Container}
 use Rattle.avro_container.specs.declared.error.ContainerError.{ContainerError}
 use Rattle.avro_container.specs.declared.error.ContainerError.TheVariants as container
-use Rattle.iceberg_manifest.specs.Containers.{Scan, StandsFor, HasFaultyValues, IsRefusedBy, container_error, scan_of}
+use Rattle.iceberg_manifest.specs.Containers.{Scan, StandsFor, IsRefusedBy, container_error, scan_of}
 use Rattle.iceberg_manifest.specs.Errors.{is_memory}
 use Rattle.iceberg_manifest.specs.declared.error.ManifestError.{ManifestError}
 use Rattle.iceberg_manifest.specs.declared.error.ManifestError.TheVariants as errors
@@ -35,16 +35,16 @@ fails_by e reading true is h = inl (memory_alone e is)
 fails_by e reading false is h = inr h
 
 -- an error is want of memory, or what the reading refuses
-fails : {B : Type 0} (e : ManifestError) (reading : Result B ManifestError) → FailsUnlessMemory (is_memory e) e reading → (e ≡ errors.Memory) ⊎ (reading ≡ Err e)
+pub fails : {B : Type 0} (e : ManifestError) (reading : Result B ManifestError) → FailsUnlessMemory (is_memory e) e reading → (e ≡ errors.Memory) ⊎ (reading ≡ Err e)
 fails e reading h = fails_by e reading (is_memory e) refl h
 
-same_ok : {B : Type 0} (r : Result B ManifestError) (x y : B) → r ≡ Ok x → r ≡ Ok y → x ≡ y
+pub same_ok : {B : Type 0} (r : Result B ManifestError) (x y : B) → r ≡ Ok x → r ≡ Ok y → x ≡ y
 same_ok r x y p q = cc
 
-same_err : {B : Type 0} (r : Result B ManifestError) (d e : ManifestError) → r ≡ Err d → r ≡ Err e → d ≡ e
+pub same_err : {B : Type 0} (r : Result B ManifestError) (d e : ManifestError) → r ≡ Err d → r ≡ Err e → d ≡ e
 same_err r d e p q = cc
 
-clash : {B : Type 0} (r : Result B ManifestError) (x : B) (e : ManifestError) → r ≡ Ok x → r ≡ Err e → ⊥
+pub clash : {B : Type 0} (r : Result B ManifestError) (x : B) (e : ManifestError) → r ≡ Ok x → r ≡ Err e → ⊥
 clash r x e p q = cc
 
 module _ {B : Type 0} (scan : Scan B) (limit : ℕ) (bytes : List ℕ) where

@@ -1,5 +1,5 @@
 -- What each of a list gives, item by item.
-use Rattle.std.proofs.Common.{◌≡◌, List, [], ◌∷◌, ◌++◌, Bool, true, false, Result, Ok, Err, refl, sym, ap, subst, ◌∙◌}
+use Rattle.std.proofs.Common.{◌≡◌, List, [], ◌∷◌, ◌++◌, Bool, true, false, Result, Ok, Err, refl, ap, subst, ◌∙◌}
 use Rattle.std.specs.List.{filter}
 use Rattle.lake_basics.specs.Outcome.{◌>>=◌, each}
 use Rattle.iceberg_manifest.specs.Lists.{AreEach}

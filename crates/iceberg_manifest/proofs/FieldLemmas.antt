@@ -1,10 +1,10 @@
 -- Values at their places, and unions that aren't of two.
-use Rattle.std.proofs.Common.{◌≡◌, ◌≢◌, ℕ, zero, suc, List, [], ◌∷◌, length, map, Option, None, Some, option_map, slice_get, get_or, ◌<◌, ◌≤◌, refl, sym, ap, ◌∙◌}
+use Rattle.std.proofs.Common.{◌≡◌, ◌≢◌, ℕ, zero, suc, List, [], ◌∷◌, length, map, None, Some, option_map, slice_get, get_or, ◌<◌, ◌≤◌, refl, sym, ap, ◌∙◌}
 use Rattle.std.proofs.lemmas.Option.{slice_get_read, slice_get_past}
 use Rattle.avro_schema.specs.declared.schema.Schema.{Schema}
-use Rattle.avro_schema.specs.Tree.{SchemaTree, tree_of, branches_of}
+use Rattle.avro_schema.specs.Tree.{tree_of, branches_of}
 use Rattle.avro_value.specs.declared.value.Value.{Value}
-use Rattle.avro_value.specs.ValueTree.{ValueTree, value_tree, values_of}
+use Rattle.avro_value.specs.ValueTree.{value_tree, values_of}
 use Rattle.iceberg_manifest.specs.Fields.{beside_null}
 use Rattle.iceberg_manifest.specs.Values.{value_at}
 

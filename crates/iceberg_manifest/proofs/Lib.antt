@@ -3,7 +3,9 @@ pub mod EachLaws
 pub mod FieldLemmas
 pub mod ListLemmas
 pub mod ListWrittenLemmas
-pub mod LiveLemmas
+pub mod LocationLemmas
 pub mod ManifestWrittenLemmas
+pub mod PartNameLemmas
 pub mod LiveLaws
+pub mod MetadataPathLaws
 pub mod StepLemmas

@@ -1,5 +1,5 @@
 -- A row of a list from its parts.
-use Rattle.std.proofs.Common.{◌≡◌, ℕ, ℤ, List, Ok, refl, ap, ◌∙◌}
+use Rattle.std.proofs.Common.{◌≡◌, ℕ, ℤ, List, Ok, refl}
 use Rattle.avro_value.specs.ValueTree.{ValueTree, ValueTrees}
 use Rattle.iceberg_manifest.specs.Values.{required_text, record_value}
 use Rattle.iceberg_manifest.specs.ListReading.{content_at, numbers_at, counts_at, info_of, list_row}

@@ -1,9 +1,8 @@
 -- Manifest lists that are written, read back.
-use Rattle.std.proofs.Common.{◌≡◌, ℕ, ◌+◌, ◌*◌, ◌≤◌, ◌⊎◌, inl, inr, ℤ, pos, negsuc, List, [], ◌∷◌, length, map, true, false, Option, Some, None, Ok, refl, sym, ap, ◌∙◌, subst, arith, rules, FitsSigned, w32, leb}
+use Rattle.std.proofs.Common.{◌≡◌, ℕ, ◌+◌, ◌*◌, ◌≤◌, ◌⊎◌, inl, inr, ℤ, pos, negsuc, List, [], ◌∷◌, length, map, true, Option, Some, Ok, refl, sym, subst, arith, rules, FitsSigned, w32}
 use Rattle.std.proofs.lemmas.Bool.{le-leb}
 use Rattle.std.proofs.lemmas.Int.{ints}
 use Rattle.std.specs.List.{AllByRecursion}
-use Rattle.lake_basics.specs.Outcome.{with_fault}
 use Rattle.avro_schema.specs.Tree.{SchemaTree}
 use Rattle.avro_schema.specs.Plain.{IsPlain}
 use Rattle.avro_schema.specs.Spelled.{IsSpelled}
@@ -16,7 +15,7 @@ use Rattle.iceberg_manifest.specs.Containers.{StandsFor}
 use Rattle.iceberg_manifest.specs.Fields.{place_of, required_place}
 use Rattle.iceberg_manifest.specs.Values.{is_int, whole_at, required_whole, required_int, whole_or_zero, required_text}
 use Rattle.iceberg_manifest.specs.ListReading.{count_places, list_plan, content_of, content_at, numbers_at, count_at, counts_at, info_of, list_row, list_rows, infos_in}
-use Rattle.iceberg_manifest.specs.Scans.{infos_of, flaw_error}
+use Rattle.iceberg_manifest.specs.Scans.{infos_of}
 use Rattle.iceberg_manifest.specs.WrittenTypes.{list_type}
 use Rattle.iceberg_manifest.specs.ListWriting.{info_trees, info_tree, HavePlaces, HasContent, HasInts, IsWritableList, list_meta}
 use Rattle.iceberg_manifest.specs.declared.info.ManifestInfo.{ManifestInfo}

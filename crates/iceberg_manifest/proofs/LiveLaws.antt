@@ -1,28 +1,25 @@
 -- The row of a live entry, and its fault where it has none.
-use Rattle.std.proofs.Common.{◌≡◌, ℕ, zero, suc, ◌<◌, ◌≤◌, ℤ, ◌⊎◌, inl, inr, ⊎_elim, List, [], ◌∷◌, ◌++◌, length, take, drop, Bool, true, false, cond, Option, None, Some, Result, Ok, Err, refl, sym, ap, subst, ◌∙◌, arith}
-use Rattle.std.specs.Prelude.{◌==◌, nat_le, nat_lt, IfOk, IfErr, MatchResult}
-use Rattle.std.specs.Str.{bytes_eq}
+use Rattle.std.proofs.Common.{◌≡◌, ℕ, zero, suc, ◌<◌, ◌≤◌, ℤ, ◌⊎◌, inl, inr, ⊎_elim, List, ◌++◌, length, Bool, true, false, cond, Option, None, Some, Result, Ok, Err, refl, sym, ap, subst, ◌∙◌, arith}
+use Rattle.std.specs.Prelude.{◌==◌, nat_le, IfOk, IfErr, MatchResult}
 use Rattle.std.specs.List.{filter}
-use Rattle.std.proofs.Math.Seq.{take-append_seam, drop-append_seam}
-use Rattle.std.proofs.lemmas.List.{take-append-drop}
-use Rattle.std.proofs.lemmas.Slice.Eq.{bytes_eq-Decides}
 use Rattle.std.proofs.lemmas.Grind.{common_steps}
-use Rattle.lake_basics.specs.Outcome.{◌>>=◌, each, with_fault, FailsUnlessMemory, GivesUnlessMemory}
+use Rattle.lake_basics.specs.Outcome.{◌>>=◌, with_fault, FailsUnlessMemory, GivesUnlessMemory}
 use Rattle.lake_basics.specs.declared.limits.TheConstants.{MAX_PATH_BYTES}
 use Rattle.table_history.specs.Path.{IsPath, IsPathOfAnyLength, is_path_of_any_length}
 use Rattle.table_history.proofs.PathTests.{path_of_any_length_decided}
 use Rattle.iceberg_manifest.specs.Entry.{EntryData}
 use Rattle.iceberg_manifest.specs.Errors.{is_memory, error_of}
-use Rattle.iceberg_manifest.specs.Lists.{AreEach}
-use Rattle.iceberg_manifest.specs.Live.{front_of, is_live, IsInherited, IsRowOf, behind, path_in_table, path_within, row_path, inherited, live_row, rows_in}
-use Rattle.iceberg_manifest.specs.LiveRows.{AreLiveRows, LacksNumber, LiesAt, IsMalformed, HasFault, IsFirstFault, live_rows_of}
+use Rattle.iceberg_manifest.specs.Location.{front_of, behind}
+use Rattle.iceberg_manifest.specs.Live.{is_live, IsInherited, IsRowOf, path_within, row_path, inherited, live_row, rows_in}
+use Rattle.iceberg_manifest.specs.LiveRows.{AreLiveRows, LacksNumber, HasFault, IsFirstFault, live_rows_of}
 use Rattle.iceberg_manifest.specs.declared.error.Fault.{Fault}
 use Rattle.iceberg_manifest.specs.declared.error.Fault.TheVariants.{Malformed, OutsideTable, LongPath}
 use Rattle.iceberg_manifest.specs.declared.error.ManifestError.{ManifestError}
 use Rattle.iceberg_manifest.specs.declared.error.ManifestError.TheVariants as errors
 use Rattle.iceberg_manifest.specs.declared.info.ManifestInfo.{ManifestInfo}
 use Rattle.iceberg_manifest.specs.declared.live.LiveRow.{LiveRow}
-use Rattle.iceberg_manifest.proofs.EachLaws.{AllPass, filter_passes, each_found, each_given, each_stops, Stops, passes_there}
+use Rattle.iceberg_manifest.proofs.LocationLemmas.{behind_found, behind_given}
+use Rattle.iceberg_manifest.proofs.EachLaws.{filter_passes, each_found, each_given, each_stops}
 
 -- ---- numbers
 
@@ -49,21 +46,6 @@ has_number zero None from n is first null = absurd (cc)
 has_number (suc k) None from n is first null = absurd (omega (arith, first))
 
 -- ---- paths
-
-behind_by : (front path rest : List ℕ) (b : Bool) → bytes_eq (take (length front) path) front ≡ b → cond b (Some (drop (length front) path)) None ≡ Some rest → path ≡ front ++ rest
-behind_by front path rest true is h =
-    let begins : take (length front) path ≡ front = (bytes_eq-Decides (take (length front) path) front).0 is in
-    let ends : drop (length front) path ≡ rest = cc in
-    sym (take-append-drop (length front) path) ∙ ap (λ l. l ++ drop (length front) path) begins ∙ ap (λ l. front ++ l) ends
-behind_by front path rest false is h = absurd (cc)
-
-behind_found : (front path rest : List ℕ) → behind front path ≡ Some rest → path ≡ front ++ rest
-behind_found front path rest is = behind_by front path rest (bytes_eq (take (length front) path) front) refl is
-
-behind_given : (front rest : List ℕ) → behind front (front ++ rest) ≡ Some rest
-behind_given front rest =
-    let same : bytes_eq (take (length front) (front ++ rest)) front ≡ true = (bytes_eq-Decides (take (length front) (front ++ rest)) front).1 (take-append_seam front rest) in
-    rw same (ap Some (drop-append_seam front rest))
 
 form_refused : (rest : List ℕ) → is_path_of_any_length rest ≡ false → IsPathOfAnyLength rest → ⊥
 form_refused rest is form = let true_too : is_path_of_any_length rest ≡ true = (path_of_any_length_decided rest).1 form in absurd (cc)

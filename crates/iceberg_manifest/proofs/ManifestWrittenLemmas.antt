@@ -1,29 +1,24 @@
 -- Manifests that are written, read back.
-use Rattle.std.proofs.Common.{◌≡◌, ◌≢◌, ℕ, zero, suc, ◌+◌, ◌*◌, ◌^◌, ◌<◌, ◌≤◌, max, ◌++◌, get_or, drop, append_assoc, add-one, drop-cons, ◌⊎◌, inl, inr, ℤ, pos, negsuc, List, [], ◌∷◌, length, map, Bool, true, false, not, ◌&&◌, Option, Some, None, Result, Ok, Err, if◌then◌else◌, refl, sym, ap, ◌∙◌, subst, arith, rules, codes, FitsSigned, w32, leb, ltb}
-use Rattle.std.proofs.lemmas.Bool.{le-leb, lt-ltb}
+use Rattle.std.proofs.Common.{◌≡◌, ℕ, suc, ◌+◌, ◌*◌, ◌<◌, ◌≤◌, add-one, ℤ, pos, negsuc, List, [], ◌∷◌, length, map, Bool, true, false, Option, Some, None, Result, Ok, if◌then◌else◌, refl, sym, ap, ◌∙◌, subst, arith, rules, codes, FitsSigned, w32}
+use Rattle.std.proofs.lemmas.Bool.{lt-ltb}
 use Rattle.std.proofs.lemmas.Bool.Decides.{Decides-int_eq}
-use Rattle.std.proofs.lemmas.Slice.Eq.{bytes_eq-Decides}
-use Rattle.std.proofs.lemmas.Fmt.{signed_decimal_injective}
-use lib.Signed.{mag}
 use Rattle.std.proofs.lemmas.Int.{ints}
-use Rattle.std.proofs.lemmas.List.{map-append, length-map}
-use Rattle.std.specs.Fmt.{signed_decimal}
-use Rattle.std.specs.List.{AllByRecursion, IsDistinct, list_any, list_all, zip}
+use Rattle.std.proofs.lemmas.List.{length-map}
+use Rattle.std.specs.List.{AllByRecursion, IsDistinct, list_any, list_all}
 use Rattle.std.specs.Ordering.{int_eq}
 use Rattle.std.specs.Str.{bytes_eq}
 use Rattle.lake_basics.specs.declared.limits.TheConstants.{MAX_PARTITION_COLUMNS}
-use Rattle.lake_basics.specs.Outcome.{◌>>=◌, each, with_fault}
-use Rattle.avro_schema.specs.Tree.{SchemaTree, FieldTree, FieldTrees, no_fields, field, fields_of}
+use Rattle.lake_basics.specs.Outcome.{◌>>=◌, each}
+use Rattle.avro_schema.specs.Tree.{SchemaTree, FieldTree, FieldTrees, field, fields_of}
 use Rattle.avro_schema.specs.Names.{are_distinct}
 use Rattle.avro_schema.specs.Grammar.{field_names}
-use Rattle.avro_schema.specs.Sizes.{field_level_count, field_type_count, level_count, type_count, max_types}
+use Rattle.avro_schema.specs.Sizes.{field_level_count, field_type_count, level_count, type_count}
 use Rattle.avro_schema.specs.Plain.{IsPlain, FieldsAreSound, names_in_fields}
 use Rattle.avro_schema.specs.Plain as plain
 use Rattle.avro_schema.specs.Spelled.{IsSpelled, IsId}
-use Rattle.avro_value.specs.Layout.{Layout, Layouts, layouts, layout_of, field_layouts}
+use Rattle.avro_value.specs.Layout.{layout_of, field_layouts}
 use Rattle.avro_value.specs.Fitting.{Fits, FitsParts}
-use Rattle.avro_value.specs.declared.value.Value.{Value}
-use Rattle.avro_value.specs.ValueTree.{ValueTree, ValueTrees, no_values, value_and, values_of, value_tree, value_count, value_counts, total}
+use Rattle.avro_value.specs.ValueTree.{ValueTree, ValueTrees, value_and, values_of, value_count, value_counts, total}
 use Rattle.avro_container.specs.Format.{Pairs}
 use Rattle.avro_container.specs.Writing.{IsFree, IsWritten}
 use Rattle.partition_map.specs.Avro.{avro_value_of, branch_of}
@@ -35,17 +30,15 @@ use Rattle.table_history.specs.declared.row.PartValue.TheVariants as value
 use Rattle.schema_map.specs.Image.{is_avro_name}
 use Rattle.iceberg_manifest.specs.Containers.{StandsFor}
 use Rattle.iceberg_manifest.specs.Entry.{EntryData}
-use Rattle.iceberg_manifest.specs.EntryReading.{file_plan, entry_plan, status_of, data_file, entry_record, is_parquet, judged, entry_by, entries_in}
-use Rattle.iceberg_manifest.specs.Fields.{Reading, is_id, is_type_of, place_in, first_from, place_of, required_place, record_place}
+use Rattle.iceberg_manifest.specs.EntryReading.{file_plan, entry_plan, status_of, data_file, entry_record, judged, entry_by, entries_in}
+use Rattle.iceberg_manifest.specs.Fields.{Reading, is_type_of, place_in, first_from, place_of, required_place, record_place}
 use Rattle.iceberg_manifest.specs.Lists.{AreEach}
 use Rattle.iceberg_manifest.specs.Live.{is_live}
 use Rattle.iceberg_manifest.specs.Partition.{kind_of_values, column_place, part_value, part_at}
 use Rattle.iceberg_manifest.specs.Scans.{entries_of}
-use Rattle.iceberg_manifest.specs.Values.{is_int, whole_value, whole_at, whole_if_any, required_whole, whole_or_zero, required_natural, required_text, required_record}
-use Rattle.iceberg_manifest.specs.WrittenTypes.{nullable_type, long_type, kind_type, part_field, part_fields, part_names, id_name, file_fields, entry_fields, entry_type, manifest_type, record_type}
+use Rattle.iceberg_manifest.specs.Values.{whole_value, whole_at, required_whole, whole_or_zero, required_natural, required_text, required_record}
+use Rattle.iceberg_manifest.specs.WrittenTypes.{nullable_type, long_type, kind_type, part_fields, part_names, id_name, file_fields, entry_type, manifest_type, record_type}
 use Rattle.iceberg_manifest.specs.ManifestWriting.{whole_tree, file_trees, entry_trees, entry_tree, field_ids, HasValues, HasId, HasInt, HasRanges, IsWritableManifest, manifest_meta}
-use Rattle.iceberg_manifest.specs.declared.data_file.EntryRecord.{EntryRecord}
-use Rattle.iceberg_manifest.specs.declared.error.Flaw.{Flaw}
 use Rattle.iceberg_manifest.specs.declared.error.EntryFault.{EntryFault}
 use Rattle.iceberg_manifest.specs.declared.partition.ColumnPlace.{ColumnPlace}
 use Rattle.iceberg_manifest.specs.declared.partition.PartColumn.{PartColumn}
@@ -366,42 +359,17 @@ manifest_plain cs names named own ids few =
 
 -- ---- the names of the fields
 
-mag_small : (z : ℤ) → FitsSigned w32 z → mag z < 2 ^ 63
-mag_small (pos n) fits = omega (arith, ints, fits)
-mag_small (negsuc n) fits = omega (arith, ints, fits)
-
-id_named_apart : (c d : PartColumn) → HasId c → HasId d → int_eq c.field_id d.field_id ≡ false → bytes_eq (id_name c) (id_name d) ≡ false
-id_named_apart c d fit_c fit_d other = by (bytes_eq (id_name c) (id_name d)) refl
-  where
-    by : (b : Bool) → bytes_eq (id_name c) (id_name d) ≡ b → b ≡ false
-    by false e = refl
-    by true e =
-        let same : id_name c ≡ id_name d = (bytes_eq-Decides (id_name c) (id_name d)).0 e in
-        let digits : signed_decimal c.field_id ≡ signed_decimal d.field_id = cc in
-        let ids : c.field_id ≡ d.field_id = signed_decimal_injective c.field_id d.field_id (mag_small c.field_id fit_c) (mag_small d.field_id fit_d) digits in
-        let equal : int_eq c.field_id d.field_id ≡ true = (Decides-int_eq c.field_id d.field_id).1 ids in
-        absurd (cc)
-
-all_named_apart : (c : PartColumn) (cs : List PartColumn) → HasId c → AllByRecursion HasId cs → AllByRecursion (λ j. int_eq c.field_id j ≡ false) (field_ids cs) → AllByRecursion (λ n. bytes_eq (id_name c) n ≡ false) (map id_name cs)
-all_named_apart c [] fit fits others = tt
-all_named_apart c (d ∷ ds) fit fits others = (id_named_apart c d fit fits.0 others.0, all_named_apart c ds fit fits.1 others.1)
-
-id_names_distinct : (cs : List PartColumn) → AllByRecursion HasId cs → IsDistinct int_eq (field_ids cs) → IsDistinct bytes_eq (map id_name cs)
-unfolding IsDistinct
-id_names_distinct [] fit own = tt
-id_names_distinct (c ∷ cs) fit own = (all_named_apart c cs fit.0 fit.1 own.0, id_names_distinct cs fit.1 own.1)
-
 -- The names of the fields are as many as the columns, and no two are one.
 pub record AreNames (cs : List PartColumn) (names : List (List ℕ)) : Type 0 where
   pub named : length names ≡ length cs
   pub own : IsDistinct bytes_eq names
 
-part_names_are : (cs : List PartColumn) (names : List (List ℕ)) → AllByRecursion HasId cs → length names ≡ length cs → IsDistinct bytes_eq names → IsDistinct int_eq (field_ids cs) → AreNames cs (part_names cs names)
-part_names_are cs names fit named own_names own_ids = by (list_all is_avro_name names)
+all_named : (cs : List PartColumn) (names : List (List ℕ)) → length names ≡ length cs → length (part_names cs names) ≡ length cs
+all_named cs names named = by (list_all is_avro_name names)
   where
-    by : (b : Bool) → AreNames cs (if b then names else map id_name cs)
-    by true = record { named = named; own = own_names }
-    by false = record { named = length-map cs id_name; own = id_names_distinct cs fit own_ids }
+    by : (b : Bool) → length (if b then names else map id_name cs) ≡ length cs
+    by true = named
+    by false = length-map cs id_name
 
 -- ---- the container
 
@@ -415,7 +383,7 @@ pub record IsReady (limit : ℕ) (cs : List PartColumn) (names : List (List ℕ)
   pub ranges : AllByRecursion HasRanges es
 
 names_of : (limit : ℕ) (cs : List PartColumn) (names : List (List ℕ)) (es : List EntryData) → IsReady limit cs names es → AreNames cs (part_names cs names)
-names_of limit cs names es r = part_names_are cs names r.ids r.writable.named r.writable.own_names r.writable.own_ids
+names_of limit cs names es r = record { named = all_named cs names r.writable.named; own = r.writable.own_names }
 
 pub manifest_fits : (limit : ℕ) (cs : List PartColumn) (names : List (List ℕ)) (es : List EntryData) (t : SchemaTree) (vs : List ValueTree) → IsReady limit cs names es → t ≡ manifest_type cs names → vs ≡ map entry_tree es → AllByRecursion (Fits (layout_of t)) vs
 manifest_fits limit cs names es t vs r same values = rw (same, values) (all_fit cs (part_names cs names) es (names_of limit cs names es r).named r.writable.values)

@@ -1,6 +1,6 @@
 -- The entries of a manifest as its Avro values say them (Iceberg specification, "Manifest Entry Fields").
 -- The numbers are the ids of the fields there.
-use Rattle.std.specs.Prelude.{ℕ, ◌==◌, ℤ, pos, negsuc, nat_lt, Bool, List, Option, Some, None, Result, Ok, Err, codes, if◌then◌else◌}
+use Rattle.std.specs.Prelude.{ℕ, ℤ, pos, negsuc, nat_lt, Bool, List, Result, Ok, Err, codes, if◌then◌else◌}
 use Rattle.std.specs.Ordering.{int_eq}
 use Rattle.std.specs.Str.{str_eq_ignore_ascii_case}
 use Rattle.lake_basics.specs.Outcome.{◌>>=◌, each, required, with_fault}

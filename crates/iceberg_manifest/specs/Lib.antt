@@ -11,5 +11,7 @@ pub mod ManifestWriting
 pub mod Containers
 pub mod Scans
 pub mod Lists
+pub mod Location
 pub mod Live
 pub mod LiveRows
+pub mod MetadataPaths

@@ -1,6 +1,6 @@
 -- The rows of a manifest list as its Avro values say them (Iceberg specification, "Manifest Lists").
 -- The numbers are the ids of the fields there.
-use Rattle.std.specs.Prelude.{ℕ, ◌+◌, ℤ, pos, ◌||◌, List, [], ◌∷◌, Option, Some, None, Ok, Err, if◌then◌else◌}
+use Rattle.std.specs.Prelude.{ℕ, ◌+◌, ℤ, pos, List, [], ◌∷◌, Option, Some, None, Ok, Err, if◌then◌else◌}
 use Rattle.std.specs.Ordering.{int_eq}
 use Rattle.lake_basics.specs.Outcome.{◌>>=◌, required}
 use Rattle.avro_schema.specs.Tree.{SchemaTree, FieldTrees}

@@ -1,24 +1,15 @@
 -- The rows of a manifest that are live (Iceberg specification, "Scan Planning" and "Sequence Number Inheritance").
-use Rattle.std.specs.Prelude.{◌≡◌, ℕ, ℤ, ◌<◌, ◌⊎◌, ◌==◌, nat_le, nat_lt, List, [], ◌∷◌, ◌++◌, length, take, drop, Bool, Option, None, Some, Result, Ok, Err, if◌then◌else◌}
-use Rattle.std.specs.List.{list_all, filter}
-use Rattle.std.specs.Str.{bytes_eq}
+use Rattle.std.specs.Prelude.{◌≡◌, ℕ, ℤ, ◌<◌, ◌⊎◌, ◌==◌, nat_le, nat_lt, List, ◌++◌, length, Bool, Option, None, Some, Result, Ok, Err, if◌then◌else◌}
+use Rattle.std.specs.List.{filter}
 use Rattle.lake_basics.specs.Outcome.{◌>>=◌, each}
 use Rattle.lake_basics.specs.declared.limits.TheConstants.{MAX_PATH_BYTES}
-use Rattle.table_history.specs.Path.{IsPath, is_slash, is_path_of_any_length}
+use Rattle.table_history.specs.Path.{IsPath, is_path_of_any_length}
 use Rattle.iceberg_manifest.specs.Entry.{EntryData}
+use Rattle.iceberg_manifest.specs.Location.{front_of, behind}
 use Rattle.iceberg_manifest.specs.declared.error.Fault.{Fault}
 use Rattle.iceberg_manifest.specs.declared.error.Fault.TheVariants.{Malformed, OutsideTable, LongPath}
 use Rattle.iceberg_manifest.specs.declared.info.ManifestInfo.{ManifestInfo}
 use Rattle.iceberg_manifest.specs.declared.live.LiveRow.{LiveRow}
-
--- a folder without the slashes at its end
-abbrev pub without_slashes : List ℕ → List ℕ
-without_slashes [] = []
-without_slashes (b ∷ bs) = if list_all is_slash (b ∷ bs) then [] else b ∷ without_slashes bs
-
--- what each path in the table begins with
-abbrev pub front_of : List ℕ → List ℕ
-front_of location = without_slashes location ++ 47 ∷ []
 
 -- ---- what it means
 
@@ -43,10 +34,6 @@ pub record IsRowOf (location : List ℕ) (info : ManifestInfo) (e : EntryData) (
   pub file_sequence : (n : ℤ) × IsInherited e.status e.file_sequence info.sequence_number n
 
 -- ---- the same as a function, with the first fault
-
--- what is left of a path behind a front that it begins with
-abbrev pub behind : List ℕ → List ℕ → Option (List ℕ)
-behind front path = if bytes_eq (take (length front) path) front then Some (drop (length front) path) else None
 
 abbrev pub path_in_table : List ℕ → Result (List ℕ) Fault
 path_in_table rest = if is_path_of_any_length rest then (if nat_le (length rest) MAX_PATH_BYTES then Ok rest else Err LongPath) else Err Malformed

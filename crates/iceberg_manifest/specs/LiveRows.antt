@@ -8,7 +8,8 @@ use Rattle.table_history.specs.declared.limit.LimitKind.TheVariants.{Path}
 use Rattle.iceberg_manifest.specs.Entry.{EntryData}
 use Rattle.iceberg_manifest.specs.Errors.{error_of}
 use Rattle.iceberg_manifest.specs.Lists.{AreEach}
-use Rattle.iceberg_manifest.specs.Live.{front_of, is_live, IsRowOf, rows_in}
+use Rattle.iceberg_manifest.specs.Live.{is_live, IsRowOf, rows_in}
+use Rattle.iceberg_manifest.specs.Location.{front_of}
 use Rattle.iceberg_manifest.specs.declared.error.ManifestError.{ManifestError}
 use Rattle.iceberg_manifest.specs.declared.error.ManifestError.TheVariants as errors
 use Rattle.iceberg_manifest.specs.declared.info.ManifestInfo.{ManifestInfo}

@@ -14,6 +14,7 @@ use Rattle.table_history.specs.declared.row.PartValue.{PartValue}
 use Rattle.table_history.specs.declared.row.PartValue.TheVariants as value
 use Rattle.iceberg_manifest.specs.Entry.{EntryData}
 use Rattle.iceberg_manifest.specs.Lists.{AreEach}
+use Rattle.iceberg_manifest.specs.WrittenTypes.{part_names}
 use Rattle.iceberg_manifest.specs.declared.partition.PartColumn.{PartColumn}
 
 -- ---- values
@@ -43,11 +44,11 @@ field_ids columns = map (λ c. c.field_id) columns
 abbrev pub HasValues : List PartColumn → EntryData → Type 0
 HasValues columns e = AreEach (λ c v. IsOfKind c.kind v) columns e.values
 
--- The partition columns have names, no two of which are one, and ids, no two of which are one; the
--- entries have their values, and with all their Avro values are no more than the limit.
+-- The partition columns have names, and ids of which no two are one; no two of their fields are written
+-- under one name. The entries have their values, and with all their Avro values are no more than the limit.
 pub record IsWritableManifest (limit : ℕ) (columns : List PartColumn) (names : List (List ℕ)) (entries : List EntryData) : Type 0 where
   pub named : length names ≡ length columns
-  pub own_names : IsDistinct bytes_eq names
+  pub own_names : IsDistinct bytes_eq (part_names columns names)
   pub own_ids : IsDistinct int_eq (field_ids columns)
   pub few_columns : length columns ≤ MAX_PARTITION_COLUMNS
   pub values : AllByRecursion (HasValues columns) entries

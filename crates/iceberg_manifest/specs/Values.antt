@@ -1,5 +1,5 @@
 -- Values of the fields of an Avro record (Avro specification, "Complex Types"; Iceberg specification, "Avro").
-use Rattle.std.specs.Prelude.{ℕ, zero, suc, ℤ, pos, negsuc, Bool, true, false, List, Option, Some, None, Result, Ok, Err, nat_le, nat_lt, unwrap_or, if◌then◌else◌}
+use Rattle.std.specs.Prelude.{ℕ, zero, suc, ℤ, pos, negsuc, Bool, List, Option, Some, None, Ok, Err, nat_le, unwrap_or, if◌then◌else◌}
 use Rattle.lake_basics.specs.Outcome.{◌>>=◌, required}
 use Rattle.avro_value.specs.ValueTree.{ValueTree, ValueTrees, no_values, value_and}
 use Rattle.partition_map.specs.Avro.{branch_of}

@@ -1,5 +1,5 @@
 -- The Avro types that are written (Iceberg specification, "Manifests", "Manifest Lists" and "Avro").
-use Rattle.std.specs.Prelude.{ℕ, ℤ, pos, List, [], ◌∷◌, ◌++◌, map, Some, None, codes, if◌then◌else◌}
+use Rattle.std.specs.Prelude.{ℕ, pos, List, [], ◌∷◌, ◌++◌, map, Some, None, codes, if◌then◌else◌}
 use Rattle.std.specs.Fmt.{signed_decimal}
 use Rattle.std.specs.List.{list_all}
 use Rattle.avro_schema.specs.Tree.{SchemaTree, schema_tree, ShapeTree, branch, no_branches, FieldTree, fields_of}

@@ -11,7 +11,9 @@ mod info;
 mod list;
 mod list_writing;
 mod live;
+mod location;
 mod manifest_writing;
+mod metadata_file;
 mod partition;
 mod plan;
 mod reading;
@@ -25,9 +27,12 @@ pub use info::{Infos, ManifestInfo};
 pub use list_writing::list_bytes;
 pub use live::{LiveRow, Rows, live_rows};
 pub use manifest_writing::manifest_bytes;
+pub use metadata_file::metadata_path;
 pub use partition::PartColumn;
 pub use reading::{entries_of, read_list, read_manifest};
 
+#[cfg(test)]
+mod entry_tests;
 #[cfg(test)]
 mod manifest_tests;
 #[cfg(test)]

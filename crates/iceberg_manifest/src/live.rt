@@ -1,14 +1,16 @@
 //! The rows of a manifest that are live.
 
-ghost use Rattle.std.specs.Prelude.{◌≡◌, List, ◌⊎◌, Ok, option_map, IfOk, IfErr, MatchResult};
+ghost use Rattle.std.specs.Prelude.{◌≡◌, List, ◌⊎◌, Ok, IfOk, IfErr, MatchResult};
 ghost use Rattle.lake_basics.specs.Outcome.{Gives, GivesUnlessMemory};
 ghost use Rattle.iceberg_manifest.specs.Errors.{is_memory, error_of};
 ghost use Rattle.iceberg_manifest.specs.LiveRows.{AreLiveRows, IsFirstFault, live_rows_of};
-ghost use Rattle.iceberg_manifest.specs.Live.{without_slashes as without_slashes_of, front_of, behind as behind_of, path_in_table as path_in_table_of, row_path as row_path_of, inherited as inherited_from, live_row as live_row_of, rows_in};
+ghost use Rattle.iceberg_manifest.specs.Location.{front_of};
+ghost use Rattle.iceberg_manifest.specs.Live.{path_in_table as path_in_table_of, row_path as row_path_of, inherited as inherited_from, live_row as live_row_of, rows_in};
 
 use crate::entry::Entry;
 use crate::error::{Fault, MALFORMED, ManifestError};
 use crate::info::ManifestInfo;
+use crate::location::{behind, front, text_of};
 use lake_basics::limits::MAX_PATH_BYTES;
 use lake_basics::{Items, ReadError, Text};
 use std::alloc::{AllocError, Global};
@@ -25,43 +27,6 @@ pub struct LiveRow {
 
 /// Live rows in the order of their entries.
 pub type Rows = Items<LiveRow>;
-
-/// The bytes without the slashes at their end.
-fn without_slashes(bytes: &[u8]) -> &[u8]
-    ensures { result.now ≡ without_slashes_of bytes.now }
-{
-    let mut end = bytes.len();
-    'slashes: while end > 0 && bytes[end - 1] == b'/' {
-        end -= 1;
-    }
-    &bytes[..end]
-}
-
-/// What each path in the table begins with.
-fn front(alloc: Global, location: &str) -> Result<Vec<u8>, AllocError>
-    ensures { IfOk result (λ f. f.items ≡ front_of location.now) }
-{
-    let mut front = Vec::from_slice(alloc, without_slashes(location.as_bytes()))?;
-    front.push(b'/')?;
-    Ok(front)
-}
-
-/// What is left of a path behind a front that it begins with.
-fn behind<'a>(front: &[u8], path: &'a [u8]) -> Option<&'a [u8]>
-    ensures { option_map (λ r. r.now) result ≡ behind_of front.now path.now }
-{
-    path.strip_prefix(front)
-}
-
-/// The text of bytes that are UTF-8.
-fn text_of(alloc: Global, bytes: &[u8]) -> Result<Text, AllocError>
-    ensures { IfOk result (λ t. t ≡ bytes.now) }
-{
-    match Text::from_bytes(alloc, bytes) {
-        Ok(text) => Ok(text),
-        Err(_) => Err(AllocError),
-    }
-}
 
 fn path_in_table(alloc: Global, rest: &[u8]) -> Result<Text, ReadError<Fault>>
     ensures { Gives (λ p. p) result (path_in_table_of rest.now) }

@@ -16,7 +16,7 @@ use crate::info::{Infos, ManifestInfo};
 use crate::list::infos;
 use crate::partition::PartColumn;
 use crate::scan::entries;
-use avro_container::{Container, ContainerError, read_container};
+use avro_container::{Container, ContainerError, Values, read_container};
 use avro_value::{AvroError, MAX_VALUES, Schema, Value};
 use lake_basics::{Items, ReadError};
 use std::alloc::Global;
@@ -63,13 +63,13 @@ fn entry_error(fault: EntryFault) -> ManifestError
 pub fn entries_of(
     alloc: Global,
     schema: &Schema,
-    values: &[Value],
+    values: &Values,
     columns: &[PartColumn],
 ) -> Result<Entries, ManifestError>
     ensures { GivesUnlessMemory is_memory (λ es. es) result
         (entries_by columns.now (tree_of schema.now) (map value_tree values.now)) }
 {
-    match entries(alloc, schema, values, columns) {
+    match entries(alloc, schema, values.as_slice(), columns) {
         Ok(entries) => Ok(Items::from_vec(entries)),
         Err(ReadError::Memory) => Err(ManifestError::Memory),
         Err(ReadError::Fault(fault)) => Err(entry_error(fault)),
@@ -85,14 +85,7 @@ fn manifest(
         (scan_of (entries_by columns.now) container) }
 {
     match container {
-        Ok(container) => {
-            entries_of(
-                alloc,
-                &container.schema,
-                container.values.as_slice(),
-                columns,
-            )
-        }
+        Ok(container) => entries_of(alloc, &container.schema, &container.values, columns),
         Err(error) => Err(container_error(error)),
     }
 }

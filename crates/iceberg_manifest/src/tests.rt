@@ -1,5 +1,5 @@
 //! Which rows of a manifest are live, and which entries are refused.
-use super::{Entry, ManifestError, ManifestInfo, Rows, live_rows};
+use super::{Entry, ManifestError, ManifestInfo, Rows, live_rows, metadata_path};
 use lake_basics::{Items, Text};
 use std::alloc::{AllocError, Global};
 use std::test::Fail;
@@ -101,17 +101,52 @@ fn added_and_existing_entries_are_live(rt: HostRuntime) -> Result<(), Fail> {
 }
 
 #[test]
-fn slashes_at_the_end_of_the_location_say_nothing(rt: HostRuntime) -> Result<(), Fail> {
+fn one_slash_at_the_end_of_the_location_says_nothing(rt: HostRuntime) -> Result<(), Fail> {
     let alloc = rt.alloc();
-    for (location, path) in &[
-        ("/w/", "/w/a"),
-        ("/w//", "/w/a"),
-        ("/", "/a"),
-        ("", "/a"),
-        ("s3://b/t", "s3://b/t/a"),
+    for (location, path, is_there) in &[
+        ("/w", "/w/a", true),
+        ("/w/", "/w/a", true),
+        ("/w//", "/w//a", true),
+        ("/w//", "/w/a", false),
+        ("/", "/a", true),
+        ("", "/a", true),
+        ("s3://b/t", "s3://b/t/a", true),
     ] {
-        let rows = rows_of(alloc, added(alloc, path)?, location)?;
-        assert_eq!(rt; rows.len(), 1, "{location}");
+        let rows = rows_of(alloc, added(alloc, path)?, location);
+        assert_eq!(rt; rows.is_ok(), *is_there, "{location}");
+    }
+    Ok(())
+}
+
+/// The path of a list or manifest, or why it has none.
+fn path_or_word(alloc: Global, location: &str, file: &str) -> Result<Text, AllocError> {
+    let file = Text::from_str(alloc, file)?;
+    match metadata_path(alloc, location, &file) {
+        Ok(path) => Ok(path),
+        Err(ManifestError::Malformed) => Text::from_str(alloc, "malformed"),
+        Err(ManifestError::OutsideTable) => Text::from_str(alloc, "outside"),
+        Err(_) => Err(AllocError),
+    }
+}
+
+#[test]
+fn lists_and_manifests_lie_in_metadata(rt: HostRuntime) -> Result<(), Fail> {
+    let alloc = rt.alloc();
+    for (location, file, wanted) in &[
+        ("/w", "/w/metadata/m1.avro", "metadata/m1.avro"),
+        ("/w/", "/w/metadata/a/m1.avro", "metadata/a/m1.avro"),
+        ("/w//", "/w//metadata/m1.avro", "metadata/m1.avro"),
+        ("/w//", "/w/metadata/m1.avro", "outside"),
+        ("/w", "/w/data/m1.avro", "outside"),
+        ("/w", "/w/metadata", "outside"),
+        ("/w", "/v/metadata/m1.avro", "outside"),
+        ("/w", "/v/metadata/../m1.avro", "outside"),
+        ("/w", "/w/metadata/", "malformed"),
+        ("/w", "/w/metadata/../m1.avro", "malformed"),
+        ("/w", "/w//metadata/m1.avro", "malformed"),
+    ] {
+        let found = path_or_word(alloc, location, file)?;
+        assert_eq!(rt; found.as_str(), *wanted, "{file}");
     }
     Ok(())
 }

@@ -2,11 +2,13 @@ use Rattle.std.proofs.Common.{◌≡◌, pos, ℕ, List, [], ◌∷◌, codes, r
 use Rattle.std.specs.List.{IsDistinct}
 use Rattle.std.specs.Ordering.{int_eq}
 use Rattle.std.specs.Str.{bytes_eq}
+use Rattle.iceberg_manifest.specs.WrittenTypes.{part_names}
+use Rattle.iceberg_manifest.specs.declared.partition.PartColumn.{PartColumn}
 use Rattle.iceberg_manifest.proofs.manifest_tests.written.Goals as goal
 
-own_names : (a b : List ℕ) → a ≡ codes "day" → b ≡ codes "country" → IsDistinct bytes_eq (a ∷ b ∷ [])
+own_names : (cs : List PartColumn) (a b : List ℕ) → a ≡ codes "day" → b ≡ codes "country" → IsDistinct bytes_eq (part_names cs (a ∷ b ∷ []))
 unfolding IsDistinct
-own_names a b is other = rw (is, other) ((refl, tt), (tt, tt))
+own_names cs a b is other = rw (is, other) ((refl, tt), (tt, tt))
 
 own_ids : IsDistinct int_eq (pos 1000 ∷ pos 1001 ∷ [])
 unfolding IsDistinct
@@ -15,7 +17,7 @@ own_ids = ((refl, tt), (tt, tt))
 pub manifest_bytes-requires : goal.manifest_bytes-requires
 manifest_bytes-requires c = record {
   named = refl;
-  own_names = own_names _ _ c.in_ok-from_str.ensures c.in_ok-from_str-2.ensures;
+  own_names = own_names _ _ _ c.in_ok-from_str.ensures c.in_ok-from_str-2.ensures;
   own_ids = own_ids;
   few_columns = omega arith;
   values = (c.in_ok-deleted.ensures, (c.in_ok-existing.ensures, (c.in_ok-added.ensures, tt)));

@@ -1,4 +1,4 @@
-use Rattle.std.proofs.Common.{◌≡◌, ◌≤◌, ◌++◌, drop, length, map}
+use Rattle.std.proofs.Common.{◌≡◌, ◌++◌, drop, map}
 use Rattle.std.specs.List.{AllByRecursion}
 use Rattle.avro_schema.specs.Tree.{field_of}
 use Rattle.iceberg_manifest.specs.ManifestWriting.{HasId}
