@@ -2,7 +2,7 @@
 use super::*;
 use lake_basics::Text;
 use lake_store::MemoryStore;
-use source_core::{Head, Source, SourceError};
+use source_core::{Source, SourceError};
 use std::alloc::{AllocError, Global};
 use std::test::Fail;
 
@@ -109,29 +109,24 @@ fn refused(alloc: Global, error: &SourceError) -> Result<String, AllocError> {
     }
 }
 
-/// The number of rows at the head, or what is told.
-fn rows_at(alloc: Global, store: &mut MemoryStore, head: &Head) -> Result<String, AllocError> {
-    match HudiSource::new().whole(alloc, store, head) {
-        Ok(table) => format!(in alloc; "{} rows", table.rows.len()),
-        Err(error) => refused(alloc, &error),
-    }
-}
-
 fn read(alloc: Global, files: &[(&str, &str)]) -> Result<String, AllocError> {
     let mut store = store_of(alloc, files)?;
-    match HudiSource::new().head(alloc, &mut store) {
-        Ok(head) => {
-            let rows = rows_at(alloc, &mut store, &head)?;
-            format!(in alloc;
-                "{} at {}, pending {}: {}",
-                or_none(head.table.as_ref()),
-                head.position.as_str(),
-                or_none(head.pending.as_ref()),
-                rows.as_str()
-            )
-        }
-        Err(error) => refused(alloc, &error),
-    }
+    let source = HudiSource::new();
+    let head = match source.head(alloc, &mut store) {
+        Ok(head) => head,
+        Err(error) => return refused(alloc, &error),
+    };
+    let rows = match source.whole(alloc, &mut store, &head) {
+        Ok(table) => format!(in alloc; "{} rows", table.rows.len())?,
+        Err(error) => refused(alloc, &error)?,
+    };
+    format!(in alloc;
+        "{} at {}, pending {}: {}",
+        or_none(head.table.as_ref()),
+        head.position.as_str(),
+        or_none(head.pending.as_ref()),
+        rows.as_str()
+    )
 }
 
 #[test]
