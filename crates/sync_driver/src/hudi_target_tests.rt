@@ -60,6 +60,42 @@ const CUT: File<'static> = (
     r#"{"add":{"path":"p"#,
 );
 
+const PENDING: File<'static> = (".hoodie/20240105110000000.replacecommit.requested", "");
+
+/// The files before a first sync, and what it answers.
+const FIRST_SYNCS: &[(&[File<'static>], &str)] = &[
+    (&[OTHERS], "3\nsource: status 3: Absent\nno file changes\n"),
+    (
+        &[VERSION_0, CUT],
+        "4\nsource: status 4: Malformed _delta_log/00000000000000000001.json\nno file changes\n",
+    ),
+    (
+        &[MISPLACED],
+        "5\nhudi: status 5: Unsupported PartitionPath d=x/p.parquet\nno file changes\n",
+    ),
+    (
+        &[SPACED],
+        "5\nhudi: status 5: Unsupported AvroName a b\nno file changes\n",
+    ),
+    (
+        &[VERSION_0, OTHERS],
+        "7\nhudi: status 7: Foreign .hoodie/hoodie.properties\nno file changes\n",
+    ),
+    (
+        &[VERSION_0, CUT, OTHERS],
+        "7\nhudi: status 7: Foreign .hoodie/hoodie.properties\nno file changes\n",
+    ),
+    (
+        &[VERSION_0, PENDING],
+        "7\nhudi: status 7: Foreign .hoodie/hoodie.properties\nno file changes\n",
+    ),
+    (
+        &[VERSION_0, OWN, PENDING],
+        "7\nhudi: status 7: Foreign .hoodie/20240105110000000.replacecommit.requested\nno file changes\n",
+    ),
+    (&[ESCAPED], "0\nhudi: full, published 1, files 1, at 0\n"),
+];
+
 #[test]
 fn each_full_sync_publishes_one_commit(rt: HostRuntime) -> Result<(), Fail> {
     let alloc = rt.alloc();
@@ -106,41 +142,8 @@ fn first_told(alloc: Global, files: &[File<'_>], now_ms: u64) -> Result<String, 
 #[test]
 fn a_refused_sync_changes_no_file(rt: HostRuntime) -> Result<(), Fail> {
     let alloc = rt.alloc();
-    let pending = (".hoodie/20240105110000000.replacecommit.requested", "");
-    let cases: [(&[File<'_>], &str); 9] = [
-        (&[OTHERS], "3\nsource: status 3: Absent\nno file changes\n"),
-        (
-            &[VERSION_0, CUT],
-            "4\nsource: status 4: Malformed _delta_log/00000000000000000001.json\nno file changes\n",
-        ),
-        (
-            &[MISPLACED],
-            "5\nhudi: status 5: Unsupported PartitionPath d=x/p.parquet\nno file changes\n",
-        ),
-        (
-            &[SPACED],
-            "5\nhudi: status 5: Unsupported AvroName a b\nno file changes\n",
-        ),
-        (
-            &[VERSION_0, OTHERS],
-            "7\nhudi: status 7: Foreign .hoodie/hoodie.properties\nno file changes\n",
-        ),
-        (
-            &[VERSION_0, CUT, OTHERS],
-            "7\nhudi: status 7: Foreign .hoodie/hoodie.properties\nno file changes\n",
-        ),
-        (
-            &[VERSION_0, pending],
-            "7\nhudi: status 7: Foreign .hoodie/hoodie.properties\nno file changes\n",
-        ),
-        (
-            &[VERSION_0, OWN, pending],
-            "7\nhudi: status 7: Foreign .hoodie/20240105110000000.replacecommit.requested\nno file changes\n",
-        ),
-        (&[ESCAPED], "0\nhudi: full, published 1, files 1, at 0\n"),
-    ];
-    for (files, lines) in cases {
-        assert_eq!(rt; first_told(alloc, files, NOW_MS)?.as_str(), lines);
+    for (files, lines) in FIRST_SYNCS {
+        assert_eq!(rt; first_told(alloc, files, NOW_MS)?.as_str(), *lines);
     }
     Ok(())
 }
