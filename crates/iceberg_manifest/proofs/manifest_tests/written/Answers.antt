@@ -2,6 +2,7 @@ use Rattle.std.proofs.Common.{◌≡◌, pos, ℕ, List, [], ◌∷◌, codes, r
 use Rattle.std.specs.List.{IsDistinct}
 use Rattle.std.specs.Ordering.{int_eq}
 use Rattle.std.specs.Str.{bytes_eq}
+use Rattle.partition_map.specs.declared.kind.PartKind.TheVariants.{Date, Text}
 use Rattle.iceberg_manifest.specs.WrittenTypes.{part_names}
 use Rattle.iceberg_manifest.specs.declared.partition.PartColumn.{PartColumn}
 use Rattle.iceberg_manifest.proofs.manifest_tests.written.Goals as goal
@@ -17,7 +18,7 @@ own_ids = ((refl, tt), (tt, tt))
 pub manifest_bytes-requires : goal.manifest_bytes-requires
 manifest_bytes-requires c = record {
   named = refl;
-  own_names = own_names _ _ _ c.in_ok-from_str.ensures c.in_ok-from_str-2.ensures;
+  own_names = own_names (record { field_id = pos 1000; kind = Date } ∷ record { field_id = pos 1001; kind = Text } ∷ []) _ _ c.in_ok-from_str.ensures c.in_ok-from_str-2.ensures;
   own_ids = own_ids;
   few_columns = omega arith;
   values = (c.in_ok-deleted.ensures, (c.in_ok-existing.ensures, (c.in_ok-added.ensures, tt)));
