@@ -14,3 +14,4 @@ pub mod Publishing
 pub mod Step
 pub mod Progress
 pub mod Held
+pub mod Written

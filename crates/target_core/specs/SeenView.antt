@@ -1,5 +1,5 @@
 -- What inspecting a target tells.
-use Rattle.std.specs.Prelude.{ℕ, List, []}
+use Rattle.std.specs.Prelude.{ℕ, ◌<◌, List, []}
 use Rattle.table_history.specs.declared.kind.Kind.{Kind}
 use Rattle.target_core.specs.Conditions.{IsPublishable}
 use Rattle.target_core.specs.Views.{IsOfSource, View, absent}
@@ -12,8 +12,8 @@ IsSeen reads is_foreign view stands_for source Absent = reads (absent [])
 IsSeen reads is_foreign view stands_for source (Ours kept) = stands_for kept × IsOfSource source (view kept)
 IsSeen reads is_foreign view stands_for source (Foreign path) = is_foreign path
 
--- the table of ours may be published, and its mark names this source, also where the store tells nothing
+-- ours has a commit, its table may be published, and its mark names this source, also where the store tells nothing
 abbrev pub IsSeenSound : {K : Type 0} → (K → View) → Kind → Seen K → Type 0
 IsSeenSound view source Absent = Unit {0}
-IsSeenSound view source (Ours kept) = IsPublishable (view kept).table × IsOfSource source (view kept)
+IsSeenSound view source (Ours kept) = (0 < (view kept).commits) × IsPublishable (view kept).table × IsOfSource source (view kept)
 IsSeenSound view source (Foreign path) = Unit {0}

@@ -12,6 +12,7 @@ ghost use Rattle.target_core.specs.Publishing.{Publishes};
 ghost use Rattle.target_core.specs.Refusals.{IsOfCommit};
 ghost use Rattle.target_core.specs.TargetMeanings.{meaning};
 ghost use Rattle.target_core.specs.Views.{IsAdvancedAll};
+ghost use Rattle.target_core.specs.Written.{AreWritten};
 
 use crate::target::{Target, TargetError};
 use lake_basics::Text;
@@ -68,6 +69,14 @@ pub fn follow<T: Target, S: Store>(
         (record { source = source; table = option_copied table.entry })
         (T.view target.now kept.old) commits.now
         (Uncontested result) (is_ok result) store.old store.new }
+
+    // At `Ok` just what they write has come, one commit behind the other.
+    ensures written { S.tells → T.stands_for target.now kept.old (S.disk store.old).files
+        → T.settled target.now (S.disk store.old)
+        → OnOk result (AreWritten (T.stands_for target.now)
+        (λ kept before commit after. T.writes target.now kept before
+        (record { source = source; table = option_copied table.entry }) now_ms commit after)
+        kept.old (S.disk store.old).files commits.now kept.new (S.disk store.new).files) }
 
     // It is refused at one of them, behind those before it.
     ensures refusal { S.tells → IfErr result (IsRefusedAt (meaning ⟦<T as Target>⟧ target.now)

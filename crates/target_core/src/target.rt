@@ -145,6 +145,10 @@ pub trait Target {
     /// this mark, and nothing more.
     ghost carries: { Self → Files → ℕ → Change → Standing → Type 0 };
 
+    /// Over these files, of which this is kept, publishing the commit with a mark of this origin at
+    /// this time leaves these files: what the commit writes has come, and nothing else.
+    ghost writes: { Self → Self.Kept → Files → Origin → ℕ → Commit → Files → Type 0 };
+
     /// A published commit reaches the file at this path.
     ghost reached: { Self → Files → List ℕ → Type 0 };
 
@@ -268,6 +272,12 @@ pub trait Target {
             (view self.now kept.old) (commit.now ∷ [])
             (Uncontested result) (is_ok result) store.old store.new }
 
+        // At `Ok` just what it writes has come.
+        ensures writes { S.tells → stands_for self.now kept.old (S.disk store.old).files
+            → OnOk result (writes self.now kept.old (S.disk store.old).files
+            (record { source = source; table = option_copied table.entry }) now_ms commit.now
+            (S.disk store.new).files) }
+
         // Behind another writer's commit nothing is published.
         ensures contested { S.tells → stands_for self.now kept.old (S.disk store.old).files
             → settled self.now (S.disk store.old) → IsErrOf result TargetError.Contested
@@ -332,6 +342,10 @@ pub trait Target {
         (commit : Commit) (commits : List Commit)
         → Fits (unfit t kept) partition (commit ∷ commits)
         → Fits (unfit t kept) partition (commit ∷ []) };
+
+    /// Where there is nothing to publish, it fits.
+    ghost fits_none: { (t : Self) (kept : Self.Kept) (partition : List (List ℕ))
+        → Fits (unfit t kept) partition [] };
 
     /// What fits a target that has a commit is of the same partition columns.
     ghost fits_partition: { (t : Self) (kept : Self.Kept) (partition : List (List ℕ))
