@@ -1,3 +1,2 @@
 pub mod Publishable
 pub mod Refusals
-pub mod Runs
