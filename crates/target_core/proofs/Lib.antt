@@ -7,3 +7,4 @@ pub mod OneStep
 pub mod Along
 pub mod SameStart
 pub mod HeldRows
+pub mod Writing

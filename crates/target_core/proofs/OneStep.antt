@@ -1,5 +1,5 @@
 -- For the targets: what one commit publishes, from what the files read as before and after it.
-use Rattle.std.proofs.Common.{◌≡◌, ⊎_elim, ℕ, ◌+◌, List, [], ◌∷◌, Some, Bool, true, false, subst, arith}
+use Rattle.std.proofs.Common.{◌≡◌, ⊎_elim, ℕ, ◌+◌, [], ◌∷◌, Some, Bool, true, false, subst, arith}
 use Rattle.std.specs.Prelude.{slice_get}
 use Rattle.lake_store.specs.Disk.{Files}
 use Rattle.lake_store.specs.Runs.{IsEachMoment, LeavesAlone}

@@ -5,7 +5,7 @@ use Rattle.table_history.specs.declared.kind.Kind.{Kind}
 use Rattle.table_history.specs.declared.limit.LimitKind.{LimitKind}
 use Rattle.table_history.specs.declared.table.Commit.{Commit}
 use Rattle.target_core.specs.Meaning.{Meaning, meaning_of}
-use Rattle.target_core.specs.Views.{Origin, View}
+use Rattle.target_core.specs.Views.{Origin}
 use Rattle.target_core.specs.declared.target.Target.{Ghosts}
 use Rattle.target_core.specs.declared.target.TargetError.{TargetError}
 

@@ -1,4 +1,5 @@
 use Rattle.std.proofs.Common.{◌≡◌, ◌≤◌, ℕ, ◌+◌, true, false, Some, Err, Result, List, [], ◌∷◌, append-nil, length, take, drop, inr, refl, sym, ◌∙◌, ap, subst, arith}
+use Rattle.std.proofs.lemmas.List.{take_all}
 use Rattle.std.proofs.lemmas.Option.{slice_get-get_or}
 use Rattle.std.proofs.lemmas.Result.{err_from_is_err_and}
 use Rattle.std.specs.Prelude.{IfErr, is_ok, slice_get}
@@ -13,10 +14,12 @@ use Rattle.target_core.specs.Publishing.{Publishes}
 use Rattle.target_core.specs.Refusals.{IsCommitRefusal}
 use Rattle.target_core.specs.TargetMeanings.{meaning}
 use Rattle.target_core.specs.Views.{Origin, standing_at}
+use Rattle.target_core.specs.Written.{AreWritten}
 use Rattle.target_core.specs.declared.target.TargetError.{TargetError}
 use Rattle.target_core.proofs.Along.{can_here, fits_here, fails_further, more_before, refused_in, uncontested_further}
 use Rattle.target_core.proofs.Same.{same_refl}
 use Rattle.target_core.proofs.Steps.{gained_on, stopped_on, advanced_take, all_on, before_on, count_taken, refused_on, under_way_more, under_way_none}
+use Rattle.target_core.proofs.Writing.{written_take}
 use Rattle.target_core.proofs.in_order.follow.Goals as goal
 
 -- nothing is published yet, and a crash leaves a settled target as it reads
@@ -46,6 +49,7 @@ loop-commit-init g c =
             λ n change standing le carries. law.crash_carries t (store.disk s) files start n change standing settled (λ path own clean. may path clean) reads le carries,
             law.crash_settled t (store.disk s) files settled (λ path own clean. may path clean),
           ));
+      written = λ told was settled. (refl, refl);
       ahead = λ told commits which number was. was;
       cause = record { later = omega arith; still = λ m. m; rose = λ never. absurd never; allowed = λ never. absurd never };
       contest = record { same = refl; still = λ m. m; never = λ never. never };
@@ -103,6 +107,11 @@ loop-commit-preserved g c =
           let way = so_far.under_way told was settled in
           under_way_more store (meaning target t) origin start commits i here s mid c.commit.new.store way commit at (Unit {0}) true
           (step.publishes told (so_far.stands told was settled) way.settled) told (law.reached_stays t) tt refl next step.view;
+      written = λ told was settled.
+          let settled_here = (so_far.under_way told was settled).settled in
+          let stands_here = so_far.stands told was settled in
+          written_take (target.stands_for t) (λ kept before commit after. target.writes t kept before origin c.args.now_ms commit after) c.args.kept.now (store.disk s).files commits i c.loop-commit.kept (store.disk mid).files commit
+          c.commit.new.kept (store.disk c.commit.new.store).files at (so_far.written told was settled) (step.writes told stands_here) (step.stands told stands_here settled_here);
       ahead = λ told cs which number was.
           subst (λ (xs : List Commit). target.passes t c.args.kept.now (store.disk s).files origin c.args.now_ms xs which number) (more_before commits i commit at cs)
           (so_far.ahead told (commit ∷ cs) which number (step.ahead told cs which number was));
@@ -192,3 +201,14 @@ returns-clause-publishes g c told was settled =
     let whole : c.loop-commit.commit-index ≡ length c.args.commits.now = omega arith in
     all_on store (meaning target t) origin start c.args.commits.now c.loop-commit.commit-index (target.view t c.loop-commit.kept) c.args.store.now c.loop-commit.store whole (so_far.under_way told was settled)
     (g.met.T.Target.kept_view t c.loop-commit.kept (store.disk c.loop-commit.store).files (so_far.stands told was settled)) (Unit {0})
+
+pub returns-clause-written : goal.returns-clause-written
+returns-clause-written g c told was settled =
+    let target = g.T.Target in
+    let store = g.S.Store in
+    let t = c.args.target.now in
+    let origin : Origin = record { source = c.args.source; table = option_copied c.args.table } in
+    let end : length c.args.commits.now ≤ c.loop-commit.commit-index = omega arith in
+    subst (λ (cs : List Commit). AreWritten (target.stands_for t) (λ kept before commit after. target.writes t kept before origin c.args.now_ms commit after) c.args.kept.now (store.disk c.args.store.now).files cs
+    c.loop-commit.kept (store.disk c.loop-commit.store).files) (take_all c.loop-commit.commit-index c.args.commits.now end)
+    (c.loop-commit.invariant.written told was settled)

@@ -7,6 +7,7 @@ use Rattle.target_core.specs.Conditions.{CanPublishAll, Fits, GoesOn}
 use Rattle.target_core.specs.Folders.{folder_of}
 use Rattle.target_core.specs.TargetMeanings.{meaning}
 use Rattle.target_core.specs.Views.{IsAdvancedAll, Origin}
+use Rattle.target_core.specs.Written.{AreWritten}
 use Rattle.target_core.proofs.Underway.{IsUnderWay}
 use Rattle.target_core.proofs.in_order.follow.Given as goal
 
@@ -29,6 +30,8 @@ invariant-loop-commit g l =
       stands : store.tells → target.stands_for t l.fn.kept (store.disk l.fn.store).files → target.settled t (store.disk l.fn.store) → target.stands_for t l.kept (store.disk l.store).files;
       under_way : store.tells → target.stands_for t l.fn.kept (store.disk l.fn.store).files → target.settled t (store.disk l.fn.store)
           → IsUnderWay store (meaning target t) origin start l.commits i (target.view t l.kept) l.fn.store l.store;
+      written : store.tells → target.stands_for t l.fn.kept (store.disk l.fn.store).files → target.settled t (store.disk l.fn.store)
+          → AreWritten (target.stands_for t) (λ kept before commit after. target.writes t kept before origin l.now_ms commit after) l.fn.kept (store.disk l.fn.store).files (take i l.commits) l.kept (store.disk l.store).files;
       ahead : store.tells → (commits : List Commit) (which : LimitKind) (number : ℕ) → target.passes t l.kept (store.disk l.store).files origin l.now_ms commits which number
           → target.passes t l.fn.kept (store.disk l.fn.store).files origin l.now_ms (take i l.commits ++ commits) which number;
       cause : FailsBy store l.fn.store l.store ⊥;
