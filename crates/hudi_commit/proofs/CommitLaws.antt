@@ -19,6 +19,7 @@ use Rattle.hudi_commit.proofs.NameLaws.{claim_not_properties, claim_not_staged, 
 use Rattle.hudi_commit.proofs.OpenLaws.{not_of, open_inside}
 use Rattle.hudi_commit.proofs.OrderlyLaws.{orderly_real, there, there_none}
 use Rattle.hudi_commit.proofs.PublishLaws.{absent, has_quiet, has_stands, moved_here, quiet_unannounced}
+use Rattle.hudi_commit.proofs.RecoveryLaws.{tidied_fewer, tidied_others}
 use Rattle.hudi_commit.proofs.StagingLaws.{after_of}
 use Rattle.hudi_commit.proofs.StepLaws.{clean_settled, in_timeline}
 
@@ -50,9 +51,9 @@ recovered_idle base first now clean tidied recovered stands = record {
 
 -- readiness stays through a sync and the recovery
 pub tidied_ready : (properties : Option (List ℕ)) (d₀ d₁ d₂ : Disk) → d₁ ≡ synced d₀ → IsTidied d₁ d₂ → IsReady properties d₀.files → IsReady properties d₂.files
-tidied_ready None d₀ d₁ d₂ is tidied ready = there d₁.files d₂.files properties_path (tidied.others properties_path properties_stay) (there d₀.files d₁.files properties_path (ap (λ (x : Disk). map.get x.files properties_path) is) ready)
+tidied_ready None d₀ d₁ d₂ is tidied ready = there d₁.files d₂.files properties_path (tidied_others d₁ d₂ tidied properties_path properties_stay) (there d₀.files d₁.files properties_path (ap (λ (x : Disk). map.get x.files properties_path) is) ready)
 tidied_ready (Some p) d₀ d₁ d₂ is tidied ready = λ name is_name is_in found.
-    ready name is_name is_in (there d₁.files d₀.files (timeline_path name) (sym (ap (λ (x : Disk). map.get x.files (timeline_path name)) is)) (tidied.fewer (timeline_path name) found))
+    ready name is_name is_in (there d₁.files d₀.files (timeline_path name) (sym (ap (λ (x : Disk). map.get x.files (timeline_path name)) is)) (tidied_fewer d₁ d₂ tidied (timeline_path name) found))
 
 -- before the first commit no instant's name is there
 pub ready_quiet : (base : Files) (p : List ℕ) (d : Disk) → Stands base d → IsIdle d → IsReady (Some p) d.files → IsQuiet d

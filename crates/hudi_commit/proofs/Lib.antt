@@ -5,6 +5,7 @@ pub mod KeepLaws
 pub mod NameLaws
 pub mod OpenLaws
 pub mod OrderlyLaws
+pub mod OtherLaws
 pub mod PublishLaws
 pub mod RecoveryLaws
 pub mod StagingLaws

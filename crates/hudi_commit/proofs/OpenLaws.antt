@@ -5,7 +5,7 @@ use Rattle.std.specs.FinMap as map
 use Rattle.lake_store.specs.Disk.{Files}
 use Rattle.lake_store.specs.Runs.{IsIn}
 use Rattle.hudi_names.specs.Time.{IsDigits, IsSomeTime}
-use Rattle.hudi_commit.specs.Names.{IsLeftover, IsOf, IsOpenLeftover, IsThere, Stage, completed_path, pending_path, timeline_folder}
+use Rattle.hudi_commit.specs.Names.{IsLeftover, IsOf, IsOpenLeftover, IsThere, Stage, StaysOrGoes, completed_path, pending_path, timeline_folder}
 use Rattle.hudi_commit.specs.Runs.{IsNotOf, IsNotOpen}
 use Rattle.hudi_commit.proofs.NameLaws.{completed_stays}
 use Rattle.hudi_commit.proofs.OrderlyLaws.{there, there_none}
@@ -32,9 +32,19 @@ module _ (files : Files) (q : List ℕ) where
   not_of t real none free of = free (inr (t, real, (λ found. there_none files (completed_path t) found none), of))
 
   -- where the same instants are completed
-  pub open_same : (other : Files) → ((t : List ℕ) → IsDigits t → map.get other (completed_path t) ≡ map.get files (completed_path t)) → IsNotOpen files q → IsNotOpen other q
-  open_same other same free = ⊎_elim (λ e. free (inl e))
-      (λ (o : (t : List ℕ) × IsSomeTime t × (IsThere other (completed_path t) → ⊥) × IsOf t q). free (inr (o.0, o.1, (λ done. o.2 (there files other (completed_path o.0) (same o.0 o.1.1.digits) done)), o.3)))
+  module _ (other : Files) (same : (t : List ℕ) → IsDigits t → map.get other (completed_path t) ≡ map.get files (completed_path t)) where
+    open_before : IsOpenLeftover other q → IsOpenLeftover files q
+    open_before = ⊎_elim inl
+        (λ (o : (t : List ℕ) × IsSomeTime t × (IsThere other (completed_path t) → ⊥) × IsOf t q). inr (o.0, o.1, (λ done. o.2 (there files other (completed_path o.0) (same o.0 o.1.1.digits) done)), o.3))
+
+    pub open_same : IsNotOpen files q → IsNotOpen other q
+    open_same free open_ = free (open_before open_)
+
+    -- one run behind another
+    pub stays_then : (last : Files) → StaysOrGoes files other q → StaysOrGoes other last q → StaysOrGoes files last q
+    stays_then last (inl one) (inl two) = inl (two ∙ one)
+    stays_then last (inr gone) (inl two) = inr (gone.0, two ∙ gone.1)
+    stays_then last one (inr gone) = inr (open_before gone.0, gone.1)
 
 pub completed_not_open : (files : Files) (t : List ℕ) → IsDigits t → IsNotOpen files (completed_path t)
 completed_not_open files t is leftover = completed_stays t is (open_leftover files (completed_path t) leftover)

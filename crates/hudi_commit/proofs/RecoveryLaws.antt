@@ -1,5 +1,5 @@
 -- What recovery leaves, and that a listed folder shows each claim.
-use Rattle.std.proofs.Common.{◌≡◌, ⊎_elim, ℕ, ℤ, ◌+◌, ◌<◌, Bool, true, false, not, ◌||◌, List, length, take, get_or, refl, sym, ◌∙◌, ap, subst}
+use Rattle.std.proofs.Common.{◌≡◌, inl, inr, ⊎_elim, ℕ, ℤ, ◌+◌, ◌<◌, Bool, true, false, not, ◌||◌, List, length, take, get_or, refl, sym, ◌∙◌, ap, subst}
 use Rattle.std.specs.Prelude.{Option, None, Some, is_some, MatchOption, Result, OnOk}
 use Rattle.std.specs.List.{list_any}
 use Rattle.std.specs.FinMap as map
@@ -11,52 +11,74 @@ use Rattle.lake_store.specs.Disk.{Disk, Files, is_name, names_in, removed}
 use Rattle.lake_store.proofs.DiskLaws.{get-remove_here, get-remove_other, is_path, path_cases, path_other}
 use Rattle.lake_store.proofs.FolderLaws.{any-names_in}
 use Rattle.hudi_names.specs.Time.{IsDigits, IsSomeTime, IsTime}
-use Rattle.hudi_commit.specs.Names.{IsLeftover, IsThere, Requested, Inflight, claim_path, claims_folder, completed_path, pending_path}
-use Rattle.hudi_commit.specs.Runs.{IsRecovered, IsRecoveredAt, IsTidied, cleared}
-use Rattle.hudi_commit.proofs.NameLaws.{claim_leftover, completed_stays, instant_is_name, pending_leftover}
+use Rattle.hudi_commit.specs.Names.{IsOf, IsOpenLeftover, IsThere, Requested, Inflight, claim_path, claims_folder, completed_path, pending_path}
+use Rattle.hudi_commit.specs.Runs.{IsNoLeftover, IsRecovered, IsRecoveredAt, IsTidied, cleared}
+use Rattle.hudi_commit.proofs.NameLaws.{completed_stays, instant_is_name}
+use Rattle.hudi_commit.proofs.OpenLaws.{open_leftover, stays_then}
 use Rattle.hudi_commit.proofs.OrderlyLaws.{there, there_none}
-use Rattle.hudi_commit.proofs.StepLaws.{removed_clean, removed_there}
+use Rattle.hudi_commit.proofs.StepLaws.{removed_absent, removed_clean}
 
 pub tidied_refl : (d : Disk) → IsTidied d d
-tidied_refl d = record { fewer = λ q x. x; others = λ q free. refl; clean = λ q x. x }
+tidied_refl d = record { files = λ q. inl refl; clean = λ q x. x }
 
 pub tidied_same : (d e : Disk) → e ≡ d → IsTidied d e
 tidied_same d e same = subst (IsTidied d) (sym same) (tidied_refl d)
 
+module _ (old new : Disk) (tidied : IsTidied old new) where
+  pub tidied_fewer : (q : List ℕ) → IsThere new.files q → IsThere old.files q
+  tidied_fewer q found = ⊎_elim
+      (λ same. there new.files old.files q (sym same) found)
+      (λ (gone : IsOpenLeftover old.files q × (map.get new.files q ≡ None)). there_none new.files q found gone.1)
+      (tidied.files q)
+
+  pub tidied_others : (q : List ℕ) → IsNoLeftover q → map.get new.files q ≡ map.get old.files q
+  tidied_others q free = ⊎_elim (λ same. same)
+      (λ (gone : IsOpenLeftover old.files q × (map.get new.files q ≡ None)). absurd (free (open_leftover old.files q gone.0)))
+      (tidied.files q)
+
+  pub tidied_completed : (t : List ℕ) → IsDigits t → map.get new.files (completed_path t) ≡ map.get old.files (completed_path t)
+  tidied_completed t is = tidied_others (completed_path t) (completed_stays t is)
+
 pub tidied_then : (a b c : Disk) → IsTidied a b → IsTidied b c → IsTidied a c
 tidied_then a b c one two = record {
-  fewer = λ q x. one.fewer q (two.fewer q x);
-  others = λ q free. two.others q free ∙ one.others q free;
+  files = λ q. stays_then a.files q b.files (tidied_completed a b one) c.files (one.files q) (two.files q);
   clean = λ q x. two.clean q (one.clean q x);
 }
 
--- a leftover is removed
-removed_tidied : (d : Disk) (p : List ℕ) → IsLeftover p → IsTidied d (removed d p)
-removed_tidied d p leftover = record {
-  fewer = removed_there d p;
-  others = λ q free. get-remove_other d.files p q (λ e. free (subst IsLeftover (sym e) leftover));
+-- an open leftover is removed
+removed_tidied : (d : Disk) (p : List ℕ) → IsOpenLeftover d.files p → IsTidied d (removed d p)
+removed_tidied d p open_ = record {
+  files = λ q. ⊎_elim
+      (λ (here : q ≡ p). inr (subst (IsOpenLeftover d.files) (sym here) open_, ap (map.get (removed d p).files) here ∙ get-remove_here d.files p))
+      (λ elsewhere. inl (get-remove_other d.files p q elsewhere))
+      (path_cases q p);
   clean = removed_clean d p;
 }
 
-pub cleared_tidied : (t : List ℕ) → IsDigits t → (d : Disk) → IsTidied d (cleared t d)
-cleared_tidied t is d =
+pub cleared_tidied : (t : List ℕ) → IsSomeTime t → (d : Disk) → map.get d.files (completed_path t) ≡ None → IsTidied d (cleared t d)
+cleared_tidied t is d none =
     let one = removed d (pending_path Inflight t) in
     let two = removed one (pending_path Requested t) in
-    tidied_then d one (cleared t d) (removed_tidied d (pending_path Inflight t) (pending_leftover Inflight t is))
-    (tidied_then one two (cleared t d) (removed_tidied one (pending_path Requested t) (pending_leftover Requested t is))
-    (removed_tidied two (claim_path t) (claim_leftover t is)))
+    let none₁ = removed_absent d (pending_path Inflight t) (completed_path t) none in
+    let none₂ = removed_absent one (pending_path Requested t) (completed_path t) none₁ in
+    tidied_then d one (cleared t d) (removed_tidied d (pending_path Inflight t) (open_of d none (inr (Inflight, refl))))
+    (tidied_then one two (cleared t d) (removed_tidied one (pending_path Requested t) (open_of one none₁ (inr (Requested, refl))))
+    (removed_tidied two (claim_path t) (open_of two none₂ (inl refl))))
+  where
+    open_of : (e : Disk) → map.get e.files (completed_path t) ≡ None → {q : List ℕ} → IsOf t q → IsOpenLeftover e.files q
+    open_of e none of = inr (t, is, (λ found. there_none e.files (completed_path t) found none), of)
 
 pub cleared_recovered : (t : List ℕ) (d : Disk) → IsRecoveredAt (cleared t d) t
 cleared_recovered t d is found = there_none (cleared t d).files (claim_path t) found
     (get-remove_here (removed (removed d (pending_path Inflight t)) (pending_path Requested t)).files (claim_path t))
 
 -- what a call on one claim leaves, for an open result
-module _ {T E : Type 0} (r : Result T E) (t name : List ℕ) (named : t ≡ name) (is : IsDigits name) (d₀ d e : Disk) (same : d ≡ d₀) (ok : OnOk r (e ≡ cleared t d)) where
+module _ {T E : Type 0} (r : Result T E) (t name : List ℕ) (named : t ≡ name) (d₀ d e : Disk) (same : d ≡ d₀) (ok : OnOk r (e ≡ cleared t d)) where
   cleared_here : OnOk r (e ≡ cleared name d₀)
   cleared_here = subst (λ x. OnOk r (e ≡ cleared name x)) same (subst (λ x. OnOk r (e ≡ cleared x d)) named ok)
 
-  pub clearing_tidies : OnOk r (IsTidied d₀ e)
-  clearing_tidies = on_ok_weaker r (λ is_e. subst (IsTidied d₀) (sym is_e) (cleared_tidied name is d₀)) cleared_here
+  pub clearing_tidies : IsSomeTime name → map.get d₀.files (completed_path name) ≡ None → OnOk r (IsTidied d₀ e)
+  clearing_tidies is none = on_ok_weaker r (λ is_e. subst (IsTidied d₀) (sym is_e) (cleared_tidied name is d₀ none)) cleared_here
 
   pub clearing_recovers : OnOk r (IsRecoveredAt e name)
   clearing_recovers = on_ok_weaker r (λ is_e. subst (λ x. IsRecoveredAt x name) (sym is_e) (cleared_recovered name d₀)) cleared_here
@@ -64,7 +86,7 @@ module _ {T E : Type 0} (r : Result T E) (t name : List ℕ) (named : t ≡ name
 -- a claim stays recovered
 pub still_recovered : (old new : Disk) (name : List ℕ) → IsTidied old new → IsRecoveredAt old name → IsRecoveredAt new name
 still_recovered old new name tidied was is found =
-    there old.files new.files (completed_path name) (tidied.others (completed_path name) (completed_stays name is.1.digits)) (was is (tidied.fewer (claim_path name) found))
+    there old.files new.files (completed_path name) (tidied_completed old new tidied name is.1.digits) (was is (tidied_fewer old new tidied (claim_path name) found))
 
 pub recovered_more : (xs : List (List ℕ)) (i : ℕ) (d : List ℕ) (old new : Disk) → i < length xs → IsTidied old new
     → ((name : List ℕ) → list_any (is_path name) (take i xs) ≡ true → IsRecoveredAt old name)
@@ -88,7 +110,7 @@ claim_listed files t is found = any-names_in files claims_folder t ∙ and_from 
 pub all_recovered : (first now : Disk) (xs : List (List ℕ)) → xs ≡ names_in first.files claims_folder → IsTidied first now
     → ((name : List ℕ) → list_any (is_path name) (take (length xs) xs) ≡ true → IsRecoveredAt now name) → IsRecovered now
 all_recovered first now xs listed tidied done name is found =
-    done name (ap (list_any (is_path name)) (take-length xs) ∙ ap (list_any (is_path name)) listed ∙ claim_listed first.files name is.1.digits (tidied.fewer (claim_path name) found)) is found
+    done name (ap (list_any (is_path name)) (take-length xs) ∙ ap (list_any (is_path name)) listed ∙ claim_listed first.files name is.1.digits (tidied_fewer first now tidied (claim_path name) found)) is found
 
 -- a name is that of an instant where it is read as a time
 module _ (bytes name : List ℕ) (at : bytes ≡ name) (none : Bool) where

@@ -1,5 +1,5 @@
 -- The files of a Hudi table that a commit writes, by their paths.
-use Rattle.std.specs.Prelude.{◌≡◌, ◌⊎◌, ℕ, List, ◌++◌, Some, IsSome, codes}
+use Rattle.std.specs.Prelude.{◌≡◌, ◌⊎◌, ℕ, List, ◌++◌, None, Some, IsSome, codes}
 use Rattle.std.specs.FinMap as map
 use Rattle.lake_store.specs.Disk.{Files}
 use Rattle.hudi_names.specs.Name.{instant_of}
@@ -64,6 +64,10 @@ abbrev pub IsOpenLeftover : Files → List ℕ → Type 0
 IsOpenLeftover files path =
     (path ≡ staged_properties_path)
     ⊎ ((instant : List ℕ) × IsSomeTime instant × (IsSome (map.get files (completed_path instant)) → ⊥) × IsOf instant path)
+
+-- The file is as before, or it is an open leftover and is gone.
+abbrev pub StaysOrGoes : Files → Files → List ℕ → Type 0
+StaysOrGoes before after path = (map.get after path ≡ map.get before path) ⊎ (IsOpenLeftover before path × (map.get after path ≡ None))
 
 -- the name is that of an instant in this state
 abbrev pub IsInstantIn : State → List ℕ → Type 0

@@ -9,7 +9,7 @@ use Rattle.lake_store.specs.declared.store.StoreError.TheVariants.{Taken}
 use Rattle.hudi_names.specs.Time.{IsDigits, IsSomeTime}
 use Rattle.hudi_names.specs.declared.name.State.{State}
 use Rattle.hudi_names.specs.declared.name.State.TheVariants.{Completed}
-use Rattle.hudi_commit.specs.Names.{IsInstantIn, IsLeftover, IsOf, IsOpenLeftover, IsThere, Stage, Requested, Inflight, claim_path, completed_path, pending_path, properties_path, staged_properties_path, timeline_path}
+use Rattle.hudi_commit.specs.Names.{IsInstantIn, IsLeftover, IsOf, IsOpenLeftover, IsThere, Stage, StaysOrGoes, Requested, Inflight, claim_path, completed_path, pending_path, properties_path, staged_properties_path, timeline_path}
 use Rattle.hudi_commit.specs.Settled.{IsSettled, IsUnannounced, Stands, StandsAt}
 
 -- no other writer was in the way
@@ -83,6 +83,12 @@ pub record IsKept (properties : Option (List ℕ)) (instant : List ℕ) (entry :
   pub completed : path ≢ completed_path instant
   pub given : NotGiven properties path
 
+-- A path of none of the files that the commit adds: the instant's completed one, its pending names, and properties that are given.
+pub record IsOther (properties : Option (List ℕ)) (instant path : List ℕ) : Type 0 where
+  pub completed : path ≢ completed_path instant
+  pub pending : (stage : Stage) → path ≢ pending_path stage instant
+  pub given : NotGiven properties path
+
 -- ---- its parts
 
 abbrev pub IsNoLeftover : List ℕ → Type 0
@@ -122,10 +128,9 @@ IsAllClean disk = (path : List ℕ) → IsClean disk path
 abbrev pub HasNotGrown : List ℕ → Files → Files → Type 0
 HasNotGrown folder old new = (path : List ℕ) → IsIn folder path → IsThere new path → IsThere old path
 
--- leftovers alone are gone
+-- open leftovers alone are gone
 pub record IsTidied (old new : Disk) : Type 0 where
-  pub fewer : (path : List ℕ) → IsThere new.files path → IsThere old.files path
-  pub others : (path : List ℕ) → IsNoLeftover path → map.get new.files path ≡ map.get old.files path
+  pub files : (path : List ℕ) → StaysOrGoes old.files new.files path
   pub clean : (path : List ℕ) → IsClean old path → IsClean new path
 
 -- a claim of this name is one of a completed instant

@@ -7,9 +7,9 @@ ghost use Rattle.lake_store.specs.Cause.{IsNotTooLong};
 ghost use Rattle.lake_store.specs.Disk.{Files, names_in};
 ghost use Rattle.lake_store.specs.Runs.{ChangesOnlyIn, FailsBy, IsContestedBy, LeavesAlone};
 ghost use Rattle.hudi_names.specs.Time.{IsSomeTime};
-ghost use Rattle.hudi_commit.specs.Names.{IsThere, claims_folder, completed_path, properties_path, timeline_folder};
+ghost use Rattle.hudi_commit.specs.Names.{IsThere, StaysOrGoes, claims_folder, completed_path, properties_path, timeline_folder};
 ghost use Rattle.hudi_commit.specs.Orderly.{IsOrderly};
-ghost use Rattle.hudi_commit.specs.Runs.{HasNotGrown, IsCommitted, IsIdle, IsKept, IsKeptBut, IsOneStep, IsPrepared, IsReady, IsTakenBy, IsUncontested, StaysBefore};
+ghost use Rattle.hudi_commit.specs.Runs.{HasNotGrown, IsCommitted, IsIdle, IsKept, IsKeptBut, IsOneStep, IsOther, IsPrepared, IsReady, IsTakenBy, IsUncontested, NotGiven, StaysBefore};
 ghost use Rattle.hudi_commit.specs.Settled.{IsSettled, Stands};
 
 use crate::paths::InstantPaths;
@@ -32,6 +32,9 @@ fn prepare<S: Store>(store: &mut S, properties: Option<&[u8]>) -> Result<(), Sto
         (S.disk store.new)) }
     ensures not_grown { S.tells → OnOk result (HasNotGrown claims_folder (S.disk store.old).files
         (S.disk store.new).files) }
+    ensures others { S.tells → OnOk result ((path : List ℕ)
+        → NotGiven (option_copied properties.entry) path
+        → StaysOrGoes (S.disk store.old).files (S.disk store.new).files path) }
     ensures taken { S.tells → IsErrOf result StoreError.Taken
         → IsSome (option_copied properties.entry)
         × IsThere (S.disk store.new).files properties_path }
@@ -71,6 +74,11 @@ pub fn publish_commit<S: Store>(
         (map.get (S.disk store.new).files (completed_path instant.now) ≡ Some text.now) }
     ensures not_grown { S.tells → OnOk result (HasNotGrown claims_folder (S.disk store.old).files
         (S.disk store.new).files) }
+
+    // All but the files that come is as before, or a leftover of a stopped commit that is gone.
+    ensures others { S.tells → OnOk result ((path : List ℕ)
+        → IsOther (option_copied properties.entry) instant.now path
+        → StaysOrGoes (S.disk store.old).files (S.disk store.new).files path) }
 
     // At any moment the timeline reads as before or as after, and it stays settled.
     ensures one_step { S.tells → IsUncontested result → IsOrderly (S.disk store.old).files

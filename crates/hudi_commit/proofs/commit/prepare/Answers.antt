@@ -1,12 +1,13 @@
-use Rattle.std.proofs.Common.{◌≡◌, List, ℕ, ap, sym, subst}
+use Rattle.std.proofs.Common.{◌≡◌, inl, List, ℕ, refl, ap, sym, subst}
 use Rattle.std.specs.Prelude.{Option, Some, OnOk}
 use Rattle.std.specs.Option.{option_copied}
 use Rattle.std.proofs.lemmas.Result.{on_ok_weaker}
 use Rattle.lake_store.proofs.RunLaws.{alone_of_fewer}
-use Rattle.hudi_commit.specs.Runs.{IsKeptBut, IsNoProperties, IsPrepared, IsReady, StaysBefore}
+use Rattle.hudi_commit.specs.Runs.{HasProperties, IsKeptBut, IsNoProperties, IsPrepared, IsReady, NotGiven, StaysBefore}
 use Rattle.hudi_commit.proofs.AloneLaws.{alone_begun}
 use Rattle.hudi_commit.proofs.ClaimLaws.{properties_not_grown}
 use Rattle.hudi_commit.proofs.CommitLaws.{nothing_prepared, ready_quiet, with_properties_prepared}
+use Rattle.hudi_commit.proofs.OtherLaws.{properties_others}
 use Rattle.hudi_commit.proofs.StagingLaws.{before_begun, first_base}
 use Rattle.hudi_commit.proofs.commit.prepare.Goals as goal
 
@@ -35,6 +36,19 @@ returns-in-Some-clause-not_grown g c told =
 
 pub returns-in-None-clause-not_grown : goal.returns-in-None-clause-not_grown
 returns-in-None-clause-not_grown g c told = λ q inside found. found
+
+pub returns-in-Some-clause-others : goal.returns-in-Some-clause-others
+returns-in-Some-clause-others g c told =
+    let disk = g.S.Store.disk in
+    let p = c.in-Some.properties.now in
+    let at = ap (λ o. option_copied o) c.in-Some.is in
+    on_ok_weaker c.publish_properties.result
+    (λ (has : HasProperties p (disk c.args.store.now) (disk c.publish_properties.new.store)) q free.
+    properties_others p (disk c.args.store.now) (disk c.publish_properties.new.store) has q (subst (λ (o : Option (List ℕ)). NotGiven o q) at free))
+    (c.publish_properties.ensures.published told)
+
+pub returns-in-None-clause-others : goal.returns-in-None-clause-others
+returns-in-None-clause-others g c told = λ q free. inl refl
 
 kept_given : (o : Option (List ℕ)) (p : List ℕ) → o ≡ Some p → (path : List ℕ) → IsKeptBut o path → IsNoProperties path
 kept_given o p at path kept = let is = subst (λ x. IsKeptBut x path) at kept in record { staged = is.staged; properties = is.given }

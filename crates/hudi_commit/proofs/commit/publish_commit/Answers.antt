@@ -14,6 +14,8 @@ use Rattle.hudi_commit.proofs.ClaimLaws.{completed_not_grown}
 use Rattle.hudi_commit.proofs.CommitLaws.{before_step, committed, completed_here, completed_kept_but, entry_stands, kept_but, kept_from, outside_kept, prepared_next, recovered_idle, step_then, synced_clean, synced_stands, tidied_ready}
 use Rattle.hudi_commit.proofs.KeepLaws.{begun, keeps_then, sync_keeps}
 use Rattle.hudi_commit.proofs.OpenLaws.{completed_not_open, open_same}
+use Rattle.hudi_commit.proofs.OtherLaws.{others_kept}
+use Rattle.hudi_commit.proofs.RecoveryLaws.{tidied_fewer}
 use Rattle.hudi_commit.proofs.StagingLaws.{alike_before, before_then}
 use Rattle.hudi_commit.proofs.commit.publish_commit.Goals as goal
 
@@ -190,8 +192,29 @@ returns-clause-not_grown g c told =
     on_ok_weaker c.complete.result
     (λ (done : disk s4 ≡ completed c.in_ok-paths.paths c.args.text.now (disk s3)) q inside found.
     subst (λ (d : Disk). IsThere d.files q) (c.in_ok-sync.ensures.ok told)
-    ((c.in_ok-clear_claims.ensures.tidied told).fewer q (c.in_ok-prepare.ensures.not_grown told q inside
+    (tidied_fewer (disk c.sync.new.self) (disk c.clear_claims.new.store) (c.in_ok-clear_claims.ensures.tidied told) q (c.in_ok-prepare.ensures.not_grown told q inside
     (completed_not_grown c.in_ok-paths.paths c.args.text.now real (disk s3) (disk s4) done q inside found))))
+    (c.complete.ensures.completed told)
+
+pub returns-clause-others : goal.returns-clause-others
+returns-clause-others g c told =
+    let disk = g.S.Store.disk in
+    let props = option_copied c.args.properties in
+    let t = c.args.instant.now in
+    let real = c.requires.real in
+    let s0 = c.args.store.now in
+    let s1 = c.sync.new.self in
+    let s2 = c.clear_claims.new.store in
+    let s3 = c.prepare.new.store in
+    let s4 = c.complete.new.store in
+    let ok1 = c.in_ok-sync.ensures.ok told in
+    let free2 = (c.clear_claims.ensures.alone told).disk.files (completed_path t) (completed_not_open (disk s1).files t real.1.digits) ∙ ap (λ (d : Disk). map.get d.files (completed_path t)) ok1 ∙ c.requires.free told in
+    let free3 = (c.prepare.ensures.alone told).disk.files (completed_path t) (completed_kept_but props t real.1.digits) ∙ free2 in
+    on_ok_weaker c.complete.result
+    (λ (done : disk s4 ≡ completed c.in_ok-paths.paths c.args.text.now (disk s3)).
+    others_kept props t c.args.text.now real (disk s0) (disk s1) (disk s2) (disk s3) (disk s4) ok1 (c.in_ok-clear_claims.ensures.tidied told)
+    (λ u is. (c.prepare.ensures.alone told).disk.files (completed_path u) (completed_kept_but props u is)) (c.in_ok-prepare.ensures.others told) free3
+    (subst (λ x. disk s4 ≡ completed x c.args.text.now (disk s3)) c.in_ok-paths.ensures done))
     (c.complete.ensures.completed told)
 
 -- no file of the instant is completed before the last call

@@ -1,7 +1,5 @@
 use Rattle.lake_store.specs.Runs.{LeavesAlone}
 use Rattle.lake_store.specs.declared.store.Store.{Ghosts}
-use Rattle.hudi_commit.specs.Names.{completed_path}
-use Rattle.hudi_commit.proofs.NameLaws.{completed_stays}
 use Rattle.hudi_commit.proofs.OpenLaws.{open_same}
 use Rattle.std.proofs.Common.{◌∙◌, subst, arith, length, List, ℕ, ◌≡◌, ◌<◌, take, true}
 use Rattle.std.specs.List.{list_any}
@@ -10,13 +8,13 @@ use Rattle.lake_store.proofs.RunLaws.{alone_further, alone_of_fewer}
 use Rattle.hudi_commit.specs.Runs.{IsNotOpen, IsTidied, IsRecoveredAt}
 use Rattle.hudi_commit.proofs.AloneLaws.{alone_begun, alone_read}
 use Rattle.hudi_commit.proofs.KeepLaws.{begun, keeps_then, read_keeps}
-use Rattle.hudi_commit.proofs.RecoveryLaws.{all_recovered, recovered_more, tidied_same, tidied_then}
+use Rattle.hudi_commit.proofs.RecoveryLaws.{all_recovered, recovered_more, tidied_completed, tidied_same, tidied_then}
 use Rattle.hudi_commit.proofs.recovery.clear_claims.Goals as goal
 
 -- what one claim leaves alone, where the same instants are completed
 more_alone : {S : Type 0} (store : Ghosts S) (first mid new : S) → IsTidied (store.disk first) (store.disk mid) → LeavesAlone store (IsNotOpen (store.disk mid).files) mid new → LeavesAlone store (IsNotOpen (store.disk first).files) mid new
 more_alone store first mid new tidied alone = alone_of_fewer store (IsNotOpen (store.disk mid).files) (IsNotOpen (store.disk first).files) mid new
-    (λ q. open_same (store.disk first).files q (store.disk mid).files (λ t is. tidied.others (completed_path t) (completed_stays t is))) alone
+    (λ q. open_same (store.disk first).files q (store.disk mid).files (tidied_completed (store.disk first) (store.disk mid) tidied)) alone
 
 pub returns-in_err-names-clause-keeps : goal.returns-in_err-names-clause-keeps
 returns-in_err-names-clause-keeps g c told base stands =

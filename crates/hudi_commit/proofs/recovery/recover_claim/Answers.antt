@@ -47,13 +47,15 @@ returns-clause-keeps g c told base stands =
 pub returns-clause-tidied : goal.returns-clause-tidied
 returns-clause-tidied g c told =
     let time = real_name c.as_bytes.result.now c.args.name.now c.as_bytes.ensures.value c.is_none.result c.read_time.result c.read_time.ensures c.is_none.ensures c.if-is_none.false in
-    clearing_tidies c.clear_claim.result c.in_ok-paths.paths c.args.name.now c.in_ok-paths.ensures time.1.digits
+    let none : map.get (g.S.Store.disk c.args.store.now).files (completed_path c.in_ok-paths.paths) ≡ None =
+    ap (map.get (g.S.Store.disk c.args.store.now).files) (sym c.completed.ensures) ∙ read_none _ _ _ (c.in_ok-completed.ensures.bytes told) c.in-None.is in
+    clearing_tidies c.clear_claim.result c.in_ok-paths.paths c.args.name.now c.in_ok-paths.ensures
     (g.S.Store.disk c.args.store.now) (g.S.Store.disk c.read_part.new.self) (g.S.Store.disk c.clear_claim.new.store) (c.read_part.ensures.same told) (c.clear_claim.ensures.cleared told)
+    time (subst (λ t. map.get (g.S.Store.disk c.args.store.now).files (completed_path t) ≡ None) c.in_ok-paths.ensures none)
 
 pub returns-clause-recovered : goal.returns-clause-recovered
 returns-clause-recovered g c told =
-    let time = real_name c.as_bytes.result.now c.args.name.now c.as_bytes.ensures.value c.is_none.result c.read_time.result c.read_time.ensures c.is_none.ensures c.if-is_none.false in
-    clearing_recovers c.clear_claim.result c.in_ok-paths.paths c.args.name.now c.in_ok-paths.ensures time.1.digits
+    clearing_recovers c.clear_claim.result c.in_ok-paths.paths c.args.name.now c.in_ok-paths.ensures
     (g.S.Store.disk c.args.store.now) (g.S.Store.disk c.read_part.new.self) (g.S.Store.disk c.clear_claim.new.store) (c.read_part.ensures.same told) (c.clear_claim.ensures.cleared told)
 
 pub returns-clause-alone : goal.returns-clause-alone
