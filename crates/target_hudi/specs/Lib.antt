@@ -7,6 +7,7 @@ pub mod TableName
 pub mod Writing
 pub mod HudiMeaning
 pub mod NewInstant
+pub mod Writes
 pub mod Steps
 pub mod WideLemmas
 pub mod InstantLemmas
