@@ -1,19 +1,44 @@
 -- The rows behind commits one after another are the live rows of all.
-use Rattle.std.proofs.Common.{◌≡◌, ◌↔◌, List, [], ◌∷◌, ◌++◌, Option, Some, None, Contains, refl, sym, subst, inl, inr, ⊎_elim, append_assoc}
+use Rattle.std.proofs.Common.{◌≡◌, ◌↔◌, ℕ, List, [], ◌∷◌, ◌++◌, Option, Some, None, Result, Ok, Err, Contains, unwrap_or, IfOk, refl, sym, subst, ◌∙◌, inl, inr, ⊎_elim, append_assoc}
 use Rattle.std.proofs.lemmas.List.{append-nil}
 use Rattle.std.proofs.lemmas.List.Elements.{All-nil}
 use Rattle.table_history.specs.First.{NoneOf}
 use Rattle.table_history.specs.Row.{Row}
 use Rattle.table_history.specs.Tables.{IsAfter, LeadsTo}
+use Rattle.table_history.specs.TypeTree.{ColumnTrees}
 use Rattle.table_history.specs.declared.table.Change.{Change}
 use Rattle.table_history.specs.declared.table.Table.{Table}
 use Rattle.table_history.proofs.RowListLemmas.{Contains-none}
 use Rattle.delta_log.specs.declared.commit.DeltaCommit.{DeltaCommit}
-use Rattle.delta_log.specs.Change.{Shows, commit_features, IsChangeOf, LeadTo, LeadsThrough}
+use Rattle.delta_log.specs.declared.error.DeltaError.{DeltaError}
+use Rattle.delta_log.specs.Change.{Shows, commit_features, IsChangeOf, LeadsLive, LeadTo, LeadsThrough}
 use Rattle.delta_log.specs.Live.{PartColumns, ActsOn, IsLive, IsLiveOver, IsRowBehind}
-use Rattle.delta_log.specs.TableBehind.{rows_before, table_before, ArePartColumns}
+use Rattle.delta_log.specs.TableBehind.{rows_before, schema_before, partition_behind, table_before, ArePartColumns}
+use Rattle.delta_log.proofs.KindLemmas.{KeepKinds, same_columns}
 use Rattle.delta_log.proofs.LiveLemmas.{live_over_behind}
 use Rattle.delta_log.proofs.TableLemmas.{before_rows, after_kinds, step_columns}
+
+-- ---- one change
+
+one_kind : (schema : ColumnTrees) (names : List (List ℕ)) → KeepKinds schema schema names
+one_kind schema names name there o k was is = cc (sym was ∙ is)
+
+-- A change leads live rows on.
+pub leads_live : (c : DeltaCommit) (base : Option Table) (change : Change) → IsChangeOf c base change → LeadsLive c base change
+leads_live c base change is columns origin commits are same row =
+    let schema = unwrap_or change.schema (schema_before base) in
+    let names = partition_behind c.meta base in
+    let one : is.columns ≡ columns = same_columns schema schema names is.columns columns is.kinds are (one_kind schema names) in
+    let live = live_over_behind columns origin (rows_before base) commits c same row in (
+      λ after. live.0 (subst (λ cs. IsRowBehind cs (rows_before base) c row) one ((is.rows.rows row).0 ((is.leads row).0 after))),
+      λ over. (is.leads row).1 ((is.rows.rows row).1 (subst (λ cs. IsRowBehind cs (rows_before base) c row) (sym one) (live.1 over))),
+    )
+
+pub leads_live_by : (c : DeltaCommit) (base : Option Table) (r : Result Change DeltaError) → IfOk r (IsChangeOf c base) → IfOk r (LeadsLive c base)
+leads_live_by c base (Ok change) is = leads_live c base change is
+leads_live_by c base (Err e) is = tt
+
+-- ---- commits one after another
 
 -- what the change leaves is what the commit leaves
 one_change : (columns : PartColumns) (c : DeltaCommit) (base : Option Table) (change : Change) (next : Table) (is : IsChangeOf c base change) → is.columns ≡ columns → IsAfter (table_before c base) change next

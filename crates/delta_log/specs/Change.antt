@@ -1,5 +1,5 @@
 -- The change that a commit makes of a table, and why a commit can't be taken over a table.
-use Rattle.std.specs.Prelude.{◌≡◌, ◌≢◌, ◌⊎◌, ℕ, ◌<◌, ◌≤◌, ◌^◌, pos, List, [], ◌∷◌, length, codes, Contains, Option, Some, None, unwrap_or, Err}
+use Rattle.std.specs.Prelude.{◌≡◌, ◌≢◌, ◌↔◌, ◌⊎◌, ℕ, ◌<◌, ◌≤◌, ◌^◌, pos, List, [], ◌∷◌, ◌++◌, length, codes, Contains, Option, Some, None, unwrap_or, Err}
 use Rattle.std.specs.List.{IsDistinct}
 use Rattle.std.specs.Str.{bytes_eq}
 use Rattle.lake_basics.specs.declared.limits.TheConstants.{MAX_LIVE_FILES, MAX_PARTITION_COLUMNS}
@@ -10,7 +10,7 @@ use Rattle.table_history.specs.Row.{Row}
 use Rattle.table_history.specs.Rows.{HasDistinctPaths}
 use Rattle.table_history.specs.SchemaSize.{IsWithinLimits}
 use Rattle.table_history.specs.Sound.{IsSound}
-use Rattle.table_history.specs.Tables.{CanApply, IsAfter, IsDiff, LeadsTo}
+use Rattle.table_history.specs.Tables.{CanApply, IsAfter, IsDiff, IsRowAfter, LeadsTo}
 use Rattle.table_history.specs.TypeTree.{ColumnTrees}
 use Rattle.table_history.specs.declared.feature.Feature.{Feature}
 use Rattle.table_history.specs.declared.feature.Feature.TheVariants.{ReaderVersion, ReaderFeature, ColumnMapping, SchemaType, PartitionType, PartitionChange, PartitionValue}
@@ -33,7 +33,7 @@ use Rattle.delta_log.specs.declared.commit.MetaData.{MetaData}
 use Rattle.delta_log.specs.declared.commit.Protocol.{Protocol}
 use Rattle.delta_log.specs.declared.error.DeltaError.{DeltaError}
 use Rattle.delta_log.specs.declared.error.DeltaError.TheVariants as errors
-use Rattle.delta_log.specs.Live.{PartColumns, text_of, IsRowBehind}
+use Rattle.delta_log.specs.Live.{PartColumns, text_of, IsLiveOver, IsRowBehind}
 use Rattle.delta_log.specs.TableBehind.{rows_before, schema_before, partition_behind, table_before, Spells, StatesSchema, IsSchemaBehind, ArePartColumns}
 
 -- ---- the grammar of a commit as a whole
@@ -159,6 +159,13 @@ pub record IsChangeOf (c : DeltaCommit) (base : Option Table) (change : Change) 
   pub leads : LeadsTo (rows_before base) change.removed change.added behind
   pub few : length behind ≤ MAX_LIVE_FILES
   pub few_columns : length (partition_behind c.meta base) ≤ MAX_PARTITION_COLUMNS
+
+-- The change leads live rows on: where those before are the rows that are live by some commits over an origin, those after it are the rows that are live by the same commits and this one behind them.
+abbrev pub LeadsLive : DeltaCommit → Option Table → Change → Type 0
+LeadsLive c base change =
+    (columns : PartColumns) (origin : List Row) (commits : List DeltaCommit) → ArePartColumns (unwrap_or change.schema (schema_before base)) (partition_behind c.meta base) columns
+    → ((row : Row) → Contains (rows_before base) row ↔ IsLiveOver columns origin commits row)
+    → (row : Row) → IsRowAfter (rows_before base) change.removed change.added row ↔ IsLiveOver columns origin (commits ++ c ∷ []) row
 
 -- a row of a table with this schema and these partition columns
 pub record IsSoundRow (schema : ColumnTrees) (partition : List (List ℕ)) (row : Row) : Type 0 where

@@ -17,7 +17,7 @@ ghost use Rattle.table_history.specs.Tables.{CanApply};
 ghost use Rattle.delta_log.specs.Sound.{IsSound, IsSoundFile, HaveDistinctNames};
 ghost use Rattle.delta_log.specs.Commit.{file_paths};
 ghost use Rattle.delta_log.specs.TableBehind.{rows_before, schema_before, partition_behind, table_before};
-ghost use Rattle.delta_log.specs.Change.{IsOutsideGrammar, Shows, commit_features, CanFollow, IsChangeOf, IsSoundRow, IsStatedBy, IsTableSchema, GoesOn, IsChangeRefusal};
+ghost use Rattle.delta_log.specs.Change.{IsOutsideGrammar, Shows, commit_features, CanFollow, IsChangeOf, LeadsLive, IsSoundRow, IsStatedBy, IsTableSchema, GoesOn, IsChangeRefusal};
 ghost use Rattle.delta_log.specs.ChangeSteps.{rows_behind, IsChangeOver, IsRefusalOver};
 ghost use Rattle.delta_log.specs.declared.error.DeltaError.TheVariants as errors;
 
@@ -53,6 +53,8 @@ pub fn change_of(
     requires { IsSound commit.now }
     // The rows that differ before and behind the commit, and the schema that it states.
     ensures found { IfOk result (IsChangeOf commit.now (option_copied base.entry)) }
+    // It leads the rows that are live by some commits to those that are live by them and this one.
+    ensures live { IfOk result (LeadsLive commit.now (option_copied base.entry)) }
     // A commit is taken only where it is in the grammar and shows no feature.
     ensures grammar { OnOk result (¬ IsOutsideGrammar commit.now (option_copied base.entry)) }
     ensures supported { OnOk result

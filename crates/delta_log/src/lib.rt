@@ -12,12 +12,10 @@ mod place;
 mod reading;
 mod writing;
 
-pub use action::LineAction;
 pub use change::change_of;
 pub use commit::{DeltaCommit, FileAction, MetaData, Protocol};
 pub use error::DeltaError;
 pub use name::{name_of_version, version_of_name};
-pub use place::Place;
 pub use reading::read_commit;
 pub use writing::commit_text;
 

@@ -12,7 +12,7 @@ use std::alloc::Global;
 
 /// A path in the table's folder, one that is too long alone, or a place outside of the folder.
 #[derive(Drop)]
-pub enum Place {
+pub(crate) enum Place {
     Inside(Text),
     TooLong,
     Outside,

@@ -6,6 +6,7 @@ use Rattle.delta_log.specs.Sound.{HaveDistinctNames}
 use Rattle.delta_log.specs.TableBehind.{rows_before}
 use Rattle.delta_log.proofs.ColumnLemmas.{columns_given, columns_told}
 use Rattle.delta_log.proofs.ChangeLemmas.{over_these, told_these, distinct_columns, found_by, supported_by, grammar_by, fits_by, rows_by, spells_by, schema_by, goes_on_by, follows_by, refused_by, no_refusal, complete_by}
+use Rattle.delta_log.proofs.LawLemmas.{leads_live_by}
 use Rattle.delta_log.proofs.change.change_of.Goals as goal
 
 pub change_over-requires-clause-names : goal.change_over-requires-clause-names
@@ -27,8 +28,10 @@ returns c =
     let over = over_these r c.as_slice.result.now columns c.rows_before.result.now (rows_before base) c.as_slice-2.result.now commit.files stated c.as_slice.ensures c.rows_before.ensures c.as_slice-2.ensures c.change_over.ensures.ok in
     let told = told_these r c.as_slice.result.now columns c.rows_before.result.now (rows_before base) c.as_slice-2.result.now commit.files c.as_slice.ensures c.rows_before.ensures c.as_slice-2.ensures c.change_over.ensures.refused in
     let refused = refused_by commit base stated columns c.requires cols r told in
+    let found = found_by commit base stated columns c.requires cols r over in
     record {
-      found = found_by commit base stated columns c.requires cols r over;
+      found = found;
+      live = leads_live_by commit base r found;
       grammar = grammar_by commit base stated columns c.requires cols r;
       supported = supported_by commit base stated columns c.requires cols r over;
       fits = fits_by commit base stated columns c.requires cols r over;
