@@ -122,13 +122,11 @@ module _ (form : Form) (replaced : List (List ℕ × List ℕ)) (before rows : L
       omega (arith, length-append (filter (λ r. not (touched r)) before) (reverse (newest_rows form rows)), length-filter_both touched (λ r. not (touched r)) (λ r. refl) before)
 
 -- the rows of the groups of a set that has just the touched groups
-pub old_rows : (form : Form) (replaced : List (List ℕ × List ℕ)) (before rows : List FileRow) (newest all : Groups) (old : List FileRow)
-    → ((q : List ℕ) → has_group all q ≡ (has_group newest q || list_any (names_group q) replaced)) → ((q : List ℕ) → has_group newest q ≡ list_any (is_row_of_group form q) rows)
-    → old ≡ filter (λ r. has_group all (group_name form r.path)) before → old ≡ filter (touched form replaced before rows) before
-old_rows form replaced before rows newest all old more first is =
-    is
-    ∙ filter_agree (λ r. has_group all (group_name form r.path)) (touched form replaced before rows)
-    (λ r. more (group_name form r.path) ∙ ap (λ b. b || list_any (names_group (group_name form r.path)) replaced) (first (group_name form r.path))) before
+pub old_rows : (form : Form) (replaced : List (List ℕ × List ℕ)) (before rows : List FileRow) (groups : Groups) (old : List FileRow)
+    → ((q : List ℕ) → has_group groups q ≡ is_touched form replaced rows q)
+    → old ≡ filter (λ r. has_group groups (group_name form r.path)) before → old ≡ filter (touched form replaced before rows) before
+old_rows form replaced before rows groups old same is =
+    is ∙ filter_agree (λ r. has_group groups (group_name form r.path)) (touched form replaced before rows) (λ r. same (group_name form r.path)) before
 
 pub old_shorter : (form : Form) (replaced : List (List ℕ × List ℕ)) (before rows : List FileRow) → length (filter (touched form replaced before rows) before) ≤ length before
 old_shorter form replaced before rows = omega (arith, length-filter_both (touched form replaced before rows) (λ r. not (touched form replaced before rows r)) (λ r. refl) before)

@@ -17,7 +17,7 @@ use Rattle.hudi_timeline.specs.declared.instant.Instant.{Instant}
 use Rattle.hudi_timeline.specs.declared.instant.Stat.{Stat}
 use Rattle.hudi_timeline.specs.declared.table.HudiTable.{HudiTable}
 use Rattle.hudi_timeline.specs.Causes.{IsRefusalOf, rows_before}
-use Rattle.hudi_timeline.specs.Change.{IsChangeOf, GoesOn}
+use Rattle.hudi_timeline.specs.Change.{IsChangeOf, LeavesLive, GoesOn}
 use Rattle.hudi_timeline.specs.Files.{suffix_of, bare_row, name_fault}
 use Rattle.hudi_timeline.specs.GroupChange.{IsGroupChange, PassesLimitAfter}
 use Rattle.hudi_timeline.specs.Live.{Completed, completed}
@@ -26,6 +26,7 @@ use Rattle.hudi_timeline.specs.Steps.{OnlyFeature, IsKindFault, IsFileFault}
 use Rattle.hudi_timeline.specs.Values.{style_of, are_in_folders, HaveValues}
 use Rattle.hudi_timeline.proofs.CauseLemmas.{kind_refusal, file_refusal}
 use Rattle.hudi_timeline.proofs.MadeLemmas.{limit_refusal, is_change, made_goes_on}
+use Rattle.hudi_timeline.proofs.TimelineLaws.{leaves_live}
 
 module _ (form : Form) (instant : Instant) (table : HudiTable) (base : Option Table) (stats : List Stat) (stats_is : stats ≡ instant.stats)
     (files : List FileRow) (read : each (bare_row (suffix_of form)) stats ≡ Ok files) (stated : Option ColumnTrees) (states : stated_schema instant.schema ≡ Ok stated) where
@@ -87,6 +88,9 @@ module _ (form : Form) (instant : Instant) (table : HudiTable) (base : Option Ta
 
             pub found : IsChangeOf u table base change
             found = is_change u table base files read_all stated states schema after kinds all_distinct all_are all_kept rows all_named all_inside all_have sound group all_is
+
+            pub live : LeavesLive u table base change
+            live = leaves_live u table base change found
 
             pub goes_on : GoesOn table base change
             goes_on = made_goes_on u table base files read_all stated states schema after kinds all_distinct all_are all_kept rows all_named all_inside all_have sound group all_is

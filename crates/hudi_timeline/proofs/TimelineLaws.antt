@@ -1,5 +1,5 @@
 -- The table after a timeline has the rows that are live, over those that were there before it.
-use Rattle.std.proofs.Common.{◌≡◌, ◌↔◌, ◌⊎◌, ℕ, List, [], ◌∷◌, ◌++◌, Option, Some, Contains, refl, sym, ap, subst, ◌∙◌, inl, inr, ⊎_elim}
+use Rattle.std.proofs.Common.{◌≡◌, ◌↔◌, ◌⊎◌, ℕ, List, [], ◌∷◌, ◌++◌, map, Option, Some, Contains, refl, sym, ap, subst, ◌∙◌, inl, inr, ⊎_elim}
 use Rattle.std.proofs.lemmas.List.Elements.{Contains-append_left, Contains-append_right, Contains-push_cases}
 use Rattle.std.proofs.lemmas.List.{append_assoc}
 use Rattle.table_history.specs.Tables.{IsAfter, IsRowAfter}
@@ -11,11 +11,12 @@ use Rattle.table_history.proofs.RowListLemmas.{Contains-none, Contains-head, Con
 use Rattle.table_history.proofs.TableLemmas.{diff_leads}
 use Rattle.partition_map.specs.declared.kind.PartKind.{PartKind}
 use Rattle.hudi_timeline.specs.declared.table.HudiTable.{HudiTable}
-use Rattle.hudi_timeline.specs.Causes.{table_before, rows_before}
-use Rattle.hudi_timeline.specs.Change.{IsChangeOf, LeadsThrough}
+use Rattle.hudi_timeline.specs.Causes.{AreKinds, table_before, rows_before}
+use Rattle.hudi_timeline.specs.Change.{IsChangeOf, LeavesLive, LeadsThrough}
 use Rattle.hudi_timeline.specs.Live.{Completed, Timeline, IsWrittenBy, Touches, HudiLive, AreLive, IsLiveAfter, IsLiveOver}
 use Rattle.partition_map.specs.Columns.{column_kind}
 use Rattle.hudi_timeline.specs.Schemas.{schema_after, AreKindsOf}
+use Rattle.hudi_timeline.proofs.CauseLemmas.{kinds_same}
 use Rattle.hudi_timeline.proofs.ChangeLemmas.{before_rows, schema_is}
 use Rattle.hudi_timeline.proofs.KindLemmas.{kinds_kept}
 
@@ -188,6 +189,21 @@ module _ (table : HudiTable) (base : Option Table) (u : Completed) (change : Cha
 
   step_are : AreKindsOf next.schema table.partition is.kinds
   step_are = subst (λ s. AreKindsOf s table.partition is.kinds) (sym step_schema) is.are_kinds.are
+
+one_kinds : (u : Completed) (table : HudiTable) (base : Option Table) (ks ls : List PartKind) → AreKinds u table base ks → AreKinds u table base ls → ks ≡ ls
+one_kinds u table base ks ls a b =
+    let both : Some a.schema ≡ Some b.schema = sym a.in_force ∙ b.in_force in
+    let same : a.schema ≡ b.schema = cc in
+    kinds_same ks ls (sym a.are ∙ ap (λ s. map (column_kind s) table.partition) same ∙ b.are)
+
+-- The change leads from what is live after a timeline to what is live with the instant behind it.
+pub leaves_live : (u : Completed) (table : HudiTable) (base : Option Table) (change : Change) → IsChangeOf u table base change → LeavesLive u table base change
+leaves_live u table base change is kinds are timeline live next after row =
+    let same : is.kinds ≡ kinds = one_kinds u table base is.kinds kinds is.are_kinds are in
+    let made : Contains next.rows row ↔ IsLiveAfter table kinds u (rows_before base) row =
+    subst (λ ks. Contains next.rows row ↔ IsLiveAfter table ks u (rows_before base) row) same (step_rows table base u change next is after row) in
+    let step = timeline_step table kinds timeline u (rows_before base) live row in
+    (λ there. step.0 (made.0 there), λ h. made.1 (step.1 h))
 
 -- The kinds of the columns in a table are their kinds after an instant that goes on from it.
 pub kinds_stay : (table : HudiTable) (before : Table) (u : Completed) (change : Change) (is : IsChangeOf u table (Some before) change) (kinds : List PartKind)

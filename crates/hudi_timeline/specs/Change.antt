@@ -1,5 +1,5 @@
 -- The change that a completed instant makes of a table.
-use Rattle.std.specs.Prelude.{◌≡◌, ◌↔◌, ◌≢◌, ◌≤◌, ℕ, List, [], ◌∷◌, length, Option, Some, None, Ok, Contains}
+use Rattle.std.specs.Prelude.{◌≡◌, ◌↔◌, ◌≢◌, ◌≤◌, ℕ, List, [], ◌∷◌, ◌++◌, length, Option, Some, None, Ok, Contains}
 use Rattle.std.specs.List.{IsDistinct}
 use Rattle.std.specs.Str.{bytes_eq}
 use Rattle.table_history.specs.First.{NoneOf}
@@ -16,7 +16,7 @@ use Rattle.table_history.specs.SchemaSize.{IsWithinLimits}
 use Rattle.partition_map.specs.declared.kind.PartKind.{PartKind}
 use Rattle.hudi_timeline.specs.declared.table.HudiTable.{HudiTable}
 use Rattle.hudi_timeline.specs.Causes.{IsMalformed, Shows, Passes, AreKinds, change_features, change_limits, table_before, rows_before}
-use Rattle.hudi_timeline.specs.Live.{Completed, Timeline, IsLiveAfter}
+use Rattle.hudi_timeline.specs.Live.{Completed, Timeline, IsLiveAfter, AreLive}
 use Rattle.partition_map.specs.Columns.{column_kind}
 use Rattle.hudi_timeline.specs.Schemas.{stated_schema}
 
@@ -54,6 +54,12 @@ pub record GoesOn (table : HudiTable) (base : Option Table) (change : Change) : 
   pub leaves : ((before : Table) → base ≡ Some before → IsTableOf table before) → (after : Table) → IsAfter (table_before table base) change after → IsTableOf table after
 
 -- ---- a timeline
+
+-- Where the rows before the instant are those that are live after a timeline, the rows that the change makes of them are those that are live after the same timeline with the instant behind it.
+abbrev pub LeavesLive : Completed → HudiTable → Option Table → Change → Type 0
+LeavesLive u table base change =
+    (kinds : List PartKind) → AreKinds u table base kinds → (timeline : Timeline) → AreLive table kinds timeline (rows_before base)
+    → (after : Table) → IsAfter (table_before table base) change after → AreLive table kinds (timeline ++ u ∷ []) after.rows
 
 -- The table after the instants, each instant's change made in its turn.
 abbrev pub LeadsThrough : HudiTable → Option Table → Timeline → Table → Type 0

@@ -3,7 +3,7 @@
 ghost use Rattle.std.specs.Prelude.{◌≡◌, [], IfOk, IfErr};
 ghost use Rattle.std.specs.Option.{option_copied};
 ghost use Rattle.hudi_timeline.specs.Causes.{IsRefusalOf, rows_before};
-ghost use Rattle.hudi_timeline.specs.Change.{IsChangeOf, GoesOn};
+ghost use Rattle.hudi_timeline.specs.Change.{IsChangeOf, LeavesLive, GoesOn};
 ghost use Rattle.hudi_timeline.specs.Live.{completed};
 
 mod between;
@@ -19,7 +19,7 @@ use between::group_change;
 use rows::{read_files, rows_of};
 use schemas::{partition_kinds, schema_after, stated_schema};
 use std::alloc::Global;
-use table_history::{Change, Feature, FileRows, Table};
+use table_history::{Change, FileRows, Table};
 
 /// The change that a completed instant makes of a table. `base` is the table before it, and `None`
 /// before the first instant; its partition columns are to be those of `table`, which the caller
@@ -35,6 +35,8 @@ pub fn change_of(
 ) -> Result<Change, HudiError>
     ensures found { IfOk result
         (IsChangeOf (completed form.now instant.now) table.now (option_copied base.entry)) }
+    ensures live { IfOk result
+        (LeavesLive (completed form.now instant.now) table.now (option_copied base.entry)) }
     ensures refused { IfErr result
         (IsRefusalOf (completed form.now instant.now) table.now (option_copied base.entry)) }
     ensures goes_on { IfOk result (GoesOn table.now (option_copied base.entry)) }
@@ -42,11 +44,7 @@ pub fn change_of(
     let stats = instant.stats.as_slice();
     let files = read_files(alloc, form, stats)?;
     let stated = stated_schema(alloc, &instant.schema)?;
-    let Some(schema) = schema_after(&stated, base) else {
-        return Err(HudiError::Unsupported {
-            feature: Feature::NoSchema,
-        });
-    };
+    let schema = schema_after(&stated, base)?;
     let kinds = partition_kinds(alloc, schema, table.partition.as_slice(), base)?;
     let rows = rows_of(
         alloc,

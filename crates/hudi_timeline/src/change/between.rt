@@ -6,7 +6,7 @@ ghost use Rattle.table_history.specs.Rows.{HasDistinctPaths, SameRows};
 ghost use Rattle.table_history.specs.Tables.{IsDiff};
 ghost use Rattle.hudi_timeline.specs.GroupChange.{is_long, limit_passed, row_limit, IsGroupChange, PassesLimitAfter};
 
-use super::groups::{newest_rows, rows_of_groups, with_replaced};
+use super::groups::{rows_of_groups, touched};
 use crate::error::HudiError;
 use crate::form::Form;
 use crate::table::HudiTable;
@@ -68,9 +68,8 @@ pub(super) fn group_change(
         (PassesLimitAfter form.now table.now schema.now replaced.now before.now rows) }
 {
     let is_any_long = is_any_long(rows.as_slice());
-    let newest = newest_rows(alloc, form, rows)?;
-    let groups = with_replaced(alloc, newest.groups, replaced)?;
-    let old = rows_of_groups(alloc, form, &groups, before)?;
+    let newest = touched(alloc, form, rows, replaced)?;
+    let old = rows_of_groups(alloc, form, &newest.groups, before)?;
     let kept = before.len() - old.len();
     let live = kept as u128 + newest.rows.len() as u128;
     if let Some(which) = limit_passed(table, schema, is_any_long, live) {

@@ -8,6 +8,7 @@ ghost use Rattle.table_history.specs.Rows.{HasDistinctPaths};
 ghost use Rattle.hudi_timeline.specs.Group.{joined};
 ghost use Rattle.hudi_timeline.specs.Files.{group_name};
 ghost use Rattle.hudi_timeline.specs.GroupSets.{has_group, is_row_of_group, names_group, newest_rows};
+ghost use Rattle.hudi_timeline.specs.GroupChange.{is_touched};
 
 use crate::form::{Form, group_name};
 use lake_basics::{Items, Text};
@@ -17,7 +18,7 @@ use table_history::{FileRow, FileRows};
 
 pub(super) type Groups = HashSet<Vec<u8>>;
 
-/// The newest row of each group that an instant writes, and these groups.
+/// The newest row of each group that an instant writes, and the groups that it touches.
 #[derive(Drop)]
 pub(super) struct Newest {
     pub rows: Vec<FileRow>,
@@ -25,11 +26,7 @@ pub(super) struct Newest {
 }
 
 /// The rows of which no later one is of the same group.
-pub(super) fn newest_rows(
-    alloc: Global,
-    form: &Form,
-    rows: Items<FileRow>,
-) -> Result<Newest, AllocError>
+fn newest_rows(alloc: Global, form: &Form, rows: Items<FileRow>) -> Result<Newest, AllocError>
     ensures rows { IfOk result (λ n. n.rows.items ≡ reverse (newest_rows form.now rows)) }
     ensures groups { IfOk result (λ n. (q : List ℕ)
         → has_group n.groups q ≡ list_any (is_row_of_group form.now q) rows) }
@@ -83,7 +80,7 @@ fn has_slash(bytes: &[u8]) -> bool
 }
 
 /// The groups, and those of the replaced file ids.
-pub(super) fn with_replaced(
+fn with_replaced(
     alloc: Global,
     groups: Groups,
     replaced: &[(Text, Text)],
@@ -96,6 +93,26 @@ pub(super) fn with_replaced(
         all = with_group(alloc, all, pair)?;
     }
     Ok(all)
+}
+
+/// What an instant makes of the groups that it writes or replaces. Its replacements take effect
+/// first, so that they remove none of its rows.
+pub(super) fn touched(
+    alloc: Global,
+    form: &Form,
+    rows: Items<FileRow>,
+    replaced: &[(Text, Text)],
+) -> Result<Newest, AllocError>
+    ensures rows { IfOk result (λ n. n.rows.items ≡ reverse (newest_rows form.now rows)) }
+    ensures groups { IfOk result (λ n. (q : List ℕ)
+        → has_group n.groups q ≡ is_touched form.now replaced.now rows q) }
+{
+    let newest = newest_rows(alloc, form, rows)?;
+    let groups = with_replaced(alloc, newest.groups, replaced)?;
+    Ok(Newest {
+        rows: newest.rows,
+        groups,
+    })
 }
 
 /// The rows of these groups.

@@ -6,6 +6,7 @@ ghost use Rattle.std.specs.Option.{option_copied};
 ghost use Rattle.std.specs.Str.{bytes_eq};
 ghost use Rattle.table_history.specs.Sound.{IsSound};
 ghost use Rattle.table_history.specs.TypeTree.{ColumnTrees};
+ghost use Rattle.table_history.specs.declared.feature.Feature.TheVariants.{NoSchema};
 ghost use Rattle.table_history.specs.declared.table.Table.{Table};
 ghost use Rattle.partition_map.specs.Columns.{HasOtherKind};
 ghost use Rattle.hudi_timeline.specs.Schemas.{stated_schema, spelled_schema, schema_after, AreKindsOf};
@@ -18,6 +19,10 @@ use partition_map::{PartKind, are_distinct, column_kinds, has_other_kind};
 use schema_map::{MapError, read_avro};
 use std::alloc::{AllocError, Global};
 use table_history::{Feature, Schema, Table};
+
+const NO_SCHEMA: HudiError = HudiError::Unsupported {
+    feature: Feature::NoSchema,
+};
 
 const SCHEMA_TYPE: HudiError = HudiError::Unsupported {
     feature: Feature::SchemaType,
@@ -62,18 +67,21 @@ fn read_schema(alloc: Global, text: &[u8]) -> Result<Schema, HudiError>
     }
 }
 
-/// The stated schema, or else that of the table before.
+/// The stated schema, or else that of the table before. The first instant has to state one.
 pub(super) fn schema_after<'a>(
     stated: &'a Option<Schema>,
     base: Option<&'a Table>,
-) -> Option<&'a Schema>
-    ensures { option_copied result ≡ schema_after (Ok stated.now) (option_copied base.entry) }
+) -> Result<&'a Schema, HudiError>
+    ensures found { IfOk result (λ schema.
+        schema_after (Ok stated.now) (option_copied base.entry) ≡ Some schema.now) }
+    ensures refused { IfErr result (λ e. (e ≡ HudiError.Unsupported NoSchema)
+        × (schema_after (Ok stated.now) (option_copied base.entry) ≡ None)) }
 {
     match stated {
-        Some(schema) => Some(schema),
+        Some(schema) => Ok(schema),
         None => match base {
-            Some(before) => Some(&before.schema),
-            None => None,
+            Some(before) => Ok(&before.schema),
+            None => Err(NO_SCHEMA),
         },
     }
 }

@@ -15,7 +15,7 @@ pub(crate) struct LogicalLine {
 
 /// What one more line makes: a whole logical line, or one that goes on, or neither.
 #[derive(Drop)]
-pub(crate) struct LineStep {
+struct LineStep {
     whole: Option<LogicalLine>,
     front: Option<LogicalLine>,
 }

@@ -6,11 +6,14 @@ use Rattle.hudi_timeline.specs.Errors.{is_memory}
 use Rattle.hudi_timeline.specs.Files.{bare_row, suffix_of}
 use Rattle.hudi_timeline.specs.Live.{completed}
 use Rattle.hudi_timeline.proofs.CauseLemmas.{stat_refusal, text_refusal, no_schema}
-use Rattle.hudi_timeline.proofs.StepLemmas.{kinds_refused, kinds_counted, rows_refused, change_refused, found, goes_on}
+use Rattle.hudi_timeline.proofs.StepLemmas.{kinds_refused, kinds_counted, rows_refused, change_refused, found, live, goes_on}
 use Rattle.hudi_timeline.proofs.change.change_of.Goals as goal
 
 pub returns-in_err-files-clause-found : goal.returns-in_err-files-clause-found
 returns-in_err-files-clause-found c = let p = err_from_is_err_and c.from_residual.result c.from_residual.ensures.1 in rw p.1 tt
+
+pub returns-in_err-files-clause-live : goal.returns-in_err-files-clause-live
+returns-in_err-files-clause-live c = let p = err_from_is_err_and c.from_residual.result c.from_residual.ensures.1 in rw p.1 tt
 
 pub returns-in_err-files-clause-refused : goal.returns-in_err-files-clause-refused
 returns-in_err-files-clause-refused c =
@@ -24,6 +27,9 @@ returns-in_err-files-clause-goes_on c = let p = err_from_is_err_and c.from_resid
 pub returns-in_err-stated-clause-found : goal.returns-in_err-stated-clause-found
 returns-in_err-stated-clause-found c = let p = err_from_is_err_and c.from_residual-in_err-stated.result c.from_residual-in_err-stated.ensures.1 in rw p.1 tt
 
+pub returns-in_err-stated-clause-live : goal.returns-in_err-stated-clause-live
+returns-in_err-stated-clause-live c = let p = err_from_is_err_and c.from_residual-in_err-stated.result c.from_residual-in_err-stated.ensures.1 in rw p.1 tt
+
 pub returns-in_err-stated-clause-refused : goal.returns-in_err-stated-clause-refused
 returns-in_err-stated-clause-refused c =
     let p = err_from_is_err_and c.from_residual-in_err-stated.result c.from_residual-in_err-stated.ensures.1 in
@@ -33,20 +39,33 @@ returns-in_err-stated-clause-refused c =
 pub returns-in_err-stated-clause-goes_on : goal.returns-in_err-stated-clause-goes_on
 returns-in_err-stated-clause-goes_on c = let p = err_from_is_err_and c.from_residual-in_err-stated.result c.from_residual-in_err-stated.ensures.1 in rw p.1 tt
 
-pub returns-in_default-clause-refused : goal.returns-in_default-clause-refused
-returns-in_default-clause-refused c =
-    no_schema (completed c.args.form.now c.args.instant.now) c.args.table.now (option_copied c.args.base) c.in_ok-files.files
+pub returns-in_err-schema-clause-found : goal.returns-in_err-schema-clause-found
+returns-in_err-schema-clause-found c = let p = err_from_is_err_and c.from_residual-in_err-schema.result c.from_residual-in_err-schema.ensures.1 in rw p.1 tt
+
+pub returns-in_err-schema-clause-live : goal.returns-in_err-schema-clause-live
+returns-in_err-schema-clause-live c = let p = err_from_is_err_and c.from_residual-in_err-schema.result c.from_residual-in_err-schema.ensures.1 in rw p.1 tt
+
+pub returns-in_err-schema-clause-refused : goal.returns-in_err-schema-clause-refused
+returns-in_err-schema-clause-refused c =
+    let p = err_from_is_err_and c.from_residual-in_err-schema.result c.from_residual-in_err-schema.ensures.1 in
+    rw (p.1, p.2, c.in_err-schema.ensures.refused.0) (no_schema (completed c.args.form.now c.args.instant.now) c.args.table.now (option_copied c.args.base) c.in_ok-files.files
     (ap (each (bare_row (suffix_of c.args.form.now))) (sym c.as_slice-stats.ensures) ∙ c.in_ok-files.ensures) c.in_ok-stated.stated c.in_ok-stated.ensures.ok
-    (sym c.schema_after.ensures ∙ ap option_copied c.in_default.is)
+    c.in_err-schema.ensures.refused.1)
+
+pub returns-in_err-schema-clause-goes_on : goal.returns-in_err-schema-clause-goes_on
+returns-in_err-schema-clause-goes_on c = let p = err_from_is_err_and c.from_residual-in_err-schema.result c.from_residual-in_err-schema.ensures.1 in rw p.1 tt
 
 pub returns-in_err-kinds-clause-found : goal.returns-in_err-kinds-clause-found
 returns-in_err-kinds-clause-found c = let p = err_from_is_err_and c.from_residual-in_err-kinds.result c.from_residual-in_err-kinds.ensures.1 in rw p.1 tt
+
+pub returns-in_err-kinds-clause-live : goal.returns-in_err-kinds-clause-live
+returns-in_err-kinds-clause-live c = let p = err_from_is_err_and c.from_residual-in_err-kinds.result c.from_residual-in_err-kinds.ensures.1 in rw p.1 tt
 
 pub returns-in_err-kinds-clause-refused : goal.returns-in_err-kinds-clause-refused
 returns-in_err-kinds-clause-refused c =
     let p = err_from_is_err_and c.from_residual-in_err-kinds.result c.from_residual-in_err-kinds.ensures.1 in
     rw (p.1, p.2) (kinds_refused c.args.form.now c.args.instant.now c.args.table.now (option_copied c.args.base) c.as_slice-stats.result.now c.as_slice-stats.ensures c.in_ok-files.files c.in_ok-files.ensures
-    c.in_ok-stated.stated c.in_ok-stated.ensures.ok c.in-Some.schema.now (sym c.schema_after.ensures ∙ ap option_copied c.in-Some.is) c.as_slice.result.now c.as_slice.ensures c.in_err-kinds.field-0.0 c.in_err-kinds.ensures.refused)
+    c.in_ok-stated.stated c.in_ok-stated.ensures.ok c.in_ok-schema.schema.now c.in_ok-schema.ensures.found c.as_slice.result.now c.as_slice.ensures c.in_err-kinds.field-0.0 c.in_err-kinds.ensures.refused)
 
 pub returns-in_err-kinds-clause-goes_on : goal.returns-in_err-kinds-clause-goes_on
 returns-in_err-kinds-clause-goes_on c = let p = err_from_is_err_and c.from_residual-in_err-kinds.result c.from_residual-in_err-kinds.ensures.1 in rw p.1 tt
@@ -55,18 +74,21 @@ pub rows_of-requires : goal.rows_of-requires
 rows_of-requires c = record {
   counted = ap length c.as_slice-2.ensures.value
       ∙ kinds_counted c.args.form.now c.args.instant.now c.args.table.now (option_copied c.args.base) c.as_slice-stats.result.now c.as_slice-stats.ensures c.in_ok-files.files c.in_ok-files.ensures
-      c.in_ok-stated.stated c.in_ok-stated.ensures.ok c.in-Some.schema.now (sym c.schema_after.ensures ∙ ap option_copied c.in-Some.is) c.as_slice.result.now c.as_slice.ensures
+      c.in_ok-stated.stated c.in_ok-stated.ensures.ok c.in_ok-schema.schema.now c.in_ok-schema.ensures.found c.as_slice.result.now c.as_slice.ensures
       c.in_ok-kinds.kinds.items c.in_ok-kinds.ensures.distinct c.in_ok-kinds.ensures.kinds c.in_ok-kinds.ensures.kept;
 }
 
 pub returns-in_err-rows-clause-found : goal.returns-in_err-rows-clause-found
 returns-in_err-rows-clause-found c = let p = err_from_is_err_and c.from_residual-in_err-rows.result c.from_residual-in_err-rows.ensures.1 in rw p.1 tt
 
+pub returns-in_err-rows-clause-live : goal.returns-in_err-rows-clause-live
+returns-in_err-rows-clause-live c = let p = err_from_is_err_and c.from_residual-in_err-rows.result c.from_residual-in_err-rows.ensures.1 in rw p.1 tt
+
 pub returns-in_err-rows-clause-refused : goal.returns-in_err-rows-clause-refused
 returns-in_err-rows-clause-refused c =
     let p = err_from_is_err_and c.from_residual-in_err-rows.result c.from_residual-in_err-rows.ensures.1 in
     rw (p.1, p.2) (rows_refused c.args.form.now c.args.instant.now c.args.table.now (option_copied c.args.base) c.as_slice-stats.result.now c.as_slice-stats.ensures c.in_ok-files.files c.in_ok-files.ensures
-    c.in_ok-stated.stated c.in_ok-stated.ensures.ok c.in-Some.schema.now (sym c.schema_after.ensures ∙ ap option_copied c.in-Some.is) c.as_slice.result.now c.as_slice.ensures
+    c.in_ok-stated.stated c.in_ok-stated.ensures.ok c.in_ok-schema.schema.now c.in_ok-schema.ensures.found c.as_slice.result.now c.as_slice.ensures
     c.in_ok-kinds.kinds.items c.in_ok-kinds.ensures.distinct c.in_ok-kinds.ensures.kinds c.in_ok-kinds.ensures.kept
     c.as_slice-2.result.now c.as_slice-2.ensures.value c.as_slice-3.result.now c.as_slice-3.ensures c.in_err-rows.field-0.0 c.in_err-rows.ensures.refused)
 
@@ -79,11 +101,14 @@ rows_before-before-requires c = c.new-none.ensures
 pub returns-in_err-change-clause-found : goal.returns-in_err-change-clause-found
 returns-in_err-change-clause-found c = let p = err_from_is_err_and c.from_residual-in_err-change.result c.from_residual-in_err-change.ensures.1 in rw p.1 tt
 
+pub returns-in_err-change-clause-live : goal.returns-in_err-change-clause-live
+returns-in_err-change-clause-live c = let p = err_from_is_err_and c.from_residual-in_err-change.result c.from_residual-in_err-change.ensures.1 in rw p.1 tt
+
 pub returns-in_err-change-clause-refused : goal.returns-in_err-change-clause-refused
 returns-in_err-change-clause-refused c =
     let p = err_from_is_err_and c.from_residual-in_err-change.result c.from_residual-in_err-change.ensures.1 in
     rw (p.1, p.2) (change_refused c.args.form.now c.args.instant.now c.args.table.now (option_copied c.args.base) c.as_slice-stats.result.now c.as_slice-stats.ensures c.in_ok-files.files c.in_ok-files.ensures
-    c.in_ok-stated.stated c.in_ok-stated.ensures.ok c.in-Some.schema.now (sym c.schema_after.ensures ∙ ap option_copied c.in-Some.is) c.as_slice.result.now c.as_slice.ensures
+    c.in_ok-stated.stated c.in_ok-stated.ensures.ok c.in_ok-schema.schema.now c.in_ok-schema.ensures.found c.as_slice.result.now c.as_slice.ensures
     c.in_ok-kinds.kinds.items c.in_ok-kinds.ensures.distinct c.in_ok-kinds.ensures.kinds c.in_ok-kinds.ensures.kept
     c.as_slice-2.result.now c.as_slice-2.ensures.value c.as_slice-3.result.now c.as_slice-3.ensures
     c.in_ok-rows.rows c.in_ok-rows.ensures.names c.in_ok-rows.ensures.inside c.in_ok-rows.ensures.values c.as_slice-4.result.now c.as_slice-4.ensures c.rows_before-before.result.now c.rows_before-before.ensures
@@ -95,7 +120,16 @@ returns-in_err-change-clause-goes_on c = let p = err_from_is_err_and c.from_resi
 pub returns-clause-found : goal.returns-clause-found
 returns-clause-found c =
     found c.args.form.now c.args.instant.now c.args.table.now (option_copied c.args.base) c.as_slice-stats.result.now c.as_slice-stats.ensures c.in_ok-files.files c.in_ok-files.ensures
-    c.in_ok-stated.stated c.in_ok-stated.ensures.ok c.in-Some.schema.now (sym c.schema_after.ensures ∙ ap option_copied c.in-Some.is) c.as_slice.result.now c.as_slice.ensures
+    c.in_ok-stated.stated c.in_ok-stated.ensures.ok c.in_ok-schema.schema.now c.in_ok-schema.ensures.found c.as_slice.result.now c.as_slice.ensures
+    c.in_ok-kinds.kinds.items c.in_ok-kinds.ensures.distinct c.in_ok-kinds.ensures.kinds c.in_ok-kinds.ensures.kept
+    c.as_slice-2.result.now c.as_slice-2.ensures.value c.as_slice-3.result.now c.as_slice-3.ensures
+    c.in_ok-rows.rows c.in_ok-rows.ensures.names c.in_ok-rows.ensures.inside c.in_ok-rows.ensures.values c.as_slice-4.result.now c.as_slice-4.ensures c.rows_before-before.result.now c.rows_before-before.ensures
+    c.in_ok-stated.ensures.sound c.in_ok-change.change c.in_ok-change.ensures.change
+
+pub returns-clause-live : goal.returns-clause-live
+returns-clause-live c =
+    live c.args.form.now c.args.instant.now c.args.table.now (option_copied c.args.base) c.as_slice-stats.result.now c.as_slice-stats.ensures c.in_ok-files.files c.in_ok-files.ensures
+    c.in_ok-stated.stated c.in_ok-stated.ensures.ok c.in_ok-schema.schema.now c.in_ok-schema.ensures.found c.as_slice.result.now c.as_slice.ensures
     c.in_ok-kinds.kinds.items c.in_ok-kinds.ensures.distinct c.in_ok-kinds.ensures.kinds c.in_ok-kinds.ensures.kept
     c.as_slice-2.result.now c.as_slice-2.ensures.value c.as_slice-3.result.now c.as_slice-3.ensures
     c.in_ok-rows.rows c.in_ok-rows.ensures.names c.in_ok-rows.ensures.inside c.in_ok-rows.ensures.values c.as_slice-4.result.now c.as_slice-4.ensures c.rows_before-before.result.now c.rows_before-before.ensures
@@ -104,7 +138,7 @@ returns-clause-found c =
 pub returns-clause-goes_on : goal.returns-clause-goes_on
 returns-clause-goes_on c =
     goes_on c.args.form.now c.args.instant.now c.args.table.now (option_copied c.args.base) c.as_slice-stats.result.now c.as_slice-stats.ensures c.in_ok-files.files c.in_ok-files.ensures
-    c.in_ok-stated.stated c.in_ok-stated.ensures.ok c.in-Some.schema.now (sym c.schema_after.ensures ∙ ap option_copied c.in-Some.is) c.as_slice.result.now c.as_slice.ensures
+    c.in_ok-stated.stated c.in_ok-stated.ensures.ok c.in_ok-schema.schema.now c.in_ok-schema.ensures.found c.as_slice.result.now c.as_slice.ensures
     c.in_ok-kinds.kinds.items c.in_ok-kinds.ensures.distinct c.in_ok-kinds.ensures.kinds c.in_ok-kinds.ensures.kept
     c.as_slice-2.result.now c.as_slice-2.ensures.value c.as_slice-3.result.now c.as_slice-3.ensures
     c.in_ok-rows.rows c.in_ok-rows.ensures.names c.in_ok-rows.ensures.inside c.in_ok-rows.ensures.values c.as_slice-4.result.now c.as_slice-4.ensures c.rows_before-before.result.now c.rows_before-before.ensures

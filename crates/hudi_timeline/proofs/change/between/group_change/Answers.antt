@@ -14,7 +14,7 @@ overflow_sub-kept c =
     let replaced = c.args.replaced.now in
     let before = c.args.before.now in
     let old : c.in_ok-old.old.items ≡ filter (touched form replaced before c.args.rows) before =
-    old_rows form replaced before c.args.rows c.in_ok-newest.newest.groups c.in_ok-groups.groups c.in_ok-old.old.items c.in_ok-groups.ensures c.in_ok-newest.ensures.groups c.in_ok-old.ensures.rows in
+    old_rows form replaced before c.args.rows c.in_ok-newest.newest.groups c.in_ok-old.old.items c.in_ok-newest.ensures.groups c.in_ok-old.ensures.rows in
     let one : c.len.result ≡ length before = c.len.ensures.len in
     let two : c.len-2.result ≡ vec_len c.in_ok-old.old = c.len-2.ensures in
     omega (arith, one, two, c.in_ok-old.old.ok.0, ap length old, old_shorter form replaced before c.args.rows)
@@ -25,7 +25,7 @@ change_between-requires-clause-before c =
     let replaced = c.args.replaced.now in
     let before = c.args.before.now in
     let old : c.in_ok-old.old.items ≡ filter (touched form replaced before c.args.rows) before =
-    old_rows form replaced before c.args.rows c.in_ok-newest.newest.groups c.in_ok-groups.groups c.in_ok-old.old.items c.in_ok-groups.ensures c.in_ok-newest.ensures.groups c.in_ok-old.ensures.rows in
+    old_rows form replaced before c.args.rows c.in_ok-newest.newest.groups c.in_ok-old.old.items c.in_ok-newest.ensures.groups c.in_ok-old.ensures.rows in
     subst HasDistinctPaths (sym old) (distinct_filter (touched form replaced before c.args.rows) before c.in_ok-old.ensures.distinct)
 
 pub change_between-requires-clause-after : goal.change_between-requires-clause-after
@@ -38,7 +38,7 @@ returns-in-Some-clause-refused c =
     let before = c.args.before.now in
     let rows = c.args.rows in
     let old : c.in_ok-old.old.items ≡ filter (touched form replaced before rows) before =
-    old_rows form replaced before rows c.in_ok-newest.newest.groups c.in_ok-groups.groups c.in_ok-old.old.items c.in_ok-groups.ensures c.in_ok-newest.ensures.groups c.in_ok-old.ensures.rows in
+    old_rows form replaced before rows c.in_ok-newest.newest.groups c.in_ok-old.old.items c.in_ok-newest.ensures.groups c.in_ok-old.ensures.rows in
     let newest : c.in_ok-newest.newest.rows.items ≡ reverse (newest_rows form rows) = c.in_ok-newest.ensures.rows in
     let one : c.len.result ≡ length before = c.len.ensures.len in
     let two : c.len-2.result ≡ vec_len c.in_ok-old.old = c.len-2.ensures in
@@ -58,7 +58,7 @@ returns c =
     let before = c.args.before.now in
     let rows = c.args.rows in
     let old : c.in_ok-old.old.items ≡ filter (touched form replaced before rows) before =
-    old_rows form replaced before rows c.in_ok-newest.newest.groups c.in_ok-groups.groups c.in_ok-old.old.items c.in_ok-groups.ensures c.in_ok-newest.ensures.groups c.in_ok-old.ensures.rows in
+    old_rows form replaced before rows c.in_ok-newest.newest.groups c.in_ok-old.old.items c.in_ok-newest.ensures.groups c.in_ok-old.ensures.rows in
     let newest : c.in_ok-newest.newest.rows.items ≡ reverse (newest_rows form rows) = c.in_ok-newest.ensures.rows in
     let one : c.len.result ≡ length before = c.len.ensures.len in
     let two : c.len-2.result ≡ vec_len c.in_ok-old.old = c.len-2.ensures in
