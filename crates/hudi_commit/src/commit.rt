@@ -30,8 +30,6 @@ fn prepare<S: Store>(store: &mut S, properties: Option<&[u8]>) -> Result<(), Sto
         → IsReady (option_copied properties.entry) (S.disk store.old).files
         → OnOk result (IsPrepared (option_copied properties.entry) base (S.disk store.old)
         (S.disk store.new)) }
-    ensures not_grown { S.tells → OnOk result (HasNotGrown claims_folder (S.disk store.old).files
-        (S.disk store.new).files) }
     ensures others { S.tells → OnOk result ((path : List ℕ)
         → NotGiven (option_copied properties.entry) path
         → StaysOrGoes (S.disk store.old).files (S.disk store.new).files path) }
@@ -72,13 +70,13 @@ pub fn publish_commit<S: Store>(
         (S.disk store.old) (S.disk store.new)) }
     ensures completed { S.tells → OnOk result
         (map.get (S.disk store.new).files (completed_path instant.now) ≡ Some text.now) }
-    ensures not_grown { S.tells → OnOk result (HasNotGrown claims_folder (S.disk store.old).files
-        (S.disk store.new).files) }
 
-    // All but the files that come is as before, or a leftover of a stopped commit that is gone.
+    // Each other file is as before, or was a leftover of a stopped commit and is gone.
     ensures others { S.tells → OnOk result ((path : List ℕ)
         → IsOther (option_copied properties.entry) instant.now path
         → StaysOrGoes (S.disk store.old).files (S.disk store.new).files path) }
+    ensures not_grown { S.tells → OnOk result (HasNotGrown claims_folder (S.disk store.old).files
+        (S.disk store.new).files) }
 
     // At any moment the timeline reads as before or as after, and it stays settled.
     ensures one_step { S.tells → IsUncontested result → IsOrderly (S.disk store.old).files

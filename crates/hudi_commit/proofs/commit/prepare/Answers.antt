@@ -5,7 +5,6 @@ use Rattle.std.proofs.lemmas.Result.{on_ok_weaker}
 use Rattle.lake_store.proofs.RunLaws.{alone_of_fewer}
 use Rattle.hudi_commit.specs.Runs.{HasProperties, IsKeptBut, IsNoProperties, IsPrepared, IsReady, NotGiven, StaysBefore}
 use Rattle.hudi_commit.proofs.AloneLaws.{alone_begun}
-use Rattle.hudi_commit.proofs.ClaimLaws.{properties_not_grown}
 use Rattle.hudi_commit.proofs.CommitLaws.{nothing_prepared, ready_quiet, with_properties_prepared}
 use Rattle.hudi_commit.proofs.OtherLaws.{properties_others}
 use Rattle.hudi_commit.proofs.StagingLaws.{before_begun, first_base}
@@ -28,14 +27,6 @@ returns-in-Some-clause-prepared g c told base stands idle ready =
     let is_ready = subst (λ (o : Option (List ℕ)). IsReady o (disk c.args.store.now).files) at ready in
     subst (λ (o : Option (List ℕ)). OnOk c.publish_properties.result (IsPrepared o base (disk c.args.store.now) (disk c.publish_properties.new.store))) (sym at)
     (on_ok_weaker c.publish_properties.result (with_properties_prepared base p (disk c.args.store.now) (disk c.publish_properties.new.store) stands idle is_ready) (c.publish_properties.ensures.published told))
-
-pub returns-in-Some-clause-not_grown : goal.returns-in-Some-clause-not_grown
-returns-in-Some-clause-not_grown g c told =
-    let disk = g.S.Store.disk in
-    on_ok_weaker c.publish_properties.result (properties_not_grown c.in-Some.properties.now (disk c.args.store.now) (disk c.publish_properties.new.store)) (c.publish_properties.ensures.published told)
-
-pub returns-in-None-clause-not_grown : goal.returns-in-None-clause-not_grown
-returns-in-None-clause-not_grown g c told = λ q inside found. found
 
 pub returns-in-Some-clause-others : goal.returns-in-Some-clause-others
 returns-in-Some-clause-others g c told =

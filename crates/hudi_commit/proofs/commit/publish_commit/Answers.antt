@@ -7,15 +7,14 @@ use Rattle.lake_store.specs.Disk.{Disk}
 use Rattle.lake_store.specs.Runs.{IsOutside}
 use Rattle.lake_store.proofs.RunLaws.{alone_further, alone_of_fewer}
 use Rattle.hudi_names.specs.Time.{IsSomeTime}
-use Rattle.hudi_commit.specs.Names.{IsThere, completed_path, timeline_folder}
+use Rattle.hudi_commit.specs.Names.{completed_path, timeline_folder}
 use Rattle.hudi_commit.specs.Runs.{IsCommitted, IsKept, IsKeptBut, IsNext, IsNoFileOf, IsNotOpen, IsOneStep, IsPublished, completed, prepared}
 use Rattle.hudi_commit.proofs.AloneLaws.{alone_begun, alone_sync}
-use Rattle.hudi_commit.proofs.ClaimLaws.{completed_not_grown}
+use Rattle.hudi_commit.proofs.ClaimLaws.{others_not_grown}
 use Rattle.hudi_commit.proofs.CommitLaws.{before_step, committed, completed_here, completed_kept_but, entry_stands, kept_but, kept_from, outside_kept, prepared_next, recovered_idle, step_then, synced_clean, synced_stands, tidied_ready}
 use Rattle.hudi_commit.proofs.KeepLaws.{begun, keeps_then, sync_keeps}
 use Rattle.hudi_commit.proofs.OpenLaws.{completed_not_open, open_same}
 use Rattle.hudi_commit.proofs.OtherLaws.{others_kept}
-use Rattle.hudi_commit.proofs.RecoveryLaws.{tidied_fewer}
 use Rattle.hudi_commit.proofs.StagingLaws.{alike_before, before_then}
 use Rattle.hudi_commit.proofs.commit.publish_commit.Goals as goal
 
@@ -183,19 +182,6 @@ returns-clause-completed g c told =
     subst (λ t. map.get (disk s4).files (completed_path t) ≡ Some b) c.in_ok-paths.ensures (completed_here c.in_ok-paths.paths b (disk s3) (disk s4) done))
     (c.complete.ensures.completed told)
 
-pub returns-clause-not_grown : goal.returns-clause-not_grown
-returns-clause-not_grown g c told =
-    let disk = g.S.Store.disk in
-    let s3 = c.prepare.new.store in
-    let s4 = c.complete.new.store in
-    let real = subst IsSomeTime (sym c.in_ok-paths.ensures) c.requires.real in
-    on_ok_weaker c.complete.result
-    (λ (done : disk s4 ≡ completed c.in_ok-paths.paths c.args.text.now (disk s3)) q inside found.
-    subst (λ (d : Disk). IsThere d.files q) (c.in_ok-sync.ensures.ok told)
-    (tidied_fewer (disk c.sync.new.self) (disk c.clear_claims.new.store) (c.in_ok-clear_claims.ensures.tidied told) q (c.in_ok-prepare.ensures.not_grown told q inside
-    (completed_not_grown c.in_ok-paths.paths c.args.text.now real (disk s3) (disk s4) done q inside found))))
-    (c.complete.ensures.completed told)
-
 pub returns-clause-others : goal.returns-clause-others
 returns-clause-others g c told =
     let disk = g.S.Store.disk in
@@ -216,6 +202,12 @@ returns-clause-others g c told =
     (λ u is. (c.prepare.ensures.alone told).disk.files (completed_path u) (completed_kept_but props u is)) (c.in_ok-prepare.ensures.others told) free3
     (subst (λ x. disk s4 ≡ completed x c.args.text.now (disk s3)) c.in_ok-paths.ensures done))
     (c.complete.ensures.completed told)
+
+pub returns-clause-not_grown : goal.returns-clause-not_grown
+returns-clause-not_grown g c told =
+    on_ok_weaker c.complete.result
+    (others_not_grown (option_copied c.args.properties) c.args.instant.now c.requires.real.1.digits (g.S.Store.disk c.args.store.now).files (g.S.Store.disk c.complete.new.store).files)
+    (returns-clause-others g c told)
 
 -- no file of the instant is completed before the last call
 pub returns-in_err-clear_claims-clause-unpublished : goal.returns-in_err-clear_claims-clause-unpublished
