@@ -1,5 +1,5 @@
 -- What applying a plan leaves, by how it ends.
-use Rattle.std.proofs.Common.{◌≡◌, inl, inr, ◌+◌, ◌<◌, ◌≤◌, ℕ, Bool, true, false, List, [], ◌∷◌, length, take, refl, ap, subst}
+use Rattle.std.proofs.Common.{◌≡◌, ◌≢◌, inl, inr, ◌+◌, ◌<◌, ◌≤◌, ℕ, Bool, true, false, List, [], ◌∷◌, length, take, Option, sym, ap, subst}
 use Rattle.std.specs.Prelude.{Result, Ok, Err, IsErrOf}
 use Rattle.lake_store.specs.Disk.{Disk, Files}
 use Rattle.lake_store.specs.Runs.{ChangesOnlyIn, FailsBy, IsContestedBy, IsOutside, OnlyReads}
@@ -10,7 +10,8 @@ use Rattle.table_history.specs.declared.kind.Kind.{Kind}
 use Rattle.table_history.specs.declared.limit.LimitKind.{LimitKind}
 use Rattle.table_history.specs.declared.table.Change.{Change}
 use Rattle.table_history.specs.declared.table.Commit.{Commit}
-use Rattle.target_core.specs.Conditions.{GoesOn}
+use Rattle.table_history.specs.TypeTree.{ColumnTrees}
+use Rattle.target_core.specs.Conditions.{CanPublishAll, Fits, GoesOn}
 use Rattle.target_core.specs.Folders.{MayLeaveIn, after_crash, folder_of}
 use Rattle.target_core.specs.Meaning.{Meaning}
 use Rattle.target_core.specs.Outcome.{Uncontested}
@@ -78,7 +79,7 @@ module _ {S : Type 0} (store : Ghosts S) (target : Meaning) (origin : Origin) (s
         bytes = alone_by_reading store (target.reached before) s s reading;
       }
 
-  module _ (unfit : TargetError → Type 0) (passes : List Commit → LimitKind → ℕ → Type 0) (partition : List (List ℕ)) (full : Bool) where
+  module _ (unfit : TargetError → Type 0) (passes : List Commit → LimitKind → ℕ → Type 0) (written : List Commit → Files → Type 0) (partition : List (List ℕ)) (full : Bool) where
     unfit_refusal : (Idle : Type 0) (passed : LimitKind → ℕ → Type 0) (e : TargetError) → Idle → IsFitsRefusal unfit e → IsApplyRefusal Idle unfit passed e
     unfit_refusal Idle passed Memory idle is = tt
     unfit_refusal Idle passed StoreFault idle is = absurd is
@@ -94,20 +95,21 @@ module _ {S : Type 0} (store : Ghosts S) (target : Meaning) (origin : Origin) (s
 
     -- the commits don't fit
     pub applies_unfit : NowOnly store → CrashLaws target → (s : S) (Stands : Type 0) → (Stands → target.reads (store.disk s).files start × target.settled (store.disk s)) → (e : TargetError) → IsFitsRefusal unfit e
-        → Applies store target unfit passes origin start partition commits full Stands s s (Err e)
+        → Applies store target unfit passes written origin start partition commits full Stands s s (Err e)
     applies_unfit only_now crash s Stands from e is =
         let reading : store.tells → OnlyReads store s s = λ told. reading_begins store only_now s told in
         record {
           alone = λ told. alone_by_reading store (IsOutside (folder_of target.kind)) s s (reading told);
           publishes = λ told stands. publishes_nothing only_now crash s (Uncontested {T = Report} (Err e)) told (from stands).0 (from stands).1;
-          columns = inr ((λ is. false_true is), reading);
+          columns = λ some. inr ((λ is. false_true is), reading);
+          writes = λ told stands. tt;
           reported = tt;
           refused = λ told. unfit_refusal (OnlyReads store s s) (PassesIn passes commits) e (reading told) is;
           fault = fails_never store.faults store.may_fail s _ (λ same. no_fault e is (err_same e StoreFault same));
           contest = contested_never store.contests store.may_contest s _ (λ same. no_contest e is (err_same e Contested same));
         }
 
-    module _ (Stands : Type 0) (old new : S) (columns : start.table.partition ≡ partition) (alone : store.tells → ChangesOnlyIn store (folder_of target.kind) old new) where
+    module _ (Stands : Type 0) (old new : S) (columns : commits ≢ [] → start.table.partition ≡ partition) (alone : store.tells → ChangesOnlyIn store (folder_of target.kind) old new) where
       refusal_at : (Idle : Type 0) (place : ℕ) → place < length commits → (e : TargetError) → IsCommitRefusal (passes (take (place + 1) commits)) e → IsApplyRefusal Idle unfit (PassesIn passes commits) e
       refusal_at Idle place within Memory is = tt
       refusal_at Idle place within StoreFault is = tt
@@ -120,11 +122,12 @@ module _ {S : Type 0} (store : Ghosts S) (target : Meaning) (origin : Origin) (s
           → (store.tells → Stands → Publishes store target origin start commits (e ≡ Contested → ⊥) false old new)
           → (store.tells → IsRefusedAt target passes Settled origin start (store.disk old).files commits (store.disk new).files e)
           → FailsBy store old new (IsErrOf {T = ℕ} (Err e) StoreFault) → IsContestedBy store old new (IsErrOf {T = ℕ} (Err e) Contested)
-          → Applies store target unfit passes origin start partition commits full Stands old new (Err e)
+          → Applies store target unfit passes written origin start partition commits full Stands old new (Err e)
       applies_refused Settled e publishes refused cause contest = record {
         alone = alone;
         publishes = publishes;
-        columns = inl columns;
+        columns = λ some. inl (columns some);
+        writes = λ told stands. tt;
         reported = tt;
         refused = λ told. refusal_at (OnlyReads store old new) (refused told).place (refused told).within e (refused told).cause;
         fault = fails_as store.faults store.may_fail old new _ _ (err_is e StoreFault) cause;
@@ -137,22 +140,24 @@ module _ {S : Type 0} (store : Ghosts S) (target : Meaning) (origin : Origin) (s
         memory_is d apart is = apart (err_same Memory d is)
 
         -- all are published, and memory ran out behind them
-        pub applies_untold : Applies store target unfit passes origin start partition commits full Stands old new (Err Memory)
+        pub applies_untold : Applies store target unfit passes written origin start partition commits full Stands old new (Err Memory)
         applies_untold = record {
           alone = alone;
           publishes = λ told stands. publishes_as (Unit {0}) (Memory ≡ Contested → ⊥) true false old new (λ v. tt) (λ is. absurd (false_true is)) (publishes told stands);
-          columns = inl columns;
+          columns = λ some. inl (columns some);
+          writes = λ told stands. tt;
           reported = tt;
           refused = λ told. tt;
           fault = fails_as store.faults store.may_fail old new _ _ (λ is. absurd (memory_is StoreFault (λ same. cc same) is)) cause;
           contest = contested_as store.contests store.may_contest old new _ _ (λ is. absurd (memory_is Contested (λ same. cc same) is)) (λ is. absurd (ok_err count Contested is)) contest;
         }
 
-        pub applies_all : (report : Report) → IsTold target origin start commits full (store.tells × Stands) (store.disk new).files report → Applies store target unfit passes origin start partition commits full Stands old new (Ok report)
-        applies_all report told = record {
+        pub applies_all : (store.tells → Stands → written commits (store.disk new).files) → (report : Report) → IsTold target origin start commits full (store.tells × Stands) (store.disk new).files report → Applies store target unfit passes written origin start partition commits full Stands old new (Ok report)
+        applies_all has_written report told = record {
           alone = alone;
           publishes = publishes;
-          columns = inl columns;
+          columns = λ some. inl (columns some);
+          writes = has_written;
           reported = told;
           refused = λ told. tt;
           fault = fails_as store.faults store.may_fail old new _ _ (λ is. absurd (ok_err report StoreFault is)) cause;
@@ -164,9 +169,19 @@ pub goes_on_start : (source : Kind) (partition : List (List ℕ)) (view : View) 
 goes_on_start source partition view (inl is) = inl is.0
 goes_on_start source partition view (inr is) = inr is.0
 
--- the partition columns of what fits are those of the target
-pub columns_fit : (source : Kind) (partition : List (List ℕ)) (commits : List Commit) (view : View) → IsStart source partition view → (commits ≡ [] → view.table.partition ≡ partition)
-    → ((commits ≡ [] → ⊥) → 0 < view.commits → view.table.partition ≡ partition) → view.table.partition ≡ partition
-columns_fit source partition commits view (inl is) none law = is.1
-columns_fit source partition [] view (inr is) none law = none refl
-columns_fit source partition (commit ∷ commits) view (inr is) none law = law (λ e. cc e) is.1
+-- the partition columns of what fits are those of the target, where there is something to publish
+pub columns_fit : (source : Kind) (partition : List (List ℕ)) (commits : List Commit) (view : View) → IsStart source partition view → (commits ≢ [] → 0 < view.commits → view.table.partition ≡ partition) → commits ≢ [] → view.table.partition ≡ partition
+columns_fit source partition commits view (inl is) law some = is.1
+columns_fit source partition commits view (inr is) law some = law some is.1
+
+-- so it may be published
+pub can_where : (image : ColumnTrees → Option ColumnTrees) (origin : Origin) (partition : List (List ℕ)) (commits : List Commit) (view : View) → (commits ≢ [] → view.table.partition ≡ partition) → (view.table.partition ≡ partition → CanPublishAll image origin view commits)
+    → CanPublishAll image origin view commits
+can_where image origin partition [] view columns can = tt
+can_where image origin partition (commit ∷ commits) view columns can = can (columns (λ e. cc e))
+
+-- and fits with the target's own
+pub fits_where : (unfit : List (List ℕ) → List Commit → TargetError → Type 0) (partition : List (List ℕ)) (commits : List Commit) (view : View) → ((names : List (List ℕ)) → Fits unfit names []) → (commits ≢ [] → view.table.partition ≡ partition)
+    → Fits unfit partition commits → Fits unfit view.table.partition commits
+fits_where unfit partition [] view none columns fits = none view.table.partition
+fits_where unfit partition (commit ∷ commits) view none columns fits = subst (λ (names : List (List ℕ)). Fits unfit names (commit ∷ commits)) (sym (columns (λ e. cc e))) fits

@@ -1,5 +1,5 @@
 -- How a sync of one target ends, by what inspecting the target found and by what reading the source gave.
-use Rattle.std.proofs.Common.{◌≡◌, inl, inr, ℕ, true, List, [], ◌∷◌, Option, Some, None, refl, sym, ap, subst, ◌∙◌}
+use Rattle.std.proofs.Common.{◌≡◌, inl, inr, ℕ, true, List, [], ◌∷◌, Option, Some, None, refl, sym, ap, subst}
 use Rattle.std.specs.Prelude.{Result, Err, IsErrOf, is_some}
 use Rattle.lake_store.specs.Disk.{Disk, Files}
 use Rattle.lake_store.specs.Runs.{FailsBy, IsUncontestedBy, OnlyReads}
@@ -22,7 +22,7 @@ use Rattle.sync_driver.specs.Answered.{IsLookRefusal, IsOurs, IsSync}
 use Rattle.sync_driver.specs.Applied.{Applies, CanApplyPlan, answer_of_target, status_of_source}
 use Rattle.sync_driver.specs.Plans.{IsFound, IsFoundOurs, IsPlanned}
 use Rattle.sync_driver.specs.Sources.{origin_of, source_meaning}
-use Rattle.sync_driver.specs.Targets.{IsStart, target_facts}
+use Rattle.sync_driver.specs.Targets.{HaveWritten, IsStart, target_facts}
 use Rattle.sync_driver.specs.declared.apply.Report.{Report}
 use Rattle.sync_driver.specs.declared.plan.Mode.{Mode}
 use Rattle.sync_driver.specs.declared.plan.Mode.TheVariants as modes
@@ -56,7 +56,6 @@ pub can_apply : (image : ColumnTrees → Option ColumnTrees) (source : Kind) (or
     → (commit : Commit) → commits ≡ commit ∷ [] → (view.table.partition ≡ partition → CanPublish view commit) → CanApplyPlan image source origin partition commits view
 can_apply image source origin partition commits view start commit is can = record {
   start = start;
-  none = λ none. let no : commit ∷ [] ≡ [] = sym is ∙ none in absurd (cc no);
   can = λ columns. subst (λ (cs : List Commit). CanPublishAll image origin view cs) (sym is) (can columns, λ next step. tt);
 }
 
@@ -101,7 +100,7 @@ module _ {S F T K : Type 0} (store : Ghosts S) (only_now : NowOnly store) (sourc
     -- what was found is gone on from
     goes_on_found : (found : Option K) → IsFoundOurs (target.view t) (source.kind f) found → IsFound (target.reads t) (target.stands_for t) before found → (v : View) × target.reads t before v × GoesOn (source.kind f) v
     goes_on_found None ours is = (absent [], is, inl refl)
-    goes_on_found (Some kept) ours is = (target.view t kept, laws.kept_view kept before is, inr ours)
+    goes_on_found (Some kept) ours is = (target.view t kept, laws.kept_view kept before is, inr ours.0)
 
     never_foreign : store.tells → (path : List ℕ) → target.is_foreign t (source.kind f) before path → ⊥
     never_foreign told path foreign =
@@ -110,7 +109,7 @@ module _ {S F T K : Type 0} (store : Ghosts S) (only_now : NowOnly store) (sourc
 
     ours_found : (found : Option K) → IsFoundOurs (target.view t) (source.kind f) found → IsFound (target.reads t) (target.stands_for t) before found → is_some found ≡ true → IsOurs (source_meaning source f) (target_facts target t) before
     ours_found None ours is some = absurd (cc some)
-    ours_found (Some kept) ours is some = (target.view t kept, laws.kept_view kept before is, ours)
+    ours_found (Some kept) ours is some = (target.view t kept, laws.kept_view kept before is, ours.0)
 
     absent_found : (found : Option K) → IsFound (target.reads t) (target.stands_for t) before found → (is_some found ≡ true → ⊥) → target.reads t before (absent [])
     absent_found None is none = is
@@ -153,7 +152,8 @@ module _ {S F T K : Type 0} (store : Ghosts S) (only_now : NowOnly store) (sourc
       pub plan_applied : (read new : S) → (store.tells → OnlyReads store mid read) → (C D : Type 0) → FailsBy store mid read C → IsUncontestedBy store mid read D
           → (head : Head) → (store.tells → source.is_head f before head) → (plan : Plan K) → IsPlanned (target.view t) head (λ table. store.tells → source.is_table f (store.disk mid).files table) plan
           → IsStart (source.kind f) plan.partition (target.view t plan.kept) → (store.tells → target.stands_for t plan.kept (store.disk mid).files) → (kind : Kind) → kind ≡ source.kind f → (answer : Result Report TargetError)
-          → Applies store (meaning target t) (target.unfit t plan.kept plan.partition plan.commits) (target.passes t plan.kept (store.disk read).files (record { source = kind; table = plan.table }) now) (record { source = kind; table = plan.table })
+          → Applies store (meaning target t) (target.unfit t plan.kept plan.partition plan.commits) (target.passes t plan.kept (store.disk read).files (record { source = kind; table = plan.table }) now)
+          (HaveWritten target t plan.kept (store.disk read).files (record { source = kind; table = plan.table }) now) (record { source = kind; table = plan.table })
           (target.view t plan.kept) plan.partition plan.commits plan.full (target.stands_for t plan.kept (store.disk read).files × target.settled t (store.disk read)) read new answer
           → IsSync store (source_meaning source f) (target_facts target t) mode now old new (Some (answer_of_target (target.kind t) answer))
       plan_applied read new further C D more still head is_head plan planned start stands kind kind_is answer given =

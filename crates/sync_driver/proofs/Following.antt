@@ -69,7 +69,7 @@ module _ {S : Type 0} (store : Ghosts S) (source : SourceMeaning) (target : Targ
             } in
             let was = sync.synced told start here in (
               synced_behind source target.files views crash store start _ _ old mid new told (reading told) ready.reads ready.settled was.0,
-              subst (λ (d : Disk). IsReported source target start d.files (store.disk new).files answer) (same told) was.1,
+              subst (λ (d : Disk). IsReported source target now start d.files (store.disk new).files answer) (same told) was.1,
             );
         in_full = sync.in_full;
         caused = λ told. subst (λ (d : Disk). IsCaused (OnlyReads store old new) source target mode now d.files answer) (same told)

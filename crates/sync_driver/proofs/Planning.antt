@@ -1,5 +1,5 @@
 -- A plan of one commit to the source's head.
-use Rattle.std.proofs.Common.{◌≡◌, ◌⊎◌, inl, inr, ⊎_elim, ◌<◌, ◌≤◌, ℕ, List, length, Contains, Option, Some, None, refl, sym, ap, subst, ◌∙◌}
+use Rattle.std.proofs.Common.{◌≡◌, inl, inr, ◌<◌, ◌≤◌, ℕ, List, length, Contains, Option, Some, None, sym, ap, subst, ◌∙◌}
 use Rattle.std.specs.Prelude.{unwrap_or}
 use Rattle.std.specs.List.{IsDistinct}
 use Rattle.std.specs.Str.{bytes_eq}
@@ -16,7 +16,7 @@ use Rattle.table_history.specs.declared.table.Change.{Change}
 use Rattle.table_history.specs.declared.table.Table.{Table}
 use Rattle.table_history.proofs.Laws.{same_rows_length}
 use Rattle.target_core.specs.Conditions.{HasKind, IsPublishable}
-use Rattle.target_core.specs.Views.{IsOfSource, IsPublished, IsUnpublished, View, absent}
+use Rattle.target_core.specs.Views.{IsOfSource, IsUnpublished, View, absent}
 use Rattle.sync_driver.specs.Plans.{IsFound, IsFoundOurs, IsStartOf}
 use Rattle.sync_driver.specs.Targets.{IsStart}
 
@@ -49,24 +49,9 @@ unpublished view partition is =
 
 module _ {K : Type 0} (view : K → View) (reads : Files → View → Type 0) (stands_for : K → Files → Type 0) where
   pub start_found : (source : Kind) (found : Option K) (partition : List (List ℕ)) (kept : K) → IsFoundOurs view source found → IsStartOf view reads stands_for found partition kept → IsStart source partition (view kept)
-  start_found source found partition kept ours (inl is) = inr (subst (IsFoundOurs view source) is.0 ours, is.1)
-  start_found source found partition kept ours (inr is) = inl (unpublished (view kept) partition is.1)
+  start_found source None partition kept ours start = inl (unpublished (view kept) partition start.0)
+  start_found source (Some found) partition kept ours start = inr (subst (λ (k : K). IsOfSource source (view k) × (0 < (view k).commits)) (sym start) ours)
 
-  module _ (kept_view : (kept : K) (files : Files) → stands_for kept files → reads files (view kept)) (published : (files : Files) (v : View) → reads files v → IsUnpublished v ⊎ IsPublished v) where
-    -- ours has a commit
-    has_commit : (source : Kind) (kept : K) (files : Files) → IsOfSource source (view kept) → stands_for kept files → 0 < (view kept).commits
-    has_commit source kept files ours stands =
-        ⊎_elim
-        (λ (none : IsUnpublished (view kept)). let is : Some ours.0 ≡ None = sym ours.1 ∙ ap (λ (v : View). v.mark) none in absurd (cc is))
-        (λ some. some.0)
-        (published files (view kept) (kept_view kept files stands))
-
-    start_stands : (source : Kind) (files : Files) (found : Option K) (partition : List (List ℕ)) (kept : K) → IsFoundOurs view source found → IsFound reads stands_for files found → IsStartOf view reads stands_for found partition kept
-        → stands_for kept files
-    start_stands source files found partition kept ours is (inl start) = subst (IsFound reads stands_for files) start.0 is
-    start_stands source files None partition kept ours is (inr start) = start.2 files is
-    start_stands source files (Some other) partition kept ours is (inr start) = absurd (start.0 other refl (has_commit source other files ours is))
-
-    pub stands_found : (source : Kind) (files : Files) (found : Option K) (partition : List (List ℕ)) (kept : K) → IsFoundOurs view source found → IsFound reads stands_for files found → IsStartOf view reads stands_for found partition kept
-        → stands_for kept files
-    stands_found = start_stands
+  pub stands_found : (files : Files) (found : Option K) (partition : List (List ℕ)) (kept : K) → IsFound reads stands_for files found → IsStartOf view reads stands_for found partition kept → stands_for kept files
+  stands_found files None partition kept is start = start.1 files is
+  stands_found files (Some found) partition kept is start = subst (λ (k : K). stands_for k files) (sym start) is

@@ -235,10 +235,10 @@ module _ (source : SourceMeaning) (target : Meaning) (views : ViewLaws target) w
 
         -- what is told of the target is what it stands at
         pub told_head : (files : Files) (last : View) → IsAdvancedAll target.image (origin_of source.kind head) v (commit ∷ []) last → target.reads files last → Gained target (origin_of source.kind head) v before (commit ∷ []) 1 files
-            → (start : View) → AreOne v start → (at : IsAtHead source target start before files) × (at.view ≡ last) × (at.due.head ≡ head)
+            → (start : View) → AreOne v start → (at : IsAtHead source target start before files) × (at.view ≡ last) × (at.due.head ≡ head) × (at.due.table ≡ table) × (at.due.commit ≡ commit)
         unfolding due_one due_here head_one gained_head
         told_head files last leads reads gained start one =
-            (head_one v start before files one (gained_head files (record { within = gained.within; view = last; leads = leads; stands = reads; each = gained.each; earlier = gained.earlier })), refl, refl)
+            (head_one v start before files one (gained_head files (record { within = gained.within; view = last; leads = leads; stands = reads; each = gained.each; earlier = gained.earlier })), refl, refl, refl, refl)
 
         stands_gained : (n : ℕ) (files : Files) → Gained target (origin_of source.kind head) v before (commit ∷ []) n files → IsAsBeforeOrAtHead source target v before files
         stands_gained zero files gained = inl (record { view = gained.view; same = gained.leads; reads = gained.stands; earlier = gained.earlier })

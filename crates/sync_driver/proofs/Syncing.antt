@@ -27,7 +27,7 @@ use Rattle.sync_driver.specs.Applied.{Applies, PassesIn, answer_of_target, posit
 use Rattle.sync_driver.specs.Dues.{Due, IsChangeTo}
 use Rattle.sync_driver.specs.Sources.{origin_of, source_meaning}
 use Rattle.sync_driver.specs.Synced.{Synced}
-use Rattle.sync_driver.specs.Targets.{Begins, IsKept, IsStart, target_facts}
+use Rattle.sync_driver.specs.Targets.{Begins, HaveWritten, IsKept, IsStart, target_facts}
 use Rattle.sync_driver.specs.declared.apply.Report.{Report}
 use Rattle.sync_driver.specs.declared.plan.Mode.{Mode}
 use Rattle.sync_driver.specs.declared.plan.Mode.TheVariants as modes
@@ -155,7 +155,7 @@ module _ {S F T K : Type 0} (store : Ghosts S) (only_now : NowOnly store) (sourc
 
       -- the plan's parts are what they are
       abbrev Applied : Bool → Result Report TargetError → Type 0
-      Applied full answer = Applies store (meaning target t) (target.unfit t kept table.partition one) (target.passes t kept (store.disk mid).files origin now) origin v table.partition one full Stands mid new answer
+      Applied full answer = Applies store (meaning target t) (target.unfit t kept table.partition one) (target.passes t kept (store.disk mid).files origin now) (HaveWritten target t kept (store.disk mid).files origin now) origin v table.partition one full Stands mid new answer
 
       module _ (full : Bool) (full_is : full ≡ true) (leads : LeadsTo v.table.rows commit.change.removed commit.change.added table.rows) where
         module _ (told : store.tells) where
@@ -168,17 +168,25 @@ module _ {S F T K : Type 0} (store : Ghosts S) (only_now : NowOnly store) (sourc
             subst (λ (d : Disk). target.settled t d) (sym disk_same) settled,
           )
 
+          writes_one : (files : Files) → HaveWritten target t kept before origin now one files → (target_facts target t).writes before table.partition origin now commit files
+          writes_one files (last, (next, middle, write, stands_next, (is_last, is_after))) = (kept, is_kept told, subst (λ (after : Files). target.writes t kept before origin now commit after) (sym is_after) write)
+
           report_is : (columns : v.table.partition ≡ table.partition) (start : View) → IsReady (source_meaning source f) (target_facts target t) before start (target.settled t (store.disk old)) → AreOne v start
-              → (answer : Result Report TargetError) → Applied full answer → IsReported (source_meaning source f) (target_facts target t) start before (store.disk new).files (Some (answer_of_target (target.kind t) answer))
+              → (answer : Result Report TargetError) → Applied full answer → IsReported (source_meaning source f) (target_facts target t) now start before (store.disk new).files (Some (answer_of_target (target.kind t) answer))
           report_is columns start ready same (Err e) given = tt
           report_is columns start ready same (Ok report) given =
               let stands_here = stands_mid ready.settled in
               let tells = given.reported in
+              let Written : Table → Head → Commit → Type 0 = λ k d c. (target_facts target t).writes before k.partition (origin_of (source.kind f) d) now c (store.disk new).files in
               let gained = subst (λ (d : Disk). Gained (meaning target t) origin v d.files one 1 (store.disk new).files) disk_same ((given.publishes told stands_here).all refl) in
               let h = told_head (source_meaning source f) (meaning target t) laws.views laws.crash store v before head table commit (is_head told) (is_table told) position change leads columns (store.disk new).files tells.last tells.leads
               (tells.reads (told, stands_here)) gained start same in
+              let write = writes_one (store.disk new).files
+              (subst (λ (d : Disk). HaveWritten target t kept d.files origin now one (store.disk new).files) disk_same (given.writes told stands_here)) in
               record {
                 at = h.0;
+                written = subst (λ (c : Commit). Written h.0.due.table h.0.due.head c) (sym h.4)
+                    (subst (λ (k : Table). Written k h.0.due.head commit) (sym h.3) (subst (λ (d : Head). Written table d commit) (sym h.2) write));
                 distinct = subst (λ (w : View). HasDistinctPaths w.table.rows) (sym h.1) tells.is.distinct;
                 files_are = tells.is.files ∙ ap (λ (w : View). length w.table.rows) (sym h.1);
                 position = tells.is.at ∙ ap position_at (ap (λ (w : View). w.mark) (sym h.1) ∙ h.0.mark);
@@ -186,7 +194,7 @@ module _ {S F T K : Type 0} (store : Ghosts S) (only_now : NowOnly store) (sourc
 
           synced_is : (start : View) → IsReady (source_meaning source f) (target_facts target t) before start (target.settled t (store.disk old)) → (answer : Result Report TargetError) → Applied full answer
               → Synced store (source_meaning source f) (meaning target t) start (IsUndisturbed (Some (answer_of_target (target.kind t) answer))) (IsDone (Some (answer_of_target (target.kind t) answer))) old new
-              × IsReported (source_meaning source f) (target_facts target t) start before (store.disk new).files (Some (answer_of_target (target.kind t) answer))
+              × IsReported (source_meaning source f) (target_facts target t) now start before (store.disk new).files (Some (answer_of_target (target.kind t) answer))
           synced_is start ready answer given =
               let U : Type 0 = IsUndisturbed (Some (answer_of_target (target.kind t) answer)) in
               let D : Type 0 = IsDone (Some (answer_of_target (target.kind t) answer)) in
@@ -202,9 +210,9 @@ module _ {S F T K : Type 0} (store : Ghosts S) (only_now : NowOnly store) (sourc
                 synced_idle (source_meaning source f) (meaning target t) laws.views laws.crash store start U D (λ d. idle.0 (done_ok (target.kind t) answer d).1) old new told (reading_further store old mid new reading idle.1 told) ready.reads ready.settled,
                 not_reported idle.0 answer refl,
               ))
-              given.columns
+              (given.columns (λ none. cc none))
             where
-              not_reported : (is_ok answer ≡ true → ⊥) → (r : Result Report TargetError) → r ≡ answer → IsReported (source_meaning source f) (target_facts target t) start before (store.disk new).files (Some (answer_of_target (target.kind t) r))
+              not_reported : (is_ok answer ≡ true → ⊥) → (r : Result Report TargetError) → r ≡ answer → IsReported (source_meaning source f) (target_facts target t) now start before (store.disk new).files (Some (answer_of_target (target.kind t) r))
               not_reported not (Err e) is = tt
               not_reported not (Ok report) is = absurd (not (ap (λ (r : Result Report TargetError). is_ok r) (sym is)))
 
@@ -249,10 +257,10 @@ module _ {S F T K : Type 0} (store : Ghosts S) (only_now : NowOnly store) (sourc
             }
 
         pub sync_applied : (here : Origin) → here ≡ origin → (partition : List (List ℕ)) → partition ≡ table.partition → (commits : List Commit) → commits ≡ one → (answer : Result Report TargetError)
-            → Applies store (meaning target t) (target.unfit t kept partition commits) (target.passes t kept (store.disk mid).files here now) here v partition commits full Stands mid new answer
+            → Applies store (meaning target t) (target.unfit t kept partition commits) (target.passes t kept (store.disk mid).files here now) (HaveWritten target t kept (store.disk mid).files here now) here v partition commits full Stands mid new answer
             → IsSync store (source_meaning source f) (target_facts target t) mode now old new (Some (answer_of_target (target.kind t) answer))
         sync_applied here here_is partition partition_is commits commits_is answer given =
             applied_is answer
-            (subst (λ (o : Origin). Applies store (meaning target t) (target.unfit t kept table.partition one) (target.passes t kept (store.disk mid).files o now) o v table.partition one full Stands mid new answer) here_is
-            (subst (λ (names : List (List ℕ)). Applies store (meaning target t) (target.unfit t kept names one) (target.passes t kept (store.disk mid).files here now) here v names one full Stands mid new answer) partition_is
-            (subst (λ (cs : List Commit). Applies store (meaning target t) (target.unfit t kept partition cs) (target.passes t kept (store.disk mid).files here now) here v partition cs full Stands mid new answer) commits_is given)))
+            (subst (λ (o : Origin). Applies store (meaning target t) (target.unfit t kept table.partition one) (target.passes t kept (store.disk mid).files o now) (HaveWritten target t kept (store.disk mid).files o now) o v table.partition one full Stands mid new answer) here_is
+            (subst (λ (names : List (List ℕ)). Applies store (meaning target t) (target.unfit t kept names one) (target.passes t kept (store.disk mid).files here now) (HaveWritten target t kept (store.disk mid).files here now) here v names one full Stands mid new answer) partition_is
+            (subst (λ (cs : List Commit). Applies store (meaning target t) (target.unfit t kept partition cs) (target.passes t kept (store.disk mid).files here now) (HaveWritten target t kept (store.disk mid).files here now) here v partition cs full Stands mid new answer) commits_is given)))

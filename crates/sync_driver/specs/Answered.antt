@@ -154,19 +154,20 @@ IsComplete None = Unit {0}
 IsComplete (Some (Ok report)) = Unit {0}
 IsComplete (Some (Err e)) = e ≡ status.Memory
 
--- One commit was published, and the target has so many rows and stands at this position.
-pub record IsReport (source : SourceMeaning) (target : TargetFacts) (start : View) (before files : Files) (report : Report) : Type 0 where
+-- One commit was published, and the target has so many rows and stands at this position. Just what publishing the commit at this time writes has come.
+pub record IsReport (source : SourceMeaning) (target : TargetFacts) (now : ℕ) (start : View) (before files : Files) (report : Report) : Type 0 where
   pub at : IsAtHead source target.files start before files
+  pub written : target.writes before at.due.table.partition (origin_of source.kind at.due.head) now at.due.commit files
   pub distinct : HasDistinctPaths at.view.table.rows
   pub files_are : report.files ≡ length at.view.table.rows
   pub position : report.at ≡ at.due.head.position
 
 -- ---- one target
 
-abbrev pub IsReported : SourceMeaning → TargetFacts → View → Files → Files → Answer → Type 0
-IsReported source target start before files None = Unit {0}
-IsReported source target start before files (Some (Ok report)) = IsReport source target start before files report
-IsReported source target start before files (Some (Err e)) = Unit {0}
+abbrev pub IsReported : SourceMeaning → TargetFacts → ℕ → View → Files → Files → Answer → Type 0
+IsReported source target now start before files None = Unit {0}
+IsReported source target now start before files (Some (Ok report)) = IsReport source target now start before files report
+IsReported source target now start before files (Some (Err e)) = Unit {0}
 
 -- what is told of each target that is done: it went in full, by one commit
 abbrev pub IsOneInFull : Answer → Type 0
@@ -186,7 +187,7 @@ pub record IsSync {S : Type 0} (store : Ghosts S) (source : SourceMeaning) (targ
   pub alone : store.tells → ChangesOnlyIn store (folder_of target.files.kind) old new
   pub source_stays : store.tells → ¬ (source.kind ≡ target.files.kind) → ((path : List ℕ) → IsIn (folder_of source.kind) path → IsClean (store.disk old) path) → KeepsSource store source old new
   pub synced : store.tells → (start : View) → IsReady source target (store.disk old).files start (target.files.settled (store.disk old))
-      → Synced store source target.files start (IsUndisturbed answer) (IsDone answer) old new × IsReported source target start (store.disk old).files (store.disk new).files answer
+      → Synced store source target.files start (IsUndisturbed answer) (IsDone answer) old new × IsReported source target now start (store.disk old).files (store.disk new).files answer
   pub in_full : IsOneInFull answer
   -- Each refusal has its cause, and comes exactly where it is due.
   pub caused : store.tells → IsCaused (OnlyReads store old new) source target mode now (store.disk old).files answer

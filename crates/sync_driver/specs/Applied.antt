@@ -1,5 +1,5 @@
 -- What applying a plan answers and leaves.
-use Rattle.std.specs.Prelude.{◌≡◌, ◌⊎◌, ◌+◌, ◌<◌, ℕ, Bool, List, [], length, take, Option, Some, None, IfErr, IfOk, IsErrOf, Result, Ok, Err, is_ok, true}
+use Rattle.std.specs.Prelude.{◌≡◌, ◌≢◌, ◌⊎◌, ◌+◌, ◌<◌, ℕ, Bool, List, [], length, take, Option, Some, None, IfErr, IfOk, IsErrOf, Result, Ok, Err, is_ok, true}
 use Rattle.lake_store.specs.Disk.{Files}
 use Rattle.lake_store.specs.Runs.{ChangesOnlyIn, FailsBy, IsContestedBy, OnlyReads}
 use Rattle.lake_store.specs.declared.store.Store.{Ghosts}
@@ -43,10 +43,9 @@ status_of_target kind (Unsupported feature path) = status.Unsupported (side.Targ
 
 -- ---- what may be applied
 
--- The commits go on from what is kept, which has these partition columns where it has a commit and where there is none to publish.
+-- The commits go on from what is kept, and may be published over it where it has these partition columns.
 pub record CanApplyPlan (image : ColumnTrees → Option ColumnTrees) (source : Kind) (origin : Origin) (partition : List (List ℕ)) (commits : List Commit) (view : View) : Type 0 where
   pub start : IsStart source partition view
-  pub none : commits ≡ [] → view.table.partition ≡ partition
   pub can : view.table.partition ≡ partition → CanPublishAll image origin view commits
 
 -- ---- what is answered
@@ -87,12 +86,14 @@ abbrev pub answer_of_target : Kind → Result Report TargetError → Result Repo
 answer_of_target kind (Ok report) = Ok report
 answer_of_target kind (Err e) = Err (status_of_target kind e)
 
--- What applying a plan does. The partition columns are the same wherever something is published. `Stands` says that what was kept stood for the files, and that these were settled.
-pub record Applies {S : Type 0} (store : Ghosts S) (target : Meaning) (unfit : TargetError → Type 0) (passes : List Commit → LimitKind → ℕ → Type 0) (origin : Origin) (start : View) (partition : List (List ℕ)) (commits : List Commit) (full : Bool) (Stands : Type 0)
+-- What applying a plan does. The partition columns are the same wherever something is published, and where all are published just what they write has
+-- come. `Stands` says that what was kept stood for the files, and that these were settled.
+pub record Applies {S : Type 0} (store : Ghosts S) (target : Meaning) (unfit : TargetError → Type 0) (passes : List Commit → LimitKind → ℕ → Type 0) (written : List Commit → Files → Type 0) (origin : Origin) (start : View) (partition : List (List ℕ)) (commits : List Commit) (full : Bool) (Stands : Type 0)
     (old new : S) (answer : Result Report TargetError) : Type 0 where
   pub alone : store.tells → ChangesOnlyIn store (folder_of target.kind) old new
   pub publishes : store.tells → Stands → Publishes store target origin start commits (Uncontested answer) (is_ok answer) old new
-  pub columns : (start.table.partition ≡ partition) ⊎ ((is_ok answer ≡ true → ⊥) × (store.tells → OnlyReads store old new))
+  pub columns : commits ≢ [] → (start.table.partition ≡ partition) ⊎ ((is_ok answer ≡ true → ⊥) × (store.tells → OnlyReads store old new))
+  pub writes : store.tells → Stands → IfOk answer (λ report. written commits (store.disk new).files)
   pub reported : IfOk answer (IsTold target origin start commits full (store.tells × Stands) (store.disk new).files)
   pub refused : store.tells → IfErr answer (IsApplyRefusal (OnlyReads store old new) unfit (PassesIn passes commits))
   pub fault : FailsBy store old new (IsErrOf answer StoreFault)

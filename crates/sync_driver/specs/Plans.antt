@@ -1,5 +1,5 @@
 -- A plan of one commit to the source's head.
-use Rattle.std.specs.Prelude.{◌≡◌, ◌⊎◌, ◌<◌, ℕ, true, List, [], ◌∷◌, Option, Some, None}
+use Rattle.std.specs.Prelude.{◌≡◌, ◌<◌, ℕ, true, List, [], ◌∷◌, Option, Some, None}
 use Rattle.lake_store.specs.Disk.{Files}
 use Rattle.source_core.specs.declared.head.Head.{Head}
 use Rattle.table_history.specs.Tables.{LeadsTo}
@@ -16,16 +16,15 @@ abbrev pub IsFound : {K : Type 0} → (Files → View → Type 0) → (K → Fil
 IsFound reads stands_for files None = reads files (absent [])
 IsFound reads stands_for files (Some kept) = stands_for kept files
 
--- what is kept of ours has a mark of the source's format
+-- what is kept of ours has a commit, and a mark of the source's format
 abbrev pub IsFoundOurs : {K : Type 0} → (K → View) → Kind → Option K → Type 0
 IsFoundOurs view source None = Unit {0}
-IsFoundOurs view source (Some kept) = IsOfSource source (view kept)
+IsFoundOurs view source (Some kept) = IsOfSource source (view kept) × (0 < (view kept).commits)
 
--- What was found of a target with a commit, or else what is kept before the first commit of a target of these partition columns.
+-- What was found of ours, or else what is kept before the first commit of a target of these partition columns.
 abbrev pub IsStartOf : {K : Type 0} → (K → View) → (Files → View → Type 0) → (K → Files → Type 0) → Option K → List (List ℕ) → K → Type 0
-IsStartOf {K} view reads stands_for found partition kept =
-    ((found ≡ Some kept) × (0 < (view kept).commits))
-    ⊎ (((other : K) → found ≡ Some other → (0 < (view other).commits) → ⊥) × (view kept ≡ absent partition) × ((files : Files) → reads files (absent []) → stands_for kept files))
+IsStartOf view reads stands_for None partition kept = (view kept ≡ absent partition) × ((files : Files) → reads files (absent []) → stands_for kept files)
+IsStartOf view reads stands_for (Some found) partition kept = kept ≡ found
 
 -- One commit with the table at the head, over what is kept.
 pub record IsFullPlan {K : Type 0} (view : K → View) (head : Head) (table : Table) (plan : Plan K) : Type 0 where

@@ -7,6 +7,7 @@ use Rattle.table_history.specs.declared.table.Commit.{Commit}
 use Rattle.target_core.specs.Meaning.{Meaning}
 use Rattle.target_core.specs.TargetMeanings.{meaning}
 use Rattle.target_core.specs.Views.{IsOfSource, IsUnpublished, Origin, View}
+use Rattle.target_core.specs.Written.{AreWritten}
 use Rattle.target_core.specs.declared.target.Target.{Ghosts}
 use Rattle.target_core.specs.declared.target.TargetError.{TargetError}
 
@@ -20,6 +21,8 @@ pub record TargetFacts : Type 1 where
   pub unfit : Files → List (List ℕ) → List Commit → TargetError → Type 0
   -- publishing these commits of a source of these partition columns over the files, at this time, passes this number at the last of them
   pub passes : Files → List (List ℕ) → Origin → ℕ → List Commit → LimitKind → ℕ → Type 0
+  -- over the files, publishing this commit of a source of these partition columns, at this time, leaves these files
+  pub writes : Files → List (List ℕ) → Origin → ℕ → Commit → Files → Type 0
 
 -- A target without a commit has these partition columns.
 abbrev pub Begins : List (List ℕ) → View → Type 0
@@ -36,7 +39,12 @@ target_facts {T} {K} target t = record {
   is_crowded = target.is_crowded t;
   unfit = λ files partition commits e. (kept : K) × IsKept target t files partition kept × target.unfit t kept partition commits e;
   passes = λ files partition origin now commits which number. (kept : K) × IsKept target t files partition kept × target.passes t kept files origin now commits which number;
+  writes = λ files partition origin now commit after. (kept : K) × IsKept target t files partition kept × target.writes t kept files origin now commit after;
 }
+
+-- Over these files, of which this is kept, publishing these commits one behind the other, at this time, leaves these files.
+abbrev pub HaveWritten : {T K : Type 0} → Ghosts T K → T → K → Files → Origin → ℕ → List Commit → Files → Type 0
+HaveWritten {T} {K} target t kept files origin now commits after = (last : K) × AreWritten (target.stands_for t) (λ here before commit next. target.writes t here before origin now commit next) kept files commits last after
 
 -- Nothing is published and the partition columns are these, or a commit is published and its mark names a source of this format.
 abbrev pub IsStart : Kind → List (List ℕ) → View → Type 0

@@ -3,6 +3,7 @@ ghost use Rattle.std.specs.Prelude.{◌≡◌, ◌<◌, ◌^◌, IfOk, Result};
 ghost use Rattle.target_core.specs.TargetMeanings.{meaning};
 ghost use Rattle.target_core.specs.declared.target.TargetError.{TargetError};
 ghost use Rattle.sync_driver.specs.Applied.{Applies, CanApplyPlan, IsReportOf, answer_of_target, position_at};
+ghost use Rattle.sync_driver.specs.Targets.{HaveWritten};
 ghost use Rattle.sync_driver.specs.declared.apply.Report.{Report};
 
 use crate::cause::status_of_target;
@@ -73,6 +74,8 @@ fn publish_plan<T: Target, S: Store>(
         (T.unfit target.now plan.kept plan.partition plan.commits)
         (T.passes target.now plan.kept (S.disk store.old).files
         (record { source = source; table = plan.table }) now_ms)
+        (HaveWritten ⟦<T as Target>⟧ target.now plan.kept (S.disk store.old).files
+        (record { source = source; table = plan.table }) now_ms)
         (record { source = source; table = plan.table }) (T.view target.now plan.kept)
         plan.partition plan.commits plan.full
         (T.stands_for target.now plan.kept (S.disk store.old).files
@@ -119,6 +122,8 @@ pub fn apply_one<T: Target, S: Store>(
         × Applies ⟦<S as Store>⟧ (meaning ⟦<T as Target>⟧ target.now)
         (T.unfit target.now plan.kept plan.partition plan.commits)
         (T.passes target.now plan.kept (S.disk store.old).files
+        (record { source = source; table = plan.table }) now_ms)
+        (HaveWritten ⟦<T as Target>⟧ target.now plan.kept (S.disk store.old).files
         (record { source = source; table = plan.table }) now_ms)
         (record { source = source; table = plan.table }) (T.view target.now plan.kept)
         plan.partition plan.commits plan.full

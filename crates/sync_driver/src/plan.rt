@@ -1,5 +1,5 @@
 //! What is to be published to a target.
-ghost use Rattle.std.specs.Prelude.{◌≡◌, ◌<◌, Some, IfErr, IfOk, IsErrOf, MatchOption};
+ghost use Rattle.std.specs.Prelude.{◌≡◌, IfErr, IfOk, IsErrOf};
 ghost use Rattle.lake_store.specs.Runs.{FailsBy, IsUncontestedBy, OnlyReads};
 ghost use Rattle.source_core.specs.Answers.{IsReadRefusal};
 ghost use Rattle.table_history.specs.Tables.{CanApply, LeadsTo};
@@ -66,21 +66,7 @@ fn commit_to(
     })
 }
 
-/// What was found of a target, where it has a commit.
-fn with_commit<T: Target>(target: &T, found: Option<T::Kept>) -> Option<T::Kept>
-    ensures { MatchOption result
-        ((kept : T.Kept) → found ≡ Some kept → (0 < (T.view target.now kept).commits) → ⊥)
-        (λ kept. (found ≡ Some kept) × (0 < (T.view target.now kept).commits)) }
-{
-    let kept = found?;
-    if target.commits(&kept) > 0 {
-        Some(kept)
-    } else {
-        None
-    }
-}
-
-/// What is kept of a target that has a commit, or else before the first one.
+/// What was found of a target, or else what is kept before the first commit.
 fn start_of<T: Target>(
     alloc: Global,
     target: &T,
@@ -90,7 +76,7 @@ fn start_of<T: Target>(
     ensures { IfOk result (IsStartOf (T.view target.now) (T.reads target.now)
         (T.stands_for target.now) found partition.now) }
 {
-    match with_commit(target, found) {
+    match found {
         Some(kept) => Ok(kept),
         None => match target.fresh(alloc, partition) {
             Ok(kept) => Ok(kept),

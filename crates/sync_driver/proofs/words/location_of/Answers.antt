@@ -1,6 +1,5 @@
-use Rattle.std.proofs.Common.{◌≡◌, ◌+◌, ◌∷◌, ◌++◌, ℕ, List, [], length, sym, ap, ◌∙◌, arith}
+use Rattle.std.proofs.Common.{◌∷◌, ℕ, List, [], length, sym, ap, ◌∙◌, arith}
 use Rattle.std.proofs.Math.ListN.{length-append}
-use Rattle.sync_driver.specs.Forms.{location}
 use Rattle.sync_driver.proofs.Locations.{location_shorter, location_whole}
 use Rattle.sync_driver.proofs.words.location_of.Goals as goal
 
