@@ -67,8 +67,8 @@ not_shown : (mode : Mode) (kind : Kind) → to_hudi mode ≡ Show kind → ⊥
 not_shown modes.Sync kind is = cc is
 not_shown modes.Full kind is = cc is
 
-module _ {S O : Type 0} (store : Ghosts S) (sink : sinks.Ghosts O) (delta : sources.Ghosts DeltaSource) (hudi : sources.Ghosts HudiSource) (target : targets.Ghosts HudiTarget HudiKept) (words : Words) (old : S) (out_old out_new : O) (status : Status) where
-  pub no_command : IsNoCommand words → Tells sink out_old out_new (refusal_line Usage) Usage status → Command store sink delta hudi target words old old out_old out_new status
+module _ {S O : Type 0} (store : Ghosts S) (sink : sinks.Ghosts O) (delta : sources.Ghosts DeltaSource) (hudi : sources.Ghosts HudiSource) (target : targets.Ghosts HudiTarget HudiKept) (gives : ℕ → Type 0) (words : Words) (old : S) (out_old out_new : O) (status : Status) where
+  pub no_command : IsNoCommand words → Tells sink out_old out_new (refusal_line Usage) Usage status → Command store sink delta hudi target gives words old old out_old out_new status
   no_command none told = record {
     usage = λ no. (told, refl);
     later = λ place form is other. absurd (none place form is);
@@ -84,7 +84,7 @@ module _ {S O : Type 0} (store : Ghosts S) (sink : sinks.Ghosts O) (delta : sour
     same_place : (p : List ℕ) (other : Form) → IsCommand words p other → place ≡ p
     same_place p other spelled = let one : Some place ≡ Some p = sym is.0.0 ∙ spelled.0.0 in cc one
 
-    pub other_command : (IsServed form → ⊥) → Tells sink out_old out_new (refusal_line Later) Later status → Command store sink delta hudi target words old old out_old out_new status
+    pub other_command : (IsServed form → ⊥) → Tells sink out_old out_new (refusal_line Later) Later status → Command store sink delta hudi target gives words old old out_old out_new status
     other_command other told = record {
       usage = λ no. absurd (no place form is);
       later = λ p f spelled unserved. (told, refl);
@@ -93,13 +93,14 @@ module _ {S O : Type 0} (store : Ghosts S) (sink : sinks.Ghosts O) (delta : sour
       hudi_shown = λ p spelled. absurd (other (inr (inr (same p (Show Hudi) spelled))));
     }
 
-    pub brought_command : (mode : Mode) → form ≡ to_hudi mode → (new : S) (now : ℕ) → Brings store sink delta target place mode now old new out_old out_new status → Command store sink delta hudi target words old new out_old out_new status
-    brought_command mode here new now brings = record {
+    pub brought_command : (mode : Mode) → form ≡ to_hudi mode → (new : S) (now : ℕ) → gives now → Brings store sink delta target place mode now old new out_old out_new status → Command store sink delta hudi target gives words old new out_old out_new status
+    brought_command mode here new now given brings = record {
       usage = λ no. absurd (no place form is);
       later = λ p f spelled unserved. absurd (unserved (inl (mode, sym (same p f spelled) ∙ here)));
       brought = λ p other spelled.
           let one : mode ≡ other = one_mode mode other (sym here ∙ same p (to_hudi other) spelled) in (
             now,
+            given,
             subst (λ (q : List ℕ). Brings store sink delta target q other now old new out_old out_new status) (same_place p (to_hudi other) spelled)
                 (subst (λ (m : Mode). Brings store sink delta target place m now old new out_old out_new status) one brings),
           );
@@ -107,7 +108,7 @@ module _ {S O : Type 0} (store : Ghosts S) (sink : sinks.Ghosts O) (delta : sour
       hudi_shown = λ p spelled. absurd (not_shown mode Hudi (sym here ∙ same p (Show Hudi) spelled));
     }
 
-    pub delta_command : form ≡ Show Delta → (new : S) (source : DeltaSource) → Shows store sink (source_meaning delta source) old new out_old out_new status → Command store sink delta hudi target words old new out_old out_new status
+    pub delta_command : form ≡ Show Delta → (new : S) (source : DeltaSource) → Shows store sink (source_meaning delta source) old new out_old out_new status → Command store sink delta hudi target gives words old new out_old out_new status
     delta_command here new source shows = record {
       usage = λ no. absurd (no place form is);
       later = λ p f spelled unserved. absurd (unserved (inr (inl (sym (same p f spelled) ∙ here))));
@@ -116,7 +117,7 @@ module _ {S O : Type 0} (store : Ghosts S) (sink : sinks.Ghosts O) (delta : sour
       hudi_shown = λ p spelled. let e : Show Delta ≡ Show Hudi = sym here ∙ same p (Show Hudi) spelled in absurd (cc e);
     }
 
-    pub hudi_command : form ≡ Show Hudi → (new : S) (source : HudiSource) → Shows store sink (source_meaning hudi source) old new out_old out_new status → Command store sink delta hudi target words old new out_old out_new status
+    pub hudi_command : form ≡ Show Hudi → (new : S) (source : HudiSource) → Shows store sink (source_meaning hudi source) old new out_old out_new status → Command store sink delta hudi target gives words old new out_old out_new status
     hudi_command here new source shows = record {
       usage = λ no. absurd (no place form is);
       later = λ p f spelled unserved. absurd (unserved (inr (inr (sym (same p f spelled) ∙ here))));

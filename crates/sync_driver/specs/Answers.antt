@@ -40,11 +40,11 @@ Brings store sink delta target place mode now old new out_old out_new status =
     ⊎ ((source : DeltaSource) × (hudi : HudiTarget) × IsTableName place hudi.name
     × Syncs store sink (source_meaning delta source) (target_facts target hudi) mode now old new out_old out_new status)
 
--- A command's answer and what it has done. `now` is the time that the clock gave.
+-- A command's answer and what it has done. `now` is the time that the clock gave, one of those that it may give.
 -- Words that are no command, and forms that aren't served, look at no file.
-pub record Command {S O : Type 0} (store : Ghosts S) (sink : sinks.Ghosts O) (delta : sources.Ghosts DeltaSource) (hudi : sources.Ghosts HudiSource) (target : targets.Ghosts HudiTarget HudiKept) (words : Words) (old new : S) (out_old out_new : O) (status : Status) : Type 0 where
+pub record Command {S O : Type 0} (store : Ghosts S) (sink : sinks.Ghosts O) (delta : sources.Ghosts DeltaSource) (hudi : sources.Ghosts HudiSource) (target : targets.Ghosts HudiTarget HudiKept) (gives : ℕ → Type 0) (words : Words) (old new : S) (out_old out_new : O) (status : Status) : Type 0 where
   pub usage : IsNoCommand words → Tells sink out_old out_new (refusal_line Usage) Usage status × (new ≡ old)
   pub later : (place : List ℕ) (form : Form) → IsCommand words place form → (IsServed form → ⊥) → Tells sink out_old out_new (refusal_line Later) Later status × (new ≡ old)
-  pub brought : (place : List ℕ) (mode : Mode) → IsCommand words place (to_hudi mode) → (now : ℕ) × Brings store sink delta target place mode now old new out_old out_new status
+  pub brought : (place : List ℕ) (mode : Mode) → IsCommand words place (to_hudi mode) → (now : ℕ) × gives now × Brings store sink delta target place mode now old new out_old out_new status
   pub delta_shown : (place : List ℕ) → IsCommand words place (Show Delta) → (source : DeltaSource) × Shows store sink (source_meaning delta source) old new out_old out_new status
   pub hudi_shown : (place : List ℕ) → IsCommand words place (Show Hudi) → (source : HudiSource) × Shows store sink (source_meaning hudi source) old new out_old out_new status

@@ -90,8 +90,8 @@ pub fn run<S: Store, C: Clock, O: Sink>(
     out: &mut O,
 ) -> Status
     ensures { Command ⟦<S as Store>⟧ ⟦<O as Sink>⟧ ⟦<DeltaSource as Source>⟧
-        ⟦<HudiSource as Source>⟧ ⟦<HudiTarget as Target>⟧ words.now store.old store.new out.old
-        out.new result }
+        ⟦<HudiSource as Source>⟧ ⟦<HudiTarget as Target>⟧ (C.gives clock.old) words.now store.old
+        store.new out.old out.new result }
 {
     let Some(command) = command_of(words) else {
         return refuse(alloc, out, Status::Usage);
