@@ -1,5 +1,5 @@
 -- What the steps of inspecting find, taken together.
-use Rattle.std.proofs.Common.{◌≡◌, ◌≢◌, ◌⊎◌, inl, inr, ⊎_elim, ℕ, suc, ◌+◌, ◌-◌, ◌&&◌, Bool, true, false, cond, List, [], ◌∷◌, ◌++◌, length, filter, Contains, Option, Some, None, refl, sym, ap, subst, ◌∙◌, arith}
+use Rattle.std.proofs.Common.{◌≡◌, ◌≢◌, ◌⊎◌, inl, inr, ⊎_elim, ℕ, suc, ◌+◌, ◌-◌, ◌<◌, ◌&&◌, Bool, true, false, cond, List, [], ◌∷◌, ◌++◌, length, filter, Contains, Option, Some, None, refl, sym, ap, subst, ◌∙◌, arith}
 use Rattle.std.specs.Prelude.{codes, IfErr, IfOk, IfSome, IsSome, Result, Ok, Err, option_map, slice_get}
 use Rattle.std.specs.FinMap as map
 use Rattle.std.specs.List.{filter_map}
@@ -339,6 +339,10 @@ pub last_within : (cs : List CompletedInstant) (c : CompletedInstant) → slice_
 last_within cs c is =
     let split = last_split cs c is in
     subst (λ (l : List CompletedInstant). Contains l c) (sym split.1) (Contains-append_right split.0 (c ∷ []) c (Contains-head c []))
+
+pub some_length : (cs : List CompletedInstant) (c : CompletedInstant) → slice_get cs (length cs - 1) ≡ Some c → 0 < length cs
+some_length [] c is = cc
+some_length (x ∷ cs) c is = omega arith
 
 -- ---- what is true of what is kept
 

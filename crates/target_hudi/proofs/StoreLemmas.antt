@@ -28,9 +28,9 @@ use Rattle.hudi_names.specs.declared.name.State.TheVariants as state
 use Rattle.hudi_table.specs.declared.instants.CompletedInstant.{CompletedInstant}
 use Rattle.hudi_timeline.proofs.AnyLemmas.{any_from, any_to}
 use Rattle.hudi_timeline.specs.Written.{properties_text}
-use Rattle.hudi_commit.specs.Names.{IsThere, claim_path, claims_folder, completed_name, completed_path, properties_path, timeline_folder, timeline_path}
+use Rattle.hudi_commit.specs.Names.{IsThere, StaysOrGoes, claim_path, claims_folder, completed_name, completed_path, properties_path, timeline_folder, timeline_path}
 use Rattle.hudi_commit.specs.Orderly.{IsOrderly}
-use Rattle.hudi_commit.specs.Runs.{HasNotGrown, IsBeforeOrAfter, IsCommitted, IsKept, IsOneStep, IsReady, IsTakenBy}
+use Rattle.hudi_commit.specs.Runs.{HasNotGrown, IsBeforeOrAfter, IsCommitted, IsKept, IsOneStep, IsOther, IsReady, IsTakenBy, NotGiven}
 use Rattle.hudi_commit.specs.Settled.{IsSettled, Stands}
 use Rattle.hudi_commit.proofs.StepLaws.{clean_settled}
 use Rattle.target_core.specs.Conditions.{CanPublish, Fits, GoesOn}
@@ -47,10 +47,11 @@ use Rattle.target_hudi.specs.Fitting.{Unfit}
 use Rattle.target_hudi.specs.HudiMeaning.{hudi_meaning}
 use Rattle.target_hudi.specs.Kept.{IsCounted, IsNewest, StandsFor, end_of, held_of, view_of}
 use Rattle.target_hudi.specs.OnceLemmas.{some_list}
-use Rattle.target_hudi.specs.NewInstant.{AreGiven, HoldsText, IsNewInstant, IsTaken}
+use Rattle.target_hudi.specs.NewInstant.{AreGiven, IsNewInstant, IsTaken}
 use Rattle.target_hudi.specs.Reading.{IsReached, IsSettledTarget, Reads, commits_in, completed_in}
 use Rattle.target_hudi.specs.ReadingLemmas.{alike_reads, never_pending, orderly, own_of}
 use Rattle.target_hudi.specs.SettledLemmas.{crash_carries, crash_reads, crash_settled}
+use Rattle.target_hudi.specs.Writes.{Writes}
 use Rattle.target_hudi.specs.Writing.{Passes, TimelineEnd}
 use Rattle.target_hudi.specs.TableName.{new_pairs}
 use Rattle.target_hudi.specs.declared.kept.HudiKept.{HudiKept}
@@ -258,18 +259,23 @@ module _ {S : Type 0} (store : Ghosts S) (old new : S) (told : store.tells) (nam
     text_there None given there first = absurd (given first)
     text_there (Some bytes) given there first = there ∙ ap (λ (b : List ℕ). Some b) given.1
 
-    -- what stands in the files
-    pub holds_text : IsCommitted properties instant text (store.disk old) (store.disk new) → HoldsText exit (end_of name kept) origin now commit
-    holds_text committed =
+    not_given : (o : Option (List ℕ)) → AreGiven (end_of name kept) o → (path : List ℕ) → (kept.newest ≡ None → path ≢ properties_path) → NotGiven o path
+    not_given None given path other = tt
+    not_given (Some bytes) given path other = other given.0
+
+    -- what it writes
+    pub writes : IsCommitted properties instant text (store.disk old) (store.disk new) → ((path : List ℕ) → IsOther properties instant path → StaysOrGoes entry exit path) → Writes name kept entry origin now commit exit
+    writes committed others =
         let grown = grown_now committed in
         record {
           time = instant;
           next_time = v.next_time;
           written = v.written;
           is = v.is;
-          holds = grown.there ∙ ap (λ (b : List ℕ). Some b) v.text_is;
+          completed = grown.there ∙ ap (λ (b : List ℕ). Some b) v.text_is;
           pending = committed.pending;
           properties = text_there properties v.given grown.properties;
+          others = λ path completed pending first. others path (record { completed = completed; pending = pending; given = not_given properties v.given path first });
         }
 
     -- too many claims: it reads as before

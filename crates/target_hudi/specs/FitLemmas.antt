@@ -1,4 +1,4 @@
--- What fits a Hudi target: of a list that fits, the first commit and, behind it, the rest.
+-- What fits a Hudi target: of a list that fits, the first commit and, behind it, the rest. No commits always fit.
 use Rattle.std.proofs.Common.{◌≡◌, ◌≢◌, ◌⊎◌, inl, inr, ⊎_elim, ℕ, ◌<◌, List, [], ◌∷◌, length, Contains, Option, None, Some, refl, sym, ap, subst, ◌∙◌, arith}
 use Rattle.std.proofs.lemmas.List.Elements.{Contains-append_right}
 use Rattle.lake_basics.specs.declared.limits.TheConstants.{MAX_PUBLISHED_COMMITS}
@@ -78,6 +78,13 @@ fits_first held partition commit commits fits = record {
       (λ is. fits_alike held partition (commit ∷ commits) fits
       (λ none. cc, ⊎_elim inl (λ (kinds : ChangesKinds (columns_of held) partition (commit ∷ [])). inr (⊎_elim inl (λ never. absurd never) kinds)) is.1))
       (λ other there. fits_commits held partition (commit ∷ commits) fits other (one_of commit commits other there));
+}
+
+-- ---- none
+
+pub fits_none : (held : Option Held) (partition : List (List ℕ)) → Fits (Unfit held) partition []
+fits_none held partition = record {
+  never = fits_by held partition [] (λ is. absurd (omega (arith, is))) (λ is. is.0 refl) (λ other there. absurd (Contains-none other there));
 }
 
 -- ---- the rest

@@ -169,7 +169,7 @@ pub record IsKeptOf (newest : Newest) (commits : ℕ) (time : List ℕ) (kept : 
   pub newest_is : kept.newest ≡ Some time
 
 abbrev pub IsSoundKept : Kind → HudiKept → Type 0
-IsSoundKept source kept = IsPublishable kept.table × IsOfSource source (view_of kept)
+IsSoundKept source kept = (0 < kept.commits) × IsPublishable kept.table × IsOfSource source (view_of kept)
 
 -- Nothing is published, or this is kept of commits that are ours for a source of this format.
 abbrev pub IsFound : Kind → Files → Option HudiKept → Type 0

@@ -1,13 +1,12 @@
 -- The instant that a commit is published as, and what is kept behind it.
-use Rattle.std.specs.Prelude.{◌≡◌, ◌⊎◌, ◌↔◌, ◌≢◌, ◌+◌, ℕ, ℤ, List, [], Contains, IfSome, None, Ok, Option, Some}
+use Rattle.std.specs.Prelude.{◌≡◌, ◌⊎◌, ◌↔◌, ◌≢◌, ◌+◌, ℕ, ℤ, List, Contains, IfSome, None, Ok, Option, Some}
 use Rattle.std.specs.Cmp.Lexicographic.{slice_cmp}
 use Rattle.std.specs.Ordering.{nat_cmp}
 use Rattle.std.specs.declared.cmp.Ordering.TheVariants.{Less}
 use Rattle.serde_json.specs.Written.{compact_text}
 use Rattle.lake_basics.specs.declared.limits.TheConstants.{MAX_FILE_BYTES}
-use Rattle.std.specs.FinMap as map
 use Rattle.lake_store.specs.Disk.{Files}
-use Rattle.hudi_commit.specs.Names.{IsThere, Stage, completed_path, pending_path, properties_path}
+use Rattle.hudi_commit.specs.Names.{IsThere, completed_path, properties_path}
 use Rattle.table_history.specs.Row.{Row}
 use Rattle.table_history.specs.Rows.{HasDistinctPaths}
 use Rattle.table_history.specs.Tables.{IsRowAfter}
@@ -54,17 +53,6 @@ pub record IsNewInstant (end : TimelineEnd) (origin : Origin) (now : ℕ) (kept 
   pub end_is : end_of end.name next ≡ end_behind end time commit
   pub commits : next.commits ≡ kept.commits + 1
   pub mark : next.mark ≡ Some (mark_of time origin commit.position)
-
--- The instant that comes next is completed, with the text of what is written for the commit. Its pending names are empty files, and the first one's
--- table has the properties of this name and these partition columns.
-pub record HoldsText (files : Files) (end : TimelineEnd) (origin : Origin) (now : ℕ) (commit : Commit) : Type 0 where
-  pub time : List ℕ
-  pub next_time : IsNextInstant end now time
-  pub written : Instant
-  pub is : IsWritten end origin time commit written
-  pub holds : map.get files (completed_path time) ≡ Some (instant_text written)
-  pub pending : (stage : Stage) → map.get files (pending_path stage time) ≡ Some []
-  pub properties : end.newest ≡ None → map.get files properties_path ≡ Some (properties_text (new_pairs end.name end.partition))
 
 -- Another writer was first: the instant that comes next is completed, or before the first one the table has properties.
 abbrev pub IsTaken : Files → TimelineEnd → ℕ → Type 0

@@ -14,8 +14,9 @@ ghost use Rattle.target_core.specs.Views.{IsAdvanced};
 ghost use Rattle.target_hudi.specs.Fitting.{Unfit};
 ghost use Rattle.target_hudi.specs.HudiMeaning.{hudi_meaning, image};
 ghost use Rattle.target_hudi.specs.Kept.{IsCounted, StandsFor, end_of, held_of, view_of};
-ghost use Rattle.target_hudi.specs.NewInstant.{HoldsText, IsTaken};
+ghost use Rattle.target_hudi.specs.NewInstant.{IsTaken};
 ghost use Rattle.target_hudi.specs.Reading.{IsSettledTarget, Reads, commits_in};
+ghost use Rattle.target_hudi.specs.Writes.{Writes};
 ghost use Rattle.target_hudi.specs.Writing.{Passes};
 
 use crate::kept::HudiKept;
@@ -72,8 +73,9 @@ pub(crate) fn publish<S: Store>(
         (view_of kept.old) (commit.now ∷ [])
         (Uncontested result) (is_ok result) store.old store.new }
     ensures writes { S.tells → StandsFor kept.old (S.disk store.old).files
-        → OnOk result (HoldsText (S.disk store.new).files (end_of name.now kept.old)
-        (record { source = source; table = option_copied table.entry }) now_ms commit.now) }
+        → OnOk result (Writes name.now kept.old (S.disk store.old).files
+        (record { source = source; table = option_copied table.entry }) now_ms commit.now
+        (S.disk store.new).files) }
     ensures contested { S.tells → StandsFor kept.old (S.disk store.old).files
         → IsSettledTarget (S.disk store.old) → IsErrOf result TargetError.Contested
         → commits_in (S.disk store.new).files ≤ kept.old.commits + 1 }

@@ -72,9 +72,10 @@ impl Target for HudiTarget {
     ghost use Rattle.target_hudi.specs.Inspecting.{IsCrowded, IsForeign};
     ghost use Rattle.target_hudi.specs.Kept.{IsCounted, StandsFor, end_of, held_of, view_of};
     ghost use Rattle.target_hudi.specs.Reading.{IsCarried, IsReached, IsSettledTarget, Reads, commits_in};
+    ghost use Rattle.target_hudi.specs.Writes.{Writes};
     ghost use Rattle.target_hudi.specs.Writing.{Passes};
     ghost use Rattle.target_hudi.specs.AlikeLemmas.{fits_partition, passes_alike, unfit_alike};
-    ghost use Rattle.target_hudi.specs.FitLemmas.{fits_first};
+    ghost use Rattle.target_hudi.specs.FitLemmas.{fits_first, fits_none};
     ghost use Rattle.target_hudi.specs.InspectLemmas.{not_foreign, one_path};
     ghost use Rattle.target_hudi.specs.KeptLemmas.{counted_own, kept_counted, kept_own, kept_view};
     ghost use Rattle.target_hudi.specs.OwnLemmas.{crowded_own, foreign_own, passes_own};
@@ -103,6 +104,9 @@ impl Target for HudiTarget {
         Passes files (end_of t.name kept) origin now commits which number };
 
     ghost carries = { λ t files number change standing. IsCarried files number change standing };
+
+    ghost writes = { λ t kept before origin now commit after.
+        Writes t.name kept before origin now commit after };
 
     ghost reached = { λ t files path. IsReached files path };
 
@@ -185,6 +189,8 @@ impl Target for HudiTarget {
 
     ghost fits_first = { λ t kept partition commit commits fits.
         fits_first (held_of kept) partition commit commits fits };
+
+    ghost fits_none = { λ t kept partition. fits_none (held_of kept) partition };
 
     ghost fits_partition = { λ t kept partition commits some fits published.
         fits_partition kept partition commits some fits published };

@@ -13,7 +13,7 @@ use Rattle.target_hudi.specs.Kept.{end_of, view_of}
 use Rattle.target_hudi.proofs.TimelineLemmas.{free}
 use Rattle.target_hudi.proofs.KeepsLemmas.{advanced, fits_behind}
 use Rattle.target_hudi.proofs.PublishLemmas.{earlier}
-use Rattle.target_hudi.proofs.StoreLemmas.{contest_too, contested_error, counted_now, few_now, holds_text, limited_by, orderly_before, passes_ahead, publishes_instant, publishes_nothing, reads_unmoved, ready, refused_by, same_instant, stands_behind, taken_answer, taken_now}
+use Rattle.target_hudi.proofs.StoreLemmas.{contest_too, contested_error, counted_now, few_now, limited_by, orderly_before, passes_ahead, publishes_instant, publishes_nothing, reads_unmoved, ready, refused_by, same_instant, stands_behind, taken_answer, taken_now, writes}
 use Rattle.target_hudi.proofs.commit.publish.Goals as goal
 
 pub returns-in_err-new-clause-publishes : goal.returns-in_err-new-clause-publishes
@@ -149,7 +149,7 @@ returns-in-Ok-clause-writes g c told stands =
     let alone = c.in-Ok.ensures.kept told in
     let whole = orderly_before store old new told name origin now kept next commit instant properties text v counted alone stands in
     let is_ready = ready store old new told name origin now kept next commit instant properties text v counted alone stands in
-    holds_text store old new told name origin now kept next commit instant properties text v counted alone stands (c.in-Ok.ensures.committed told whole is_ready)
+    writes store old new told name origin now kept next commit instant properties text v counted alone stands (c.in-Ok.ensures.committed told whole is_ready) (c.in-Ok.ensures.others told)
 
 pub returns-in-Ok-clause-ahead : goal.returns-in-Ok-clause-ahead
 returns-in-Ok-clause-ahead g c told =

@@ -1,8 +1,8 @@
-use Rattle.std.proofs.Common.{◌≡◌, ◌-◌, Some, List, length, slice_get, subst, sym, ℕ}
+use Rattle.std.proofs.Common.{◌≡◌, ◌-◌, ◌<◌, Some, List, length, slice_get, subst, sym, ℕ}
 use Rattle.target_core.specs.Conditions.{IsPublishable}
 use Rattle.hudi_names.specs.Time.{IsSomeTime}
 use Rattle.target_hudi.specs.InspectSteps.{IsKeptOf}
-use Rattle.target_hudi.proofs.SeenLemmas.{held_table, kept_found, kept_source, last_split, last_within, publishable}
+use Rattle.target_hudi.proofs.SeenLemmas.{held_table, kept_found, kept_source, last_split, last_within, publishable, some_length}
 use Rattle.target_hudi.proofs.inspect.read_commits.Goals as goal
 
 pub kept_of-requires-clause-real : goal.kept_of-requires-clause-real
@@ -33,7 +33,13 @@ returns-in_ok-copy-in-Some-2-clause-found g c = λ told.
 
 pub returns-in_ok-copy-in-Some-2-clause-sound : goal.returns-in_ok-copy-in-Some-2-clause-sound
 returns-in_ok-copy-in-Some-2-clause-sound g c =
+    let completed = c.args.completed.now in
+    let last = c.in-Some.last.now in
     let newest = c.in-Some-2.newest in
     let kept = c.kept_of.result in
     let sound = rw c.in-Some-2.is at c.in_ok-read_instants.ensures.sound in
-    (subst IsPublishable (sym c.kept_of.ensures.table) (publishable c.args.properties.now.table newest.latest.table sound.0), kept_source c.args.source newest (length c.args.completed.now) c.in_ok-copy-in-Some-2.field-0 kept c.kept_of.ensures sound.1)
+    let at : slice_get completed (length completed - 1) ≡ Some last = sym c.in-Some.ensures.value in (
+      subst (λ n. 0 < n) (sym c.kept_of.ensures.commits_are) (some_length completed last at),
+      subst IsPublishable (sym c.kept_of.ensures.table) (publishable c.args.properties.now.table newest.latest.table sound.0),
+      kept_source c.args.source newest (length completed) c.in_ok-copy-in-Some-2.field-0 kept c.kept_of.ensures sound.1,
+    )
