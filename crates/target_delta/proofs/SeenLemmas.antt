@@ -1,5 +1,6 @@
 -- What a Delta log that was read up to its newest version stands at.
 use Rattle.std.proofs.Common.{◌≡◌, ◌≢◌, inl, inr, ℕ, suc, pos, true, ◌+◌, ◌≤◌, List, [], Option, Some, None, refl, sym, ap, subst, ◌∙◌, arith}
+use Rattle.std.specs.Prelude.{IfOk, Result, Ok, Err}
 use Rattle.std.specs.Option.{option_and_then, option_map}
 use Rattle.std.proofs.lemmas.Bool.{cases_lt}
 use Rattle.lake_basics.specs.declared.limits.TheConstants.{MAX_DELTA_VERSION}
@@ -28,6 +29,7 @@ use Rattle.target_core.specs.Views.{Standing, standing_of}
 use Rattle.target_core.specs.declared.mark.Mark.{Mark}
 use Rattle.target_core.specs.declared.target.Seen.{Seen}
 use Rattle.target_core.specs.declared.target.Seen.TheVariants.{Absent, Ours, Foreign}
+use Rattle.target_core.specs.declared.target.TargetError.{TargetError}
 use Rattle.target_delta.specs.Inspecting.{IsForeign}
 use Rattle.target_delta.specs.InspectSteps.{IsKeptOf, IsMarkOf, IsNewest, IsSeenOf}
 use Rattle.target_delta.specs.Kept.{HoldsEnd, StandsFor, view_of}
@@ -171,9 +173,13 @@ module _ (files : Files) (newest : ℕ) (log : Log) (is : IsLogOf files (newest 
     unmarked = λ standing at same. h.1 at.mark (mark_of_at files newest log is standing at) (ap (λ (s : Standing). s.origin.source) at.is ∙ same);
   }))
 
+  pub seen_whole : (source : Kind) (id : List ℕ) (r : Result (Seen DeltaKept) TargetError) → IfOk r (IsSeenOf log newest source) → IfOk r (IsSeen (Reads files) (IsForeign source files) view_of (λ kept. StandsFor id kept files) source)
+  seen_whole source id (Err e) h = tt
+  seen_whole source id (Ok seen) h = seen_here source id seen h
+
 -- what is kept of a log of a table that may be followed on
 pub kept_sound : (log : Log) (newest : ℕ) (source : Kind) (mark : Mark) (kept : DeltaKept) → IsTableOfLog log.table → IsKeptOf log newest mark kept → mark.source ≡ source → IsSeenSound view_of source (Ours kept)
-kept_sound log newest source mark kept table k is = (subst IsPublishable (sym k.table) (publishable log.table table), (standing_of mark, ap (λ (m : Option Mark). option_map standing_of m) k.marked, is))
+kept_sound log newest source mark kept table k is = (let count = k.commits in omega (arith, count), subst IsPublishable (sym k.table) (publishable log.table table), (standing_of mark, ap (λ (m : Option Mark). option_map standing_of m) k.marked, is))
 
 -- Where the setting's text is no mark, the log has none.
 pub no_mark : (log : Log) (newest : ℕ) (settings : List (List ℕ × List ℕ)) (text : List ℕ) (mark : Mark) → settings ≡ log.meta.configuration → Some text ≡ setting mark_setting settings → ((m : Mark) → IsMarkText text m → ⊥) → IsMarkOf log newest mark → ⊥

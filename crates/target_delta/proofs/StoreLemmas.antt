@@ -1,13 +1,13 @@
 -- What a commit leaves of the store, where it is refused before it writes, and where its version is staged and published.
-use Rattle.std.proofs.Common.{◌≡◌, ◌≢◌, ◌⊎◌, inl, inr, ⊎_elim, ℕ, suc, ◌+◌, ◌≤◌, Bool, true, false, List, [], ◌∷◌, Option, Some, None, refl, sym, ap, subst, ◌∙◌, arith}
-use Rattle.std.specs.Prelude.{Err, IsErrOf, IsSome, Ok, Result, is_ok}
+use Rattle.std.proofs.Common.{◌≡◌, ◌≢◌, ◌⊎◌, inl, inr, ⊎_elim, ℕ, suc, ◌+◌, ◌≤◌, Bool, true, false, List, [], ◌∷◌, Some, None, refl, sym, ap, subst, ◌∙◌, arith}
+use Rattle.std.specs.Prelude.{Err, IsErrOf, Ok, Result, is_ok}
 use Rattle.std.specs.FinMap as map
 use Rattle.std.proofs.lemmas.Bool.{false≢true}
 use Rattle.lake_basics.specs.declared.limits.TheConstants.{MAX_DELTA_VERSION, MAX_FILE_BYTES}
 use Rattle.lake_store.specs.Cause.{HasContest, HasFault}
-use Rattle.lake_store.specs.Disk.{Disk, Files, IsClean, IsDirty, MayLeave}
-use Rattle.lake_store.specs.Publication.{IsAbsentOrWhole, IsStaged, IsStagedImage}
-use Rattle.lake_store.specs.Runs.{IsEachMoment, IsIn, IsOutside, LeavesAlone, LeavesOnly}
+use Rattle.lake_store.specs.Disk.{Disk, Files, IsClean, MayLeave}
+use Rattle.lake_store.specs.Publication.{IsAbsentOrWhole, IsPublished, IsStaged, IsStagedImage}
+use Rattle.lake_store.specs.Runs.{IsIn, IsOutside, LeavesAlone, LeavesOnly}
 use Rattle.lake_store.specs.declared.store.Store.{Ghosts}
 use Rattle.lake_store.specs.declared.store.StoreError.{StoreError}
 use Rattle.lake_store.specs.declared.store.StoreError.TheVariants.{Taken}
@@ -17,13 +17,15 @@ use Rattle.table_history.specs.declared.limit.LimitKind.TheVariants.{File}
 use Rattle.lake_store.proofs.MomentLaws.{started, weaker}
 use Rattle.lake_store.proofs.RunLaws.{NowOnly, alone_by_reading, reading_begins}
 use Rattle.table_history.specs.declared.table.Commit.{Commit}
+use Rattle.delta_log.specs.Writing.{commit_text}
+use Rattle.delta_log.specs.declared.commit.DeltaCommit.{DeltaCommit}
 use Rattle.delta_table.specs.Versions.{IsVersionPath, log_folder}
 use Rattle.target_core.specs.Conditions.{CanPublish, Fits}
 use Rattle.target_core.specs.Folders.{MayLeaveIn, after_crash}
 use Rattle.target_core.specs.Outcome.{Uncontested, answer_of}
 use Rattle.target_core.specs.Publishing.{Publishes}
-use Rattle.target_core.specs.Step.{IsBefore, IsBeforeOrBehind, IsBehind}
-use Rattle.target_core.specs.Views.{Origin, View}
+use Rattle.target_core.specs.Step.{IsBefore, IsBeforeOrBehind}
+use Rattle.target_core.specs.Views.{Origin}
 use Rattle.target_core.specs.declared.target.TargetError.{TargetError}
 use Rattle.target_core.specs.declared.target.TargetError.TheVariants.{Contested}
 use Rattle.target_core.proofs.OneStep.{publishes_none, publishes_one}
@@ -31,14 +33,15 @@ use Rattle.target_delta.specs.DeltaMeaning.{delta_meaning}
 use Rattle.target_delta.specs.Fitting.{Unfit}
 use Rattle.target_delta.specs.Kept.{StandsFor, end_of, view_of}
 use Rattle.target_delta.specs.Names.{HasVersions, IsLeftover, IsReached, IsSettled, IsStagedPath}
-use Rattle.target_delta.specs.NewVersion.{IsNewVersion}
+use Rattle.target_delta.specs.NewVersion.{IsNewVersion, Writes}
 use Rattle.target_delta.specs.Reading.{commits_in}
+use Rattle.target_delta.specs.Writing.{IsWritten, LogEnd}
 use Rattle.target_delta.specs.declared.kept.DeltaKept.{DeltaKept}
 use Rattle.target_delta.proofs.CommitLemmas.{advanced, earlier, free_path, is_before, is_behind}
 use Rattle.target_delta.specs.CountLemmas.{count_is}
 use Rattle.target_delta.specs.KeptLemmas.{versions_of_reads}
 use Rattle.delta_table.specs.SameVersions.{version_in}
-use Rattle.target_delta.specs.NameLemmas.{leftover_in, never_leftover, staged_leftover}
+use Rattle.target_delta.specs.NameLemmas.{leftover_in, never_leftover, one_staged, staged_leftover}
 use Rattle.target_delta.proofs.PublishLemmas.{IsBeside, image_beside, staged_beside, versions_now}
 use Rattle.target_delta.specs.ReadingLemmas.{crash_carries, crash_reads, crash_settled, dirty_or_clean, none_there, version_clean}
 
@@ -210,3 +213,19 @@ module _ {S : Type 0} (store : Ghosts S) (old new : S) (told : store.tells) (sta
         (λ is. is_behind origin now kept next commit bytes v can fits id (store.disk old).files stands name named_kept (store.disk new).files (beside_now versions_kept) (whole is))
         (λ u. (either (store.disk new).files (beside_now versions_kept) (untaken u) left.file, settled_now versions_kept settled))
         (λ u. weaker store old new (IsStagedImage staged name bytes IsTaken (store.disk old)) (λ files. Either files × IsSettled (after_crash files)) (λ image is. either_left image (untaken u) is) moments told)
+
+-- ---- what is written
+
+pub writes_now : (old new : Disk) (staged name bytes : List ℕ) (version : ℕ) (end : LogEnd) (origin : Origin) (now : ℕ) (commit : Commit) (written : DeltaCommit)
+    → IsStagedPath staged version → IsVersionPath name version → version ≡ end.version → IsPublished staged name bytes old new → IsWritten end origin commit written → bytes ≡ commit_text now written
+    → Writes end old.files origin now commit new.files
+writes_now old new staged name bytes version end origin now commit written is_staged named same published is text =
+    let staged_end : IsStagedPath staged end.version = subst (λ (n : ℕ). IsStagedPath staged n) same is_staged in
+    let named_end : IsVersionPath name end.version = subst (λ (n : ℕ). IsVersionPath name n) same named in
+    record {
+      text = record { written = written; is = is; holds = record { path = name; is = named_end; there = published.file ∙ ap (λ (b : List ℕ). Some b) text } };
+      gone = λ path at. ap (λ (p : List ℕ). map.get new.files p) (one_staged path staged end.version at staged_end) ∙ published.gone;
+      others = λ path off_name off_staged. published.others path
+          (λ (is_staged_too : path ≡ staged). off_staged (subst (λ (p : List ℕ). IsStagedPath p end.version) (sym is_staged_too) staged_end))
+          (λ (is_name : path ≡ name). off_name (subst (λ (p : List ℕ). IsVersionPath p end.version) (sym is_name) named_end));
+    }

@@ -1,6 +1,6 @@
 -- What is written for a change may be written: its actions are on distinct paths of the table, and aren't too many.
-use Rattle.std.proofs.Common.{◌≡◌, ⊎_elim, ℕ, suc, ◌+◌, ◌≤◌, Bool, true, false, not, List, [], ◌∷◌, ◌++◌, length, map, All, Contains, Option, Some, None, refl, sym, ap, subst, ◌∙◌, arith}
-use Rattle.std.specs.Prelude.{IfSome, IsSome}
+use Rattle.std.proofs.Common.{◌≡◌, ⊎_elim, ℕ, suc, ◌≤◌, Bool, false, List, [], ◌∷◌, ◌++◌, length, All, Contains, Option, Some, None, refl, sym, ap, subst, ◌∙◌, arith}
+use Rattle.std.specs.Prelude.{IfSome}
 use Rattle.std.specs.List.{AllByRecursion, IsDistinct}
 use Rattle.std.specs.Str.{bytes_eq}
 use Rattle.std.proofs.lemmas.Bool.{cases_Bool, false≢true}
@@ -13,12 +13,11 @@ use Rattle.table_history.specs.Row.{Row}
 use Rattle.table_history.specs.Rows.{HasPath, paths_of}
 use Rattle.table_history.specs.declared.table.Change.{Change}
 use Rattle.table_history.proofs.RowListLemmas.{Contains-none, Contains-head, Contains-tail, Contains-cases, Contains-paths}
-use Rattle.table_history.proofs.TableLemmas.{Contains-paths_cases, distinct_order}
+use Rattle.table_history.proofs.TableLemmas.{distinct_order}
 use Rattle.delta_log.specs.Commit.{file_path, file_paths}
 use Rattle.delta_log.specs.Sound.{HasNeededFeatures, HaveDistinctNames, IsSoundFile, IsWritable}
 use Rattle.delta_log.specs.declared.commit.DeltaCommit.{DeltaCommit}
 use Rattle.delta_log.specs.declared.commit.FileAction.{FileAction}
-use Rattle.delta_log.specs.declared.commit.FileAction.TheVariants as file
 use Rattle.delta_log.specs.declared.commit.MetaData.{MetaData}
 use Rattle.delta_log.specs.declared.commit.Protocol.{Protocol}
 use Rattle.target_core.specs.declared.mark.Mark.{Mark}

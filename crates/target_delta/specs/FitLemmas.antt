@@ -1,4 +1,4 @@
--- What fits a Delta target: of a list that fits, the first commit and, behind it, the rest.
+-- What fits a Delta target: no commits, and of a list that fits the first commit and, behind it, the rest.
 use Rattle.std.proofs.Common.{◌≡◌, ◌≢◌, ◌⊎◌, inl, inr, ⊎_elim, ℕ, ◌<◌, List, [], ◌∷◌, length, Contains, refl, sym, ap, subst, arith}
 use Rattle.std.proofs.lemmas.List.{append-nil}
 use Rattle.std.proofs.lemmas.List.Elements.{Contains-append_left, Contains-append_right}
@@ -60,7 +60,7 @@ fits_by end partition commits few alike rows _ (many is) = few is
 fits_by end partition commits few alike rows _ (changes not_many is) = alike is
 fits_by end partition commits few alike rows _ (form path not_many not_changed first) = rows first.row (first_there (added_rows commits) path first) first.here
 
--- ---- the first commit, and the rest
+-- ---- no commits, the first commit, and the rest
 
 pub fits_first : (end : LogEnd) (partition : List (List ℕ)) (commit : Commit) (commits : List Commit) → Fits (Unfit end) partition (commit ∷ commits) → Fits (Unfit end) partition (commit ∷ [])
 fits_first end partition commit commits fits = record {
@@ -70,6 +70,9 @@ fits_first end partition commit commits fits = record {
       (λ none. cc, ⊎_elim inl (λ (kinds : ChangesKinds end (commit ∷ [])). inr (⊎_elim inl (λ never. absurd never) kinds)) is.1))
       (λ row there. fits_rows end partition (commit ∷ commits) fits row (Contains-append_left commit.change.added (added_rows commits) row (subst (λ (l : List Row). Contains l row) (append-nil commit.change.added) there)));
 }
+
+pub fits_none : (end : LogEnd) (partition : List (List ℕ)) → Fits (Unfit end) partition []
+fits_none end partition = record { never = fits_by end partition [] (λ is. absurd (omega (arith, is))) (λ is. absurd (is.0 refl)) (λ row there. absurd (Contains-none row there)) }
 
 pub fits_rest : (end : LogEnd) (commit : Commit) (commits : List Commit) → Fits (Unfit end) end.partition (commit ∷ commits) → Fits (Unfit (end_behind end commit)) end.partition commits
 fits_rest end commit commits fits = record {

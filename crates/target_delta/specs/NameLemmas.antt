@@ -4,7 +4,7 @@ use Rattle.std.specs.Str.Parse.{AllDigits}
 use Rattle.std.proofs.lemmas.Str.Parse.{digit_at}
 use Rattle.delta_log.specs.VersionName.{IsVersionName}
 use Rattle.delta_table.specs.Versions.{IsVersionPath, log_folder}
-use Rattle.delta_table.proofs.PathLaws.{one_version}
+use Rattle.delta_table.proofs.PathLaws.{one_version, path_once}
 use Rattle.lake_store.specs.Runs.{IsIn}
 use Rattle.target_delta.specs.Names.{IsLeftover, IsStagedPath, leftover_front, path_of}
 
@@ -36,6 +36,12 @@ staged_leftover path version p = record {
   leftover = record { digits = p.named.padded.digits; len = p.named.padded.padded.len; numeral = p.named.padded.padded.numeral; split = ap (λ (n : List ℕ). leftover_front ++ n) p.named.padded.split };
   is = p.is;
 }
+
+-- a version is staged under one path
+pub one_staged : (path other : List ℕ) (version : ℕ) → IsStagedPath path version → IsStagedPath other version → path ≡ other
+one_staged path other version p o =
+    let paths = path_once version (path_of p.name) (path_of o.name) (record { name = p.name; named = p.named; split = refl }) (record { name = o.name; named = o.named; split = refl }) in
+    p.is ∙ ap (λ (n : List ℕ). path_of (leftover_front ++ n)) (same_behind p.name o.name (path_of p.name) refl paths) ∙ sym o.is
 
 pub leftover_in : (path : List ℕ) → IsLeftover path → IsIn log_folder path
 leftover_in path left = (left.name, left.is)

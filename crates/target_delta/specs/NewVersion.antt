@@ -1,5 +1,6 @@
 -- The version that a commit is written as, and what is kept behind it.
-use Rattle.std.specs.Prelude.{◌≡◌, ◌||◌, ◌+◌, ℕ, ◌∷◌, [], List, ◌<◌, ◌≤◌, length, Ok, Some}
+use Rattle.std.specs.Prelude.{◌≡◌, ◌||◌, ◌+◌, ℕ, ◌∷◌, [], List, ◌<◌, ◌≤◌, length, Ok, None, Some}
+use Rattle.std.specs.FinMap as map
 use Rattle.serde_json.specs.Written.{compact_text}
 use Rattle.lake_basics.specs.declared.limits.TheConstants.{MAX_DELTA_VERSION, MAX_FILE_BYTES}
 use Rattle.lake_store.specs.Disk.{Files}
@@ -15,15 +16,16 @@ use Rattle.schema_map.specs.DeltaWriting.{delta_text}
 use Rattle.delta_log.specs.Readable.{IsReadableCommit}
 use Rattle.delta_log.specs.Writing.{SameCommit, commit_text}
 use Rattle.delta_log.specs.declared.commit.DeltaCommit.{DeltaCommit}
-use Rattle.delta_table.specs.Versions.{HoldsVersion}
+use Rattle.delta_table.specs.Versions.{HoldsVersion, IsVersionPath}
 use Rattle.target_core.specs.Mark.{IsMarkText, mark_data}
 use Rattle.target_core.specs.Views.{Origin}
 use Rattle.target_core.specs.declared.mark.Mark.{Mark}
 use Rattle.target_core.specs.declared.target.TargetError.{TargetError}
 use Rattle.target_core.specs.declared.target.TargetError.TheVariants.{Memory, StoreFault, Contested, Limit, Unsupported}
 use Rattle.target_delta.specs.Kept.{end_of}
+use Rattle.target_delta.specs.Names.{IsStagedPath}
 use Rattle.target_delta.specs.Reading.{mark_setting}
-use Rattle.target_delta.specs.Writing.{AreActions, IsWritten, LogEnd, Passes, end_behind, have_ntz, mark_of, protocol_due, schema_behind}
+use Rattle.target_delta.specs.Writing.{AreActions, IsWritten, LogEnd, end_behind, have_ntz, mark_of, protocol_due}
 use Rattle.target_delta.specs.declared.kept.DeltaKept.{DeltaKept}
 
 -- This is written for a change with this mark, where the table of `behind` is that behind the change and all else of it stands before.
@@ -89,6 +91,13 @@ pub record HoldsText (files : Files) (end : LogEnd) (origin : Origin) (now : ℕ
   pub written : DeltaCommit
   pub is : IsWritten end origin commit written
   pub holds : HoldsVersion files end.version (commit_text now written)
+
+-- Publishing the commit over the files before has left those after: the version behind this end has its text, the name that it was staged under is
+-- gone, and all other files are as before.
+pub record Writes (end : LogEnd) (before : Files) (origin : Origin) (now : ℕ) (commit : Commit) (after : Files) : Type 0 where
+  pub text : HoldsText after end origin now commit
+  pub gone : (path : List ℕ) → IsStagedPath path end.version → map.get after path ≡ None
+  pub others : (path : List ℕ) → ¬ IsVersionPath path end.version → ¬ IsStagedPath path end.version → map.get after path ≡ map.get before path
 
 -- A number is passed, or memory runs out.
 abbrev pub IsVersionRefusal : (LimitKind → ℕ → Type 0) → TargetError → Type 0

@@ -15,7 +15,7 @@ ghost use Rattle.target_delta.specs.DeltaMeaning.{delta_meaning, image};
 ghost use Rattle.target_delta.specs.Fitting.{Unfit};
 ghost use Rattle.target_delta.specs.Kept.{StandsFor, end_of, view_of};
 ghost use Rattle.target_delta.specs.Names.{HasVersions, IsSettled};
-ghost use Rattle.target_delta.specs.NewVersion.{HoldsText};
+ghost use Rattle.target_delta.specs.NewVersion.{Writes};
 ghost use Rattle.target_delta.specs.Reading.{Reads, commits_in};
 ghost use Rattle.target_delta.specs.Writing.{Passes};
 
@@ -59,8 +59,9 @@ pub(crate) fn publish_commit<S: Store>(
         (record { source = source; table = option_copied table.entry })
         (view_of kept.old) (commit.now ∷ [])
         (Uncontested result) (is_ok result) store.old store.new }
-    ensures writes { S.tells → OnOk result (HoldsText (S.disk store.new).files (end_of kept.old)
-        (record { source = source; table = option_copied table.entry }) now_ms commit.now) }
+    ensures writes { S.tells → OnOk result (Writes (end_of kept.old) (S.disk store.old).files
+        (record { source = source; table = option_copied table.entry }) now_ms commit.now
+        (S.disk store.new).files) }
     ensures contested { S.tells → (id : List ℕ) → StandsFor id kept.old (S.disk store.old).files
         → IsSettled (S.disk store.old) → IsErrOf result TargetError.Contested
         → commits_in (S.disk store.new).files ≤ kept.old.commits + 1 }

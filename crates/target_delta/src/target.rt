@@ -56,8 +56,9 @@ impl Target for DeltaTarget {
     ghost use Rattle.target_delta.specs.Kept.{StandsFor, end_of, view_of};
     ghost use Rattle.target_delta.specs.Names.{HasVersions, IsReached, IsSettled};
     ghost use Rattle.target_delta.specs.Reading.{IsCarried, Reads, commits_in};
+    ghost use Rattle.target_delta.specs.NewVersion.{Writes};
     ghost use Rattle.target_delta.specs.Writing.{Passes};
-    ghost use Rattle.target_delta.specs.FitLemmas.{fits_first, fits_partition};
+    ghost use Rattle.target_delta.specs.FitLemmas.{fits_first, fits_none, fits_partition};
     ghost use Rattle.target_delta.specs.InspectLemmas.{not_foreign, one_path};
     ghost use Rattle.target_delta.specs.KeptLemmas.{kept_own};
     ghost use Rattle.target_delta.specs.LawLemmas.{commits_read, counted_own, image_publishable, kept_counted, passes_alike, reached_alone, unfit_alike};
@@ -85,6 +86,9 @@ impl Target for DeltaTarget {
 
     ghost carries = { λ t files number change standing.
         IsCarried t.id files number change standing };
+
+    ghost writes = { λ t kept before origin now commit after.
+        Writes (end_of kept) before origin now commit after };
 
     ghost reached = { λ t files path. IsReached files path };
 
@@ -165,6 +169,8 @@ impl Target for DeltaTarget {
 
     ghost fits_first = { λ t kept partition commit commits fits.
         fits_first (end_of kept) partition commit commits fits };
+
+    ghost fits_none = { λ t kept partition. fits_none (end_of kept) partition };
 
     ghost fits_partition = { λ t kept partition commits some fits published.
         fits_partition (end_of kept) partition commits some fits published };

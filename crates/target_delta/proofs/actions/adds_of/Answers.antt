@@ -1,5 +1,5 @@
 use Rattle.std.proofs.Common.{◌+◌, All, List, take, sym, subst, ◌∙◌}
-use Rattle.std.proofs.lemmas.List.Elements.{All-push, All-nil}
+use Rattle.std.proofs.lemmas.List.Elements.{All-push}
 use Rattle.delta_log.specs.Sound.{IsSoundFile}
 use Rattle.delta_log.specs.declared.commit.FileAction.{FileAction}
 use Rattle.target_delta.specs.Writing.{AreAddsAt}

@@ -1,4 +1,4 @@
-use Rattle.std.proofs.Common.{◌≡◌, ℕ, suc, Bool, true, List, [], ◌∷◌, Some, Err, refl, sym, ap, subst, ◌∙◌, arith}
+use Rattle.std.proofs.Common.{◌≡◌, ℕ, suc, Bool, true, [], ◌∷◌, Err, refl, sym, ap, subst, arith}
 use Rattle.std.specs.Prelude.{is_ok}
 use Rattle.std.specs.Option.{option_copied}
 use Rattle.std.proofs.lemmas.Result.{err_from_is_err_and}
@@ -7,13 +7,12 @@ use Rattle.target_core.specs.Outcome.{Uncontested}
 use Rattle.target_core.specs.Publishing.{Publishes}
 use Rattle.target_core.specs.Views.{Origin}
 use Rattle.target_delta.specs.DeltaMeaning.{delta_meaning}
-use Rattle.target_delta.specs.Kept.{view_of}
+use Rattle.target_delta.specs.Kept.{end_of, view_of}
 use Rattle.target_delta.specs.Names.{HasVersions, IsStagedPath}
 use Rattle.target_delta.specs.NewVersion.{IsNewVersion}
 use Rattle.target_delta.specs.Writing.{LogEnd}
 use Rattle.target_delta.proofs.CommitLemmas.{fits_behind, free_path, stands_now}
-use Rattle.target_delta.specs.KeptLemmas.{versions_of_reads}
-use Rattle.target_delta.proofs.StoreLemmas.{alone_staged, beside_now, contested_by, count_taken, counted_now, err_same, not_ok, ok_taken, publishes_nothing, publishes_staged, untaken_by}
+use Rattle.target_delta.proofs.StoreLemmas.{alone_staged, beside_now, contested_by, count_taken, counted_now, err_same, not_ok, ok_taken, publishes_nothing, publishes_staged, untaken_by, writes_now}
 use Rattle.target_delta.proofs.commit.publish_commit.Goals as goal
 
 pub returns-in_err-version-clause-publishes : goal.returns-in_err-version-clause-publishes
@@ -172,14 +171,16 @@ returns-clause-publishes g c told id stands settled =
 
 pub returns-clause-writes : goal.returns-clause-writes
 returns-clause-writes g c told =
+    let store = g.S.Store in
     let kept = c.args.kept.now in
     let next = c.new_version.new.kept in
+    let old = c.args.store.now in
+    let new = c.stage_and_publish.new.store in
+    let staged = c.as_str-staged.result.now in
     let name = c.as_str-path.result.now in
+    let bytes = c.as_slice.result.now in
     let origin : Origin = record { source = c.args.source; table = option_copied c.args.table } in
+    let is_staged = subst (λ p. IsStagedPath p kept.commits) (sym c.as_str-staged.ensures.value) c.in_ok-version.ensures.staged in
     let named = subst (λ p. IsVersionPath p kept.commits) (sym c.as_str-path.ensures.value) c.in_ok-version.ensures.path in
     let v = subst (λ b. IsNewVersion origin c.args.now_ms kept c.args.commit.now b next) (sym c.as_slice.ensures.value) c.in_ok-version.ensures.is in
-    record {
-      written = v.written;
-      is = v.is;
-      holds = record { path = name; is = named; there = (c.in_ok-stage_and_publish.ensures.published told).file ∙ ap (λ (b : List ℕ). Some b) v.text };
-    }
+    writes_now (store.disk old) (store.disk new) staged name bytes kept.commits (end_of kept) origin c.args.now_ms c.args.commit.now v.written is_staged named refl (c.in_ok-stage_and_publish.ensures.published told) v.is v.text

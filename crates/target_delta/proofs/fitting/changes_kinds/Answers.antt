@@ -1,10 +1,8 @@
-use Rattle.std.proofs.Common.{◌≡◌, ◌+◌, List, length, drop, true, refl, sym, ap, subst, ◌∙◌}
+use Rattle.std.proofs.Common.{◌≡◌, ◌+◌, List, drop, refl, sym, ap, subst, ◌∙◌}
 use Rattle.std.specs.Prelude.{IsTrue}
 use Rattle.std.proofs.lemmas.Bool.{false≢true}
 use Rattle.table_history.specs.declared.table.Commit.{Commit}
-use Rattle.target_delta.specs.Fitting.{ChangesKinds, EndsWith, kinds_of}
-use Rattle.target_delta.specs.Writing.{LogEnd}
-use Rattle.target_delta.proofs.KindLemmas.{AtStep, at_start, step_found, step_none, step_some}
+use Rattle.target_delta.proofs.KindLemmas.{AtStep, step_found, step_none, step_some}
 use Rattle.target_delta.proofs.TextLemmas.{next_of}
 use Rattle.target_delta.proofs.fitting.changes_kinds.Goals as goal
 use Rattle.target_delta.proofs.fitting.changes_kinds.Goals.{in-Some+in_ok-stated+else-has_commit, else-has_commit-via-then-has_commit+else-not-are_same_kinds, else-has_commit-via-else-has_commit, in_default}

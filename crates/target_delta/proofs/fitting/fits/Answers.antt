@@ -1,11 +1,8 @@
-use Rattle.std.proofs.Common.{◌≡◌, List, ℕ, ◌<◌, length, true, sym, ap, subst, ◌∙◌, arith}
-use Rattle.std.specs.Prelude.{Contains}
+use Rattle.std.proofs.Common.{List, ℕ, sym, subst, ◌∙◌, arith}
 use Rattle.std.proofs.lemmas.Bool.{false≢true}
-use Rattle.lake_basics.specs.declared.limits.TheConstants.{MAX_PUBLISHED_COMMITS}
-use Rattle.table_history.specs.Row.{Row}
 use Rattle.table_history.specs.declared.feature.Feature.TheVariants.{PartitionChange}
 use Rattle.target_core.specs.declared.target.TargetError.TheVariants.{Unsupported}
-use Rattle.target_delta.specs.Fitting.{ChangesPartition, HasValueForm, IsFormOf, Unfit, added_rows, changes, form, many}
+use Rattle.target_delta.specs.Fitting.{IsFormOf, Unfit, added_rows, changes, form, many}
 use Rattle.target_delta.specs.Kept.{end_of}
 use Rattle.target_delta.specs.FitLemmas.{fits_by}
 use Rattle.target_delta.proofs.fitting.fits.Goals as goal

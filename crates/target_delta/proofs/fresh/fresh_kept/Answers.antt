@@ -1,4 +1,4 @@
-use Rattle.std.proofs.Common.{ap, refl, sym, ◌∙◌, subst, false, None}
+use Rattle.std.proofs.Common.{ap, refl, None}
 use Rattle.table_history.specs.declared.table.Table.{Table}
 use Rattle.target_core.specs.Views.{View}
 use Rattle.target_delta.specs.KeptLemmas.{fresh_stands}
