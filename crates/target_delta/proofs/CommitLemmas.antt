@@ -1,8 +1,7 @@
 -- What the files read as when a commit's version is there or not, and what is kept behind it.
-use Rattle.std.proofs.Common.{◌≡◌, ◌≢◌, ◌⊎◌, inl, inr, ⊎_elim, ℕ, suc, ◌+◌, ◌<◌, ◌≤◌, ◌==◌, ◌||◌, Bool, true, false, cond, List, [], ◌∷◌, ◌++◌, Contains, Option, Some, None, refl, sym, ap, subst, ◌∙◌, arith}
-use Rattle.std.specs.Prelude.{◌↔◌, IsSome, option_map, unwrap_or}
+use Rattle.std.proofs.Common.{◌≡◌, ◌≢◌, ◌⊎◌, inl, inr, ⊎_elim, ℕ, suc, ◌+◌, ◌<◌, ◌==◌, ◌||◌, Bool, true, false, cond, List, [], ◌∷◌, Contains, Option, Some, None, refl, sym, ap, subst, ◌∙◌, arith}
+use Rattle.std.specs.Prelude.{◌↔◌, option_map, unwrap_or}
 use Rattle.std.specs.FinMap as map
-use Rattle.std.specs.Str.{bytes_eq}
 use Rattle.std.proofs.lemmas.Bool.{cases_lt}
 use Rattle.std.proofs.lemmas.Bool.Decides.{nat_tests}
 use Rattle.std.proofs.lemmas.List.Elements.{Contains-append_cases, Contains-append_left}
@@ -17,37 +16,36 @@ use Rattle.table_history.specs.declared.limit.LimitKind.{LimitKind}
 use Rattle.table_history.specs.declared.table.Commit.{Commit}
 use Rattle.table_history.specs.declared.table.Table.{Table}
 use Rattle.partition_map.specs.Columns.{HasOtherKind}
-use Rattle.delta_log.specs.Live.{AddsRow}
 use Rattle.delta_log.specs.TableBehind.{ArePartColumns, rows_before}
-use Rattle.delta_log.specs.Writing.{SameFile, SameMeta}
+use Rattle.delta_log.specs.Writing.{SameFile}
 use Rattle.delta_log.specs.declared.commit.DeltaCommit.{DeltaCommit}
 use Rattle.delta_log.specs.declared.commit.FileAction.{FileAction}
 use Rattle.delta_log.specs.declared.commit.FileAction.TheVariants as file
 use Rattle.delta_log.specs.declared.commit.MetaData.{MetaData}
 use Rattle.delta_log.specs.declared.commit.Protocol.{Protocol}
 use Rattle.delta_table.specs.Log.{IsLog, IsNewestMeta, IsNewestProtocol, IsStep, SaysCommit}
-use Rattle.delta_table.specs.Versions.{HasVersion, IsVersionPath}
+use Rattle.delta_table.specs.Versions.{IsVersionPath}
 use Rattle.delta_table.proofs.PathLaws.{says_once}
 use Rattle.target_core.specs.Changes.{IsGone}
 use Rattle.target_core.specs.Conditions.{CanPublish, Fits, IsPublishable}
 use Rattle.target_core.specs.Gained.{StillCarries}
 use Rattle.target_core.specs.Mark.{mark_data}
 use Rattle.target_core.specs.Step.{IsBefore, IsBehind}
-use Rattle.target_core.specs.Views.{IsAdvanced, IsSchemaAfter, IsUnpublished, Origin, Standing, View, absent, standing_at, standing_of}
+use Rattle.target_core.specs.Views.{IsAdvanced, IsSchemaAfter, Origin, View, standing_at, standing_of}
 use Rattle.target_core.specs.declared.mark.Mark.{Mark}
 use Rattle.target_delta.specs.DeltaMeaning.{delta_meaning, image}
-use Rattle.target_delta.specs.Fitting.{ChangesKinds, Unfit, kinds_of}
+use Rattle.target_delta.specs.Fitting.{Unfit, kinds_of}
 use Rattle.target_delta.specs.Kept.{HoldsEnd, IsFirst, StandsFor, end_of, view_of}
 use Rattle.target_delta.specs.Names.{HasVersions}
 use Rattle.target_delta.specs.NewVersion.{IsNewVersion}
 use Rattle.target_delta.specs.Reading.{HasMark, IsAbsent, IsCarried, IsMarkAt, IsOurs, KeepsId, Reads, mark_setting, setting}
-use Rattle.target_delta.specs.Writing.{IsWritten, LogEnd, Passes, end_behind, have_ntz, mark_of, meta_of, names_ntz, ntz_protocol, plain_protocol, protocol_due, schema_behind}
+use Rattle.target_delta.specs.Writing.{LogEnd, Passes, have_ntz, mark_of, names_ntz, ntz_protocol, plain_protocol, protocol_due, schema_behind}
 use Rattle.target_delta.specs.declared.kept.DeltaKept.{DeltaKept}
 use Rattle.target_delta.specs.FitLemmas.{fits_alike, fits_rest}
 use Rattle.target_delta.specs.KeptLemmas.{versions_of_reads}
 use Rattle.target_delta.proofs.KindLemmas.{other_kinds}
-use Rattle.target_delta.proofs.PublishLemmas.{IsBeside, below, carried_below, ours_now, reads_before, says_below, versions_now}
-use Rattle.target_delta.specs.ReadingLemmas.{absent_or_ours, no_commits}
+use Rattle.target_delta.proofs.PublishLemmas.{IsBeside, below, carried_below, ours_now, reads_before, says_below}
+use Rattle.target_delta.specs.ReadingLemmas.{no_commits}
 use Rattle.target_delta.proofs.StepLemmas.{StandsBefore, added_again, added_from, again, due_first, found, meta_partition, protocol_is, spelled, step}
 use Rattle.target_delta.proofs.WrittenLemmas.{again_from, again_of, only_setting}
 

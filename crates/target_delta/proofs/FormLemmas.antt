@@ -1,12 +1,10 @@
 -- The first of the rows that the commits add and that has a value without a text.
-use Rattle.std.proofs.Common.{◌≡◌, ⊎_elim, inl, inr, ℕ, ◌+◌, ◌<◌, List, [], ◌∷◌, ◌++◌, length, get_or, take, drop, Contains, refl, sym, ap, subst, ◌∙◌, append_assoc, arith}
+use Rattle.std.proofs.Common.{◌≡◌, ⊎_elim, ℕ, ◌+◌, ◌<◌, List, [], ◌∷◌, ◌++◌, length, get_or, take, drop, Contains, refl, sym, ap, subst, ◌∙◌, append_assoc}
 use Rattle.std.proofs.lemmas.List.{take-append-drop}
 use Rattle.std.proofs.lemmas.List.Elements.{Contains-append_cases}
 use Rattle.table_history.specs.Row.{Row}
-use Rattle.table_history.specs.declared.row.PartValue.{PartValue}
 use Rattle.table_history.specs.declared.table.Commit.{Commit}
 use Rattle.table_history.proofs.RowListLemmas.{Contains-none, Contains-cases}
-use Rattle.partition_map.specs.DeltaText.{HasNoDeltaText}
 use Rattle.target_delta.specs.Fitting.{HasValueForm, IsFirstValueForm, added_rows}
 use Rattle.target_delta.proofs.TextLemmas.{last_of, next_of}
 

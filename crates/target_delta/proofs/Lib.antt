@@ -7,6 +7,7 @@ pub mod ActionLemmas
 pub mod StrayLemmas
 pub mod SeenLemmas
 pub mod ToldLemmas
+pub mod PastLemmas
 pub mod HeldLemmas
 pub mod KindLemmas
 pub mod FormLemmas

@@ -6,6 +6,7 @@ use Rattle.std.proofs.lemmas.Bool.Decides.{nat_tests}
 use Rattle.std.proofs.lemmas.Cmp.{nat_list_cmp_total}
 use Rattle.std.proofs.lemmas.Slice.Eq.{bytes_eq-Decides}
 use Rattle.std.proofs.lemmas.Str.Parse.{IsNumeralModel, numerals_by_value, tells_all_ascii_digits}
+use Rattle.std.specs.Prelude.{◌↔◌, IsTrue}
 use Rattle.std.specs.Char.{is_ascii_digit}
 use Rattle.std.specs.Cmp.Lexicographic.{slice_cmp}
 use Rattle.std.specs.List.{AllByRecursion, list_all}
@@ -206,3 +207,7 @@ newest_here files names lists versions are = record {
   there = named_held files names lists versions.newest are.there;
   last = λ other has. are.last other (held_named files names lists other has);
 }
+
+-- whether a version is there, by the names of the folder
+pub version_here : (files : Files) (names : List (List ℕ)) → ListsFolder files log_folder names → (version : ℕ) (there : Bool) → IsTrue there ↔ IsNamed names version → IsTrue there ↔ HasVersion files version
+version_here files names lists version there is = (λ yes. named_held files names lists version (is.0 yes), λ has. is.1 (held_named files names lists version has))

@@ -1,9 +1,10 @@
 -- What the steps of inspecting a Delta target find: in the names of its folder, in its log, and in why the log isn't read.
-use Rattle.std.specs.Prelude.{◌≡◌, ◌≢◌, ◌⊎◌, ℕ, ◌+◌, ◌≤◌, ◌==◌, ◌&&◌, Bool, not, List, length, take, drop, find, codes, None, Some, Result, Ok, Err}
+use Rattle.std.specs.Prelude.{◌≡◌, ◌≢◌, ◌⊎◌, ℕ, ◌+◌, ◌≤◌, ◌==◌, ◌&&◌, Bool, false, true, not, List, length, take, drop, find, codes, None, Some, Result, Ok, Err}
 use Rattle.std.specs.Char.{is_ascii_digit}
 use Rattle.std.specs.List.{list_all}
 use Rattle.std.specs.Str.{bytes_eq}
 use Rattle.std.specs.Fmt.{decimal}
+use Rattle.lake_basics.specs.declared.limits.TheConstants.{MAX_COMMITS}
 use Rattle.lake_store.specs.Disk.{Files}
 use Rattle.table_history.specs.Words.{limit_number}
 use Rattle.table_history.specs.declared.kind.Kind.{Kind}
@@ -102,3 +103,14 @@ IsToldOf error (Foreign path) = (version : ℕ) × (faulty_version error ≡ Ok 
 
 abbrev pub IsRefusalOf : LogError → TargetError → Type 0
 IsRefusalOf error e = (e ≡ target.Memory) ⊎ (faulty_version error ≡ Err e)
+
+-- ---- a log of more versions than are read
+
+-- Behind as many versions as are read the next one is told where it is missing. `longer` says whether it is there.
+abbrev pub IsGapBehind : Bool → Seen DeltaKept → Type 0
+IsGapBehind longer Absent = ⊥
+IsGapBehind longer (Ours kept) = ⊥
+IsGapBehind longer (Foreign path) = (longer ≡ false) × IsVersionPath path MAX_COMMITS
+
+abbrev pub IsRefusalBehind : ℕ → Bool → TargetError → Type 0
+IsRefusalBehind newest longer e = (e ≡ target.Memory) ⊎ ((MAX_COMMITS ≤ newest) × (longer ≡ true) × (e ≡ limit_of limit.Commits))

@@ -1,5 +1,5 @@
 -- Which files of a Delta target are foreign, with the first path at fault, and which numbers inspecting passes.
-use Rattle.std.specs.Prelude.{◌≡◌, ◌≢◌, ◌⊎◌, ℕ, suc, ◌+◌, ◌<◌, ◌≤◌, List, length, Option, Some, IsSome}
+use Rattle.std.specs.Prelude.{◌≡◌, ◌≢◌, ◌⊎◌, ℕ, suc, ◌<◌, ◌≤◌, List, length, Option, Some, IsSome}
 use Rattle.std.specs.Cmp.Lexicographic.{slice_cmp}
 use Rattle.std.specs.FinMap as map
 use Rattle.std.specs.Ordering.{nat_cmp}
@@ -14,7 +14,7 @@ use Rattle.table_history.specs.declared.table.Table.{Table}
 use Rattle.table_history.specs.Words.{limit_number}
 use Rattle.delta_log.specs.declared.error.DeltaError.{DeltaError}
 use Rattle.delta_log.specs.declared.error.DeltaError.TheVariants as errors
-use Rattle.delta_table.specs.Log.{IsLog}
+use Rattle.delta_table.specs.Log.{IsLog, IsReadLog}
 use Rattle.delta_table.specs.Refusals.{IsLarge, IsUnfit, IsUnreadable}
 use Rattle.delta_table.specs.Versions.{HasVersion, IsVersionPath, log_folder}
 use Rattle.target_core.specs.Views.{Standing}
@@ -80,9 +80,16 @@ PassesIn files version base which number =
     ((which ≡ File) × (number ≡ MAX_FILE_BYTES) × IsLarge files version)
     ⊎ ((number ≡ limit_number Delta which) × (IsUnreadable files version (errors.Limit which) ⊎ IsUnfit files version base (errors.Limit which)))
 
--- The folder has too many names, or there are too many versions, or one of them passes a number and those before it are read and taken.
+-- So many versions from 0 on are read and taken and pass no number, and the one behind them is there too.
+pub record GoesPast (files : Files) (count : ℕ) : Type 0 where
+  pub table : Option Table
+  pub log : IsReadLog files count table
+  pub next : HasVersion files count
+
+-- The folder has too many names; or there is one version more than are read, behind as many as are; or one of these passes a number. Those before it
+-- are read and taken and pass none.
 abbrev pub IsCrowded : Files → LimitKind → ℕ → Type 0
 IsCrowded files which number =
     ((which ≡ Names) × (number ≡ MAX_NAMES) × (MAX_NAMES < length (names_in files log_folder)))
-    ⊎ (((which ≡ Commits) × (number ≡ MAX_COMMITS) × ((newest : ℕ) × HasVersion files newest × (MAX_COMMITS < newest + 1)))
-    ⊎ ((version : ℕ) × (base : Option Table) × IsLog files version base × PassesIn files version base which number))
+    ⊎ (((which ≡ Commits) × (number ≡ MAX_COMMITS) × GoesPast files MAX_COMMITS)
+    ⊎ ((version : ℕ) × (base : Option Table) × (version < MAX_COMMITS) × IsReadLog files version base × PassesIn files version base which number))

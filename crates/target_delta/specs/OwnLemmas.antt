@@ -2,16 +2,16 @@
 use Rattle.std.proofs.Common.{◌≡◌, inl, inr, ℕ, suc, ◌<◌, List, length, Option, Some, sym, ap, subst}
 use Rattle.std.specs.Prelude.{IsSome, filter_map}
 use Rattle.lake_store.specs.Disk.{Files}
-use Rattle.lake_basics.specs.declared.limits.TheConstants.{MAX_NAMES}
+use Rattle.lake_basics.specs.declared.limits.TheConstants.{MAX_COMMITS, MAX_NAMES}
 use Rattle.table_history.specs.declared.kind.Kind.{Kind}
 use Rattle.table_history.specs.declared.limit.LimitKind.{LimitKind}
 use Rattle.table_history.specs.declared.table.Table.{Table}
-use Rattle.delta_table.specs.Log.{IsStep}
+use Rattle.delta_table.specs.Log.{IsStep, IsTaken}
 use Rattle.delta_table.specs.SameVersions.{has_too, holds_too, log_too, own_versions, says_too}
 use Rattle.delta_table.specs.Versions.{log_folder}
 use Rattle.target_core.specs.Folders.{SameIn}
 use Rattle.target_core.specs.FolderLemmas.{names_own, same_back}
-use Rattle.target_delta.specs.Inspecting.{IsCrowded, IsFaulty, IsFirstFaulty, IsFirstStray, IsForeign, IsStray, IsUnmarked, PassesIn}
+use Rattle.target_delta.specs.Inspecting.{GoesPast, IsCrowded, IsFaulty, IsFirstFaulty, IsFirstStray, IsForeign, IsStray, IsUnmarked, PassesIn}
 use Rattle.target_delta.specs.Names.{path_of}
 use Rattle.target_delta.specs.Reading.{commits_in, version_named}
 use Rattle.target_delta.specs.NameLemmas.{name_in}
@@ -73,7 +73,10 @@ passes_in_own a b same version base which number (inl h) = inl (h.0, h.1, (h.2.0
 passes_in_own a b same version base which number (inr (is, inl h)) = inr (is, inl (h.0, holds_too a b (own_versions a b same) version h.0 h.1, h.2))
 passes_in_own a b same version base which number (inr (is, inr h)) = inr (is, inr (h.0, says_too a b (own_versions a b same) version h.0 h.1, h.2))
 
+past_own : (a b : Files) → SameIn log_folder a b → (count : ℕ) → GoesPast a count → GoesPast b count
+past_own a b same count h = record { table = h.table; log = log_too a b (own_versions a b same) IsTaken count h.table h.log; next = has_too a b (own_versions a b same) count h.next }
+
 pub crowded_own : (a b : Files) (which : LimitKind) (number : ℕ) → SameIn log_folder a b → IsCrowded a which number → IsCrowded b which number
 crowded_own a b which number same (inl h) = inl (h.0, h.1, subst (λ (names : List (List ℕ)). MAX_NAMES < length names) (sym (names_own log_folder name_in a b same)) h.2)
-crowded_own a b which number same (inr (inl h)) = inr (inl (h.0, h.1, (h.2.0, has_too a b (own_versions a b same) h.2.0 h.2.1, h.2.2)))
-crowded_own a b which number same (inr (inr h)) = inr (inr (h.0, h.1, log_too a b (own_versions a b same) IsStep h.0 h.1 h.2, passes_in_own a b same h.0 h.1 which number h.3))
+crowded_own a b which number same (inr (inl h)) = inr (inl (h.0, h.1, past_own a b same MAX_COMMITS h.2))
+crowded_own a b which number same (inr (inr h)) = inr (inr (h.0, h.1, h.2, log_too a b (own_versions a b same) IsTaken h.0 h.1 h.3, passes_in_own a b same h.0 h.1 which number h.4))

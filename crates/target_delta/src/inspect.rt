@@ -1,29 +1,32 @@
 //! What a Delta target stands at.
 
-ghost use Rattle.std.specs.Prelude.{◌≡◌, ◌≢◌, ◌↔◌, ◌≤◌, ℕ, List, IfErr, IfOk, IsErrOf, IsTrue, MatchOption, find, option_map};
+ghost use Rattle.std.specs.Prelude.{◌≡◌, ◌≢◌, ◌↔◌, ◌<◌, ◌≤◌, ℕ, List, IfErr, IfOk, IsErrOf, IsTrue, MatchOption, find, option_map};
 ghost use Rattle.std.specs.Char.{is_ascii_digit};
 ghost use Rattle.std.specs.Fmt.{decimal};
 ghost use Rattle.std.specs.List.{list_all, list_any};
 ghost use Rattle.std.specs.Str.{bytes_eq};
-ghost use Rattle.lake_basics.specs.declared.limits.TheConstants.{MAX_DELTA_VERSION};
+ghost use Rattle.lake_basics.specs.declared.limits.TheConstants.{MAX_COMMITS, MAX_DELTA_VERSION};
 ghost use Rattle.lake_store.specs.Runs.{FailsBy, IsUncontestedBy, OnlyReads};
 ghost use Rattle.delta_log.specs.Change.{IsTableOfLog};
+ghost use Rattle.delta_log.specs.VersionName.{IsVersionName};
 ghost use Rattle.delta_table.specs.Refusals.{TellsOf};
+ghost use Rattle.delta_table.specs.Versions.{HasVersion, IsNamed};
 ghost use Rattle.target_core.specs.Refusals.{IsInspectRefusal, IsOfInspect};
 ghost use Rattle.target_core.specs.SeenView.{IsSeen, IsSeenSound};
 ghost use Rattle.target_core.specs.declared.mark.Mark.{Mark};
 ghost use Rattle.target_core.specs.declared.target.TargetError.TheVariants.{StoreFault, Contested};
 ghost use Rattle.target_delta.specs.Inspecting.{IsCrowded, IsForeign};
-ghost use Rattle.target_delta.specs.InspectSteps.{IsKeptOf, IsMarkOf, IsNewest, IsRefusalOf, IsSeenIn, IsSeenOf, IsToldOf, fault_in, faulty_version, is_leftover_name, is_stray_name, limit_of};
+ghost use Rattle.target_delta.specs.InspectSteps.{IsGapBehind, IsKeptOf, IsMarkOf, IsNewest, IsRefusalBehind, IsRefusalOf, IsSeenIn, IsSeenOf, IsToldOf, fault_in, faulty_version, is_leftover_name, is_stray_name, limit_of};
 ghost use Rattle.target_delta.specs.Kept.{StandsFor, view_of};
 ghost use Rattle.target_delta.specs.Names.{path_of};
 ghost use Rattle.target_delta.specs.Reading.{Reads, setting};
 ghost use Rattle.target_delta.specs.Writing.{names_ntz, ntz_feature};
 
 use crate::kept::DeltaKept;
-use delta_log::{DeltaError, Protocol};
+use delta_log::{DeltaError, Protocol, version_of_name};
 use delta_table::{LOG_FOLDER, Log, LogError, read_log, version_path, versions_of};
 use lake_basics::Text;
+use lake_basics::limits::MAX_COMMITS;
 use lake_store::Store;
 use std::alloc::{AllocError, Global};
 use table_history::{Kind, LimitKind};
@@ -58,7 +61,31 @@ pub(crate) fn inspect<S: Store>(
     };
     match versions_of(alloc, names.as_slice())? {
         None => Ok(unpublished(alloc, names.as_slice())?),
-        Some(versions) => inspect_log(alloc, store, versions.newest, source),
+        Some(versions) => {
+            let longer = names_version(names.as_slice(), MAX_COMMITS);
+            inspect_log(alloc, store, versions.newest, longer, source)
+        }
+    }
+}
+
+/// Whether one of the names is this version's.
+fn names_version(names: &[Text], version: u64) -> bool
+    ensures { IsTrue result ↔ IsNamed names.now version }
+{
+    for name in names {
+        if is_of_version(name.as_bytes(), version) {
+            return true;
+        }
+    }
+    false
+}
+
+fn is_of_version(name: &[u8], version: u64) -> bool
+    ensures { IsTrue result ↔ IsVersionName name.now version }
+{
+    match version_of_name(name) {
+        Some(named) => named == version,
+        None => false,
     }
 }
 
@@ -104,15 +131,18 @@ fn are_digits(bytes: &[u8]) -> bool
     bytes.iter().all(|b| b.is_ascii_digit())
 }
 
-/// What a log up to its newest version stands at.
+/// What a log up to its newest version stands at. Of a longer log the first 100,000 versions are
+/// read; `longer` says whether the version behind these is there.
 fn inspect_log<S: Store>(
     alloc: Global,
     store: &mut S,
     newest: u64,
+    longer: bool,
     source: Kind,
 ) -> Result<Seen<DeltaKept>, TargetError>
     requires within { newest ≤ MAX_DELTA_VERSION }
     requires newest { S.tells → IsNewest (S.disk store.old).files newest }
+    requires longer { S.tells → IsTrue longer ↔ HasVersion (S.disk store.old).files MAX_COMMITS }
     ensures seen { (id : List ℕ) → S.tells → IfOk result (IsSeen (Reads (S.disk store.old).files)
         (IsForeign source (S.disk store.old).files) view_of
         (λ kept. StandsFor id kept (S.disk store.old).files) source) }
@@ -125,10 +155,35 @@ fn inspect_log<S: Store>(
     ensures contest { IsUncontestedBy ⟦<S as Store>⟧ store.old store.new
         (IsErrOf result Contested) }
 {
-    match read_log(alloc, store, newest) {
-        Ok(log) => Ok(seen_of(alloc, log, newest, source)?),
+    match read_log(alloc, store, newest.min(MAX_COMMITS - 1)) {
+        Ok(log) => seen_in(alloc, log, newest, longer, source),
         Err(error) => foreign_at(alloc, error),
     }
+}
+
+/// What a log stands at that was read up to its newest version, or the first 100,000 versions of a
+/// longer one.
+fn seen_in(
+    alloc: Global,
+    log: Log,
+    newest: u64,
+    longer: bool,
+    source: Kind,
+) -> Result<Seen<DeltaKept>, TargetError>
+    requires version { newest ≤ MAX_DELTA_VERSION }
+    requires table { IsTableOfLog log.table }
+    ensures whole { newest < MAX_COMMITS → IfOk result (IsSeenOf log newest source) }
+    ensures gap { MAX_COMMITS ≤ newest → IfOk result (IsGapBehind longer) }
+    ensures sound { IfOk result (IsSeenSound view_of source) }
+    ensures refusal { IfErr result (IsRefusalBehind newest longer) }
+{
+    if newest < MAX_COMMITS {
+        return Ok(seen_of(alloc, log, newest, source)?);
+    }
+    if longer {
+        return Err(limit_of(LimitKind::Commits));
+    }
+    Ok(Seen::Foreign(version_path(alloc, MAX_COMMITS)?))
 }
 
 /// What is told of a log that wasn't read.
