@@ -20,6 +20,7 @@ use Rattle.lake_basics.proofs.Each.{with_front-push}
 use Rattle.json_reading.specs.Json.{whole, items, pairs, text}
 use Rattle.schema_map.specs.Iceberg.{iceberg_schema}
 use Rattle.schema_map.specs.declared.fault.MapError.{MapError}
+use Rattle.schema_map.specs.declared.fault.MapError.TheVariants as map_errors
 use Rattle.table_history.specs.First.{NoneOf}
 use Rattle.table_history.specs.TypeTree.{ColumnTrees}
 use Rattle.table_history.specs.declared.limit.LimitKind.TheVariants.{Columns, Depth, PartitionColumns}
@@ -28,7 +29,7 @@ use Rattle.iceberg_metadata.specs.declared.error.MetadataError.TheVariants.{Memo
 use Rattle.iceberg_metadata.specs.declared.metadata.Metadata.{Metadata}
 use Rattle.iceberg_metadata.specs.Grammar.{IsConsistent}
 use Rattle.iceberg_metadata.specs.Members.{int_in, property, current_snapshot, unless_minus_one}
-use Rattle.iceberg_metadata.specs.Schemas.{HeldSchema, SchemaReading, refusal_of, in_grammar, columns_reading, schema_reading, readable, refusals, schema_ids}
+use Rattle.iceberg_metadata.specs.Schemas.{HeldSchema, HeldUnread, SchemaReading, ReadColumns, size_limit, refusal_of, kept_unread, unread_reading, columns_by, columns_reading, schema_reading, readable, unread, schema_ids}
 use Rattle.iceberg_metadata.specs.Reading.{Shows, SaysThat, HasCause, causes, IsRead}
 use Rattle.iceberg_metadata.specs.Writing.{CanBeHeld, HaveOwnNames, IsWritable}
 use Rattle.iceberg_metadata.proofs.StepLemmas.{bind_ok, ok_is}
@@ -38,48 +39,44 @@ use Rattle.iceberg_metadata.proofs.StepLemmas.{bind_ok, ok_is}
 abbrev SchemaColumns : Type 0
 SchemaColumns = ColumnTrees × List ℤ
 
-in_grammar_is : (r : Result SchemaColumns MetadataError) (x : SchemaColumns) → in_grammar r ≡ Ok (Ok x) → r ≡ Ok x
-in_grammar_is (Ok y) x is = cc
-in_grammar_is (Err Memory) x is = absurd (cc)
-in_grammar_is (Err FormatVersion) x is = absurd (cc)
-in_grammar_is (Err Malformed) x is = absurd (cc)
-in_grammar_is (Err SchemaType) x is = absurd (cc)
-in_grammar_is (Err Transform) x is = absurd (cc)
-in_grammar_is (Err Renamed) x is = absurd (cc)
-in_grammar_is (Err PartitionType) x is = absurd (cc)
-in_grammar_is (Err (Limit which)) x is = absurd (cc)
+not_kept : (refusal : MetadataError) (d : Data) (x : SchemaColumns) → kept_unread refusal d ≡ Ok (Ok x) → ⊥
+not_kept refusal d x is = let first = bind_ok (unread_reading refusal d) _ (Ok x) is in let other = first.2 in absurd (cc)
 
-no_fault : (r : Result SchemaColumns MapError) (x : SchemaColumns) → with_fault refusal_of r ≡ Ok x → r ≡ Ok x
-no_fault (Ok y) x is = cc
-no_fault (Err e) x is = absurd (cc)
+columns_are : (d : Data) (r : Result SchemaColumns MapError) (x : SchemaColumns) → columns_by d (with_fault refusal_of r) ≡ Ok (Ok x) → r ≡ Ok x
+columns_are d (Ok y) x is = cc
+columns_are d (Err map_errors.Memory) x is = absurd (cc)
+columns_are d (Err map_errors.BadSchema) x is = absurd (cc)
+columns_are d (Err (map_errors.SchemaType column)) x is = absurd (not_kept SchemaType d x is)
+columns_are d (Err (map_errors.AvroName column)) x is = absurd (not_kept SchemaType d x is)
+columns_are d (Err (map_errors.Limit which)) x is = absurd (not_kept (Limit (size_limit which)) d x is)
 
 can_be_held : (d : Data) (id : ℤ) (x : SchemaColumns) → schema_reading d ≡ Ok (id, Ok x) → CanBeHeld (id, x.0, x.1)
 unfolding schema_reading
 can_be_held d id x is =
-    let a = bind_ok (int_in (codes "schema-id") d) (λ (n : ℤ). columns_reading d >>= λ columns. Ok (n, columns)) (id, Ok x) is in
-    let b = bind_ok (in_grammar (with_fault refusal_of (iceberg_schema d))) (λ (columns : Result SchemaColumns MetadataError). Ok (a.0, columns)) (id, Ok x) a.2 in
+    let a = bind_ok (int_in (codes "schema-id") d) _ (id, Ok x) is in
+    let b = bind_ok (columns_reading d) _ (id, Ok x) a.2 in
     let same : (a.0, b.0) ≡ (id, Ok x) = ok_is (a.0, b.0) (id, Ok x) b.2 in
     let columns : b.0 ≡ Ok x = ap (λ (r : SchemaReading). r.1) same in
-    (d, no_fault (iceberg_schema d) x (in_grammar_is (with_fault refusal_of (iceberg_schema d)) x (b.1 ∙ ap (λ (r : Result SchemaColumns MetadataError). Ok r) columns)))
+    (d, columns_are d (iceberg_schema d) x (b.1 ∙ ap (λ (r : ReadColumns). Ok r) columns))
 
 -- Each schema can be held, and has its id.
 record AreHeld (rs : List SchemaReading) : Type 0 where
   all : All CanBeHeld (readable rs)
   ids : map (λ s. s.0) (readable rs) ≡ schema_ids rs
 
-one_held : (d : Data) (id : ℤ) (r : Result SchemaColumns MetadataError) (others : List SchemaReading) → schema_reading d ≡ Ok (id, r) → refusals ((id, r) ∷ others) ≡ [] → (refusals others ≡ [] → AreHeld others) → AreHeld ((id, r) ∷ others)
+one_held : (d : Data) (id : ℤ) (r : ReadColumns) (others : List SchemaReading) → schema_reading d ≡ Ok (id, r) → unread ((id, r) ∷ others) ≡ [] → (unread others ≡ [] → AreHeld others) → AreHeld ((id, r) ∷ others)
 one_held d id (Ok x) others is none more =
     let rest = more none in
     record { all = All-cons CanBeHeld (id, x.0, x.1) (readable others) (can_be_held d id x is) rest.all; ids = ap (λ (ids : List ℤ). id ∷ ids) rest.ids }
 one_held d id (Err e) others is none more = absurd (cc)
 
-all_held : (ds : List Data) (rs : List SchemaReading) → each schema_reading ds ≡ Ok rs → refusals rs ≡ [] → AreHeld rs
+all_held : (ds : List Data) (rs : List SchemaReading) → each schema_reading ds ≡ Ok rs → unread rs ≡ [] → AreHeld rs
 all_held [] rs is none = subst AreHeld (ok_is [] rs is) (record { all = All-nil CanBeHeld; ids = refl })
 all_held (d ∷ ds) rs is none =
     let a = bind_ok (schema_reading d) _ rs is in
     let b = bind_ok (each schema_reading ds) _ rs a.2 in
     let whole : a.0 ∷ b.0 ≡ rs = ok_is (a.0 ∷ b.0) rs b.2 in
-    subst AreHeld whole (one_held d a.0.0 a.0.1 b.0 a.1 (ap refusals whole ∙ none) (λ rest. all_held ds b.0 b.1 rest))
+    subst AreHeld whole (one_held d a.0.0 a.0.1 b.0 a.1 (ap unread whole ∙ none) (λ rest. all_held ds b.0 b.1 rest))
 
 -- ---- the current snapshot
 
@@ -161,7 +158,7 @@ read_writable bytes m is none own =
     let says = is.text.says in
     let held = all_held (items says.schema_list) is.readings says.schemas is.whole in
     let ids : map (λ (s : HeldSchema). s.0) m.schemas ≡ schema_ids is.readings = ap (map (λ (s : HeldSchema). s.0)) says.held ∙ held.ids in
-    let told : (P : List MetadataError → Metadata → Type 0) → P [] m → SaysThat bytes P = λ P p. (is.readings, m, is.text, subst (λ (es : List MetadataError). P es m) (sym is.whole) p) in
+    let told : (P : List HeldUnread → Metadata → Type 0) → P [] m → SaysThat bytes P = λ P p. (is.readings, m, is.text, subst (λ (es : List HeldUnread). P es m) (sym is.whole) p) in
     let later = none.1.1 in
     record {
       schemas = subst (All CanBeHeld) (sym says.held) held.all;

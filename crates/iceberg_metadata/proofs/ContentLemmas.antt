@@ -10,7 +10,7 @@ use Rattle.iceberg_metadata.specs.declared.error.MetadataError.{MetadataError}
 use Rattle.iceberg_metadata.specs.declared.error.MetadataError.TheVariants.{FormatVersion, Malformed}
 use Rattle.iceberg_metadata.specs.declared.metadata.Metadata.{Metadata}
 use Rattle.iceberg_metadata.specs.Members.{format_version, text_in, whole_in, int_in, list_in, spec, snapshots, properties, current_snapshot, refs_fit}
-use Rattle.iceberg_metadata.specs.Schemas.{HeldSchema, SchemaReading, schema_reading, readable, refusals, schema_ids}
+use Rattle.iceberg_metadata.specs.Schemas.{HeldSchema, HeldUnread, SchemaReading, schema_reading, readable, unread, schema_ids}
 use Rattle.iceberg_metadata.specs.Judging.{is_consistent, members, unkept, consistent, version_two, contents}
 use Rattle.iceberg_metadata.specs.Grammar.{Says}
 use Rattle.iceberg_metadata.proofs.StepLemmas.{bind_ok, bind_by, ok_is}
@@ -106,26 +106,26 @@ taken : (b : Bool) → cond b done (fails Malformed) ≡ done → b ≡ true
 taken true is = refl
 taken false is = absurd (cc)
 
-pub record IsFound (d : Data) (m : Metadata) (refused : List MetadataError) : Type 0 where
+pub record IsFound (d : Data) (m : Metadata) (others : List HeldUnread) : Type 0 where
   pub readings : List SchemaReading
   pub says : Says d readings m
   pub consistent : is_consistent m (schema_ids readings) ≡ true
-  pub refusals : refusals readings ≡ refused
+  pub others_are : unread readings ≡ others
 
-pub contents_found : (d : Data) (m : Metadata) (refused : List MetadataError) → contents d ≡ Ok (m, refused) → IsFound d m refused
+pub contents_found : (d : Data) (m : Metadata) (others : List HeldUnread) → contents d ≡ Ok (m, others) → IsFound d m others
 unfolding contents unkept
-contents_found d m refused is =
-    let a = bind_ok (version_two (format_version d)) _ (m, refused) is in
-    let b = bind_ok (list_in (codes "schemas") d) _ (m, refused) a.2 in
-    let c = bind_ok (each schema_reading (items b.0)) _ (m, refused) b.2 in
-    let e = bind_ok (members d (readable c.0)) _ (m, refused) c.2 in
-    let f = bind_ok (unkept d) _ (m, refused) e.2 in
-    let g = bind_ok (consistent e.0 (schema_ids c.0)) _ (m, refused) f.2 in
+contents_found d m others is =
+    let a = bind_ok (version_two (format_version d)) _ (m, others) is in
+    let b = bind_ok (list_in (codes "schemas") d) _ (m, others) a.2 in
+    let c = bind_ok (each schema_reading (items b.0)) _ (m, others) b.2 in
+    let e = bind_ok (members d (readable c.0)) _ (m, others) c.2 in
+    let f = bind_ok (unkept d) _ (m, others) e.2 in
+    let g = bind_ok (consistent e.0 (schema_ids c.0)) _ (m, others) f.2 in
     let are = members_found d (readable c.0) e.0 e.1 in
     let orders = bind_ok (list_in (codes "sort-orders") d) _ f.0 f.1 in
     let order = bind_ok (int_in (codes "default-sort-order-id") d) _ f.0 orders.2 in
-    let same : (e.0, refusals c.0) ≡ (m, refused) = ok_is (e.0, refusals c.0) (m, refused) g.2 in
-    subst (λ (p : Metadata × List MetadataError). IsFound d p.0 p.1) same
+    let same : (e.0, unread c.0) ≡ (m, others) = ok_is (e.0, unread c.0) (m, others) g.2 in
+    subst (λ (p : Metadata × List HeldUnread). IsFound d p.0 p.1) same
     (record {
       readings = c.0;
       says = record {
@@ -155,10 +155,10 @@ contents_found d m refused is =
         refs = taken (refs_fit (get (codes "refs") d)) order.2;
       };
       consistent = taken (is_consistent e.0 (schema_ids c.0)) g.1;
-      refusals = refl;
+      others_are = refl;
     })
 
-pub contents_are : (d : Data) (readings : List SchemaReading) (m : Metadata) → Says d readings m → is_consistent m (schema_ids readings) ≡ true → contents d ≡ Ok (m, refusals readings)
+pub contents_are : (d : Data) (readings : List SchemaReading) (m : Metadata) → Says d readings m → is_consistent m (schema_ids readings) ≡ true → contents d ≡ Ok (m, unread readings)
 unfolding contents unkept
 contents_are d readings m s good =
     bind_by (version_two (format_version d)) _ tt _ (ap version_two s.version)

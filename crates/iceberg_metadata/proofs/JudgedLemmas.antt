@@ -1,5 +1,5 @@
 -- What isn't supported: tests and facts, and the first of them.
-use Rattle.std.proofs.Common.{◌≡◌, ◌⊎◌, List, [], ◌∷◌, map, Bool, true, false, not, ◌||◌, cond, Option, Some, None, Contains, codes, refl, sym, ap, subst, ◌∙◌, inl, inr, ⊎_elim}
+use Rattle.std.proofs.Common.{◌≡◌, ◌⊎◌, ℤ, List, [], ◌∷◌, map, Bool, true, false, not, ◌||◌, cond, Option, Some, None, Contains, codes, refl, sym, ap, subst, ◌∙◌, inl, inr, ⊎_elim}
 use Rattle.std.specs.Prelude.{is_none}
 use Rattle.std.specs.Bool.{Decides}
 use Rattle.std.specs.List.{list_any, IsDistinct}
@@ -14,8 +14,8 @@ use Rattle.iceberg_metadata.specs.declared.error.MetadataError.{MetadataError}
 use Rattle.iceberg_metadata.specs.declared.error.MetadataError.TheVariants.{Memory, FormatVersion, Malformed, SchemaType, Transform, Renamed, PartitionType, Limit}
 use Rattle.iceberg_metadata.specs.declared.metadata.Metadata.{Metadata}
 use Rattle.iceberg_metadata.specs.declared.metadata.SpecField.{SpecField}
-use Rattle.iceberg_metadata.specs.Schemas.{HeldSchema}
-use Rattle.iceberg_metadata.specs.Paths.{default_fields, current_schema, source_kind, sources, HasOtherTransform, HasOtherPartition}
+use Rattle.iceberg_metadata.specs.Schemas.{HeldUnread}
+use Rattle.iceberg_metadata.specs.Paths.{default_fields, current_kinds, sources, HasOtherTransform, HasOtherPartition}
 use Rattle.iceberg_metadata.specs.Judging.{are_distinct, is_schema_type, is_limit_of_columns, is_limit_of_depth, is_other_transform, lacks_kinds, has_other_partition, first_that}
 use Rattle.iceberg_metadata.proofs.ListLemmas.{any_from, any_to, either_true, not_true, distinct_Decides}
 
@@ -128,27 +128,28 @@ none_is : (o : Option PartKind) → is_none o ≡ true → o ≡ None
 none_is None h = refl
 none_is (Some k) h = absurd (false≢true h)
 
-schema_is : (s t : HeldSchema) → Some s ≡ Some t → s ≡ t
-schema_is s t is = cc is
+abbrev Kinds : Type 0
+Kinds = ℤ → Option PartKind
 
-abbrev Lacks : List SpecField → HeldSchema → Type 0
-Lacks fields s = (IsDistinct int_eq (sources fields) → ⊥) ⊎ ((f : SpecField) × Contains fields f × (source_kind s f.source_id ≡ None))
+abbrev Lacks : List SpecField → Kinds → Type 0
+Lacks fields kinds = (IsDistinct int_eq (sources fields) → ⊥) ⊎ ((f : SpecField) × Contains fields f × (kinds f.source_id ≡ None))
 
-lacks_to : (fields : List SpecField) (s : HeldSchema) → lacks_kinds fields (Some s) ≡ true → Lacks fields s
-lacks_to fields s h =
+lacks_to : (fields : List SpecField) (kinds : Kinds) → lacks_kinds fields (Some kinds) ≡ true → Lacks fields kinds
+lacks_to fields kinds h =
     ⊎_elim
     (λ twice. inl (λ own. false≢true (sym (not_true (are_distinct (sources fields)) twice) ∙ (distinct_Decides (sources fields)).1 own)))
-    (λ any. let found = any_to (λ (f : SpecField). is_none (source_kind s f.source_id)) fields any in inr (found.0, found.1, none_is (source_kind s found.0.source_id) found.2))
-    (either_true (not (are_distinct (sources fields))) (list_any (λ (f : SpecField). is_none (source_kind s f.source_id)) fields) h)
+    (λ any. let found = any_to (λ (f : SpecField). is_none (kinds f.source_id)) fields any in inr (found.0, found.1, none_is (kinds found.0.source_id) found.2))
+    (either_true (not (are_distinct (sources fields))) (list_any (λ (f : SpecField). is_none (kinds f.source_id)) fields) h)
 
-lacks_by : (fields : List SpecField) (s : HeldSchema) (b : Bool) → are_distinct (sources fields) ≡ b → Lacks fields s → (not b || list_any (λ f. is_none (source_kind s f.source_id)) fields) ≡ true
-lacks_by fields s false is lacks = refl
-lacks_by fields s true is (inl twice) = absurd (twice ((distinct_Decides (sources fields)).0 is))
-lacks_by fields s true is (inr other) = any_from (λ (f : SpecField). is_none (source_kind s f.source_id)) fields other.0 other.1 (ap is_none other.2)
+lacks_by : (fields : List SpecField) (kinds : Kinds) (b : Bool) → are_distinct (sources fields) ≡ b → Lacks fields kinds → (not b || list_any (λ f. is_none (kinds f.source_id)) fields) ≡ true
+lacks_by fields kinds false is lacks = refl
+lacks_by fields kinds true is (inl twice) = absurd (twice ((distinct_Decides (sources fields)).0 is))
+lacks_by fields kinds true is (inr other) = any_from (λ (f : SpecField). is_none (kinds f.source_id)) fields other.0 other.1 (ap is_none other.2)
 
-partition_by : (m : Metadata) (o : Option HeldSchema) → current_schema m ≡ o → lacks_kinds (default_fields m) o ≡ true → HasOtherPartition m
-partition_by m None is h = absurd (false≢true h)
-partition_by m (Some s) is h = record { schema = s; is = is; cause = lacks_to (default_fields m) s h }
+partition_by : (m : Metadata) (unread : List HeldUnread) (o : Option Kinds) → current_kinds m unread ≡ o → lacks_kinds (default_fields m) o ≡ true → HasOtherPartition m unread
+partition_by m unread None are h = absurd (false≢true h)
+partition_by m unread (Some kinds) are h = record { kinds = kinds; are = are; cause = lacks_to (default_fields m) kinds h }
 
-pub partition_Decides : (m : Metadata) → Decides (has_other_partition m) (HasOtherPartition m)
-partition_Decides m = (λ h. partition_by m (current_schema m) refl h, λ p. ap (lacks_kinds (default_fields m)) p.is ∙ lacks_by (default_fields m) p.schema (are_distinct (sources (default_fields m))) refl p.cause)
+pub partition_Decides : (m : Metadata) (unread : List HeldUnread) → Decides (has_other_partition m unread) (HasOtherPartition m unread)
+partition_Decides m unread =
+    (λ h. partition_by m unread (current_kinds m unread) refl h, λ p. ap (lacks_kinds (default_fields m)) p.are ∙ lacks_by (default_fields m) p.kinds (are_distinct (sources (default_fields m))) refl p.cause)

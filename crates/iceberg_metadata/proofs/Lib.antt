@@ -8,6 +8,7 @@ pub mod ListLemmas
 pub mod LocationLemmas
 pub mod MalformedLemmas
 pub mod NameLemmas
+pub mod OutlineLemmas
 pub mod PathLemmas
 pub mod PathMapLemmas
 pub mod ReadLemmas

@@ -11,7 +11,7 @@ use Rattle.iceberg_metadata.specs.declared.error.MetadataError.{MetadataError}
 use Rattle.iceberg_metadata.specs.declared.error.MetadataError.TheVariants.{FormatVersion, Malformed}
 use Rattle.iceberg_metadata.specs.declared.metadata.Metadata.{Metadata}
 use Rattle.iceberg_metadata.specs.Members.{format_version, text_in, whole_in, int_in, list_in, whole_if_any, int_if_any, text_if_any, sequence, operation, spec, spec_field, snapshot, property, snapshots, properties, current_snapshot, refs_fit}
-use Rattle.iceberg_metadata.specs.Schemas.{HeldSchema, schema_reading, readable, refusals, schema_ids}
+use Rattle.iceberg_metadata.specs.Schemas.{HeldSchema, HeldUnread, schema_reading, readable, unread, schema_ids}
 use Rattle.iceberg_metadata.specs.Judging.{is_consistent, members, unkept, consistent, version_two, contents}
 use Rattle.iceberg_metadata.proofs.ContentLemmas.{done, fails}
 use Rattle.iceberg_metadata.proofs.StepLemmas.{gave, given, bind_err, err_is, Refuses, refuses_ok, refuses_err, refuses_bind, refuses_required, refuses_each}
@@ -150,11 +150,11 @@ version_is (Some w) v is some = by (int_eq w (pos 2)) refl is
         some_is x y s = cc s
     by false other g = absurd (cc)
 
-rest_any : (d : Data) → Faulty {A = Metadata × List MetadataError} (list_in (codes "schemas") d >>= λ listed. each schema_reading (items listed) >>= λ rs. members d (readable rs) >>= λ m. unkept d >>= λ u. consistent m (schema_ids rs) >>= λ is. Ok (m, refusals rs))
+rest_any : (d : Data) → Faulty {A = Metadata × List HeldUnread} (list_in (codes "schemas") d >>= λ listed. each schema_reading (items listed) >>= λ rs. members d (readable rs) >>= λ m. unkept d >>= λ u. consistent m (schema_ids rs) >>= λ is. Ok (m, unread rs))
 rest_any d =
     chain (list_in (codes "schemas") d) _ (must _)
     (λ listed. chain (each schema_reading (items listed)) _ (refuses_each IsFault schema_reading (items listed) reading_fault)
-    (λ rs. chain (members d (readable rs)) _ (members_any d (readable rs)) (λ m. chain (unkept d) _ (unkept_any d) (λ u. chain (consistent m (schema_ids rs)) _ (taken_any (is_consistent m (schema_ids rs))) (λ is. good {A = Metadata × List MetadataError} (m, refusals rs))))))
+    (λ rs. chain (members d (readable rs)) _ (members_any d (readable rs)) (λ m. chain (unkept d) _ (unkept_any d) (λ u. chain (consistent m (schema_ids rs)) _ (taken_any (is_consistent m (schema_ids rs))) (λ is. good {A = Metadata × List HeldUnread} (m, unread rs))))))
 
 pub contents_malformed : (d : Data) (e : MetadataError) → contents d ≡ Err e → GrammarFault d e ⊎ OtherFault d e
 unfolding contents

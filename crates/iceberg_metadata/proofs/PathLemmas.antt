@@ -11,8 +11,7 @@ use Rattle.std.proofs.lemmas.Slice.Eq.{bytes_eq-Decides, slice_eq-Decides}
 use Rattle.table_history.proofs.RowListLemmas.{Contains-none, Contains-head, Contains-tail, Contains-cases}
 use Rattle.schema_map.specs.Ids.{Path, known_id}
 use Rattle.iceberg_metadata.specs.Judging.{is_path, is_id, is_first, is_renamed}
-use Rattle.iceberg_metadata.specs.Paths.{PathId, all_path_ids, path_of, IsRenamed}
-use Rattle.iceberg_metadata.specs.Schemas.{HeldSchema}
+use Rattle.iceberg_metadata.specs.Paths.{PathId, path_of, IsRenamed}
 use Rattle.iceberg_metadata.proofs.ListLemmas.{all_from, all_false, both_true, not_both, not_true}
 
 path_Decides : (p q : Path) → Decides (pointwise bytes_eq p q) (p ≡ q)
@@ -67,16 +66,13 @@ id_is (Some j) i h = ap Some ((Decides-int_eq j i).0 h)
 some_is : {A : Type 0} (a b : A) → Some a ≡ Some b → a ≡ b
 some_is a b e = cc e
 
-renamed_shown : (schemas : List HeldSchema) → is_renamed schemas ≡ true → IsRenamed schemas
-renamed_shown schemas h = by (not_both (is_path (path_of ps found.0.1) found.0.0) (is_id (known_id ps found.0.0) found.0.1) found.2)
+renamed_shown : (ps : List PathId) → is_renamed ps ≡ true → IsRenamed ps
+renamed_shown ps h = by (not_both (is_path (path_of ps found.0.1) found.0.0) (is_id (known_id ps found.0.0) found.0.1) found.2)
   where
-    ps : List PathId
-    ps = all_path_ids schemas
-
     found : (p : PathId) × Contains ps p × (is_first ps p ≡ false)
     found = all_false (is_first ps) ps (not_true (list_all (is_first ps) ps) h)
 
-    by : (is_path (path_of ps found.0.1) found.0.0 ≡ false) ⊎ (is_id (known_id ps found.0.0) found.0.1 ≡ false) → IsRenamed schemas
+    by : (is_path (path_of ps found.0.1) found.0.0 ≡ false) ⊎ (is_id (known_id ps found.0.0) found.0.1 ≡ false) → IsRenamed ps
     by (inl other) =
         let first = path_found ps found.0 found.1 in
         record {
@@ -106,11 +102,10 @@ firsts_agree ps p q first second (inr differ) =
     let b = id_is (known_id ps q.0) q.1 (both_true (is_path (path_of ps q.1) q.0) (is_id (known_id ps q.0) q.1) second).1 in
     differ.1 (some_is p.1 q.1 (sym a ∙ ap (known_id ps) differ.0 ∙ b))
 
-renamed_not : (schemas : List HeldSchema) → IsRenamed schemas → (b : Bool) → list_all (is_first (all_path_ids schemas)) (all_path_ids schemas) ≡ b → not b ≡ true
-renamed_not schemas r true all =
-    let ps = all_path_ids schemas in
+renamed_not : (ps : List PathId) → IsRenamed ps → (b : Bool) → list_all (is_first ps) ps ≡ b → not b ≡ true
+renamed_not ps r true all =
     absurd (firsts_agree ps r.one r.other (all_from (is_first ps) ps r.one all r.has_one) (all_from (is_first ps) ps r.other all r.has_other) r.differ)
-renamed_not schemas r false all = refl
+renamed_not ps r false all = refl
 
-pub renamed_Decides : (schemas : List HeldSchema) → Decides (is_renamed schemas) (IsRenamed schemas)
-renamed_Decides schemas = (renamed_shown schemas, λ r. renamed_not schemas r (list_all (is_first (all_path_ids schemas)) (all_path_ids schemas)) refl)
+pub renamed_Decides : (ps : List PathId) → Decides (is_renamed ps) (IsRenamed ps)
+renamed_Decides ps = (renamed_shown ps, λ r. renamed_not ps r (list_all (is_first ps) ps) refl)

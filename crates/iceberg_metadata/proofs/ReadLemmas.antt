@@ -18,8 +18,8 @@ use Rattle.iceberg_metadata.specs.declared.error.MetadataError.TheVariants.{Memo
 use Rattle.iceberg_metadata.specs.declared.metadata.Metadata.{Metadata}
 use Rattle.iceberg_metadata.specs.Errors.{is_memory, Gives}
 use Rattle.iceberg_metadata.specs.Members.{format_version}
-use Rattle.iceberg_metadata.specs.Schemas.{SchemaReading, refusals, schema_ids}
-use Rattle.iceberg_metadata.specs.Paths.{default_fields}
+use Rattle.iceberg_metadata.specs.Schemas.{SchemaReading, HeldUnread, unread, refusals, schema_ids}
+use Rattle.iceberg_metadata.specs.Paths.{default_fields, all_path_ids}
 use Rattle.iceberg_metadata.specs.Grammar.{IsMetadataText, IsInGrammar}
 use Rattle.iceberg_metadata.specs.Reading.{HasOtherVersion, Shows, SaysThat, HasCause, causes, IsRead}
 use Rattle.iceberg_metadata.specs.Judging.{is_schema_type, is_limit_of_columns, is_limit_of_depth, is_other_transform, is_renamed, has_other_partition, contents, first_that, tests, judged, refused_by, metadata_of}
@@ -33,48 +33,48 @@ use Rattle.iceberg_metadata.proofs.ToldLemmas.{IsKept, IsFault, readings_kept}
 
 -- ---- one reading of a text
 
-contents_of_text : (bytes : List ℕ) (d : Data) (rs : List SchemaReading) (m : Metadata) → json bytes ≡ Some d → IsMetadataText bytes rs m → contents d ≡ Ok (m, refusals rs)
+contents_of_text : (bytes : List ℕ) (d : Data) (rs : List SchemaReading) (m : Metadata) → json bytes ≡ Some d → IsMetadataText bytes rs m → contents d ≡ Ok (m, unread rs)
 contents_of_text bytes d rs m is text =
     let same : text.value ≡ d = some_is text.value d (sym text.is ∙ is) in
-    subst (λ v. contents v ≡ Ok (m, refusals rs)) same (contents_are text.value rs m text.says ((consistent_Decides m (schema_ids rs)).1 text.consistent))
+    subst (λ v. contents v ≡ Ok (m, unread rs)) same (contents_are text.value rs m text.says ((consistent_Decides m (schema_ids rs)).1 text.consistent))
   where
     some_is : (x y : Data) → Some x ≡ Some y → x ≡ y
     some_is x y e = cc e
 
-text_of_contents : (bytes : List ℕ) (d : Data) (m : Metadata) (es : List MetadataError) → json bytes ≡ Some d → (found : IsFound d m es) → IsMetadataText bytes found.readings m
+text_of_contents : (bytes : List ℕ) (d : Data) (m : Metadata) (es : List HeldUnread) → json bytes ≡ Some d → (found : IsFound d m es) → IsMetadataText bytes found.readings m
 text_of_contents bytes d m es is found = record { value = d; is = is; says = found.says; consistent = (consistent_Decides m (schema_ids found.readings)).0 found.consistent }
 
 -- ---- tests and causes
 
--- the text says this, and these are the refusals of its schemas
-pub record IsKnown (bytes : List ℕ) (m : Metadata) (es : List MetadataError) : Type 0 where
+-- the text says this, and these are its schemas that can't be taken over
+pub record IsKnown (bytes : List ℕ) (m : Metadata) (es : List HeldUnread) : Type 0 where
   pub value : Data
   pub is : json bytes ≡ Some value
   pub contents : contents value ≡ Ok (m, es)
 
-module _ (bytes : List ℕ) (m : Metadata) (es : List MetadataError) (known : IsKnown bytes m es) where
+module _ (bytes : List ℕ) (m : Metadata) (es : List HeldUnread) (known : IsKnown bytes m es) where
   found : IsFound known.value m es
   found = contents_found known.value m es known.contents
 
   text : IsMetadataText bytes found.readings m
   text = text_of_contents bytes known.value m es known.is found
 
-  said : (P : List MetadataError → Metadata → Type 0) → P es m → SaysThat bytes P
-  said P p = (found.readings, m, text, subst (λ l. P l m) (sym found.refusals) p)
+  said : (P : List HeldUnread → Metadata → Type 0) → P es m → SaysThat bytes P
+  said P p = (found.readings, m, text, subst (λ l. P l m) (sym found.others_are) p)
 
-  says : (P : List MetadataError → Metadata → Type 0) → SaysThat bytes P → P es m
+  says : (P : List HeldUnread → Metadata → Type 0) → SaysThat bytes P → P es m
   says P s =
       let other = contents_of_text bytes known.value s.0 s.1 known.is s.2 in
-      let same : (s.1, refusals s.0) ≡ (m, es) = ok_is (s.1, refusals s.0) (m, es) (sym other ∙ known.contents) in
-      subst (λ (p : Metadata × List MetadataError). P p.1 p.0) same s.3
+      let same : (s.1, unread s.0) ≡ (m, es) = ok_is (s.1, unread s.0) (m, es) (sym other ∙ known.contents) in
+      subst (λ (p : Metadata × List HeldUnread). P p.1 p.0) same s.3
 
-  said_Decides : (b : Bool) (P : List MetadataError → Metadata → Type 0) → Decides b (P es m) → Decides b (SaysThat bytes P)
+  said_Decides : (b : Bool) (P : List HeldUnread → Metadata → Type 0) → Decides b (P es m) → Decides b (SaysThat bytes P)
   said_Decides b P same = (λ h. said P (same.0 h), λ s. same.1 (says P s))
 
-  kept : (e : MetadataError) → Contains es e → IsKept e
-  kept = subst (λ l. (e : MetadataError) → Contains l e → IsKept e) found.refusals (readings_kept (items found.says.schema_list) found.readings found.says.schemas)
+  kept : (e : MetadataError) → Contains (refusals es) e → IsKept e
+  kept = subst (λ l. (e : MetadataError) → Contains (refusals l) e → IsKept e) found.others_are (readings_kept (items found.says.schema_list) found.readings found.says.schemas)
 
-  limit_Decides : (b : Bool) (which : LimitKind) → (which ≡ limit.PartitionColumns → ⊥) → Decides b (Contains es (Limit which)) → Decides b (Shows (Limit which) es m)
+  limit_Decides : (b : Bool) (which : LimitKind) → (which ≡ limit.PartitionColumns → ⊥) → Decides b (Contains (refusals es) (Limit which)) → Decides b (Shows (Limit which) es m)
   limit_Decides b which other same = (λ h. inl (same.0 h), λ s. ⊎_elim same.1 (λ p. absurd (other p.0)) s)
 
   many_Decides : Decides (nat_lt MAX_PARTITION_COLUMNS (length (default_fields m))) (Shows (Limit limit.PartitionColumns) es m)
@@ -83,17 +83,17 @@ module _ (bytes : List ℕ) (m : Metadata) (es : List MetadataError) (known : Is
 
   all_tests : AllDecide (HasCause bytes) (tests m es)
   all_tests = (
-    said_Decides (list_any is_schema_type es) (Shows SchemaType) (refusal_Decides is_schema_type SchemaType refl type_is es),
+    said_Decides (list_any is_schema_type (refusals es)) (Shows SchemaType) (refusal_Decides is_schema_type SchemaType refl type_is (refusals es)),
     (
       said_Decides (list_any is_other_transform (default_fields m)) (Shows Transform) (transform_Decides m),
       (
-        said_Decides (is_renamed m.schemas) (Shows Renamed) (renamed_Decides m.schemas),
+        said_Decides (is_renamed (all_path_ids es m.schemas)) (Shows Renamed) (renamed_Decides (all_path_ids es m.schemas)),
         (
-          said_Decides (has_other_partition m) (Shows PartitionType) (partition_Decides m),
+          said_Decides (has_other_partition m es) (Shows PartitionType) (partition_Decides m es),
           (
-            said_Decides (list_any is_limit_of_columns es) (Shows (Limit limit.Columns)) (limit_Decides (list_any is_limit_of_columns es) limit.Columns (λ e. cc) (refusal_Decides is_limit_of_columns (Limit limit.Columns) refl columns_is es)),
+            said_Decides (list_any is_limit_of_columns (refusals es)) (Shows (Limit limit.Columns)) (limit_Decides (list_any is_limit_of_columns (refusals es)) limit.Columns (λ e. cc) (refusal_Decides is_limit_of_columns (Limit limit.Columns) refl columns_is (refusals es))),
             (
-              said_Decides (list_any is_limit_of_depth es) (Shows (Limit limit.Depth)) (limit_Decides (list_any is_limit_of_depth es) limit.Depth (λ e. cc) (refusal_Decides is_limit_of_depth (Limit limit.Depth) refl depth_is es)),
+              said_Decides (list_any is_limit_of_depth (refusals es)) (Shows (Limit limit.Depth)) (limit_Decides (list_any is_limit_of_depth (refusals es)) limit.Depth (λ e. cc) (refusal_Decides is_limit_of_depth (Limit limit.Depth) refl depth_is (refusals es))),
               (
                 said_Decides (nat_lt MAX_PARTITION_COLUMNS (length (default_fields m))) (Shows (Limit limit.PartitionColumns)) many_Decides,
                 tt,
@@ -158,6 +158,10 @@ module _ (bytes : List ℕ) (m : Metadata) (es : List MetadataError) (known : Is
       by Renamed k there = k
       by PartitionType k there = k
 
+  none_of_these : (us : List HeldUnread) → refusals us ≡ [] → us ≡ []
+  none_of_these [] none = refl
+  none_of_these (u ∷ us) none = absurd (cc)
+
   pub read_whole : judged m es ≡ done → IsRead bytes m
   read_whole h =
       let none = no_cause h in
@@ -165,10 +169,10 @@ module _ (bytes : List ℕ) (m : Metadata) (es : List MetadataError) (known : Is
       record {
         readings = found.readings;
         text = text;
-        whole = found.refusals ∙ nothing_kept es kept
+        whole = found.others_are ∙ none_of_these es (nothing_kept (refusals es) kept
             (λ there. later.0 (said (Shows SchemaType) there))
             (λ there. later.1.1.1.1.0 (said (Shows (Limit limit.Columns)) (inl there)))
-            (λ there. later.1.1.1.1.1.0 (said (Shows (Limit limit.Depth)) (inl there)));
+            (λ there. later.1.1.1.1.1.0 (said (Shows (Limit limit.Depth)) (inl there))));
       }
 
 -- ---- the whole reading
@@ -183,9 +187,9 @@ bad_contents : (bytes : List ℕ) (d : Data) (e : MetadataError) → (e ≡ Memo
 bad_contents bytes d e other is h = ⊎_elim malformed version (contents_malformed d e h)
   where
     not_in : IsInGrammar bytes → ⊥
-    not_in g = ok_err (g.1, refusals g.0) e (contents_of_text bytes d g.0 g.1 is g.2) h
+    not_in g = ok_err (g.1, unread g.0) e (contents_of_text bytes d g.0 g.1 is g.2) h
       where
-        ok_err : (p : Metadata × List MetadataError) (x : MetadataError) → contents d ≡ Ok p → contents d ≡ Err x → ⊥
+        ok_err : (p : Metadata × List HeldUnread) (x : MetadataError) → contents d ≡ Ok p → contents d ≡ Err x → ⊥
         ok_err p x a b = absurd (cc)
 
     data_is : (x y : Data) → Some x ≡ Some y → x ≡ y
@@ -201,7 +205,7 @@ pub refused_first : (bytes : List ℕ) (e : MetadataError) → (e ≡ Memory →
 unfolding metadata_of
 refused_first bytes e other h = by (json bytes) refl h
   where
-    kept_contents : (d : Data) → json bytes ≡ Some d → (c : Metadata × List MetadataError) → contents d ≡ Ok c → (judged c.0 c.1 >>= λ u. Ok c.0) ≡ Err e → IsFirst (HasCause bytes) causes e
+    kept_contents : (d : Data) → json bytes ≡ Some d → (c : Metadata × List HeldUnread) → contents d ≡ Ok c → (judged c.0 c.1 >>= λ u. Ok c.0) ≡ Err e → IsFirst (HasCause bytes) causes e
     kept_contents d is c said g =
         ⊎_elim
         (λ refused. first_cause bytes c.0 c.1 (record { value = d; is = is; contents = said }) e refused)
@@ -220,7 +224,7 @@ refused_first bytes e other h = by (json bytes) refl h
         (bind_err (contents d) (λ c. judged c.0 c.1 >>= λ u. Ok c.0) e g)
 
 record IsTaken (bytes : List ℕ) (m : Metadata) : Type 0 where
-  refused : List MetadataError
+  refused : List HeldUnread
   known : IsKnown bytes m refused
   good : judged m refused ≡ done
 

@@ -5,7 +5,6 @@ use Rattle.serde_json.specs.Data.{Data, Items}
 use Rattle.serde_json.specs.View.{view, items_view}
 use Rattle.serde_json.specs.declared.value.Value.{Value}
 use Rattle.json_reading.specs.Json.{items}
-use Rattle.table_history.specs.TypeTree.{ColumnTrees}
 use Rattle.iceberg_metadata.specs.declared.metadata.Metadata.{Metadata}
 use Rattle.iceberg_metadata.specs.Errors.{is_memory}
 use Rattle.iceberg_metadata.specs.Members.{format_version, list_in}
@@ -15,15 +14,15 @@ use Rattle.iceberg_metadata.proofs.StepLemmas.{bind_ok, bind_by, ok_is}
 use Rattle.lake_basics.specs.Outcome.{◌>>=◌, each, FailsUnlessMemory}
 use Rattle.iceberg_metadata.specs.declared.error.MetadataError.{MetadataError}
 use Rattle.iceberg_metadata.specs.declared.schemas.HeldSchemas.{HeldSchemas}
-use Rattle.iceberg_metadata.specs.Schemas.{SchemaReading, schema_reading, held_as, readable, refused_as, refusals, schema_ids}
+use Rattle.iceberg_metadata.specs.Schemas.{SchemaReading, ReadColumns, HeldUnread, schema_reading, held_as, readable, unread_as, unread, schema_ids}
 use Rattle.iceberg_metadata.specs.SchemaLists.{with_reading, with_readings, held_schemas, each_schema, each_beside}
 
 with_more : (h : HeldSchemas) (r : SchemaReading) (rs : List SchemaReading) → with_readings (with_reading h r) rs ≡ with_readings h (r ∷ rs)
 with_more h r rs = λ i.
-    record { read = append_assoc h.read (held_as r.0 r.1) (readable rs) i; ids = append_assoc h.ids (r.0 ∷ []) (schema_ids rs) i; refusals = append_assoc h.refusals (refused_as r.1) (refusals rs) i }
+    record { read = append_assoc h.read (held_as r.0 r.1) (readable rs) i; ids = append_assoc h.ids (r.0 ∷ []) (schema_ids rs) i; unread = append_assoc h.unread (unread_as r.0 r.1) (unread rs) i }
 
 pub with_none : (h : HeldSchemas) → with_readings h [] ≡ h
-with_none h = λ i. record { read = append-nil h.read i; ids = append-nil h.ids i; refusals = append-nil h.refusals i }
+with_none h = λ i. record { read = append-nil h.read i; ids = append-nil h.ids i; unread = append-nil h.unread i }
 
 front : (h : HeldSchemas) (r : SchemaReading) (x : Result (List SchemaReading) MetadataError) → ((x >>= λ others. Ok (r ∷ others)) >>= λ rs. Ok (with_readings h rs)) ≡ (x >>= λ rs. Ok (with_readings (with_reading h r) rs))
 front h r (Ok rs) = ap Ok (sym (with_more h r rs))
@@ -47,7 +46,7 @@ all_kept h whole before = sym before ∙ ap Ok (with_none h)
 item_at : (vs : List Value) (i : ℕ) (v : Value) → i < length vs → v ≡ get_or vs i v → items (items_view (drop i vs)) ≡ view v ∷ items (items_view (drop (i + 1) vs))
 item_at vs i v within at = ap (λ l. items (items_view l)) (drop-cons vs i v within ∙ (λ k. sym at k ∷ drop (sym (add-one i) k) vs))
 
-pub next_kept : (vs : List Value) (i : ℕ) (v : Value) (h new : HeldSchemas) (id given : ℤ) (columns : Result (ColumnTrees × List ℤ) MetadataError) (whole : Result HeldSchemas MetadataError) → i < length vs → v ≡ get_or vs i v → given ≡ id
+pub next_kept : (vs : List Value) (i : ℕ) (v : Value) (h new : HeldSchemas) (id given : ℤ) (columns : ReadColumns) (whole : Result HeldSchemas MetadataError) → i < length vs → v ≡ get_or vs i v → given ≡ id
     → schema_reading (view v) ≡ Ok (id, columns) → new ≡ with_reading h (given, columns) → each_beside h (items (items_view (drop i vs))) ≡ whole → each_beside new (items (items_view (drop (i + 1) vs))) ≡ whole
 next_kept vs i v h new id given columns whole within at same is made before =
     let one = one_more h (view v) (items (items_view (drop (i + 1) vs))) (id, columns) whole is (sym (ap (each_beside h) (item_at vs i v within at)) ∙ before) in
@@ -68,7 +67,7 @@ unfolding contents
 contents_refused d listed rs m e version list each_is is others refused =
     bind_by (version_two (format_version d)) _ tt _ version
     (bind_by (list_in (codes "schemas") d) _ _ _ list
-    (bind_by (each schema_reading (items listed)) _ _ _ each_is (bind_by (members d (readable rs)) _ _ _ is (bind_by (unkept d) _ tt _ others (ap (λ (r : Result (Unit {0}) MetadataError). r >>= λ u. Ok (m, refusals rs)) refused)))))
+    (bind_by (each schema_reading (items listed)) _ _ _ each_is (bind_by (members d (readable rs)) _ _ _ is (bind_by (unkept d) _ tt _ others (ap (λ (r : Result (Unit {0}) MetadataError). r >>= λ u. Ok (m, unread rs)) refused)))))
 
 pub told_inconsistent : (d : Data) (listed : Items) (h : HeldSchemas) (m : Metadata) (ids : List ℤ) (e : MetadataError) → version_two (format_version d) ≡ done → list_in (codes "schemas") d ≡ Ok listed → each_schema (items listed) ≡ Ok h
     → members d h.read ≡ Ok m → unkept d ≡ done → ids ≡ h.ids → FailsUnlessMemory (is_memory e) e (consistent m ids) → FailsUnlessMemory (is_memory e) e (contents d)

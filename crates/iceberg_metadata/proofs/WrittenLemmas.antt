@@ -30,9 +30,9 @@ use Rattle.iceberg_metadata.specs.declared.metadata.Snapshot.{Snapshot}
 use Rattle.iceberg_metadata.specs.declared.metadata.Spec.{Spec}
 use Rattle.iceberg_metadata.specs.declared.metadata.SpecField.{SpecField}
 use Rattle.iceberg_metadata.specs.Members.{spec_field, spec, snapshot, property, current_snapshot, refs_fit}
-use Rattle.iceberg_metadata.specs.Schemas.{HeldSchema, SchemaReading, schema_reading, readable, refusals, schema_ids}
+use Rattle.iceberg_metadata.specs.Schemas.{HeldSchema, HeldUnread, SchemaReading, schema_reading, readable, unread, schema_ids}
 use Rattle.iceberg_metadata.specs.Grammar.{Says, IsConsistent}
-use Rattle.iceberg_metadata.specs.Paths.{default_fields, HasOtherTransform, IsRenamed, HasOtherPartition}
+use Rattle.iceberg_metadata.specs.Paths.{default_fields, all_path_ids, HasOtherTransform, IsRenamed, HasOtherPartition}
 use Rattle.iceberg_metadata.specs.Reading.{Shows, causes}
 use Rattle.iceberg_metadata.specs.Judging.{contents, judged, is_other_transform, is_renamed, has_other_partition, metadata_of}
 use Rattle.iceberg_metadata.specs.Writing.{whole_data, spec_field_data, spec_data, snapshot_data, schema_data, refs_data, metadata_data, metadata_text, CanBeHeld, HaveOwnNames, IsWritable, SameMetadata, FieldFits, SpecFits, SnapshotFits, SchemaFits, MetadataFits}
@@ -109,7 +109,7 @@ unfolding as_read
 all_readable [] = refl
 all_readable (s ∷ ss) = ap (λ (ts : List HeldSchema). s ∷ ts) (all_readable ss)
 
-none_refused : (ss : List HeldSchema) → refusals (map as_read ss) ≡ []
+none_refused : (ss : List HeldSchema) → unread (map as_read ss) ≡ []
 unfolding as_read
 none_refused [] = refl
 none_refused (s ∷ ss) = none_refused ss
@@ -234,8 +234,8 @@ judged_again : (m : Metadata) → NoneOf (λ e. Shows e [] m) causes → judged 
 judged_again m none =
     let later = none.1.1.1 in
     let transform = fails (list_any is_other_transform (default_fields m)) (HasOtherTransform m) (transform_Decides m) later.0 in
-    let renamed = fails (is_renamed m.schemas) (IsRenamed m.schemas) (renamed_Decides m.schemas) later.1.0 in
-    let partition = fails (has_other_partition m) (HasOtherPartition m) (partition_Decides m) later.1.1.0 in
+    let renamed = fails (is_renamed (all_path_ids [] m.schemas)) (IsRenamed (all_path_ids [] m.schemas)) (renamed_Decides (all_path_ids [] m.schemas)) later.1.0 in
+    let partition = fails (has_other_partition m []) (HasOtherPartition m []) (partition_Decides m []) later.1.1.0 in
     let many = fails (nat_lt MAX_PARTITION_COLUMNS (length (default_fields m))) (MAX_PARTITION_COLUMNS < length (default_fields m)) (Decides-ltb MAX_PARTITION_COLUMNS (length (default_fields m))) (λ more. later.1.1.1.1.1.0 (inr (refl, more))) in
     rw (transform, renamed, partition, many) refl
 
@@ -278,6 +278,7 @@ unfolding with_properties
 consistent_again m ps is = rw (ids_kept m.schemas) (record {
   own_schemas = is.own_schemas;
   own_specs = is.own_specs;
+  own_fields = is.own_fields;
   own_snapshots = is.own_snapshots;
   current_schema = is.current_schema;
   default_spec = is.default_spec;
@@ -290,7 +291,7 @@ contents_again : (m : Metadata) → MetadataFits m → IsWritable m → (ps : Li
 contents_again m fits writable ps are =
     let n = with_properties m ps in
     let good = (consistent_Decides n (schema_ids (map as_read m.schemas))).1 (consistent_again m ps writable.consistent) in
-    contents_are (metadata_data m) (map as_read m.schemas) n (says_again m fits writable ps are) good ∙ ap (λ (es : List MetadataError). Ok (n, es)) (none_refused m.schemas)
+    contents_are (metadata_data m) (map as_read m.schemas) n (says_again m fits writable ps are) good ∙ ap (λ (es : List HeldUnread). Ok (n, es)) (none_refused m.schemas)
 
 judged_still : (m : Metadata) (ps : List Property) → judged m [] ≡ Ok tt → judged (with_properties m ps) [] ≡ Ok tt
 unfolding with_properties

@@ -17,10 +17,11 @@ use Rattle.iceberg_metadata.specs.declared.error.MetadataError.TheVariants.{Form
 use Rattle.iceberg_metadata.specs.declared.metadata.Metadata.{Metadata}
 use Rattle.iceberg_metadata.specs.declared.metadata.SpecField.{SpecField}
 use Rattle.iceberg_metadata.specs.Members.{format_version, text_in, whole_in, int_in, list_in, spec, snapshots, properties, current_snapshot, refs_fit}
-use Rattle.iceberg_metadata.specs.Schemas.{HeldSchema, schema_reading, readable, refusals, schema_ids}
-use Rattle.iceberg_metadata.specs.Paths.{PathId, all_path_ids, path_of, default_fields, current_schema, source_kind, sources}
+use Rattle.iceberg_metadata.specs.Schemas.{HeldSchema, HeldUnread, schema_reading, readable, unread, refusals, schema_ids}
+use Rattle.iceberg_metadata.specs.Paths.{PathId, all_path_ids, path_of, default_fields, current_kinds, sources}
 use Rattle.iceberg_metadata.specs.Location.{front_of, names_path}
-use Rattle.iceberg_metadata.specs.Grammar.{spec_ids, snapshot_ids}
+use Rattle.iceberg_metadata.specs.Grammar.{spec_ids, field_ids, snapshot_ids}
+use Rattle.partition_map.specs.declared.kind.PartKind.{PartKind}
 
 -- ---- ids
 
@@ -39,7 +40,7 @@ is_among_if_any ids (Some id) = is_among ids id
 -- ---- the grammar
 
 abbrev pub have_own_ids : Metadata → List ℤ → Bool
-have_own_ids m schemas = are_distinct schemas && (are_distinct (spec_ids m) && are_distinct (snapshot_ids m))
+have_own_ids m schemas = are_distinct schemas && (are_distinct (spec_ids m) && (list_all (λ s. are_distinct (field_ids s)) m.specs && are_distinct (snapshot_ids m)))
 
 abbrev pub are_held : Metadata → List ℤ → Bool
 are_held m schemas = is_among schemas m.current_schema && (is_among (spec_ids m) m.default_spec && is_among_if_any (snapshot_ids m) m.current_snapshot)
@@ -81,8 +82,8 @@ abbrev pub version_two : Option ℤ → Result (Unit {0}) MetadataError
 version_two None = Err Malformed
 version_two (Some version) = if int_eq version (pos 2) then Ok tt else Err FormatVersion
 
--- what the value says, and why schemas can't be taken over
-unfoldable pub contents : Data → Result (Metadata × List MetadataError) MetadataError
+-- what the value says, and the schemas that can't be taken over
+unfoldable pub contents : Data → Result (Metadata × List HeldUnread) MetadataError
 contents d = do
   version ← version_two (format_version d)
   listed ← list_in (codes "schemas") d
@@ -90,7 +91,7 @@ contents d = do
   m ← members d (readable readings)
   others ← unkept d
   is ← consistent m (schema_ids readings)
-  Ok (m, refusals readings)
+  Ok (m, unread readings)
 
 -- ---- features and numbers
 
@@ -121,15 +122,15 @@ is_id (Some i) id = int_eq i id
 abbrev pub is_first : List PathId → PathId → Bool
 is_first all p = is_path (path_of all p.1) p.0 && is_id (known_id all p.0) p.1
 
-abbrev pub is_renamed : List HeldSchema → Bool
-is_renamed schemas = not (list_all (is_first (all_path_ids schemas)) (all_path_ids schemas))
+abbrev pub is_renamed : List PathId → Bool
+is_renamed pairs = not (list_all (is_first pairs) pairs)
 
-abbrev pub lacks_kinds : List SpecField → Option HeldSchema → Bool
+abbrev pub lacks_kinds : List SpecField → Option (ℤ → Option PartKind) → Bool
 lacks_kinds fields None = false
-lacks_kinds fields (Some s) = not (are_distinct (sources fields)) || list_any (λ f. is_none (source_kind s f.source_id)) fields
+lacks_kinds fields (Some kinds) = not (are_distinct (sources fields)) || list_any (λ f. is_none (kinds f.source_id)) fields
 
-abbrev pub has_other_partition : Metadata → Bool
-has_other_partition m = lacks_kinds (default_fields m) (current_schema m)
+abbrev pub has_other_partition : Metadata → List HeldUnread → Bool
+has_other_partition m unread = lacks_kinds (default_fields m) (current_kinds m unread)
 
 -- the first of these whose test is true
 abbrev pub first_that : List (Bool × MetadataError) → Option MetadataError
@@ -137,29 +138,29 @@ first_that [] = None
 first_that (c ∷ cs) = if c.0 then Some c.1 else first_that cs
 
 -- the tests of what isn't supported, and of the numbers, in their order
-abbrev pub tests : Metadata → List MetadataError → List (Bool × MetadataError)
-tests m refused =
-    (list_any is_schema_type refused, SchemaType)
+abbrev pub tests : Metadata → List HeldUnread → List (Bool × MetadataError)
+tests m unread =
+    (list_any is_schema_type (refusals unread), SchemaType)
     ∷ (list_any is_other_transform (default_fields m), Transform)
-    ∷ (is_renamed m.schemas, Renamed)
-    ∷ (has_other_partition m, PartitionType)
-    ∷ (list_any is_limit_of_columns refused, Limit limit.Columns)
-    ∷ (list_any is_limit_of_depth refused, Limit limit.Depth)
+    ∷ (is_renamed (all_path_ids unread m.schemas), Renamed)
+    ∷ (has_other_partition m unread, PartitionType)
+    ∷ (list_any is_limit_of_columns (refusals unread), Limit limit.Columns)
+    ∷ (list_any is_limit_of_depth (refusals unread), Limit limit.Depth)
     ∷ (nat_lt MAX_PARTITION_COLUMNS (length (default_fields m)), Limit limit.PartitionColumns) ∷ []
 
 -- the first number that is passed
-abbrev pub limit_passed : List SpecField → List MetadataError → Option LimitKind
-limit_passed fields refused =
-    if list_any is_limit_of_columns refused then Some limit.Columns
-    else (if list_any is_limit_of_depth refused then Some limit.Depth
+abbrev pub limit_passed : List SpecField → List HeldUnread → Option LimitKind
+limit_passed fields unread =
+    if list_any is_limit_of_columns (refusals unread) then Some limit.Columns
+    else (if list_any is_limit_of_depth (refusals unread) then Some limit.Depth
     else (if nat_lt MAX_PARTITION_COLUMNS (length fields) then Some limit.PartitionColumns else None))
 
 abbrev pub refused_by : Option MetadataError → Result (Unit {0}) MetadataError
 refused_by None = Ok tt
 refused_by (Some e) = Err e
 
-abbrev pub judged : Metadata → List MetadataError → Result (Unit {0}) MetadataError
-judged m refused = refused_by (first_that (tests m refused))
+abbrev pub judged : Metadata → List HeldUnread → Result (Unit {0}) MetadataError
+judged m unread = refused_by (first_that (tests m unread))
 
 -- ---- the text
 

@@ -6,6 +6,7 @@ pub mod IdSets
 pub mod Judging
 pub mod Location
 pub mod Members
+pub mod Outlines
 pub mod PathMaps
 pub mod Paths
 pub mod Reading

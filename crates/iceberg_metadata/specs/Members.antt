@@ -4,7 +4,7 @@ use Rattle.std.specs.Ordering.{int_eq}
 use Rattle.serde_json.specs.Data.{Data, null, boolean, number, string, array, object, Items}
 use Rattle.serde_json.specs.Find.{get, as_number, as_integer, as_array, as_object}
 use Rattle.lake_basics.specs.Outcome.{◌>>=◌, required, each}
-use Rattle.json_reading.specs.Json.{whole, int, text, text_member, whole_member, int_member, list_member, items, pairs}
+use Rattle.json_reading.specs.Json.{whole, int, text, text_member, bool_member, whole_member, int_member, list_member, items, pairs}
 use Rattle.iceberg_metadata.specs.declared.error.MetadataError.{MetadataError}
 use Rattle.iceberg_metadata.specs.declared.error.MetadataError.TheVariants.{Malformed}
 use Rattle.iceberg_metadata.specs.declared.metadata.Snapshot.{Snapshot}
@@ -34,6 +34,13 @@ int_in name d = required Malformed (int_member name d)
 
 abbrev pub list_in : List ℕ → Data → Result Items MetadataError
 list_in name d = required Malformed (list_member name d)
+
+abbrev pub bool_in : List ℕ → Data → Result Bool MetadataError
+bool_in name d = required Malformed (bool_member name d)
+
+-- of any kind
+abbrev pub member_in : List ℕ → Data → Result Data MetadataError
+member_in name d = required Malformed (get name d)
 
 -- ---- members that may be absent, but are of their kind where they are there
 

@@ -9,6 +9,7 @@ mod ids;
 mod members;
 mod metadata;
 mod name;
+mod outline;
 mod partition;
 mod paths;
 mod reading;
@@ -24,6 +25,8 @@ pub use writing::metadata_text;
 
 #[cfg(test)]
 mod read_tests;
+#[cfg(test)]
+mod schema_tests;
 #[cfg(test)]
 mod tests;
 #[cfg(test)]

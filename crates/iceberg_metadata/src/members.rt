@@ -12,7 +12,7 @@ ghost use Rattle.iceberg_metadata.specs.Writing.{HaveOwnNames};
 
 use crate::error::{MALFORMED, MetadataError};
 use crate::metadata::{Snapshot, Snapshots, Spec, SpecField};
-use json_reading::{int_in, int_of, list_of, text_member, whole_in, whole_of};
+use json_reading::{bool_of, int_in, int_of, list_of, text_member, whole_in, whole_of};
 use lake_basics::{Items, Text};
 use serde_json::{Map, Value};
 use std::alloc::Global;
@@ -45,6 +45,18 @@ pub(crate) fn required_list<'a>(
         (read.list_in name.now (view value.now)) }
 {
     list_of(value, name).ok_or(MALFORMED)
+}
+
+pub(crate) fn required_bool(value: &Value, name: &str) -> Result<bool, MetadataError>
+    ensures { Gives result (read.bool_in name.now (view value.now)) }
+{
+    bool_of(value, name).ok_or(MALFORMED)
+}
+
+pub(crate) fn required_member<'a>(value: &'a Value, name: &str) -> Result<&'a Value, MetadataError>
+    ensures { GivesBy (λ v. view v.now) result (read.member_in name.now (view value.now)) }
+{
+    value.get(name).ok_or(MALFORMED)
 }
 
 // ---- members that may be absent

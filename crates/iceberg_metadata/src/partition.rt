@@ -2,17 +2,19 @@
 
 ghost use Rattle.std.specs.Prelude.{◌≡◌, ◌||◌, not, option_map, option_and_then, is_none, IfOk};
 ghost use Rattle.std.specs.List.{list_any};
+ghost use Rattle.std.specs.Ordering.{int_eq};
 ghost use Rattle.std.specs.Option.{option_copied};
 ghost use Rattle.table_history.specs.History.{column_type};
 ghost use Rattle.table_history.specs.SchemaView.{type_view};
 ghost use Rattle.partition_map.specs.Columns.{column_kind};
-ghost use Rattle.iceberg_metadata.specs.Paths.{held_spec, held_schema, default_fields, sources, top_kind, path_of, path_ids_of};
+ghost use Rattle.iceberg_metadata.specs.Paths.{held_spec, held_schema, held_unread, kind_at, default_fields, sources, top_kind, path_of, path_ids_of};
 ghost use Rattle.iceberg_metadata.specs.PathMaps.{path_at};
 ghost use Rattle.iceberg_metadata.specs.Judging.{is_other_transform, are_distinct, has_other_partition};
 
 use crate::ids::id_set;
 use crate::metadata::{Metadata, Spec, SpecField};
 use crate::paths::{PathsById, path_at, path_ids_of, paths_by_id};
+use crate::schemas::Unread;
 use lake_basics::Text;
 use partition_map::{PartKind, part_kind};
 use schema_map::Ids;
@@ -63,7 +65,7 @@ fn type_of<'a>(schema: &'a Schema, name: &str) -> Option<&'a ColumnType>
     None
 }
 
-fn kind_of(schema: &Schema, name: &str) -> Option<PartKind>
+pub(crate) fn kind_of(schema: &Schema, name: &str) -> Option<PartKind>
     ensures { result ≡ column_kind schema.now name.now }
 {
     match type_of(schema, name) {
@@ -156,13 +158,78 @@ fn held_schema(schemas: &[(i32, Schema, Ids)], id: i32) -> Option<&(i32, Schema,
     None
 }
 
+// ---- a current schema that can't be taken over
+
+fn is_kind_of(kind: &(i32, PartKind), id: i32) -> bool
+    ensures { result ≡ int_eq kind.now.0 id }
+{
+    kind.0 == id
+}
+
+fn kind_at(kinds: &[(i32, PartKind)], id: i32) -> Option<PartKind>
+    ensures { result ≡ kind_at kinds.now id }
+{
+    for kind in kinds {
+        if is_kind_of(kind, id) {
+            return Some(kind.1);
+        }
+    }
+    None
+}
+
+fn has_source_without_kind(kinds: &[(i32, PartKind)], fields: &[SpecField]) -> bool
+    ensures { result ≡ list_any (λ f. is_none (kind_at kinds.now f.source_id)) fields.now }
+{
+    for field in fields {
+        if kind_at(kinds, field.source_id).is_none() {
+            return true;
+        }
+    }
+    false
+}
+
+fn lacks_these_kinds(
+    alloc: Global,
+    fields: &[SpecField],
+    kinds: &[(i32, PartKind)],
+) -> Result<bool, AllocError>
+    ensures { IfOk result (λ lacks. lacks ≡ (not (are_distinct (sources fields.now))
+        || list_any (λ f. is_none (kind_at kinds.now f.source_id)) fields.now)) }
+{
+    let sources = source_ids(alloc, fields)?;
+    if id_set(alloc, sources.as_slice())?.is_none() {
+        return Ok(true);
+    }
+    Ok(has_source_without_kind(kinds, fields))
+}
+
+fn held_unread(unread: &[(i32, Unread)], id: i32) -> Option<&Unread>
+    ensures { option_copied result ≡ held_unread unread.now id }
+{
+    for schema in unread {
+        if schema.0 == id {
+            return Some(&schema.1);
+        }
+    }
+    None
+}
+
 /// Whether a field of the default spec is made of a column that isn't a top-level one of the current
 /// schema, that another field is made of too, or whose type has no kind.
-pub(crate) fn has_other_partition(alloc: Global, metadata: &Metadata) -> Result<bool, AllocError>
-    ensures { IfOk result (λ has. has ≡ has_other_partition metadata.now) }
+pub(crate) fn has_other_partition(
+    alloc: Global,
+    metadata: &Metadata,
+    unread: &[(i32, Unread)],
+) -> Result<bool, AllocError>
+    ensures { IfOk result (λ has. has ≡ has_other_partition metadata.now unread.now) }
 {
-    match held_schema(metadata.schemas.as_slice(), metadata.current_schema) {
+    let fields = default_fields(metadata);
+    let id = metadata.current_schema;
+    if let Some((_, schema, ids)) = held_schema(metadata.schemas.as_slice(), id) {
+        return lacks_kinds(alloc, fields, schema, ids);
+    }
+    match held_unread(unread, id) {
         None => Ok(false),
-        Some((_, schema, ids)) => lacks_kinds(alloc, default_fields(metadata), schema, ids),
+        Some(schema) => lacks_these_kinds(alloc, fields, schema.kinds.as_slice()),
     }
 }

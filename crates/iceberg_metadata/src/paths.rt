@@ -1,11 +1,12 @@
 //! The field ids of column paths in the schemas that a table holds.
 
-ghost use Rattle.std.specs.Prelude.{◌≡◌, ◌&&◌, ◌∷◌, [], option_map, IfOk, MatchOption};
+ghost use Rattle.std.specs.Prelude.{◌≡◌, ◌&&◌, ◌∷◌, ◌++◌, [], flat_map, option_map, IfOk, OnOk, MatchOption};
 ghost use Rattle.std.specs.List.{list_all};
-ghost use Rattle.iceberg_metadata.specs.Paths.{path_ids_of, all_path_ids};
+ghost use Rattle.iceberg_metadata.specs.Paths.{path_ids_of, path_ids, unread_paths, all_path_ids};
 ghost use Rattle.iceberg_metadata.specs.PathMaps.{path_at, id_at, HoldsPaths, HoldsPathIds};
 ghost use Rattle.iceberg_metadata.specs.Judging.{is_path, is_id, is_renamed};
 
+use crate::schemas::Unread;
 use lake_basics::{Items, Text};
 use schema_map::{ColumnPath, Ids, column_paths};
 use std::alloc::{AllocError, Global};
@@ -48,17 +49,70 @@ pub(crate) fn path_ids_of(
 }
 
 /// The column paths of the schemas with their field ids.
-fn all_path_ids(
+fn read_paths(
     alloc: Global,
     schemas: &[(i32, Schema, Ids)],
 ) -> Result<Vec<(ColumnPath, i32)>, AllocError>
-    ensures { IfOk result (λ found. found.items ≡ all_path_ids schemas.now) }
+    ensures { IfOk result (λ found. found.items ≡ flat_map path_ids schemas.now) }
 {
     let mut found = Vec::new(alloc);
     for held in schemas {
         let mut pairs = path_ids_of(alloc, &held.1, &held.2)?;
         found.append(&mut pairs)?;
     }
+    Ok(found)
+}
+
+fn copy_of(alloc: Global, path: &ColumnPath) -> Result<ColumnPath, AllocError>
+    ensures { IfOk result (λ p. p ≡ path.now) }
+{
+    let mut copy = Items::new(alloc);
+    for part in path.as_slice() {
+        copy.push(part.copy(alloc)?)?;
+    }
+    Ok(copy)
+}
+
+/// Adds these column paths with their field ids.
+fn push_paths(
+    alloc: Global,
+    found: &mut Vec<(ColumnPath, i32)>,
+    pairs: &[(ColumnPath, i32)],
+) -> Result<(), AllocError>
+    ensures { OnOk result (found.new.items ≡ found.old.items ++ pairs.now) }
+{
+    for pair in pairs {
+        let path = copy_of(alloc, &pair.0)?;
+        found.push((path, pair.1))?;
+    }
+    Ok(())
+}
+
+/// The column paths of the schemas that can't be taken over, with their field ids.
+fn unread_paths(
+    alloc: Global,
+    unread: &[(i32, Unread)],
+) -> Result<Vec<(ColumnPath, i32)>, AllocError>
+    ensures { IfOk result (λ found. found.items ≡ unread_paths unread.now) }
+{
+    let mut found = Vec::new(alloc);
+    for held in unread {
+        push_paths(alloc, &mut found, held.1.paths.as_slice())?;
+    }
+    Ok(found)
+}
+
+/// The column paths of all held schemas with their field ids.
+fn all_path_ids(
+    alloc: Global,
+    unread: &[(i32, Unread)],
+    schemas: &[(i32, Schema, Ids)],
+) -> Result<Vec<(ColumnPath, i32)>, AllocError>
+    ensures { IfOk result (λ found. found.items ≡ all_path_ids unread.now schemas.now) }
+{
+    let mut found = unread_paths(alloc, unread)?;
+    let mut pairs = read_paths(alloc, schemas)?;
+    found.append(&mut pairs)?;
     Ok(found)
 }
 
@@ -149,10 +203,14 @@ fn are_first<'a>(
 }
 
 /// Whether the schemas, one alone or two, give one id two column paths, or one column path two ids.
-pub(crate) fn is_renamed(alloc: Global, schemas: &[(i32, Schema, Ids)]) -> Result<bool, AllocError>
-    ensures { IfOk result (λ is. is ≡ is_renamed schemas.now) }
+pub(crate) fn is_renamed(
+    alloc: Global,
+    unread: &[(i32, Unread)],
+    schemas: &[(i32, Schema, Ids)],
+) -> Result<bool, AllocError>
+    ensures { IfOk result (λ is. is ≡ is_renamed (all_path_ids unread.now schemas.now)) }
 {
-    let pairs = all_path_ids(alloc, schemas)?;
+    let pairs = all_path_ids(alloc, unread, schemas)?;
     let by_id = paths_by_id(alloc, pairs.as_slice())?;
     let by_path = ids_by_path(alloc, pairs.as_slice())?;
     Ok(!are_first(&by_id, &by_path, pairs.as_slice()))

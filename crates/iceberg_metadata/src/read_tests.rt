@@ -53,7 +53,12 @@ fn metadata_of_an_engine_is_read(rt: HostRuntime) -> Result<(), Fail> {
 
 /// Metadata with these schemas, fields of the one spec, and members behind the others. Of two members
 /// of one name the last counts.
-fn text_of(alloc: Global, schemas: &str, fields: &str, more: &str) -> Result<String, AllocError> {
+pub(crate) fn text_of(
+    alloc: Global,
+    schemas: &str,
+    fields: &str,
+    more: &str,
+) -> Result<String, AllocError> {
     format!(in alloc;
         "{{\"format-version\":2,\"table-uuid\":\"u\",\"location\":\"/w/\",\
         \"last-sequence-number\":0,\"last-updated-ms\":0,\"last-column-id\":1,\"schemas\":[{schemas}],\
@@ -63,7 +68,7 @@ fn text_of(alloc: Global, schemas: &str, fields: &str, more: &str) -> Result<Str
     )
 }
 
-fn word(outcome: &Result<Metadata, MetadataError>) -> &'static str {
+pub(crate) fn word(outcome: &Result<Metadata, MetadataError>) -> &'static str {
     match outcome {
         Ok(_) => "read",
         Err(MetadataError::Memory) => "memory",

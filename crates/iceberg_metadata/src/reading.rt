@@ -21,7 +21,9 @@ use crate::members::{
 use crate::metadata::{Metadata, SpecField};
 use crate::partition::{default_fields, has_other_partition, has_other_transform};
 use crate::paths::is_renamed;
-use crate::schemas::{has_limit_of_columns, has_limit_of_depth, has_schema_type, schemas_in};
+use crate::schemas::{
+    Unread, has_limit_of_columns, has_limit_of_depth, has_schema_type, schemas_in,
+};
 use json_reading::read_json;
 use lake_basics::limits::MAX_PARTITION_COLUMNS;
 use lake_basics::{Items, ReadError};
@@ -126,12 +128,12 @@ fn consistent(alloc: Global, metadata: &Metadata, schemas: &[i64]) -> Result<(),
     }
 }
 
-/// What the value says, and why schemas can't be taken over.
+/// What the value says, and the schemas that can't be taken over.
 #[tactic(auto, unfolding(crate::specs::Judging::contents))]
 fn contents_of(
     alloc: Global,
     value: &Value,
-) -> Result<(Metadata, Items<MetadataError>), MetadataError>
+) -> Result<(Metadata, Items<(i32, Unread)>), MetadataError>
     ensures read { Gives result (contents (view value.now)) }
     ensures own { IfOk result (λ p. HaveOwnNames p.0.properties) }
 {
@@ -141,42 +143,38 @@ fn contents_of(
     let metadata = members_of(alloc, value, schemas.read)?;
     unkept(value)?;
     consistent(alloc, &metadata, schemas.ids.as_slice())?;
-    Ok((metadata, schemas.refusals))
+    Ok((metadata, schemas.unread))
 }
 
 /// Nothing is shown that isn't supported, and no number is passed.
-fn judged(
-    alloc: Global,
-    metadata: &Metadata,
-    refusals: &[MetadataError],
-) -> Result<(), MetadataError>
-    ensures { Gives result (judged metadata.now refusals.now) }
+fn judged(alloc: Global, metadata: &Metadata, unread: &[(i32, Unread)]) -> Result<(), MetadataError>
+    ensures { Gives result (judged metadata.now unread.now) }
 {
     let fields = default_fields(metadata);
-    if has_schema_type(refusals) {
+    if has_schema_type(unread) {
         return Err(MetadataError::SchemaType);
     }
     if has_other_transform(fields) {
         return Err(MetadataError::Transform);
     }
-    if is_renamed(alloc, metadata.schemas.as_slice())? {
+    if is_renamed(alloc, unread, metadata.schemas.as_slice())? {
         return Err(MetadataError::Renamed);
     }
-    if has_other_partition(alloc, metadata)? {
+    if has_other_partition(alloc, metadata, unread)? {
         return Err(MetadataError::PartitionType);
     }
-    match limit_passed(fields, refusals) {
+    match limit_passed(fields, unread) {
         None => Ok(()),
         Some(which) => Err(MetadataError::Limit { which }),
     }
 }
 
-fn limit_passed(fields: &[SpecField], refusals: &[MetadataError]) -> Option<LimitKind>
-    ensures { result ≡ limit_passed fields.now refusals.now }
+fn limit_passed(fields: &[SpecField], unread: &[(i32, Unread)]) -> Option<LimitKind>
+    ensures { result ≡ limit_passed fields.now unread.now }
 {
-    if has_limit_of_columns(refusals) {
+    if has_limit_of_columns(unread) {
         Some(LimitKind::Columns)
-    } else if has_limit_of_depth(refusals) {
+    } else if has_limit_of_depth(unread) {
         Some(LimitKind::Depth)
     } else if fields.len() as u64 > MAX_PARTITION_COLUMNS {
         Some(LimitKind::PartitionColumns)
@@ -191,8 +189,8 @@ fn metadata_of(alloc: Global, bytes: &[u8]) -> Result<Metadata, MetadataError>
     ensures own { IfOk result (λ m. HaveOwnNames m.properties) }
 {
     let value = json_of(alloc, bytes)?;
-    let (metadata, refusals) = contents_of(alloc, &value)?;
-    judged(alloc, &metadata, refusals.as_slice())?;
+    let (metadata, unread) = contents_of(alloc, &value)?;
+    judged(alloc, &metadata, unread.as_slice())?;
     Ok(metadata)
 }
 

@@ -6,26 +6,38 @@ ghost use Rattle.serde_json.specs.View.{view, items_view};
 ghost use Rattle.json_reading.specs.Json.{items};
 ghost use Rattle.iceberg_metadata.specs.Errors.{Gives};
 ghost use Rattle.iceberg_metadata.specs.Judging.{is_schema_type, is_limit_of_columns, is_limit_of_depth};
-ghost use Rattle.iceberg_metadata.specs.Schemas.{size_limit, refusal_of, columns_reading, schema_reading};
+ghost use Rattle.iceberg_metadata.specs.Schemas.{size_limit, refusal_of, first_refusal, refusals};
+ghost use Rattle.iceberg_metadata.specs.Schemas.{unread_reading, refused_columns, columns_reading, schema_reading};
 ghost use Rattle.iceberg_metadata.specs.SchemaLists.{each_schema, with_reading};
 
 use crate::error::MetadataError;
-use crate::members::required_int;
+use crate::members::{required_int, required_list};
+use crate::outline::{Outline, field_kinds, schema_outline};
 use lake_basics::Items;
-use schema_map::{Ids, MapError, from_iceberg};
+use partition_map::PartKind;
+use schema_map::{ColumnPath, Ids, MapError, from_iceberg};
 use serde_json::Value;
 use std::alloc::{AllocError, Global};
 use table_history::{LimitKind, Schema};
 
-/// Columns with their field ids, or why they can't be taken over.
-type Columns = Result<(Schema, Ids), MetadataError>;
+/// Columns that can't be taken over: why, their paths with their field ids, and the kinds of the
+/// top-level ones by their field ids.
+#[derive(Drop)]
+pub(crate) struct Unread {
+    pub refusal: MetadataError,
+    pub paths: Items<(ColumnPath, i32)>,
+    pub kinds: Items<(i32, PartKind)>,
+}
 
-/// The schemas that can be taken over, the ids of all, and why the others can't.
+/// Columns with their field ids, where they can be taken over.
+type Columns = Result<(Schema, Ids), Unread>;
+
+/// The schemas that can be taken over, the ids of all, and the others.
 #[derive(Drop)]
 pub(crate) struct HeldSchemas {
     pub read: Items<(i32, Schema, Ids)>,
     pub ids: Items<i64>,
-    pub refusals: Items<MetadataError>,
+    pub unread: Items<(i32, Unread)>,
 }
 
 /// A schema has too many columns, or else too many levels.
@@ -51,17 +63,54 @@ fn refusal_of(error: MapError) -> MetadataError
     }
 }
 
+/// A type that isn't supported is told before a number that is passed.
+fn first_refusal(outline: &Outline, refusal: MetadataError) -> MetadataError
+    ensures { result ≡ first_refusal outline.now refusal }
+{
+    if outline.has_other {
+        MetadataError::SchemaType
+    } else {
+        refusal
+    }
+}
+
+/// What is known of columns that are refused so, where the schema is in the grammar.
+#[tactic(auto, unfolding(crate::specs::Schemas::unread_reading))]
+fn unread_of(alloc: Global, value: &Value, refusal: MetadataError) -> Result<Unread, MetadataError>
+    ensures { Gives result (unread_reading refusal (view value.now)) }
+{
+    let outline = schema_outline(alloc, value)?;
+    let fields = required_list(value, "fields")?;
+    let kinds = field_kinds(alloc, fields)?;
+    let refusal = first_refusal(&outline, refusal);
+    Ok(Unread {
+        refusal,
+        paths: outline.paths,
+        kinds,
+    })
+}
+
+fn refused_columns(
+    alloc: Global,
+    value: &Value,
+    refusal: MetadataError,
+) -> Result<Columns, MetadataError>
+    ensures { Gives result (refused_columns refusal (view value.now)) }
+{
+    match refusal {
+        MetadataError::Memory => Err(MetadataError::Memory),
+        MetadataError::Malformed => Err(MetadataError::Malformed),
+        refusal => Ok(Err(unread_of(alloc, value, refusal)?)),
+    }
+}
+
 /// The columns of a schema, where it is in the grammar.
 fn columns_of(alloc: Global, value: &Value) -> Result<Columns, MetadataError>
     ensures { Gives result (columns_reading (view value.now)) }
 {
     match from_iceberg(alloc, value) {
         Ok(columns) => Ok(Ok(columns)),
-        Err(error) => match refusal_of(error) {
-            MetadataError::Memory => Err(MetadataError::Memory),
-            MetadataError::Malformed => Err(MetadataError::Malformed),
-            refusal => Ok(Err(refusal)),
-        },
+        Err(error) => refused_columns(alloc, value, refusal_of(error)),
     }
 }
 
@@ -82,7 +131,7 @@ impl HeldSchemas {
         held.ids.push(i64::from(id))?;
         match columns {
             Ok((schema, field_ids)) => held.read.push((id, schema, field_ids))?,
-            Err(refusal) => held.refusals.push(refusal)?,
+            Err(unread) => held.unread.push((id, unread))?,
         }
         Ok(held)
     }
@@ -95,7 +144,7 @@ pub(crate) fn schemas_in(alloc: Global, values: &Vec<Value>) -> Result<HeldSchem
     let mut held = HeldSchemas {
         read: Items::new(alloc),
         ids: Items::new(alloc),
-        refusals: Items::new(alloc),
+        unread: Items::new(alloc),
     };
     for value in values {
         let (id, columns) = schema_of(alloc, value)?;
@@ -106,36 +155,63 @@ pub(crate) fn schemas_in(alloc: Global, values: &Vec<Value>) -> Result<HeldSchem
 
 // ---- refusals
 
-pub(crate) fn has_schema_type(refusals: &[MetadataError]) -> bool
-    ensures { result ≡ list_any is_schema_type refusals.now }
+fn is_schema_type(refusal: MetadataError) -> bool
+    ensures { result ≡ is_schema_type refusal }
 {
-    refusals
-        .iter()
-        .any(|refusal| matches!(refusal, MetadataError::SchemaType))
+    matches!(refusal, MetadataError::SchemaType)
 }
 
-pub(crate) fn has_limit_of_columns(refusals: &[MetadataError]) -> bool
-    ensures { result ≡ list_any is_limit_of_columns refusals.now }
+fn is_limit_of_columns(refusal: MetadataError) -> bool
+    ensures { result ≡ is_limit_of_columns refusal }
 {
-    refusals.iter().any(|refusal| {
-        matches!(
-            refusal,
-            MetadataError::Limit {
-                which: LimitKind::Columns
-            }
-        )
-    })
+    matches!(
+        refusal,
+        MetadataError::Limit {
+            which: LimitKind::Columns
+        }
+    )
 }
 
-pub(crate) fn has_limit_of_depth(refusals: &[MetadataError]) -> bool
-    ensures { result ≡ list_any is_limit_of_depth refusals.now }
+fn is_limit_of_depth(refusal: MetadataError) -> bool
+    ensures { result ≡ is_limit_of_depth refusal }
 {
-    refusals.iter().any(|refusal| {
-        matches!(
-            refusal,
-            MetadataError::Limit {
-                which: LimitKind::Depth
-            }
-        )
-    })
+    matches!(
+        refusal,
+        MetadataError::Limit {
+            which: LimitKind::Depth
+        }
+    )
+}
+
+pub(crate) fn has_schema_type(unread: &[(i32, Unread)]) -> bool
+    ensures { result ≡ list_any is_schema_type (refusals unread.now) }
+{
+    for schema in unread {
+        if is_schema_type(schema.1.refusal) {
+            return true;
+        }
+    }
+    false
+}
+
+pub(crate) fn has_limit_of_columns(unread: &[(i32, Unread)]) -> bool
+    ensures { result ≡ list_any is_limit_of_columns (refusals unread.now) }
+{
+    for schema in unread {
+        if is_limit_of_columns(schema.1.refusal) {
+            return true;
+        }
+    }
+    false
+}
+
+pub(crate) fn has_limit_of_depth(unread: &[(i32, Unread)]) -> bool
+    ensures { result ≡ list_any is_limit_of_depth (refusals unread.now) }
+{
+    for schema in unread {
+        if is_limit_of_depth(schema.1.refusal) {
+            return true;
+        }
+    }
+    false
 }
