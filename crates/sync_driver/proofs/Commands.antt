@@ -1,6 +1,6 @@
 -- What each kind of words makes of a command.
 use Rattle.std.proofs.Common.{◌≡◌, ℕ, List, get_or, refl, inl, inr, sym, ◌∙◌, ap, subst, arith}
-use Rattle.std.specs.Prelude.{Option, Some, None, Result}
+use Rattle.std.specs.Prelude.{Option, Some, None}
 use Rattle.lake_store.specs.declared.store.Store.{Ghosts}
 use Rattle.lake_store.specs.declared.sink.Sink as sinks
 use Rattle.source_core.specs.declared.source.Source as sources
