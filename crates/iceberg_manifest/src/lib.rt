@@ -34,6 +34,8 @@ pub use reading::{entries_of, read_list, read_manifest};
 #[cfg(test)]
 mod entry_tests;
 #[cfg(test)]
+mod list_tests;
+#[cfg(test)]
 mod manifest_tests;
 #[cfg(test)]
 mod reading_tests;

@@ -104,6 +104,13 @@ fn files_of_a_table_raised_from_version_1_are_read(rt: HostRuntime) -> Result<()
     Ok(())
 }
 
+fn list_refusal(alloc: Global, bytes: &[u8]) -> Option<ManifestError> {
+    match read_list(alloc, bytes) {
+        Ok(_) => None,
+        Err(error) => Some(error),
+    }
+}
+
 #[test]
 fn bytes_that_are_no_manifest_are_refused(rt: HostRuntime) -> Result<(), Fail> {
     let alloc = rt.alloc();
@@ -117,6 +124,24 @@ fn bytes_that_are_no_manifest_are_refused(rt: HostRuntime) -> Result<(), Fail> {
     assert_eq!(rt; refusal(alloc, &LIST), Some(ManifestError::Malformed));
     assert_eq!(rt; refusal(alloc, &MANY), Some(limit));
     assert_eq!(rt; refusal(alloc, &DEFLATED), Some(ManifestError::Codec));
+    Ok(())
+}
+
+#[test]
+fn bytes_that_are_no_list_are_refused(rt: HostRuntime) -> Result<(), Fail> {
+    let alloc = rt.alloc();
+    let limit = ManifestError::Limit {
+        which: LimitKind::Values,
+    };
+    let rows: [(&[u8], ManifestError); 4] = [
+        (&LIST[..LIST.len() - 1], ManifestError::Malformed),
+        (&MANIFEST, ManifestError::Malformed),
+        (&MANY, limit),
+        (&DEFLATED, ManifestError::Codec),
+    ];
+    for (bytes, wanted) in rows {
+        assert_eq!(rt; list_refusal(alloc, bytes), Some(wanted));
+    }
     Ok(())
 }
 
