@@ -15,7 +15,7 @@ use Rattle.serde_json.specs.Data.{Data, null, boolean, number, string, array, ob
 use Rattle.serde_json.specs.Find.{get}
 use Rattle.serde_json.specs.View.{view, members_view}
 use Rattle.serde_json.specs.declared.value.Value.{Value}
-use Rattle.lake_basics.specs.Outcome.{◌>>=◌, each, required, with_fault, with_front}
+use Rattle.lake_basics.specs.Outcome.{each, required, with_fault, with_front}
 use Rattle.lake_basics.proofs.Each.{with_front-push}
 use Rattle.json_reading.specs.Json.{whole, items, pairs, text}
 use Rattle.schema_map.specs.Iceberg.{iceberg_schema}
@@ -25,7 +25,7 @@ use Rattle.table_history.specs.First.{NoneOf}
 use Rattle.table_history.specs.TypeTree.{ColumnTrees}
 use Rattle.table_history.specs.declared.limit.LimitKind.TheVariants.{Columns, Depth, PartitionColumns}
 use Rattle.iceberg_metadata.specs.declared.error.MetadataError.{MetadataError}
-use Rattle.iceberg_metadata.specs.declared.error.MetadataError.TheVariants.{Memory, FormatVersion, Malformed, SchemaType, Transform, Renamed, PartitionType, Limit}
+use Rattle.iceberg_metadata.specs.declared.error.MetadataError.TheVariants.{Malformed, SchemaType, Transform, Renamed, PartitionType, Limit}
 use Rattle.iceberg_metadata.specs.declared.metadata.Metadata.{Metadata}
 use Rattle.iceberg_metadata.specs.Grammar.{IsConsistent}
 use Rattle.iceberg_metadata.specs.Members.{int_in, property, current_snapshot, unless_minus_one}

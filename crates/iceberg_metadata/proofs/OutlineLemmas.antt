@@ -1,5 +1,5 @@
 -- The outline of a held schema refuses nothing but faults of the grammar.
-use Rattle.std.proofs.Common.{◌≡◌, ℕ, zero, suc, List, [], ◌∷◌, Bool, true, false, cond, Option, Some, None, Result, Ok, Err, codes, refl}
+use Rattle.std.proofs.Common.{◌≡◌, ℕ, zero, suc, List, [], ◌∷◌, Bool, true, false, cond, Option, Result, Ok, Err, codes, refl}
 use Rattle.std.specs.Str.{bytes_eq}
 use Rattle.avro_schema.specs.Names.{are_distinct}
 use Rattle.serde_json.specs.Data.{Data, null, boolean, number, string, array, object}
@@ -11,7 +11,7 @@ use Rattle.iceberg_metadata.specs.declared.error.MetadataError.{MetadataError}
 use Rattle.iceberg_metadata.specs.declared.error.MetadataError.TheVariants.{Malformed}
 use Rattle.iceberg_metadata.specs.declared.outline.Outline.{Outline}
 use Rattle.iceberg_metadata.specs.Members.{text_in, int_in, bool_in, list_in, member_in}
-use Rattle.iceberg_metadata.specs.Outlines.{Walk, part_outline, field_outline, fields_outline, if_distinct, own_names, struct_outline, list_outline, map_outline, nested_outline, shape_outline, type_outline, schema_outline, with_other, with_word, column_of_word, nothing_met}
+use Rattle.iceberg_metadata.specs.Outlines.{Walk, part_outline, field_outline, fields_outline, own_names, struct_outline, list_outline, map_outline, nested_outline, shape_outline, type_outline, schema_outline, with_other, with_word, column_of_word, nothing_met}
 use Rattle.iceberg_metadata.proofs.StepLemmas.{Refuses, refuses_ok, refuses_err, refuses_bind, refuses_required, refuses_each}
 
 abbrev pub IsMalformed : MetadataError → Type 0

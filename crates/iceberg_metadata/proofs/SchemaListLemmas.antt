@@ -14,7 +14,7 @@ use Rattle.iceberg_metadata.proofs.StepLemmas.{bind_ok, bind_by, ok_is}
 use Rattle.lake_basics.specs.Outcome.{◌>>=◌, each, FailsUnlessMemory}
 use Rattle.iceberg_metadata.specs.declared.error.MetadataError.{MetadataError}
 use Rattle.iceberg_metadata.specs.declared.schemas.HeldSchemas.{HeldSchemas}
-use Rattle.iceberg_metadata.specs.Schemas.{SchemaReading, ReadColumns, HeldUnread, schema_reading, held_as, readable, unread_as, unread, schema_ids}
+use Rattle.iceberg_metadata.specs.Schemas.{SchemaReading, ReadColumns, schema_reading, held_as, readable, unread_as, unread, schema_ids}
 use Rattle.iceberg_metadata.specs.SchemaLists.{with_reading, with_readings, held_schemas, each_schema, each_beside}
 
 with_more : (h : HeldSchemas) (r : SchemaReading) (rs : List SchemaReading) → with_readings (with_reading h r) rs ≡ with_readings h (r ∷ rs)

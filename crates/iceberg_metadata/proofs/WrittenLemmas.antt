@@ -23,7 +23,6 @@ use Rattle.lake_basics.specs.declared.limits.TheConstants.{MAX_PARTITION_COLUMNS
 use Rattle.json_reading.specs.Json as json_values
 use Rattle.json_reading.specs.Json.{json, whole, int, items, pairs, members_with, IsReadAgain}
 use Rattle.table_history.specs.First.{NoneOf}
-use Rattle.iceberg_metadata.specs.declared.error.MetadataError.{MetadataError}
 use Rattle.iceberg_metadata.specs.declared.error.MetadataError.TheVariants.{Malformed}
 use Rattle.iceberg_metadata.specs.declared.metadata.Metadata.{Metadata}
 use Rattle.iceberg_metadata.specs.declared.metadata.Snapshot.{Snapshot}

@@ -1,7 +1,7 @@
 -- What the JSON of a held schema has in it, whatever its types and however large it is (Iceberg specification, "JSON serialization", Schemas).
 use Rattle.std.specs.Prelude.{ℕ, zero, suc, ℤ, pos, List, [], ◌∷◌, ◌++◌, true, false, Option, Some, None, option_map, option_and_then, Result, Ok, Err, if◌then◌else◌, codes}
 use Rattle.std.specs.Str.{bytes_eq}
-use Rattle.serde_json.specs.Data.{Data, null, boolean, number, string, array, object, Items, no_items, item}
+use Rattle.serde_json.specs.Data.{Data, null, boolean, number, string, array, object, no_items, item}
 use Rattle.serde_json.specs.Read.{max_depth}
 use Rattle.lake_basics.specs.Outcome.{◌>>=◌, each}
 use Rattle.json_reading.specs.Json.{int_member, text_member, items}
