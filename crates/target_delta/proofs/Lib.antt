@@ -15,3 +15,4 @@ pub mod WritableLemmas
 pub mod CommitLemmas
 pub mod NewVersionLemmas
 pub mod StoreLemmas
+pub mod PlainLemmas

@@ -61,7 +61,7 @@ fn store_of(alloc: Global, files: &[(&str, &str)]) -> Result<MemoryStore, AllocE
 }
 
 /// What is kept, in words.
-fn kept_words(alloc: Global, kept: &DeltaKept) -> Result<String, AllocError> {
+pub(crate) fn kept_words(alloc: Global, kept: &DeltaKept) -> Result<String, AllocError> {
     match &kept.mark {
         Some(mark) => format!(in alloc;
             "ours: {} commits of {}, {} files, at {} to {}",

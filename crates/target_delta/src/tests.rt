@@ -1,4 +1,7 @@
 //! The id of a new table, and what the first commit of a table writes.
+ghost use Rattle.std.specs.Prelude.{◌≡◌, true, codes, IfOk};
+ghost use Rattle.table_history.specs.TypeTree.{column, long, no_columns};
+
 use crate::DeltaTarget;
 use crate::actions::add_of;
 use crate::fresh::fresh_kept;
@@ -30,7 +33,9 @@ fn staged(alloc: Global) -> Result<String, AllocError> {
 }
 
 /// A schema of one column of whole numbers.
-fn one_column(alloc: Global) -> Result<Schema, AllocError> {
+pub(crate) fn one_column(alloc: Global) -> Result<Schema, AllocError>
+    ensures { IfOk result (λ schema. schema ≡ column (codes "id") long true no_columns) }
+{
     let mut columns = Vec::new(alloc);
     columns.push(Column {
         name: Text::from_str(alloc, "id")?,
