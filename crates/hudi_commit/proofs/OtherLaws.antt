@@ -1,13 +1,13 @@
 -- Other files stay, but for leftovers that are gone.
-use Rattle.std.proofs.Common.{◌≡◌, ◌≢◌, inl, inr, ⊎_elim, ℕ, List, refl, ◌∙◌, ap, subst}
+use Rattle.std.proofs.Common.{◌≡◌, ◌≢◌, inl, inr, ⊎_elim, ℕ, List, refl, sym, ◌∙◌, ap, subst}
 use Rattle.std.specs.Prelude.{Option, None}
 use Rattle.std.specs.FinMap as map
 use Rattle.lake_store.specs.Disk.{Disk, Files, synced}
 use Rattle.lake_store.proofs.DiskLaws.{path_cases}
 use Rattle.hudi_names.specs.Time.{IsDigits, IsSomeTime}
 use Rattle.hudi_commit.specs.Names.{IsLeftover, Stage, StaysOrGoes, claim_path, completed_path, pending_path, properties_path, staged_properties_path}
-use Rattle.hudi_commit.specs.Runs.{HasProperties, IsOther, IsTidied, NotGiven, announced, claimed, completed}
-use Rattle.hudi_commit.proofs.NameLaws.{claim_leftover, completed_stays}
+use Rattle.hudi_commit.specs.Runs.{HasProperties, IsNoFileOf, IsOther, IsTidied, NotGiven, announced, claimed, completed}
+use Rattle.hudi_commit.proofs.NameLaws.{claim_leftover, claim_not_staged, completed_stays, not_staged, pending_not_staged}
 use Rattle.hudi_commit.proofs.OpenLaws.{stays_then}
 use Rattle.hudi_commit.proofs.OrderlyLaws.{there_none}
 use Rattle.hudi_commit.proofs.PublishLaws.{moved_file, moved_gone}
@@ -47,3 +47,10 @@ others_kept properties t b time d₀ d₁ d₂ d₃ d₄ same tidied kept prepar
     let two : StaysOrGoes d₁.files d₃.files q = stays_then d₁.files q d₂.files (tidied_completed d₁ d₂ tidied) d₃.files (tidied.files q) (prepared q other.given) in
     let all : StaysOrGoes d₁.files d₄.files q = stays_then d₁.files q d₃.files (λ u is. kept u is ∙ tidied_completed d₁ d₂ tidied u is) d₄.files two (completed_others t b time d₃ d₄ done none q other.completed other.pending) in
     subst (λ (f : Files). StaysOrGoes f d₄.files q) files all
+
+-- staged properties are no file of an instant
+pub staged_no_file : (t : List ℕ) → IsDigits t → IsNoFileOf t staged_properties_path
+staged_no_file t is = record {
+  leftover = ⊎_elim (λ claim. claim_not_staged t is (sym claim)) (λ (pending : (stage : Stage) × (staged_properties_path ≡ pending_path stage t)). pending_not_staged pending.0 t is (sym pending.1));
+  completed = λ e. not_staged (completed_path t) (completed_stays t is) (sym e);
+}

@@ -7,7 +7,7 @@ ghost use Rattle.lake_store.specs.Cause.{IsNotTooLong};
 ghost use Rattle.lake_store.specs.Disk.{Files, names_in};
 ghost use Rattle.lake_store.specs.Runs.{ChangesOnlyIn, FailsBy, IsContestedBy, LeavesAlone};
 ghost use Rattle.hudi_names.specs.Time.{IsSomeTime};
-ghost use Rattle.hudi_commit.specs.Names.{IsThere, StaysOrGoes, claims_folder, completed_path, properties_path, timeline_folder};
+ghost use Rattle.hudi_commit.specs.Names.{IsThere, StaysOrGoes, claims_folder, completed_path, properties_path, staged_properties_path, timeline_folder};
 ghost use Rattle.hudi_commit.specs.Orderly.{IsOrderly};
 ghost use Rattle.hudi_commit.specs.Runs.{HasNotGrown, IsCommitted, IsIdle, IsKept, IsKeptBut, IsOneStep, IsOther, IsPrepared, IsReady, IsTakenBy, IsUncontested, NotGiven, StaysBefore};
 ghost use Rattle.hudi_commit.specs.Settled.{IsSettled, Stands};
@@ -33,6 +33,8 @@ fn prepare<S: Store>(store: &mut S, properties: Option<&[u8]>) -> Result<(), Sto
     ensures others { S.tells → OnOk result ((path : List ℕ)
         → NotGiven (option_copied properties.entry) path
         → StaysOrGoes (S.disk store.old).files (S.disk store.new).files path) }
+    ensures staged { S.tells → OnOk result (IsSome (option_copied properties.entry)
+        → map.get (S.disk store.new).files staged_properties_path ≡ None) }
     ensures taken { S.tells → IsErrOf result StoreError.Taken
         → IsSome (option_copied properties.entry)
         × IsThere (S.disk store.new).files properties_path }
@@ -70,6 +72,10 @@ pub fn publish_commit<S: Store>(
         (S.disk store.old) (S.disk store.new)) }
     ensures completed { S.tells → OnOk result
         (map.get (S.disk store.new).files (completed_path instant.now) ≡ Some text.now) }
+
+    // Behind properties that are given no staged ones are left.
+    ensures staged { S.tells → OnOk result (IsSome (option_copied properties.entry)
+        → map.get (S.disk store.new).files staged_properties_path ≡ None) }
 
     // Each other file is as before, or was a leftover of a stopped commit and is gone.
     ensures others { S.tells → OnOk result ((path : List ℕ)

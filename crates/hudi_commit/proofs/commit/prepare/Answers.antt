@@ -1,5 +1,5 @@
-use Rattle.std.proofs.Common.{◌≡◌, inl, List, ℕ, refl, ap, sym, subst}
-use Rattle.std.specs.Prelude.{Option, Some, OnOk}
+use Rattle.std.proofs.Common.{◌≡◌, inl, List, ℕ, refl, ap, sym, ◌∙◌, subst}
+use Rattle.std.specs.Prelude.{Option, Some, is_some, OnOk}
 use Rattle.std.specs.Option.{option_copied}
 use Rattle.std.proofs.lemmas.Result.{on_ok_weaker}
 use Rattle.lake_store.proofs.RunLaws.{alone_of_fewer}
@@ -37,6 +37,16 @@ returns-in-Some-clause-others g c told =
     (λ (has : HasProperties p (disk c.args.store.now) (disk c.publish_properties.new.store)) q free.
     properties_others p (disk c.args.store.now) (disk c.publish_properties.new.store) has q (subst (λ (o : Option (List ℕ)). NotGiven o q) at free))
     (c.publish_properties.ensures.published told)
+
+pub returns-in-Some-clause-staged : goal.returns-in-Some-clause-staged
+returns-in-Some-clause-staged g c told =
+    let disk = g.S.Store.disk in
+    on_ok_weaker c.publish_properties.result
+    (λ (has : HasProperties c.in-Some.properties.now (disk c.args.store.now) (disk c.publish_properties.new.store)) some. has.staged)
+    (c.publish_properties.ensures.published told)
+
+pub returns-in-None-clause-staged : goal.returns-in-None-clause-staged
+returns-in-None-clause-staged g c told = λ some. absurd (cc (sym some ∙ ap (λ o. is_some (option_copied o)) c.in-None.is))
 
 pub returns-in-None-clause-others : goal.returns-in-None-clause-others
 returns-in-None-clause-others g c told = λ q free. inl refl

@@ -6,15 +6,15 @@ use Rattle.std.proofs.lemmas.Result.{err_from_is_err_and, on_ok_weaker}
 use Rattle.lake_store.specs.Disk.{Disk}
 use Rattle.lake_store.specs.Runs.{IsOutside}
 use Rattle.lake_store.proofs.RunLaws.{alone_further, alone_of_fewer}
-use Rattle.hudi_names.specs.Time.{IsSomeTime}
-use Rattle.hudi_commit.specs.Names.{completed_path, timeline_folder}
+use Rattle.hudi_names.specs.Time.{IsDigits, IsSomeTime}
+use Rattle.hudi_commit.specs.Names.{completed_path, staged_properties_path, timeline_folder}
 use Rattle.hudi_commit.specs.Runs.{IsCommitted, IsKept, IsKeptBut, IsNext, IsNoFileOf, IsNotOpen, IsOneStep, IsPublished, completed, prepared}
 use Rattle.hudi_commit.proofs.AloneLaws.{alone_begun, alone_sync}
 use Rattle.hudi_commit.proofs.ClaimLaws.{others_not_grown}
 use Rattle.hudi_commit.proofs.CommitLaws.{before_step, committed, completed_here, completed_kept_but, entry_stands, kept_but, kept_from, outside_kept, prepared_next, recovered_idle, step_then, synced_clean, synced_stands, tidied_ready}
 use Rattle.hudi_commit.proofs.KeepLaws.{begun, keeps_then, sync_keeps}
 use Rattle.hudi_commit.proofs.OpenLaws.{completed_not_open, open_same}
-use Rattle.hudi_commit.proofs.OtherLaws.{others_kept}
+use Rattle.hudi_commit.proofs.OtherLaws.{others_kept, staged_no_file}
 use Rattle.hudi_commit.proofs.StagingLaws.{alike_before, before_then}
 use Rattle.hudi_commit.proofs.commit.publish_commit.Goals as goal
 
@@ -201,6 +201,15 @@ returns-clause-others g c told =
     others_kept props t c.args.text.now real (disk s0) (disk s1) (disk s2) (disk s3) (disk s4) ok1 (c.in_ok-clear_claims.ensures.tidied told)
     (λ u is. (c.prepare.ensures.alone told).disk.files (completed_path u) (completed_kept_but props u is)) (c.in_ok-prepare.ensures.others told) free3
     (subst (λ x. disk s4 ≡ completed x c.args.text.now (disk s3)) c.in_ok-paths.ensures done))
+    (c.complete.ensures.completed told)
+
+pub returns-clause-staged : goal.returns-clause-staged
+returns-clause-staged g c told =
+    let disk = g.S.Store.disk in
+    let digits = subst IsDigits (sym c.in_ok-paths.ensures) c.requires.real.1.digits in
+    on_ok_weaker c.complete.result
+    (λ (done : disk c.complete.new.store ≡ completed c.in_ok-paths.paths c.args.text.now (disk c.prepare.new.store)) some.
+    (c.complete.ensures.alone told).disk.files staged_properties_path (staged_no_file c.in_ok-paths.paths digits) ∙ c.in_ok-prepare.ensures.staged told some)
     (c.complete.ensures.completed told)
 
 pub returns-clause-not_grown : goal.returns-clause-not_grown
