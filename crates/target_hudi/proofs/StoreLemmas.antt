@@ -24,11 +24,12 @@ use Rattle.table_history.specs.declared.limit.LimitKind.{LimitKind}
 use Rattle.table_history.specs.declared.limit.LimitKind.TheVariants.{Names}
 use Rattle.table_history.specs.declared.table.Commit.{Commit}
 use Rattle.table_history.proofs.RowListLemmas.{Contains-none}
+use Rattle.hudi_names.specs.Time.{IsSomeTime}
 use Rattle.hudi_names.specs.declared.name.State.TheVariants as state
 use Rattle.hudi_table.specs.declared.instants.CompletedInstant.{CompletedInstant}
 use Rattle.hudi_timeline.proofs.AnyLemmas.{any_from, any_to}
 use Rattle.hudi_timeline.specs.Written.{properties_text}
-use Rattle.hudi_commit.specs.Names.{IsThere, StaysOrGoes, claim_path, claims_folder, completed_name, completed_path, properties_path, timeline_folder, timeline_path}
+use Rattle.hudi_commit.specs.Names.{IsOf, IsThere, Stage, StaysOrGoes, claim_path, claims_folder, completed_name, completed_path, pending_path, properties_path, staged_properties_path, timeline_folder, timeline_path}
 use Rattle.hudi_commit.specs.Orderly.{IsOrderly}
 use Rattle.hudi_commit.specs.Runs.{HasNotGrown, IsBeforeOrAfter, IsCommitted, IsKept, IsOneStep, IsOther, IsReady, IsTakenBy, NotGiven}
 use Rattle.hudi_commit.specs.Settled.{IsSettled, Stands}
@@ -263,20 +264,35 @@ module _ {S : Type 0} (store : Ghosts S) (old new : S) (told : store.tells) (nam
     not_given None given path other = tt
     not_given (Some bytes) given path other = other given.0
 
+    some_given : (o : Option (List ℕ)) → AreGiven (end_of name kept) o → kept.newest ≡ None → IsSome o
+    some_given None given first = absurd (given first)
+    some_given (Some bytes) given first = refl
+
     -- what it writes
-    pub writes : IsCommitted properties instant text (store.disk old) (store.disk new) → ((path : List ℕ) → IsOther properties instant path → StaysOrGoes entry exit path) → Writes name kept entry origin now commit exit
-    writes committed others =
-        let grown = grown_now committed in
-        record {
-          time = instant;
-          next_time = v.next_time;
-          written = v.written;
-          is = v.is;
-          completed = grown.there ∙ ap (λ (b : List ℕ). Some b) v.text_is;
-          pending = committed.pending;
-          properties = text_there properties v.given grown.properties;
-          others = λ path completed pending first. others path (record { completed = completed; pending = pending; given = not_given properties v.given path first });
-        }
+    module _ (committed : IsCommitted properties instant text (store.disk old) (store.disk new)) where
+      all_recovered : (u : List ℕ) → IsSomeTime u → (IsThere exit (completed_path u) → ⊥) → (path : List ℕ) → IsOf u path → IsThere exit path → ⊥
+      all_recovered u real not_completed path of found = not_completed (⊎_elim
+          (λ (claim : path ≡ claim_path u). committed.recovered u real (subst (IsThere exit) claim found))
+          (λ (pending : (stage : Stage) × (path ≡ pending_path stage u)).
+          ⊎_elim (committed.recovered u real) (λ done. done) (committed.stands.orderly.claimed pending.0 u real.1.digits (subst (IsThere exit) pending.1 found)))
+          of)
+
+      pub writes : (IsSome properties → map.get exit staged_properties_path ≡ None) → ((path : List ℕ) → IsOther properties instant path → StaysOrGoes entry exit path) → Writes name kept entry origin now commit exit
+      writes staged others =
+          let grown = grown_now committed in
+          record {
+            time = instant;
+            next_time = v.next_time;
+            written = v.written;
+            is = v.is;
+            completed = grown.there ∙ ap (λ (b : List ℕ). Some b) v.text_is;
+            pending = committed.pending;
+            properties = text_there properties v.given grown.properties;
+            recovered = all_recovered;
+            claim = committed.claim;
+            staged = λ first. staged (some_given properties v.given first);
+            others = λ path completed pending first. others path (record { completed = completed; pending = pending; given = not_given properties v.given path first });
+          }
 
     -- too many claims: it reads as before
     pub reads_unmoved : Stands entry (store.disk new) → Reads exit (view_of kept)

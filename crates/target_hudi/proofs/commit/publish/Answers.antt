@@ -149,7 +149,7 @@ returns-in-Ok-clause-writes g c told stands =
     let alone = c.in-Ok.ensures.kept told in
     let whole = orderly_before store old new told name origin now kept next commit instant properties text v counted alone stands in
     let is_ready = ready store old new told name origin now kept next commit instant properties text v counted alone stands in
-    writes store old new told name origin now kept next commit instant properties text v counted alone stands (c.in-Ok.ensures.committed told whole is_ready) (c.in-Ok.ensures.others told)
+    writes store old new told name origin now kept next commit instant properties text v counted alone stands (c.in-Ok.ensures.committed told whole is_ready) (c.in-Ok.ensures.staged told) (c.in-Ok.ensures.others told)
 
 pub returns-in-Ok-clause-ahead : goal.returns-in-Ok-clause-ahead
 returns-in-Ok-clause-ahead g c told =
