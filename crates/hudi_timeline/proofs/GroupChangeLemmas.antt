@@ -10,9 +10,10 @@ use Rattle.std.proofs.lemmas.List.Filters.{length-filter_both}
 use Rattle.std.proofs.lemmas.List.Sorted.{IsPermutation-reverse, IsPermutation-map, IsPermutation-sym, Contains-permutation}
 use Rattle.std.proofs.lemmas.Map.Keys.{IsDistinct-cons, IsDistinct-head, IsDistinct-tail, IsDistinct-IsPermutation}
 use Rattle.std.proofs.lemmas.Slice.Eq.{bytes_eq-Decides}
-use Rattle.table_history.specs.Rows.{HasDistinctPaths, paths_of}
+use Rattle.table_history.specs.Rows.{HasDistinctPaths, SameRows, paths_of}
 use Rattle.table_history.specs.Tables.{IsDiff}
 use Rattle.table_history.specs.declared.row.FileRow.{FileRow}
+use Rattle.table_history.proofs.Laws.{same_rows_length}
 use Rattle.table_history.proofs.RowListLemmas.{Contains-none, Contains-head, Contains-tail, Contains-cases, Contains-filter, filter_contains, distinct_filter}
 use Rattle.hudi_timeline.specs.declared.form.Form.{Form}
 use Rattle.hudi_timeline.specs.Files.{group_name}
@@ -34,14 +35,14 @@ pub distinct_none : HasDistinctPaths []
 unfolding IsDistinct
 distinct_none = tt
 
-distinct_cons : (r : FileRow) (rows : List FileRow) → ((s : FileRow) → Contains rows s → r.path ≡ s.path → ⊥) → HasDistinctPaths rows → HasDistinctPaths (r ∷ rows)
+pub distinct_cons : (r : FileRow) (rows : List FileRow) → ((s : FileRow) → Contains rows s → r.path ≡ s.path → ⊥) → HasDistinctPaths rows → HasDistinctPaths (r ∷ rows)
 distinct_cons r rows none d = IsDistinct-cons bytes_eq r.path (paths_of rows) (apart_paths r.path rows none) d
 
 pub at_path : (P : List ℕ → Type 0) (rows : List FileRow) (s : FileRow) → AllByRecursion P (paths_of rows) → Contains rows s → P s.path
 at_path P [] s all there = absurd (Contains-none s there)
 at_path P (r ∷ rs) s all there = ⊎_elim (λ e. subst (λ (w : FileRow). P w.path) e all.0) (λ later. at_path P rs s all.1 later) (Contains-cases r rs s there)
 
-distinct_append : (xs ys : List FileRow) → HasDistinctPaths xs → HasDistinctPaths ys → ((x y : FileRow) → Contains xs x → Contains ys y → x.path ≡ y.path → ⊥) → HasDistinctPaths (xs ++ ys)
+pub distinct_append : (xs ys : List FileRow) → HasDistinctPaths xs → HasDistinctPaths ys → ((x y : FileRow) → Contains xs x → Contains ys y → x.path ≡ y.path → ⊥) → HasDistinctPaths (xs ++ ys)
 distinct_append [] ys d e apart = e
 distinct_append (x ∷ xs) ys d e apart =
     distinct_cons x (xs ++ ys)
@@ -124,9 +125,14 @@ module _ (form : Form) (replaced : List (List ℕ × List ℕ)) (before rows : L
 -- the rows of the groups of a set that has just the touched groups
 pub old_rows : (form : Form) (replaced : List (List ℕ × List ℕ)) (before rows : List FileRow) (groups : Groups) (old : List FileRow)
     → ((q : List ℕ) → has_group groups q ≡ is_touched form replaced rows q)
-    → old ≡ filter (λ r. has_group groups (group_name form r.path)) before → old ≡ filter (touched form replaced before rows) before
+    → SameRows old (filter (λ r. has_group groups (group_name form r.path)) before) → SameRows old (filter (touched form replaced before rows) before)
 old_rows form replaced before rows groups old same is =
-    is ∙ filter_agree (λ r. has_group groups (group_name form r.path)) (touched form replaced before rows) (λ r. same (group_name form r.path)) before
+    subst (SameRows old) (filter_agree (λ r. has_group groups (group_name form r.path)) (touched form replaced before rows) (λ r. same (group_name form r.path)) before) is
+
+pub old_length : (form : Form) (replaced : List (List ℕ × List ℕ)) (before rows old : List FileRow) → HasDistinctPaths before → HasDistinctPaths old
+    → SameRows old (filter (touched form replaced before rows) before) → length old ≡ length (filter (touched form replaced before rows) before)
+old_length form replaced before rows old distinct own same =
+    same_rows_length old (filter (touched form replaced before rows) before) own (distinct_filter (touched form replaced before rows) before distinct) same
 
 pub old_shorter : (form : Form) (replaced : List (List ℕ × List ℕ)) (before rows : List FileRow) → length (filter (touched form replaced before rows) before) ≤ length before
 old_shorter form replaced before rows = omega (arith, length-filter_both (touched form replaced before rows) (λ r. not (touched form replaced before rows r)) (λ r. refl) before)

@@ -7,6 +7,7 @@ pub mod EscapeLemmas
 pub mod GrammarLemmas
 pub mod GroupChangeLemmas
 pub mod GroupLemmas
+pub mod GroupPathLemmas
 pub mod GroupSetLemmas
 pub mod KindLemmas
 pub mod LineLemmas

@@ -1,5 +1,5 @@
 -- The file groups of rows and of replaced file ids.
-use Rattle.std.specs.Prelude.{ℕ, Bool, ◌&&◌, not, List, [], ◌∷◌, if◌then◌else◌, Vec}
+use Rattle.std.specs.Prelude.{ℕ, Bool, ◌&&◌, not, List, [], ◌∷◌, ◌++◌, Option, Some, None, if◌then◌else◌, Vec}
 use Rattle.std.specs.List.{list_any}
 use Rattle.std.specs.Str.{bytes_eq}
 use Rattle.std.specs.HashSet.{HashSet}
@@ -8,6 +8,8 @@ use Rattle.std.specs.declared.hash.FoldHasher.{FoldHasher}
 use Rattle.std.specs.declared.hash.BuildHasherDefault.{BuildHasherDefault}
 use Rattle.table_history.specs.Path.{is_slash}
 use Rattle.table_history.specs.Row.{Row}
+use Rattle.table_history.specs.RowMap.{Key}
+use Rattle.table_history.specs.Rows.{row_at}
 use Rattle.hudi_timeline.specs.declared.form.Form.{Form}
 use Rattle.hudi_timeline.specs.Group.{joined}
 use Rattle.hudi_timeline.specs.Files.{group_name}
@@ -30,3 +32,21 @@ names_group q p = not (list_any is_slash p.1) && bytes_eq q (joined p.0 p.1)
 abbrev pub newest_rows : Form → List Row → List Row
 newest_rows form [] = []
 newest_rows form (row ∷ rows) = if list_any (is_row_of_group form (group_name form row.path)) rows then newest_rows form rows else row ∷ newest_rows form rows
+
+-- ---- the rows of groups that are named by whole paths
+
+abbrev pub one_or_none : Option Row → List Row
+one_or_none None = []
+one_or_none (Some row) = row ∷ []
+
+-- the row at the path, where its group is q
+abbrev pub row_in_group : Form → List Row → List ℕ → List ℕ → List Row
+row_in_group form rows q path = if bytes_eq (group_name form path) q then one_or_none (row_at rows path) else []
+
+-- the rows of the group q at q and at q behind a `/`
+abbrev pub rows_at_group : Form → List Row → List ℕ → List Row
+rows_at_group form rows q = row_in_group form rows q q ++ row_in_group form rows q (47 ∷ q)
+
+abbrev pub rows_at_paths : Form → List Row → List Key → List Row
+rows_at_paths form rows [] = []
+rows_at_paths form rows (key ∷ keys) = rows_at_group form rows key.items ++ rows_at_paths form rows keys

@@ -1,13 +1,14 @@
 //! The file groups that an instant writes and replaces.
 
-ghost use Rattle.std.specs.Prelude.{◌≡◌, ◌||◌, ℕ, List, filter, reverse, IfOk, OnOk};
-ghost use Rattle.std.specs.List.{list_any};
+ghost use Rattle.std.specs.Prelude.{◌≡◌, ◌||◌, ◌++◌, ℕ, List, filter, reverse, IfOk, OnOk};
+ghost use Rattle.std.specs.List.{list_any, IsDistinct};
 ghost use Rattle.std.specs.Str.{bytes_eq};
 ghost use Rattle.table_history.specs.Path.{is_slash};
-ghost use Rattle.table_history.specs.Rows.{HasDistinctPaths};
+ghost use Rattle.table_history.specs.RowMap.{key_eq};
+ghost use Rattle.table_history.specs.Rows.{HasDistinctPaths, SameRows};
 ghost use Rattle.hudi_timeline.specs.Group.{joined};
 ghost use Rattle.hudi_timeline.specs.Files.{group_name};
-ghost use Rattle.hudi_timeline.specs.GroupSets.{has_group, is_row_of_group, names_group, newest_rows};
+ghost use Rattle.hudi_timeline.specs.GroupSets.{has_group, is_row_of_group, names_group, newest_rows, row_in_group, rows_at_group, rows_at_paths};
 ghost use Rattle.hudi_timeline.specs.GroupChange.{is_touched};
 
 use crate::form::{Form, group_name};
@@ -122,9 +123,25 @@ pub(super) fn rows_of_groups(
     groups: &Groups,
     rows: &FileRows,
 ) -> Result<Vec<FileRow>, AllocError>
-    ensures rows { IfOk result (λ v. v.items
+    ensures rows { HasDistinctPaths rows.now → IfOk result (λ v. SameRows v.items
+        (filter (λ r. has_group groups.now (group_name form.now r.path)) rows.now)) }
+    ensures distinct { HasDistinctPaths rows.now → IfOk result (λ v. HasDistinctPaths v.items) }
+{
+    match form {
+        Form::Base => rows_of_file_ids(alloc, form, groups, rows),
+        Form::External { .. } => rows_at_paths(alloc, form, groups, rows),
+    }
+}
+
+/// The rows of groups that are named by file ids, each of which may stand in many paths.
+fn rows_of_file_ids(
+    alloc: Global,
+    form: &Form,
+    groups: &Groups,
+    rows: &FileRows,
+) -> Result<Vec<FileRow>, AllocError>
+    ensures { IfOk result (λ v. v.items
         ≡ filter (λ r. has_group groups.now (group_name form.now r.path)) rows.now) }
-    ensures distinct { IfOk result (λ _. HasDistinctPaths rows.now) }
 {
     let mut found = Vec::new(alloc);
     for place in 0..rows.len() {
@@ -134,4 +151,60 @@ pub(super) fn rows_of_groups(
         }
     }
     Ok(found)
+}
+
+/// The rows of groups that are named by their files' paths, found by these.
+fn rows_at_paths(
+    alloc: Global,
+    form: &Form,
+    groups: &Groups,
+    rows: &FileRows,
+) -> Result<Vec<FileRow>, AllocError>
+    ensures rows { IfOk result (λ v. v.items ≡ rows_at_paths form.now rows.now groups.now.keys) }
+    ensures unique { IfOk result (λ _. IsDistinct key_eq groups.now.keys) }
+{
+    let mut found = Vec::new(alloc);
+    for group in groups {
+        found = with_rows_at(alloc, form, group, rows, found)?;
+    }
+    Ok(found)
+}
+
+/// The rows found, and those of the group: of the path that is its name, and of the path that is a
+/// `/` and its name, since a group's name leaves out a `/` that stands before a lone file name.
+fn with_rows_at(
+    alloc: Global,
+    form: &Form,
+    group: &[u8],
+    rows: &FileRows,
+    found: Vec<FileRow>,
+) -> Result<Vec<FileRow>, AllocError>
+    ensures { IfOk result (λ v. v.items
+        ≡ found.items ++ rows_at_group form.now rows.now group.now) }
+{
+    let all = with_row_at(alloc, form, group, group, rows, found)?;
+    let mut rooted = Vec::from_slice(alloc, b"/")?;
+    rooted.extend_from_slice(group)?;
+    with_row_at(alloc, form, group, &rooted, rows, all)
+}
+
+/// The rows found, and that at the path where it is of the group.
+fn with_row_at(
+    alloc: Global,
+    form: &Form,
+    group: &[u8],
+    path: &[u8],
+    rows: &FileRows,
+    found: Vec<FileRow>,
+) -> Result<Vec<FileRow>, AllocError>
+    ensures { IfOk result (λ v. v.items
+        ≡ found.items ++ row_in_group form.now rows.now group.now path.now) }
+{
+    let mut all = found;
+    if group_name(form, path) == group {
+        if let Some(row) = rows.get(path) {
+            all.push(row.copy(alloc)?)?;
+        }
+    }
+    Ok(all)
 }

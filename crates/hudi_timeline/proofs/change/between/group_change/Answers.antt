@@ -1,11 +1,11 @@
 use Rattle.std.proofs.Common.{◌≡◌, ◌+◌, ◌-◌, length, filter, reverse, vec_len, sym, ap, subst, ◌∙◌, arith}
 use Rattle.std.specs.List.{list_any}
-use Rattle.table_history.specs.Rows.{HasDistinctPaths}
+use Rattle.table_history.specs.Rows.{HasDistinctPaths, SameRows}
 use Rattle.table_history.specs.Tables.{IsDiff}
-use Rattle.table_history.proofs.RowListLemmas.{distinct_filter}
+use Rattle.table_history.proofs.Laws.{change_of_same_rows}
 use Rattle.hudi_timeline.specs.GroupSets.{newest_rows}
 use Rattle.hudi_timeline.specs.GroupChange.{is_long, limit_passed, rows_after}
-use Rattle.hudi_timeline.proofs.GroupChangeLemmas.{touched, diff_of_groups, rows_after_distinct, reversed_distinct, length-rows_after, old_rows, old_shorter}
+use Rattle.hudi_timeline.proofs.GroupChangeLemmas.{touched, diff_of_groups, rows_after_distinct, reversed_distinct, length-rows_after, old_rows, old_length, old_shorter}
 use Rattle.hudi_timeline.proofs.change.between.group_change.Goals as goal
 
 pub overflow_sub-kept : goal.overflow_sub-kept
@@ -13,20 +13,17 @@ overflow_sub-kept c =
     let form = c.args.form.now in
     let replaced = c.args.replaced.now in
     let before = c.args.before.now in
-    let old : c.in_ok-old.old.items ≡ filter (touched form replaced before c.args.rows) before =
-    old_rows form replaced before c.args.rows c.in_ok-newest.newest.groups c.in_ok-old.old.items c.in_ok-newest.ensures.groups c.in_ok-old.ensures.rows in
+    let distinct : HasDistinctPaths before = c.len.ensures.distinct in
+    let old : SameRows c.in_ok-old.old.items (filter (touched form replaced before c.args.rows) before) =
+    old_rows form replaced before c.args.rows c.in_ok-newest.newest.groups c.in_ok-old.old.items c.in_ok-newest.ensures.groups (c.in_ok-old.ensures.rows distinct) in
+    let many : length c.in_ok-old.old.items ≡ length (filter (touched form replaced before c.args.rows) before) =
+    old_length form replaced before c.args.rows c.in_ok-old.old.items distinct (c.in_ok-old.ensures.distinct distinct) old in
     let one : c.len.result ≡ length before = c.len.ensures.len in
     let two : c.len-2.result ≡ vec_len c.in_ok-old.old = c.len-2.ensures in
-    omega (arith, one, two, c.in_ok-old.old.ok.0, ap length old, old_shorter form replaced before c.args.rows)
+    omega (arith, one, two, c.in_ok-old.old.ok.0, many, old_shorter form replaced before c.args.rows)
 
 pub change_between-requires-clause-before : goal.change_between-requires-clause-before
-change_between-requires-clause-before c =
-    let form = c.args.form.now in
-    let replaced = c.args.replaced.now in
-    let before = c.args.before.now in
-    let old : c.in_ok-old.old.items ≡ filter (touched form replaced before c.args.rows) before =
-    old_rows form replaced before c.args.rows c.in_ok-newest.newest.groups c.in_ok-old.old.items c.in_ok-newest.ensures.groups c.in_ok-old.ensures.rows in
-    subst HasDistinctPaths (sym old) (distinct_filter (touched form replaced before c.args.rows) before c.in_ok-old.ensures.distinct)
+change_between-requires-clause-before c = c.in_ok-old.ensures.distinct c.len.ensures.distinct
 
 pub change_between-requires-clause-after : goal.change_between-requires-clause-after
 change_between-requires-clause-after c = subst HasDistinctPaths (sym c.in_ok-newest.ensures.rows) (reversed_distinct c.args.form.now c.args.rows)
@@ -37,17 +34,20 @@ returns-in-Some-clause-refused c =
     let replaced = c.args.replaced.now in
     let before = c.args.before.now in
     let rows = c.args.rows in
-    let old : c.in_ok-old.old.items ≡ filter (touched form replaced before rows) before =
-    old_rows form replaced before rows c.in_ok-newest.newest.groups c.in_ok-old.old.items c.in_ok-newest.ensures.groups c.in_ok-old.ensures.rows in
+    let distinct : HasDistinctPaths before = c.len.ensures.distinct in
+    let old : SameRows c.in_ok-old.old.items (filter (touched form replaced before rows) before) =
+    old_rows form replaced before rows c.in_ok-newest.newest.groups c.in_ok-old.old.items c.in_ok-newest.ensures.groups (c.in_ok-old.ensures.rows distinct) in
+    let many : length c.in_ok-old.old.items ≡ length (filter (touched form replaced before rows) before) =
+    old_length form replaced before rows c.in_ok-old.old.items distinct (c.in_ok-old.ensures.distinct distinct) old in
     let newest : c.in_ok-newest.newest.rows.items ≡ reverse (newest_rows form rows) = c.in_ok-newest.ensures.rows in
     let one : c.len.result ≡ length before = c.len.ensures.len in
     let two : c.len-2.result ≡ vec_len c.in_ok-old.old = c.len-2.ensures in
     let three : c.len-3.result ≡ vec_len c.in_ok-newest.newest.rows = c.len-3.ensures in
     let live : (c.len.result - c.len-2.result) + c.len-3.result ≡ length (rows_after form replaced before rows) =
-    omega (arith, one, two, three, c.in_ok-old.old.ok.0, c.in_ok-newest.newest.rows.ok.0, ap length old, ap length newest, old_shorter form replaced before rows, length-rows_after form replaced before rows) in
+    omega (arith, one, two, three, c.in_ok-old.old.ok.0, c.in_ok-newest.newest.rows.ok.0, many, ap length newest, old_shorter form replaced before rows, length-rows_after form replaced before rows) in
     let long : c.is_any_long-is_any_long.result ≡ list_any is_long rows = c.is_any_long-is_any_long.ensures ∙ ap (list_any is_long) c.as_slice.ensures in
     record {
-      distinct = rows_after_distinct form replaced before rows c.in_ok-old.ensures.distinct;
+      distinct = rows_after_distinct form replaced before rows distinct;
       passed = sym (λ i. limit_passed c.args.table.now c.args.schema.now (long i) (live i)) ∙ sym c.limit_passed.ensures ∙ c.in-Some.is;
     }
 
@@ -57,22 +57,25 @@ returns c =
     let replaced = c.args.replaced.now in
     let before = c.args.before.now in
     let rows = c.args.rows in
-    let old : c.in_ok-old.old.items ≡ filter (touched form replaced before rows) before =
-    old_rows form replaced before rows c.in_ok-newest.newest.groups c.in_ok-old.old.items c.in_ok-newest.ensures.groups c.in_ok-old.ensures.rows in
+    let distinct : HasDistinctPaths before = c.len.ensures.distinct in
+    let old : SameRows c.in_ok-old.old.items (filter (touched form replaced before rows) before) =
+    old_rows form replaced before rows c.in_ok-newest.newest.groups c.in_ok-old.old.items c.in_ok-newest.ensures.groups (c.in_ok-old.ensures.rows distinct) in
+    let many : length c.in_ok-old.old.items ≡ length (filter (touched form replaced before rows) before) =
+    old_length form replaced before rows c.in_ok-old.old.items distinct (c.in_ok-old.ensures.distinct distinct) old in
     let newest : c.in_ok-newest.newest.rows.items ≡ reverse (newest_rows form rows) = c.in_ok-newest.ensures.rows in
     let one : c.len.result ≡ length before = c.len.ensures.len in
     let two : c.len-2.result ≡ vec_len c.in_ok-old.old = c.len-2.ensures in
     let three : c.len-3.result ≡ vec_len c.in_ok-newest.newest.rows = c.len-3.ensures in
     let live : (c.len.result - c.len-2.result) + c.len-3.result ≡ length (rows_after form replaced before rows) =
-    omega (arith, one, two, three, c.in_ok-old.old.ok.0, c.in_ok-newest.newest.rows.ok.0, ap length old, ap length newest, old_shorter form replaced before rows, length-rows_after form replaced before rows) in
+    omega (arith, one, two, three, c.in_ok-old.old.ok.0, c.in_ok-newest.newest.rows.ok.0, many, ap length newest, old_shorter form replaced before rows, length-rows_after form replaced before rows) in
     let long : c.is_any_long-is_any_long.result ≡ list_any is_long rows = c.is_any_long-is_any_long.ensures ∙ ap (list_any is_long) c.as_slice.ensures in
     let removed = c.in_ok-change_between.field-0.removed in
     let added = c.in_ok-change_between.field-0.added in
     record {
       change = record {
-        diff = diff_of_groups form replaced before rows removed added (subst (λ l. IsDiff l (reverse (newest_rows form rows)) removed added) old (subst (λ l. IsDiff c.in_ok-old.old.items l removed added) newest c.in_ok-change_between.ensures));
-        before_distinct = c.in_ok-old.ensures.distinct;
-        distinct = rows_after_distinct form replaced before rows c.in_ok-old.ensures.distinct;
+        diff = diff_of_groups form replaced before rows removed added (change_of_same_rows c.in_ok-old.old.items (filter (touched form replaced before rows) before) (reverse (newest_rows form rows)) (reverse (newest_rows form rows)) removed added old (λ row. (λ h. h, λ h. h)) (subst (λ l. IsDiff c.in_ok-old.old.items l removed added) newest c.in_ok-change_between.ensures));
+        before_distinct = distinct;
+        distinct = rows_after_distinct form replaced before rows distinct;
         few = sym (λ i. limit_passed c.args.table.now c.args.schema.now (long i) (live i)) ∙ sym c.limit_passed.ensures ∙ c.in_default.is;
       };
       refused = tt;
