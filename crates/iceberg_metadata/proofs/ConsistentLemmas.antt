@@ -1,8 +1,7 @@
 -- What metadata names by an id is held, and its manifest lists have paths: tests and facts.
 use Rattle.std.proofs.Common.{◌≡◌, ℕ, ℤ, List, [], ◌∷◌, ◌++◌, Bool, true, false, ◌&&◌, cond, Option, Some, None, IfSome, Contains, length, take, drop, refl, sym, ap, ◌∙◌}
 use Rattle.std.specs.Bool.{Decides}
-use Rattle.std.specs.List.{IsDistinct, list_all}
-use Rattle.std.specs.Ordering.{int_eq}
+use Rattle.std.specs.List.{list_all}
 use Rattle.std.specs.Str.{bytes_eq}
 use Rattle.std.proofs.Math.Seq.{take-append_seam, drop-append_seam}
 use Rattle.std.proofs.lemmas.List.{take-append-drop}
@@ -12,8 +11,7 @@ use Rattle.table_history.proofs.RowListLemmas.{Contains-head, Contains-tail}
 use Rattle.table_history.specs.Path.{IsPath}
 use Rattle.iceberg_metadata.specs.declared.metadata.Metadata.{Metadata}
 use Rattle.iceberg_metadata.specs.declared.metadata.Snapshot.{Snapshot}
-use Rattle.iceberg_metadata.specs.declared.metadata.Spec.{Spec}
-use Rattle.iceberg_metadata.specs.Grammar.{IsConsistent, spec_ids, field_ids, snapshot_ids}
+use Rattle.iceberg_metadata.specs.Grammar.{IsConsistent, spec_ids, snapshot_ids}
 use Rattle.iceberg_metadata.specs.Judging.{is_among, is_among_if_any, are_distinct, have_own_ids, are_held, is_consistent}
 use Rattle.iceberg_metadata.specs.Location.{front_of, NamesPath, behind, is_path_behind, names_path}
 use Rattle.iceberg_metadata.proofs.ListLemmas.{both_true, both_are, all_from, among_Decides, distinct_Decides}
@@ -61,12 +59,6 @@ module _ (m : Metadata) (schemas : List ℤ) where
   abbrev name_paths : Bool
   name_paths = list_all (λ (s : Snapshot). names_path (front_of m.location) s.list) m.snapshots
 
-  abbrev own_fields : Bool
-  own_fields = list_all (λ (s : Spec). are_distinct (field_ids s)) m.specs
-
-  fields_Decides : Decides own_fields ((s : Spec) → Contains m.specs s → IsDistinct int_eq (field_ids s))
-  fields_Decides = all_Decides (λ (s : Spec). are_distinct (field_ids s)) (λ s. IsDistinct int_eq (field_ids s)) (λ s. distinct_Decides (field_ids s)) m.specs
-
   schemas_Decides : Decides have_schemas ((s : Snapshot) → Contains m.snapshots s → IfSome s.schema_id (λ i. Contains schemas i))
   schemas_Decides = all_Decides (λ (s : Snapshot). is_among_if_any schemas s.schema_id) (λ s. IfSome s.schema_id (λ i. Contains schemas i)) (λ s. among_if_any schemas s.schema_id) m.snapshots
 
@@ -76,9 +68,8 @@ module _ (m : Metadata) (schemas : List ℤ) where
   consistent_to : is_consistent m schemas ≡ true → IsConsistent m schemas
   consistent_to h =
       let a = both_true (have_own_ids m schemas) (are_held m schemas && (have_schemas && name_paths)) h in
-      let own = both_true (are_distinct schemas) (are_distinct (spec_ids m) && (own_fields && are_distinct (snapshot_ids m))) a.0 in
-      let others = both_true (are_distinct (spec_ids m)) (own_fields && are_distinct (snapshot_ids m)) own.1 in
-      let last = both_true own_fields (are_distinct (snapshot_ids m)) others.1 in
+      let own = both_true (are_distinct schemas) (are_distinct (spec_ids m) && are_distinct (snapshot_ids m)) a.0 in
+      let others = both_true (are_distinct (spec_ids m)) (are_distinct (snapshot_ids m)) own.1 in
       let b = both_true (are_held m schemas) (have_schemas && name_paths) a.1 in
       let held = both_true (is_among schemas m.current_schema) (is_among (spec_ids m) m.default_spec && is_among_if_any (snapshot_ids m) m.current_snapshot) b.0 in
       let more = both_true (is_among (spec_ids m) m.default_spec) (is_among_if_any (snapshot_ids m) m.current_snapshot) held.1 in
@@ -86,8 +77,7 @@ module _ (m : Metadata) (schemas : List ℤ) where
       record {
         own_schemas = (distinct_Decides schemas).0 own.0;
         own_specs = (distinct_Decides (spec_ids m)).0 others.0;
-        own_fields = fields_Decides.0 last.0;
-        own_snapshots = (distinct_Decides (snapshot_ids m)).0 last.1;
+        own_snapshots = (distinct_Decides (snapshot_ids m)).0 others.1;
         current_schema = (among_Decides schemas m.current_schema).0 held.0;
         default_spec = (among_Decides (spec_ids m) m.default_spec).0 more.0;
         current_snapshot = (among_if_any (snapshot_ids m) m.current_snapshot).0 more.1;
@@ -98,9 +88,8 @@ module _ (m : Metadata) (schemas : List ℤ) where
   consistent_from : IsConsistent m schemas → is_consistent m schemas ≡ true
   consistent_from is =
       let own : have_own_ids m schemas ≡ true =
-      both_are (are_distinct schemas) (are_distinct (spec_ids m) && (own_fields && are_distinct (snapshot_ids m))) ((distinct_Decides schemas).1 is.own_schemas)
-      (both_are (are_distinct (spec_ids m)) (own_fields && are_distinct (snapshot_ids m)) ((distinct_Decides (spec_ids m)).1 is.own_specs)
-      (both_are own_fields (are_distinct (snapshot_ids m)) (fields_Decides.1 is.own_fields) ((distinct_Decides (snapshot_ids m)).1 is.own_snapshots))) in
+      both_are (are_distinct schemas) (are_distinct (spec_ids m) && are_distinct (snapshot_ids m)) ((distinct_Decides schemas).1 is.own_schemas)
+      (both_are (are_distinct (spec_ids m)) (are_distinct (snapshot_ids m)) ((distinct_Decides (spec_ids m)).1 is.own_specs) ((distinct_Decides (snapshot_ids m)).1 is.own_snapshots)) in
       let held : are_held m schemas ≡ true =
       both_are (is_among schemas m.current_schema) (is_among (spec_ids m) m.default_spec && is_among_if_any (snapshot_ids m) m.current_snapshot) ((among_Decides schemas m.current_schema).1 is.current_schema)
       (both_are (is_among (spec_ids m) m.default_spec) (is_among_if_any (snapshot_ids m) m.current_snapshot) ((among_Decides (spec_ids m) m.default_spec).1 is.default_spec) ((among_if_any (snapshot_ids m) m.current_snapshot).1 is.current_snapshot)) in

@@ -277,7 +277,6 @@ unfolding with_properties
 consistent_again m ps is = rw (ids_kept m.schemas) (record {
   own_schemas = is.own_schemas;
   own_specs = is.own_specs;
-  own_fields = is.own_fields;
   own_snapshots = is.own_snapshots;
   current_schema = is.current_schema;
   default_spec = is.default_spec;

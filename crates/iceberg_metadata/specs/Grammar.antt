@@ -8,7 +8,6 @@ use Rattle.lake_basics.specs.Outcome.{each}
 use Rattle.json_reading.specs.Json.{json, items}
 use Rattle.iceberg_metadata.specs.declared.metadata.Metadata.{Metadata}
 use Rattle.iceberg_metadata.specs.declared.metadata.Snapshot.{Snapshot}
-use Rattle.iceberg_metadata.specs.declared.metadata.Spec.{Spec}
 use Rattle.iceberg_metadata.specs.Members.{format_version, text_in, whole_in, int_in, list_in, spec, snapshots, properties, current_snapshot, refs_fit}
 use Rattle.iceberg_metadata.specs.Schemas.{SchemaReading, schema_reading, readable, schema_ids}
 use Rattle.iceberg_metadata.specs.Location.{NamesPath}
@@ -51,14 +50,10 @@ spec_ids m = map (λ s. s.id) m.specs
 abbrev pub snapshot_ids : Metadata → List ℤ
 snapshot_ids m = map (λ s. s.id) m.snapshots
 
-abbrev pub field_ids : Spec → List ℤ
-field_ids s = map (λ f. f.field_id) s.fields
-
--- No two schemas, specs or snapshots have one id, no two fields of one spec have one, and what is named by an id is held. The manifest list of each snapshot that lies in the table's location has a path there.
+-- No two schemas, specs or snapshots have one id, and what is named by an id is held. The manifest list of each snapshot that lies in the table's location has a path there.
 pub record IsConsistent (m : Metadata) (schemas : List ℤ) : Type 0 where
   pub own_schemas : IsDistinct int_eq schemas
   pub own_specs : IsDistinct int_eq (spec_ids m)
-  pub own_fields : (s : Spec) → Contains m.specs s → IsDistinct int_eq (field_ids s)
   pub own_snapshots : IsDistinct int_eq (snapshot_ids m)
   pub current_schema : Contains schemas m.current_schema
   pub default_spec : Contains (spec_ids m) m.default_spec

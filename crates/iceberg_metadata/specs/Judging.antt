@@ -20,7 +20,7 @@ use Rattle.iceberg_metadata.specs.Members.{format_version, text_in, whole_in, in
 use Rattle.iceberg_metadata.specs.Schemas.{HeldSchema, HeldUnread, schema_reading, readable, unread, refusals, schema_ids}
 use Rattle.iceberg_metadata.specs.Paths.{PathId, all_path_ids, path_of, default_fields, current_kinds, sources}
 use Rattle.iceberg_metadata.specs.Location.{front_of, names_path}
-use Rattle.iceberg_metadata.specs.Grammar.{spec_ids, field_ids, snapshot_ids}
+use Rattle.iceberg_metadata.specs.Grammar.{spec_ids, snapshot_ids}
 use Rattle.partition_map.specs.declared.kind.PartKind.{PartKind}
 
 -- ---- ids
@@ -40,7 +40,7 @@ is_among_if_any ids (Some id) = is_among ids id
 -- ---- the grammar
 
 abbrev pub have_own_ids : Metadata → List ℤ → Bool
-have_own_ids m schemas = are_distinct schemas && (are_distinct (spec_ids m) && (list_all (λ s. are_distinct (field_ids s)) m.specs && are_distinct (snapshot_ids m)))
+have_own_ids m schemas = are_distinct schemas && (are_distinct (spec_ids m) && are_distinct (snapshot_ids m))
 
 abbrev pub are_held : Metadata → List ℤ → Bool
 are_held m schemas = is_among schemas m.current_schema && (is_among (spec_ids m) m.default_spec && is_among_if_any (snapshot_ids m) m.current_snapshot)

@@ -4,11 +4,10 @@ ghost use Rattle.std.specs.Prelude.{◌≡◌, map, option_map, IfOk};
 ghost use Rattle.std.specs.List.{list_all};
 ghost use Rattle.iceberg_metadata.specs.Location.{without_slash, front_of, behind, names_path};
 ghost use Rattle.iceberg_metadata.specs.IdSets.{HoldsIds};
-ghost use Rattle.iceberg_metadata.specs.Grammar.{field_ids};
-ghost use Rattle.iceberg_metadata.specs.Judging.{is_among, is_among_if_any, are_distinct, are_held, is_consistent};
+ghost use Rattle.iceberg_metadata.specs.Judging.{is_among, is_among_if_any, are_held, is_consistent};
 
 use crate::ids::id_set;
-use crate::metadata::{Metadata, Snapshot, Spec, SpecField};
+use crate::metadata::{Metadata, Snapshot, Spec};
 use std::alloc::{AllocError, Global};
 use std::collections::BTreeSet;
 use table_history::path_form;
@@ -21,38 +20,6 @@ fn spec_ids(alloc: Global, specs: &[Spec]) -> Result<Vec<i64>, AllocError>
         ids.push(i64::from(spec.id))?;
     }
     Ok(ids)
-}
-
-fn field_ids(alloc: Global, fields: &[SpecField]) -> Result<Vec<i64>, AllocError>
-    ensures { IfOk result (λ ids. ids.items ≡ map (λ f. f.field_id) fields.now) }
-{
-    let mut ids = Vec::with_capacity(alloc, fields.len())?;
-    for field in fields {
-        ids.push(i64::from(field.field_id))?;
-    }
-    Ok(ids)
-}
-
-fn has_own_fields(alloc: Global, spec: &Spec) -> Result<bool, AllocError>
-    ensures { IfOk result (λ own. own ≡ are_distinct (field_ids spec.now)) }
-{
-    let ids = field_ids(alloc, spec.fields.as_slice())?;
-    match id_set(alloc, ids.as_slice())? {
-        None => Ok(false),
-        Some(_) => Ok(true),
-    }
-}
-
-/// Whether no two fields of one spec have one id.
-fn have_own_fields(alloc: Global, specs: &[Spec]) -> Result<bool, AllocError>
-    ensures { IfOk result (λ own. own ≡ list_all (λ s. are_distinct (field_ids s)) specs.now) }
-{
-    for spec in specs {
-        if !has_own_fields(alloc, spec)? {
-            return Ok(false);
-        }
-    }
-    Ok(true)
 }
 
 fn snapshot_ids(alloc: Global, snapshots: &[Snapshot]) -> Result<Vec<i64>, AllocError>
@@ -131,8 +98,8 @@ fn name_paths(front: &[u8], snapshots: &[Snapshot]) -> bool
         .all(|snapshot| names_path(front, snapshot.list.as_str()))
 }
 
-/// Whether no two schemas, specs or snapshots and no two fields of one spec have one id, what is named
-/// by an id is held, and each manifest list in the table's location has a path there.
+/// Whether no two schemas, specs or snapshots have one id, what is named by an id is held, and each
+/// manifest list in the table's location has a path there.
 pub(crate) fn is_consistent(
     alloc: Global,
     metadata: &Metadata,
@@ -147,9 +114,6 @@ pub(crate) fn is_consistent(
         return Ok(false);
     };
     if id_set(alloc, specs.as_slice())?.is_none() {
-        return Ok(false);
-    }
-    if !have_own_fields(alloc, metadata.specs.as_slice())? {
         return Ok(false);
     }
     if id_set(alloc, held.as_slice())?.is_none() {

@@ -76,14 +76,10 @@ const OF_LONG_TWICE: &str =
 const OF_LONG_BUCKETS: &str =
     "{\"name\":\"a\",\"transform\":\"bucket[4]\",\"source-id\":1,\"field-id\":1000}";
 
-const ONE_FIELD_ID: &str =
-    "{\"name\":\"a\",\"transform\":\"identity\",\"source-id\":1,\"field-id\":1000},\
-{\"name\":\"b\",\"transform\":\"bucket[4]\",\"source-id\":1,\"field-id\":1000}";
-
 #[test]
 fn the_first_cause_is_told_inside_one_schema_too(rt: HostRuntime) -> Result<(), Fail> {
     let alloc = rt.alloc();
-    let rows: [[&str; 5]; 22] = [
+    let rows: [[&str; 5]; 21] = [
         ["limit", "\"long\"", "", "", ""],
         ["limit", "\"long\"", LONG, "", OF_LONG],
         ["malformed", "\"long\"", UNKNOWN_REQUIRED, "", ""],
@@ -93,7 +89,6 @@ fn the_first_cause_is_told_inside_one_schema_too(rt: HostRuntime) -> Result<(), 
         ["malformed", "\"long\"", NO_VALUE_ID, "", ""],
         ["malformed", "{\"type\":\"struct\"}", "", "", ""],
         ["malformed", "4", TIME, "", ""],
-        ["malformed", "\"long\"", LONG, "", ONE_FIELD_ID],
         ["type", "\"long\"", TIME, "", ""],
         ["type", "\"long\"", FIXED, "", ""],
         ["type", "\"uuid\"", LONG, "", ""],
