@@ -1,5 +1,5 @@
 -- How a target goes from commit to commit.
-use Rattle.std.proofs.Common.{◌≡◌, ℕ, zero, suc, ◌+◌, ◌<◌, ◌≤◌, List, [], ◌∷◌, ◌++◌, length, take, Option, Some, Bool, true, false, sym, ◌∙◌, ap, subst, arith, below_more}
+use Rattle.std.proofs.Common.{◌≡◌, ◌⊎◌, inl, inr, ⊎_elim, refl, ℕ, zero, suc, ◌+◌, ◌<◌, ◌≤◌, List, [], ◌∷◌, ◌++◌, length, take, Option, Some, Bool, true, false, sym, ◌∙◌, ap, subst, arith, below_more}
 use Rattle.std.proofs.lemmas.List.{take_more, length-take-le}
 use Rattle.std.proofs.lemmas.Option.{slice_get_within, get_or_from_slice_get}
 use Rattle.std.specs.Prelude.{slice_get}
@@ -10,14 +10,18 @@ use Rattle.lake_store.specs.declared.store.Store.{Ghosts}
 use Rattle.lake_store.proofs.MomentLaws.{goes_further, started, weaker}
 use Rattle.lake_store.proofs.RunLaws.{NowOnly, alone_by_reading, alone_further, alone_of_fewer, reading_begins}
 use Rattle.table_history.specs.TypeTree.{ColumnTrees}
+use Rattle.table_history.specs.declared.table.Change.{Change}
 use Rattle.table_history.specs.declared.table.Commit.{Commit}
 use Rattle.target_core.specs.Folders.{after_crash}
-use Rattle.target_core.specs.Gained.{Carries, Gained, GainedSome, StillCarries}
+use Rattle.target_core.specs.Gained.{Carries, CarriesAll, CarriesAt, Gained, GainedSome, StillCarries}
 use Rattle.target_core.specs.Meaning.{Meaning}
+use Rattle.target_core.specs.Progress.{KeepsShown}
 use Rattle.target_core.specs.Publishing.{LeavesSome, Publishes}
-use Rattle.target_core.specs.Views.{IsAdvanced, IsAdvancedAll, Origin, View, standing_at}
+use Rattle.target_core.specs.Views.{IsAdvanced, IsAdvancedAll, Origin, Standing, View, standing_at}
+use Rattle.target_core.specs.declared.target.TargetError.{TargetError}
+use Rattle.target_core.specs.declared.target.TargetError.TheVariants.{Memory, StoreFault, Contested, Limit, Unsupported}
 use Rattle.target_core.proofs.Same.{advanced_same, advanced_to, same_refl, same_sym}
-use Rattle.target_core.proofs.Underway.{IsUnderWay}
+use Rattle.target_core.proofs.Underway.{IsUnderWay, LeavesFew}
 
 module _ (image : ColumnTrees → Option ColumnTrees) (origin : Origin) where
   pub commits_after : (start : View) (commits : List Commit) (last : View) → IsAdvancedAll image origin start commits last → last.commits ≡ start.commits + length commits
@@ -100,8 +104,32 @@ module _ (target : Meaning) (origin : Origin) where
     pub gained_some : (files : Files) → GainedSome target origin here mid (commit ∷ []) files → GainedSome target origin start before commits files
     gained_some files step = record { count = i + step.count; gained = gained_more step.count files step.gained }
 
-    pub leaves_some : (files : Files) → LeavesSome target origin here mid (commit ∷ []) files → LeavesSome target origin start before commits files
-    leaves_some files was = (gained_some files was.0, was.1)
+-- a commit that files carry is one of their view
+abbrev pub IsWithin : Meaning → Type 0
+IsWithin target = (files : Files) (view : View) (c : ℕ) (change : Change) (standing : Standing) → target.reads files view → target.carries files c change standing → c ≤ view.commits
+
+-- whether another writer was in the way
+contested_or : (e : TargetError) → (e ≡ Contested) ⊎ (e ≡ Contested → ⊥)
+contested_or Memory = inr (λ is. cc)
+contested_or StoreFault = inr (λ is. cc)
+contested_or Contested = inl refl
+contested_or (Limit which number) = inr (λ is. cc)
+contested_or (Unsupported feature path) = inr (λ is. cc)
+
+some_moments : {S : Type 0} (store : Ghosts S) (target : Meaning) (origin : Origin) (start : View) (commits : List Commit) (n : ℕ) (old new : S) → store.tells
+    → IsEachMoment store old new (LeavesFew target origin start (store.disk old).files commits n) → IsEachMoment store old new (LeavesSome target origin start (store.disk old).files commits)
+some_moments store target origin start commits n old new told few =
+    weaker store old new (LeavesFew target origin start (store.disk old).files commits n) (LeavesSome target origin start (store.disk old).files commits) (λ files was. (was.0, was.2)) (λ t. few) told
+
+-- a crash that leaves at most n of them shows none but the first n
+shown_few : (target : Meaning) (origin : Origin) (start : View) (before : Files) (commits : List Commit) (n : ℕ) → IsWithin target → (image : Files) → LeavesFew target origin start before commits n image
+    → (k : ℕ) → CarriesAt target origin start.commits commits k image → k < n
+shown_few target origin start before commits n within image left k shown =
+    let gained = left.0.gained in
+    let few = left.1 in
+    let count = count_taken target.image origin start commits left.0.count gained.view gained.leads gained.within in
+    let number = within image gained.view (start.commits + k + 1) shown.0.change (standing_at origin shown.0.position) gained.stands shown.2 in
+    omega (arith, few, count, number)
 
 -- runs of a store
 module _ {S : Type 0} (store : Ghosts S) (target : Meaning) (origin : Origin) (start : View) (commits : List Commit) where
@@ -114,10 +142,10 @@ module _ {S : Type 0} (store : Ghosts S) (target : Meaning) (origin : Origin) (s
     leads = same_refl start;
     each = λ i commit lt at. absurd (omega arith);
     earlier = λ c change standing le was. was;
-    moments = started store only_now s (LeavesSome target origin start (store.disk s).files commits)
+    moments = started store only_now s (LeavesFew target origin start (store.disk s).files commits 0)
         (λ t files may.
         let left = crash files may in
-        (record { count = 0; gained = gained_none target origin start (store.disk s).files commits files left.0 left.1 }, left.2)) told;
+        (record { count = 0; gained = gained_none target origin start (store.disk s).files commits files left.0 left.1 }, omega arith, left.2)) told;
     settled = settled;
     bytes = alone_by_reading store (target.reached (store.disk s).files) s s (reading_begins store only_now s told);
   }
@@ -128,11 +156,24 @@ module _ {S : Type 0} (store : Ghosts S) (target : Meaning) (origin : Origin) (s
     files_old : Files
     files_old = (store.disk old).files
 
-    moments_on : U → IsEachMoment store old new (LeavesSome target origin start (store.disk old).files commits)
-    moments_on u = goes_further store old mid new (LeavesSome target origin start (store.disk old).files commits) (λ t. so_far.moments)
-        (weaker store mid new (LeavesSome target origin here (store.disk mid).files (commit ∷ [])) (LeavesSome target origin start (store.disk old).files commits)
-        (λ files was. leaves_some target origin start (store.disk old).files commits i here (store.disk mid).files so_far.leads so_far.within so_far.each so_far.earlier commit at files was)
+    few_on : U → IsEachMoment store old new (LeavesFew target origin start (store.disk old).files commits (i + 1))
+    few_on u = goes_further store old mid new (LeavesFew target origin start (store.disk old).files commits (i + 1))
+        (weaker store old mid (LeavesFew target origin start (store.disk old).files commits i) (LeavesFew target origin start (store.disk old).files commits (i + 1))
+        (λ files was. let few = was.1 in (was.0, omega (arith, few), was.2)) (λ t. so_far.moments))
+        (weaker store mid new (LeavesSome target origin here (store.disk mid).files (commit ∷ [])) (LeavesFew target origin start (store.disk old).files commits (i + 1))
+        (λ files was.
+        let few : was.0.count ≤ 1 = was.0.gained.within in (
+          record {
+            count = i + was.0.count;
+            gained = gained_more target origin start (store.disk old).files commits i here (store.disk mid).files so_far.leads so_far.within so_far.each so_far.earlier commit at was.0.count files was.0.gained;
+          },
+          omega (arith, few),
+          was.1,
+        ))
         (λ t. step.moments u)) told
+
+    moments_on : U → IsEachMoment store old new (LeavesSome target origin start (store.disk old).files commits)
+    moments_on u = some_moments store target origin start commits (i + 1) old new told (few_on u)
 
     bytes_on : LeavesAlone store (target.reached (store.disk old).files) old new
     bytes_on = alone_further store (target.reached (store.disk old).files) old mid new (λ t. so_far.bytes)
@@ -146,7 +187,7 @@ module _ {S : Type 0} (store : Ghosts S) (target : Meaning) (origin : Origin) (s
       leads = advanced_take target.image origin start commits i here commit next at so_far.leads advanced;
       each = each_more target origin start (store.disk old).files commits i here (store.disk mid).files so_far.leads so_far.within so_far.each so_far.earlier commit at (store.disk new).files (step.all is_done);
       earlier = earlier_still target origin start (store.disk old).files commits i here (store.disk mid).files so_far.leads so_far.within so_far.each so_far.earlier commit at (store.disk new).files step.earlier;
-      moments = moments_on u;
+      moments = few_on u;
       settled = step.settled u;
       bytes = bytes_on;
     }
@@ -165,6 +206,37 @@ module _ {S : Type 0} (store : Ghosts S) (target : Meaning) (origin : Origin) (s
     -- behind which the commits before it are published
     pub before_on : Carries target origin start.commits commits i (store.disk new).files
     before_on = each_still target origin start (store.disk old).files commits i here (store.disk mid).files so_far.leads so_far.within so_far.each so_far.earlier commit at (store.disk new).files step.earlier
+
+    module _ (within : IsWithin target) where
+      kept_behind : (e : TargetError) → (e ≡ Contested → ⊥) → (image : Files) → LeavesFew target origin start (store.disk old).files commits (i + 1) image → KeepsShown target origin start commits (store.disk new).files e image
+      kept_behind e free image left = record {
+        before = λ _ k shown.
+            let most = shown_few target origin start (store.disk old).files commits (i + 1) within image left k shown in
+            λ j c lt is. before_on j c (omega (arith, most, lt)) is;
+        contested = λ is. absurd (free is);
+      }
+
+      kept_first : (e : TargetError) → e ≡ Contested → (image : Files) → LeavesFew target origin start (store.disk old).files commits i image → KeepsShown target origin start commits (store.disk new).files e image
+      kept_first e was image left = record {
+        before = λ free. absurd (free was);
+        contested = λ _ k shown. (shown.0, shown.1, before_on k shown.0 (shown_few target origin start (store.disk old).files commits i within image left k shown) shown.1);
+      }
+
+      kept_all : (e : TargetError) → e ≡ Contested → (image : Files) → CarriesAll target image (store.disk new).files → KeepsShown target origin start commits (store.disk new).files e image
+      kept_all e was image all = record {
+        before = λ free. absurd (free was);
+        contested = λ _ k shown. (shown.0, shown.1, all (start.commits + k + 1) shown.0.change (standing_at origin shown.0.position) shown.2);
+      }
+
+      -- and what a crash would have shown stays
+      pub kept_on : (e : TargetError) → ((e ≡ Contested → ⊥) → U) → (e ≡ Contested → IsEachMoment store mid new (λ image. CarriesAll target image (store.disk new).files))
+          → IsEachMoment store old new (KeepsShown target origin start commits (store.disk new).files e)
+      kept_on e free stays = ⊎_elim
+          (λ was. goes_further store old mid new (KeepsShown target origin start commits (store.disk new).files e)
+          (weaker store old mid (LeavesFew target origin start (store.disk old).files commits i) (KeepsShown target origin start commits (store.disk new).files e) (kept_first e was) (λ t. so_far.moments))
+          (weaker store mid new (λ image. CarriesAll target image (store.disk new).files) (KeepsShown target origin start commits (store.disk new).files e) (kept_all e was) (λ t. stays was)) told)
+          (λ never. weaker store old new (LeavesFew target origin start (store.disk old).files commits (i + 1)) (KeepsShown target origin start commits (store.disk new).files e) (kept_behind e never) (λ t. few_on (free never)) told)
+          (contested_or e)
 
     -- so many are published, unless another writer was in the way
     pub gained_on : U → (n : ℕ) × (i ≤ n) × (n ≤ i + 1) × Gained target origin start (store.disk old).files commits n (store.disk new).files
@@ -189,14 +261,14 @@ module _ {S : Type 0} (store : Ghosts S) (target : Meaning) (origin : Origin) (s
     }
 
   -- all of them
-  pub all_on : (n : ℕ) (here : View) (old new : S) → n ≡ length commits → IsUnderWay store target origin start commits n here old new → target.reads (store.disk new).files here → (V : Type 0) → Publishes store target origin start commits V true old new
-  all_on n here old new is so_far stands V =
+  pub all_on : store.tells → (n : ℕ) (here : View) (old new : S) → n ≡ length commits → IsUnderWay store target origin start commits n here old new → target.reads (store.disk new).files here → (V : Type 0) → Publishes store target origin start commits V true old new
+  all_on told n here old new is so_far stands V =
       let gained : Gained target origin start (store.disk old).files commits n (store.disk new).files
       = record { within = so_far.within; view = here; leads = so_far.leads; stands = stands; each = so_far.each; earlier = so_far.earlier } in
       record {
         all = λ is_true. subst (λ (k : ℕ). Gained target origin start (store.disk old).files commits k (store.disk new).files) is gained;
         at_return = λ v. record { count = n; gained = gained };
-        moments = λ v. so_far.moments;
+        moments = λ v. some_moments store target origin start commits n old new told so_far.moments;
         settled = λ v. so_far.settled;
         earlier = so_far.earlier;
         bytes = so_far.bytes;

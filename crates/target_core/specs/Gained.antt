@@ -10,9 +10,17 @@ use Rattle.target_core.specs.Views.{IsAdvancedAll, Origin, Standing, View, stand
 abbrev pub Carries : Meaning → Origin → ℕ → List Commit → ℕ → Files → Type 0
 Carries target origin count commits n files = (i : ℕ) (commit : Commit) → i < n → slice_get commits i ≡ Some commit → target.carries files (count + i + 1) commit.change (standing_at origin commit.position)
 
+-- the commit of this place among them stands there
+abbrev pub CarriesAt : Meaning → Origin → ℕ → List Commit → ℕ → Files → Type 0
+CarriesAt target origin count commits i files = (commit : Commit) × (slice_get commits i ≡ Some commit) × target.carries files (count + i + 1) commit.change (standing_at origin commit.position)
+
 -- the first `count` commits still carry what they carried
 abbrev pub StillCarries : Meaning → ℕ → Files → Files → Type 0
 StillCarries target count before files = (c : ℕ) (change : Change) (standing : Standing) → c ≤ count → target.carries before c change standing → target.carries files c change standing
+
+-- each commit that the one files hold is in the others too, and carries there what it carried
+abbrev pub CarriesAll : Meaning → Files → Files → Type 0
+CarriesAll target before files = (c : ℕ) (change : Change) (standing : Standing) → target.carries before c change standing → target.carries files c change standing
 
 -- Of these commits the target has gained the first n, in order, none skipped and none in part. Each is published as a commit of its own
 -- that carries its own change and nothing more, and what was published before is still there.

@@ -3,7 +3,7 @@ use Rattle.std.specs.Prelude.{◌≡◌, ◌≤◌, ℕ, ◌+◌, ◌<◌, List,
 use Rattle.lake_store.specs.Disk.{Files}
 use Rattle.table_history.specs.declared.limit.LimitKind.{LimitKind}
 use Rattle.table_history.specs.declared.table.Commit.{Commit}
-use Rattle.target_core.specs.Gained.{Carries, Gained}
+use Rattle.target_core.specs.Gained.{Carries, CarriesAt, Gained}
 use Rattle.target_core.specs.Meaning.{Meaning}
 use Rattle.target_core.specs.Refusals.{IsCommitRefusal}
 use Rattle.target_core.specs.Views.{Origin, View}
@@ -20,3 +20,8 @@ pub record IsRefusedAt (target : Meaning) (passes : List Commit → LimitKind �
   pub gained : Settled → (e ≡ Contested → ⊥) → (n : ℕ) × (place ≤ n) × (n ≤ place + 1) × Gained target origin start old commits n files
   pub contested : Settled → e ≡ Contested → target.commits_in files ≤ start.commits + place + 1
   pub limited : Settled → (which : LimitKind) (number : ℕ) → e ≡ Limit which number → Gained target origin start old commits place files
+
+-- A crash would have left this image. Of the commits that it shows all but the last are published, and where another writer was in the way all of them.
+pub record KeepsShown (target : Meaning) (origin : Origin) (start : View) (commits : List Commit) (files : Files) (e : TargetError) (image : Files) : Type 0 where
+  pub before : (e ≡ Contested → ⊥) → (i : ℕ) → CarriesAt target origin start.commits commits i image → Carries target origin start.commits commits i files
+  pub contested : e ≡ Contested → (i : ℕ) → CarriesAt target origin start.commits commits i image → CarriesAt target origin start.commits commits i files

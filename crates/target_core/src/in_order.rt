@@ -3,11 +3,11 @@
 ghost use Rattle.std.specs.Prelude.{◌≡◌, ◌<◌, ◌^◌, ℕ, List, [], length, IfErr, IfOk, IsErrOf, OnOk, is_ok};
 ghost use Rattle.std.specs.Option.{option_copied};
 ghost use Rattle.lake_store.specs.Disk.{Files};
-ghost use Rattle.lake_store.specs.Runs.{ChangesOnlyIn, FailsBy, IsContestedBy, OnlyReads};
+ghost use Rattle.lake_store.specs.Runs.{ChangesOnlyIn, FailsBy, IsContestedBy, IsEachMoment, OnlyReads};
 ghost use Rattle.target_core.specs.Conditions.{CanPublishAll, Fits, GoesOn};
 ghost use Rattle.target_core.specs.Folders.{folder_of};
 ghost use Rattle.target_core.specs.Outcome.{Uncontested};
-ghost use Rattle.target_core.specs.Progress.{IsRefusedAt};
+ghost use Rattle.target_core.specs.Progress.{IsRefusedAt, KeepsShown};
 ghost use Rattle.target_core.specs.Publishing.{Publishes};
 ghost use Rattle.target_core.specs.Refusals.{IsOfCommit};
 ghost use Rattle.target_core.specs.TargetMeanings.{meaning};
@@ -87,6 +87,14 @@ pub fn follow<T: Target, S: Store>(
         (record { source = source; table = option_copied table.entry })
         (T.view target.now kept.old) (S.disk store.old).files commits.now
         (S.disk store.new).files) }
+
+    // What a crash since entry would have shown as published stays, but for a last one.
+    ensures kept { S.tells → T.stands_for target.now kept.old (S.disk store.old).files
+        → T.settled target.now (S.disk store.old)
+        → IfErr result (λ e. IsEachMoment ⟦<S as Store>⟧ store.old store.new
+        (KeepsShown (meaning ⟦<T as Target>⟧ target.now)
+        (record { source = source; table = option_copied table.entry })
+        (T.view target.now kept.old) commits.now (S.disk store.new).files e)) }
     ensures few { IfErr result IsOfCommit }
     ensures cause { FailsBy ⟦<S as Store>⟧ store.old store.new
         (IsErrOf result TargetError.StoreFault) }

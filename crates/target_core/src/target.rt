@@ -1,19 +1,22 @@
 //! A target, by what its files stand for and what a commit makes of them.
 
-ghost use Rattle.std.specs.Prelude.{◌≡◌, ◌+◌, ◌<◌, ◌≤◌, ◌^◌, ◌⊎◌, ℕ, List, [], ◌∷◌, None, Option, Some, IfErr, IfOk, IsErrOf, OnOk, is_ok, option_map};
+ghost use Rattle.std.specs.Prelude.{◌≡◌, ◌+◌, ◌<◌, ◌≤◌, ◌^◌, ◌↔◌, ◌⊎◌, ℕ, List, [], ◌∷◌, None, Option, Some, IfErr, IfOk, IsErrOf, OnOk, is_ok, option_map};
 ghost use Rattle.std.specs.Option.{option_copied};
 ghost use Rattle.std.specs.FinMap as map;
 ghost use Rattle.lake_store.specs.Disk.{Disk, Files, IsClean};
-ghost use Rattle.lake_store.specs.Runs.{ChangesOnlyIn, FailsBy, IsContestedBy, IsIn, IsUncontestedBy, OnlyReads};
+ghost use Rattle.lake_store.specs.Runs.{ChangesOnlyIn, FailsBy, IsContestedBy, IsEachMoment, IsIn, IsUncontestedBy, OnlyReads};
+ghost use Rattle.table_history.specs.History.{FitsColumn, column_type};
 ghost use Rattle.table_history.specs.Rows.{HasPath, SameRows};
 ghost use Rattle.table_history.specs.TypeTree.{ColumnTrees};
 ghost use Rattle.table_history.specs.declared.kind.Kind.{Kind};
 ghost use Rattle.table_history.specs.declared.limit.LimitKind.{LimitKind};
+ghost use Rattle.table_history.specs.declared.row.PartValue.{PartValue};
 ghost use Rattle.table_history.specs.declared.table.Change.{Change};
 ghost use Rattle.table_history.specs.declared.table.Commit.{Commit};
 ghost use Rattle.table_history.specs.declared.table.Table.{Table};
 ghost use Rattle.target_core.specs.Conditions.{CanPublish, Fits, GoesOn, IsPublishable};
 ghost use Rattle.target_core.specs.Changes.{SameRowChange};
+ghost use Rattle.target_core.specs.Gained.{CarriesAll};
 ghost use Rattle.target_core.specs.Folders.{MayLeaveIn, SameIn, after_crash, folder_of};
 ghost use Rattle.target_core.specs.Meaning.{meaning_of};
 ghost use Rattle.target_core.specs.Outcome.{Uncontested, answer_of};
@@ -284,6 +287,14 @@ pub trait Target {
             → commits_in self.now (S.disk store.new).files
             ≤ (view self.now kept.old).commits + 1 }
 
+        // And what a crash since entry would have shown as published stays.
+        ensures kept { S.tells → stands_for self.now kept.old (S.disk store.old).files
+            → settled self.now (S.disk store.old) → IsErrOf result TargetError.Contested
+            → IsEachMoment ⟦<S as Store>⟧ store.old store.new (λ shown. CarriesAll
+            (meaning_of (kind self.now) (image self.now) (reads self.now)
+            (commits_in self.now) (carries self.now) (reached self.now) (settled self.now))
+            shown (S.disk store.new).files) }
+
         // A number is passed at this commit, before it publishes anything, and what is passed later
         // was passed from here on.
         ensures refusal { S.tells → IfErr result (IsCommitRefusal
@@ -324,6 +335,11 @@ pub trait Target {
         → image t table.schema ≡ Some held → IsPublishable table
         → IsPublishable
         (record { schema = held; partition = table.partition; rows = table.rows }) };
+
+    /// What the format's types hold of a schema has columns that the same partition values fit.
+    ghost image_kinds: { (t : Self) (schema held : ColumnTrees) → image t schema ≡ Some held
+        → (name : List ℕ) (value : PartValue)
+        → FitsColumn (column_type schema name) value ↔ FitsColumn (column_type held name) value };
 
     /// A target has no commit, or its newest commit has a mark.
     ghost published: { (t : Self) (files : Files) (v : View) → reads t files v

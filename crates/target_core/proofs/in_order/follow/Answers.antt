@@ -4,12 +4,12 @@ use Rattle.std.proofs.lemmas.Option.{slice_get-get_or}
 use Rattle.std.proofs.lemmas.Result.{err_from_is_err_and}
 use Rattle.std.specs.Prelude.{IfErr, is_ok, slice_get}
 use Rattle.std.specs.Option.{option_copied}
-use Rattle.lake_store.specs.Runs.{IsOutside}
+use Rattle.lake_store.specs.Runs.{IsEachMoment, IsOutside}
 use Rattle.lake_store.proofs.RunLaws.{alone_by_reading, alone_further, reading_begins}
 use Rattle.table_history.specs.declared.table.Commit.{Commit}
 use Rattle.target_core.specs.Folders.{folder_of}
 use Rattle.target_core.specs.Outcome.{Uncontested}
-use Rattle.target_core.specs.Progress.{IsRefusedAt}
+use Rattle.target_core.specs.Progress.{IsRefusedAt, KeepsShown}
 use Rattle.target_core.specs.Publishing.{Publishes}
 use Rattle.target_core.specs.Refusals.{IsCommitRefusal}
 use Rattle.target_core.specs.TargetMeanings.{meaning}
@@ -18,7 +18,7 @@ use Rattle.target_core.specs.Written.{AreWritten}
 use Rattle.target_core.specs.declared.target.TargetError.{TargetError}
 use Rattle.target_core.proofs.Along.{can_here, fits_here, fails_further, more_before, refused_in, uncontested_further}
 use Rattle.target_core.proofs.Same.{same_refl}
-use Rattle.target_core.proofs.Steps.{gained_on, stopped_on, advanced_take, all_on, before_on, count_taken, refused_on, under_way_more, under_way_none}
+use Rattle.target_core.proofs.Steps.{gained_on, stopped_on, advanced_take, all_on, before_on, count_taken, kept_on, refused_on, under_way_more, under_way_none}
 use Rattle.target_core.proofs.Writing.{written_take}
 use Rattle.target_core.proofs.in_order.follow.Goals as goal
 
@@ -143,6 +143,27 @@ returns-in_err-commit-clause-publishes g c told was settled =
     (c.in_err-commit.ensures.publishes told (so_far.stands told was settled) way.settled) told (g.met.T.Target.reached_stays t) _
     (λ uncontested e. uncontested (exit.2 ∙ e)))
 
+pub returns-in_err-commit-clause-kept : goal.returns-in_err-commit-clause-kept
+returns-in_err-commit-clause-kept g c told was settled =
+    let target = g.T.Target in
+    let store = g.S.Store in
+    let t = c.args.target.now in
+    let s = c.args.store.now in
+    let so_far = c.loop-commit.invariant in
+    let start = target.view t c.args.kept.now in
+    let i = c.loop-commit.commit-index in
+    let commit : Commit = c.commit-item.result in
+    let commits : List Commit = c.args.commits.now in
+    let origin : Origin = record { source = c.args.source; table = option_copied c.args.table } in
+    let at : slice_get commits i ≡ Some commit = slice_get-get_or commits i commit c.loop-commit-test.true ∙ ap (λ (x : Commit). Some x) (sym c.commit-item.is) in
+    let exit = err_from_is_err_and c.from_residual.result c.from_residual.ensures.1 in
+    let way = so_far.under_way told was settled in
+    subst (λ (r : Result ℕ TargetError). IfErr r (λ e. IsEachMoment store s c.commit.new.store (KeepsShown (meaning target t) origin start commits (store.disk c.commit.new.store).files e))) (sym exit.1)
+    (kept_on store (meaning target t) origin start commits i (target.view t c.loop-commit.kept) s c.loop-commit.store c.commit.new.store way commit at _ false
+    (c.in_err-commit.ensures.publishes told (so_far.stands told was settled) way.settled) told (g.met.T.Target.reached_stays t) (g.met.T.Target.carries_within t)
+    exit.0 (λ free e. free (exit.2 ∙ e))
+    (λ is. c.in_err-commit.ensures.kept told (so_far.stands told was settled) way.settled (ap (λ (e : TargetError). Err e) (sym exit.2 ∙ is))))
+
 pub returns-in_err-commit-clause-refusal : goal.returns-in_err-commit-clause-refusal
 returns-in_err-commit-clause-refusal g c told =
     let target = g.T.Target in
@@ -199,7 +220,7 @@ returns-clause-publishes g c told was settled =
     let start = target.view t c.args.kept.now in
     let origin : Origin = record { source = c.args.source; table = option_copied c.args.table } in
     let whole : c.loop-commit.commit-index ≡ length c.args.commits.now = omega arith in
-    all_on store (meaning target t) origin start c.args.commits.now c.loop-commit.commit-index (target.view t c.loop-commit.kept) c.args.store.now c.loop-commit.store whole (so_far.under_way told was settled)
+    all_on store (meaning target t) origin start c.args.commits.now told c.loop-commit.commit-index (target.view t c.loop-commit.kept) c.args.store.now c.loop-commit.store whole (so_far.under_way told was settled)
     (g.met.T.Target.kept_view t c.loop-commit.kept (store.disk c.loop-commit.store).files (so_far.stands told was settled)) (Unit {0})
 
 pub returns-clause-written : goal.returns-clause-written
