@@ -7,14 +7,14 @@ use Rattle.lake_basics.specs.declared.limits.TheConstants.{MAX_DELTA_VERSION, MA
 use Rattle.lake_store.specs.Cause.{HasContest, HasFault}
 use Rattle.lake_store.specs.Disk.{Disk, Files, IsClean, MayLeave}
 use Rattle.lake_store.specs.Publication.{IsAbsentOrWhole, IsPublished, IsStaged, IsStagedImage}
-use Rattle.lake_store.specs.Runs.{IsIn, IsOutside, LeavesAlone, LeavesOnly}
+use Rattle.lake_store.specs.Runs.{IsEachMoment, IsIn, IsOutside, LeavesAlone, LeavesOnly}
 use Rattle.lake_store.specs.declared.store.Store.{Ghosts}
 use Rattle.lake_store.specs.declared.store.StoreError.{StoreError}
 use Rattle.lake_store.specs.declared.store.StoreError.TheVariants.{Taken}
 use Rattle.lake_store.specs.declared.store.StoreError.TheVariants as errors
 use Rattle.lake_store.proofs.DiskLaws.{path_cases}
 use Rattle.table_history.specs.declared.limit.LimitKind.TheVariants.{File}
-use Rattle.lake_store.proofs.MomentLaws.{started, weaker}
+use Rattle.lake_store.proofs.MomentLaws.{both, started, weaker}
 use Rattle.lake_store.proofs.RunLaws.{NowOnly, alone_by_reading, reading_begins}
 use Rattle.table_history.specs.declared.table.Commit.{Commit}
 use Rattle.delta_log.specs.Writing.{commit_text}
@@ -22,6 +22,7 @@ use Rattle.delta_log.specs.declared.commit.DeltaCommit.{DeltaCommit}
 use Rattle.delta_table.specs.Versions.{IsVersionPath, log_folder}
 use Rattle.target_core.specs.Conditions.{CanPublish, Fits}
 use Rattle.target_core.specs.Folders.{MayLeaveIn, after_crash}
+use Rattle.target_core.specs.Gained.{CarriesAll}
 use Rattle.target_core.specs.Outcome.{Uncontested, answer_of}
 use Rattle.target_core.specs.Publishing.{Publishes}
 use Rattle.target_core.specs.Step.{IsBefore, IsBeforeOrBehind}
@@ -40,10 +41,10 @@ use Rattle.target_delta.specs.declared.kept.DeltaKept.{DeltaKept}
 use Rattle.target_delta.proofs.CommitLemmas.{advanced, earlier, free_path, is_before, is_behind}
 use Rattle.target_delta.specs.CountLemmas.{count_is}
 use Rattle.target_delta.specs.KeptLemmas.{versions_of_reads}
-use Rattle.delta_table.specs.SameVersions.{version_in}
+use Rattle.delta_table.specs.SameVersions.{version_in, versions_sym}
 use Rattle.target_delta.specs.NameLemmas.{leftover_in, never_leftover, one_staged, staged_leftover}
-use Rattle.target_delta.proofs.PublishLemmas.{IsBeside, image_beside, staged_beside, versions_now}
-use Rattle.target_delta.specs.ReadingLemmas.{crash_carries, crash_reads, crash_settled, dirty_or_clean, none_there, version_clean}
+use Rattle.target_delta.proofs.PublishLemmas.{IsBeside, image_beside, same_versions, staged_beside, versions_now}
+use Rattle.target_delta.specs.ReadingLemmas.{carried_too, carries_within, crash_carries, crash_reads, crash_settled, dirty_or_clean, none_there, version_clean}
 
 -- ---- causes
 
@@ -213,6 +214,32 @@ module _ {S : Type 0} (store : Ghosts S) (old new : S) (told : store.tells) (sta
         (λ is. is_behind origin now kept next commit bytes v can fits id (store.disk old).files stands name named_kept (store.disk new).files (beside_now versions_kept) (whole is))
         (λ u. (either (store.disk new).files (beside_now versions_kept) (untaken u) left.file, settled_now versions_kept settled))
         (λ u. weaker store old new (IsStagedImage staged name bytes IsTaken (store.disk old)) (λ files. Either files × IsSettled (after_crash files)) (λ image is. either_left image (untaken u) is) moments told)
+
+    -- Behind another writer's version all that a crash would have shown stays.
+    module _ (theirs : List ℕ) (there : map.get (store.disk new).files name ≡ Some theirs)
+        (at_name : IsEachMoment store old new (λ image. IsClean (store.disk old) name → (map.get image name ≡ None) ⊎ (map.get image name ≡ Some theirs))) where
+      all_at : (image : Files) → IsStagedImage staged name bytes IsTaken (store.disk old) image → (map.get image name ≡ None) ⊎ (map.get image name ≡ Some theirs) → CarriesAll (delta_meaning id) image (store.disk new).files
+      all_at image is one c change standing h =
+          let beside = image_beside staged name bytes version named leftover IsTaken (store.disk old) image settled is in
+          ⊎_elim
+          (λ (none : map.get image name ≡ None).
+          let was = carried_too image (store.disk old).files (versions_sym (store.disk old).files image (same_versions name version named (store.disk old).files image (free versions_kept) beside none)) id c change standing h in
+          earlier origin now kept next commit bytes v can fits id (store.disk old).files stands name named_kept (store.disk new).files (beside_now versions_kept) c change standing
+          (carries_within id (store.disk old).files (view_of kept) c change standing stands.reads was) was)
+          (λ (here : map.get image name ≡ Some theirs). carried_too image (store.disk new).files
+          (λ path n path_is. ⊎_elim
+          (λ (same : path ≡ name). ap (λ (p : List ℕ). map.get (store.disk new).files p) same ∙ there ∙ sym here ∙ ap (λ (p : List ℕ). map.get image p) (sym same))
+          (λ (apart : path ≢ name). (beside_now versions_kept).versions path n apart path_is ∙ sym (beside.versions path n apart path_is))
+          (path_cases path name))
+          id c change standing h)
+          one
+
+      pub kept_taken : IsEachMoment store old new (λ image. CarriesAll (delta_meaning id) image (store.disk new).files)
+      kept_taken =
+          let P : Files → Type 0 = IsStagedImage staged name bytes IsTaken (store.disk old) in
+          let Q : Files → Type 0 = λ image. IsClean (store.disk old) name → (map.get image name ≡ None) ⊎ (map.get image name ≡ Some theirs) in
+          weaker store old new (λ image. P image × Q image) (λ image. CarriesAll (delta_meaning id) image (store.disk new).files)
+          (λ image is. all_at image is.0 (is.1 (version_clean (store.disk old) name version settled named))) (both store old new P Q moments (λ t. at_name)) told
 
 -- ---- what is written
 

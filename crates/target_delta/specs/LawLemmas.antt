@@ -1,10 +1,13 @@
 -- What is left of the laws of a target.
-use Rattle.std.proofs.Common.{◌≡◌, ℕ, ◌≤◌, List, Some, None, subst}
+use Rattle.std.proofs.Common.{◌≡◌, ℕ, ◌≤◌, List, Some, None, subst, sym}
+use Rattle.std.specs.Prelude.{◌↔◌}
 use Rattle.std.specs.FinMap as map
 use Rattle.lake_store.specs.Disk.{Files}
 use Rattle.lake_store.specs.Runs.{IsIn}
+use Rattle.table_history.specs.History.{FitsColumn, column_type}
 use Rattle.table_history.specs.TypeTree.{ColumnTrees}
 use Rattle.table_history.specs.declared.limit.LimitKind.{LimitKind}
+use Rattle.table_history.specs.declared.row.PartValue.{PartValue}
 use Rattle.table_history.specs.declared.table.Change.{Change}
 use Rattle.table_history.specs.declared.table.Commit.{Commit}
 use Rattle.table_history.specs.declared.table.Table.{Table}
@@ -36,6 +39,12 @@ pub image_publishable : (table : Table) (held : ColumnTrees) → image table.sch
 image_publishable table held is may =
     let same : table.schema ≡ held = cc in
     subst (λ (s : ColumnTrees). IsPublishable (record { schema = s; partition = table.partition; rows = table.rows })) same may
+
+pub image_kinds : (schema held : ColumnTrees) → image schema ≡ Some held → (name : List ℕ) (value : PartValue) → FitsColumn (column_type schema name) value ↔ FitsColumn (column_type held name) value
+image_kinds schema held is name value =
+    let same : schema ≡ held = cc in
+    let P : ColumnTrees → Type 0 = λ s. FitsColumn (column_type s name) value in
+    (λ fits. subst P same fits, λ fits. subst P (sym same) fits)
 
 pub unfit_alike : (id : List ℕ) (kept other : DeltaKept) (files : Files) (partition : List (List ℕ)) (commits : List Commit) (e : TargetError) → StandsFor id kept files → StandsFor id other files
     → kept.table.partition ≡ other.table.partition → Unfit (end_of kept) partition commits e → Unfit (end_of other) partition commits e

@@ -2,11 +2,12 @@
 
 ghost use Rattle.std.specs.Prelude.{◌≡◌, ◌≤◌, ◌+◌, ◌∷◌, [], IfErr, IsErrOf, List, OnOk, is_ok, ℕ};
 ghost use Rattle.std.specs.Option.{option_copied};
-ghost use Rattle.lake_store.specs.Runs.{ChangesOnlyIn, FailsBy, IsContestedBy};
+ghost use Rattle.lake_store.specs.Runs.{ChangesOnlyIn, FailsBy, IsContestedBy, IsEachMoment};
 ghost use Rattle.delta_table.specs.Versions.{log_folder};
 ghost use Rattle.table_history.specs.declared.limit.LimitKind.{LimitKind};
 ghost use Rattle.table_history.specs.declared.table.Commit.{Commit};
 ghost use Rattle.target_core.specs.Conditions.{CanPublish, Fits};
+ghost use Rattle.target_core.specs.Gained.{CarriesAll};
 ghost use Rattle.target_core.specs.Outcome.{Uncontested};
 ghost use Rattle.target_core.specs.Publishing.{Publishes};
 ghost use Rattle.target_core.specs.Refusals.{IsCommitRefusal, IsOfCommit};
@@ -65,6 +66,10 @@ pub(crate) fn publish_commit<S: Store>(
     ensures contested { S.tells → (id : List ℕ) → StandsFor id kept.old (S.disk store.old).files
         → IsSettled (S.disk store.old) → IsErrOf result TargetError.Contested
         → commits_in (S.disk store.new).files ≤ kept.old.commits + 1 }
+    ensures kept { S.tells → (id : List ℕ) → StandsFor id kept.old (S.disk store.old).files
+        → IsSettled (S.disk store.old) → IsErrOf result TargetError.Contested
+        → IsEachMoment ⟦<S as Store>⟧ store.old store.new (λ image.
+        CarriesAll (delta_meaning id) image (S.disk store.new).files) }
     ensures refusal { IfErr result (IsCommitRefusal (Passes (end_of kept.old)
         (record { source = source; table = option_copied table.entry }) now_ms
         (commit.now ∷ []))) }

@@ -61,7 +61,7 @@ impl Target for DeltaTarget {
     ghost use Rattle.target_delta.specs.FitLemmas.{fits_first, fits_none, fits_partition};
     ghost use Rattle.target_delta.specs.InspectLemmas.{not_foreign, one_path};
     ghost use Rattle.target_delta.specs.KeptLemmas.{kept_own};
-    ghost use Rattle.target_delta.specs.LawLemmas.{commits_read, counted_own, image_publishable, kept_counted, passes_alike, reached_alone, unfit_alike};
+    ghost use Rattle.target_delta.specs.LawLemmas.{commits_read, counted_own, image_kinds, image_publishable, kept_counted, passes_alike, reached_alone, unfit_alike};
     ghost use Rattle.target_delta.specs.OwnLemmas.{commits_own, crowded_own, foreign_own};
     ghost use Rattle.target_delta.specs.ReadingLemmas.{absent_any, carries_own, carries_within, crash_carries, crash_reads, crash_settled, newest, one_change, one_view, published, reached_clean, reached_in, reached_stays, reads_own, settled_clean, settled_own};
 
@@ -159,6 +159,8 @@ impl Target for DeltaTarget {
     ghost absent_any = { λ t files p q reads. absent_any files p q reads };
 
     ghost image_publishable = { λ t table held is may. image_publishable table held is may };
+
+    ghost image_kinds = { λ t schema held is name value. image_kinds schema held is name value };
 
     ghost published = { λ t files v reads. published files v reads };
 

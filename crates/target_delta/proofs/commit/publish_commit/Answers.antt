@@ -12,7 +12,7 @@ use Rattle.target_delta.specs.Names.{HasVersions, IsStagedPath}
 use Rattle.target_delta.specs.NewVersion.{IsNewVersion}
 use Rattle.target_delta.specs.Writing.{LogEnd}
 use Rattle.target_delta.proofs.CommitLemmas.{fits_behind, free_path, stands_now}
-use Rattle.target_delta.proofs.StoreLemmas.{alone_staged, beside_now, contested_by, count_taken, counted_now, err_same, not_ok, ok_taken, publishes_nothing, publishes_staged, untaken_by, writes_now}
+use Rattle.target_delta.proofs.StoreLemmas.{alone_staged, beside_now, contested_by, count_taken, counted_now, err_same, kept_taken, not_ok, ok_taken, publishes_nothing, publishes_staged, untaken_by, writes_now}
 use Rattle.target_delta.proofs.commit.publish_commit.Goals as goal
 
 pub returns-in_err-version-clause-publishes : goal.returns-in_err-version-clause-publishes
@@ -85,6 +85,27 @@ returns-in_err-stage_and_publish-clause-contested g c told id stands settled con
     let error = c.in_err-stage_and_publish.field-0.0 in
     let taken = c.in_err-stage_and_publish.ensures.taken told (ap (λ e. Err e) (contested_by result exit.0 error exit.1 exit.2 contested)) in
     count_taken store old new told staged name bytes kept.commits is_staged named _ (c.in_err-stage_and_publish.ensures.left told) c.in_err-stage_and_publish.ensures.any_moment (c.requires.counted told) v.within taken.theirs taken.file
+
+pub returns-in_err-stage_and_publish-clause-kept : goal.returns-in_err-stage_and_publish-clause-kept
+returns-in_err-stage_and_publish-clause-kept g c told id stands settled contested =
+    let store = g.S.Store in
+    let kept = c.args.kept.now in
+    let next = c.new_version.new.kept in
+    let old = c.args.store.now in
+    let new = c.stage_and_publish.new.store in
+    let staged = c.as_str-staged.result.now in
+    let name = c.as_str-path.result.now in
+    let bytes = c.as_slice.result.now in
+    let origin : Origin = record { source = c.args.source; table = option_copied c.args.table } in
+    let is_staged = subst (λ p. IsStagedPath p kept.commits) (sym c.as_str-staged.ensures.value) c.in_ok-version.ensures.staged in
+    let named = subst (λ p. IsVersionPath p kept.commits) (sym c.as_str-path.ensures.value) c.in_ok-version.ensures.path in
+    let v = subst (λ b. IsNewVersion origin c.args.now_ms kept c.args.commit.now b next) (sym c.as_slice.ensures.value) c.in_ok-version.ensures.is in
+    let exit = err_from_is_err_and c.from_residual-in_err-stage_and_publish.result c.from_residual-in_err-stage_and_publish.ensures.1 in
+    let result = c.from_residual-in_err-stage_and_publish.result in
+    let error = c.in_err-stage_and_publish.field-0.0 in
+    let taken = c.in_err-stage_and_publish.ensures.taken told (ap (λ e. Err e) (contested_by result exit.0 error exit.1 exit.2 contested)) in
+    kept_taken store old new told staged name bytes kept.commits is_staged named _ (c.in_err-stage_and_publish.ensures.left told) c.in_err-stage_and_publish.ensures.any_moment id origin c.args.now_ms kept next c.args.commit.now refl v c.requires.can c.requires.fits stands settled
+    taken.theirs taken.file taken.moments
 
 pub returns-clause-alone : goal.returns-clause-alone
 returns-clause-alone g c told =

@@ -6,5 +6,8 @@ returns-clause-publishes g c told stands settled = c.publish_commit.ensures.publ
 pub returns-clause-contested : goal.returns-clause-contested
 returns-clause-contested g c told stands settled is = c.publish_commit.ensures.contested told c.args.self.now.id stands settled is
 
+pub returns-clause-kept : goal.returns-clause-kept
+returns-clause-kept g c told stands settled is = c.publish_commit.ensures.kept told c.args.self.now.id stands settled is
+
 pub returns-clause-limited : goal.returns-clause-limited
 returns-clause-limited g c told stands settled which number is = c.publish_commit.ensures.limited told c.args.self.now.id stands settled which number is
