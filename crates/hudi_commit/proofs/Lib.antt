@@ -10,3 +10,4 @@ pub mod PublishLaws
 pub mod RecoveryLaws
 pub mod StagingLaws
 pub mod StepLaws
+pub mod TheirsLaws

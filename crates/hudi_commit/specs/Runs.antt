@@ -77,6 +77,10 @@ NotGiven (Some properties) path = path ≢ properties_path
 abbrev pub IsTakenBy : Option (List ℕ) → List ℕ → Files → Type 0
 IsTakenBy properties instant files = IsThere files (completed_path instant) ⊎ (IsSome properties × IsThere files properties_path)
 
+-- As far as the instant's completed file wasn't dirty, it isn't in this image, or the image is the files as they are now.
+abbrev pub LacksOrIs : List ℕ → Disk → Files → Files → Type 0
+LacksOrIs instant old now image = IsClean old (completed_path instant) → (map.get image (completed_path instant) ≡ None) ⊎ ((path : List ℕ) → map.get image path ≡ map.get now path)
+
 -- A path that the commit leaves alone: no leftover but those of completed instants, and neither the new completed file nor properties that are given.
 pub record IsKept (properties : Option (List ℕ)) (instant : List ℕ) (entry : Files) (path : List ℕ) : Type 0 where
   pub leftover : IsOpenLeftover entry path → ⊥

@@ -5,11 +5,11 @@ ghost use Rattle.std.specs.FinMap as map;
 ghost use Rattle.lake_basics.specs.declared.limits.TheConstants.{MAX_NAMES};
 ghost use Rattle.lake_store.specs.Cause.{IsNotTooLong};
 ghost use Rattle.lake_store.specs.Disk.{Files, names_in};
-ghost use Rattle.lake_store.specs.Runs.{ChangesOnlyIn, FailsBy, IsContestedBy, LeavesAlone};
+ghost use Rattle.lake_store.specs.Runs.{ChangesOnlyIn, FailsBy, IsContestedBy, IsEachMoment, LeavesAlone};
 ghost use Rattle.hudi_names.specs.Time.{IsSomeTime};
 ghost use Rattle.hudi_commit.specs.Names.{IsThere, StaysOrGoes, claims_folder, completed_path, properties_path, staged_properties_path, timeline_folder};
 ghost use Rattle.hudi_commit.specs.Orderly.{IsOrderly};
-ghost use Rattle.hudi_commit.specs.Runs.{HasNotGrown, IsCommitted, IsIdle, IsKept, IsKeptBut, IsOneStep, IsOther, IsPrepared, IsReady, IsTakenBy, IsUncontested, NotGiven, StaysBefore};
+ghost use Rattle.hudi_commit.specs.Runs.{HasNotGrown, IsCommitted, IsIdle, IsKept, IsKeptBut, IsOneStep, IsOther, IsPrepared, IsReady, IsTakenBy, IsUncontested, LacksOrIs, NotGiven, StaysBefore};
 ghost use Rattle.hudi_commit.specs.Settled.{IsSettled, Stands};
 
 use crate::paths::InstantPaths;
@@ -98,6 +98,11 @@ pub fn publish_commit<S: Store>(
         store.old store.new }
     ensures taken { S.tells → IsErrOf result StoreError.Taken
         → IsTakenBy (option_copied properties.entry) instant.now (S.disk store.new).files }
+
+    // Where another writer was first, no crash leaves an instant completed that isn't so at return.
+    ensures theirs { S.tells → IsErrOf result StoreError.Taken
+        → IsEachMoment ⟦<S as Store>⟧ store.old store.new
+        (LacksOrIs instant.now (S.disk store.old) (S.disk store.new).files) }
     ensures folder { S.tells → ChangesOnlyIn ⟦<S as Store>⟧ timeline_folder store.old store.new }
     ensures cause { FailsBy ⟦<S as Store>⟧ store.old store.new (IsErrOf result StoreError.Failed) }
     ensures contest { IsContestedBy ⟦<S as Store>⟧ store.old store.new

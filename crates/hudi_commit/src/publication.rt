@@ -3,10 +3,10 @@ ghost use Rattle.std.specs.Prelude.{◌≡◌, IsErrOf, None, OnOk, Some};
 ghost use Rattle.std.specs.FinMap as map;
 ghost use Rattle.lake_store.specs.Cause.{IsNotTooLong};
 ghost use Rattle.lake_store.specs.Disk.{Files, with_file};
-ghost use Rattle.lake_store.specs.Runs.{FailsBy, IsContestedBy, IsUncontestedBy, LeavesAlone};
+ghost use Rattle.lake_store.specs.Runs.{FailsBy, IsContestedBy, IsEachMoment, IsUncontestedBy, LeavesAlone};
 ghost use Rattle.hudi_names.specs.Time.{IsSomeTime};
 ghost use Rattle.hudi_commit.specs.Names.{IsThere, completed_path};
-ghost use Rattle.hudi_commit.specs.Runs.{IsNext, IsNoFileOf, IsNotOf, IsPublished, IsUncontested, StaysAlike, StaysOrGains, announced, claimed, completed};
+ghost use Rattle.hudi_commit.specs.Runs.{IsNext, IsNoFileOf, IsNotOf, IsPublished, IsUncontested, LacksOrIs, StaysAlike, StaysOrGains, announced, claimed, completed};
 ghost use Rattle.hudi_commit.specs.Settled.{IsAnnounceable, IsUnannounced, Stands};
 
 use crate::paths::InstantPaths;
@@ -67,6 +67,9 @@ pub fn complete<S: Store>(
         → OnOk result (S.disk store.new ≡ completed paths.now bytes.now (S.disk store.old)) }
     ensures taken { S.tells → IsErrOf result StoreError.Taken
         → IsThere (S.disk store.new).files (completed_path paths.now) }
+    ensures theirs { S.tells → IsErrOf result StoreError.Taken
+        → IsEachMoment ⟦<S as Store>⟧ store.old store.new
+        (LacksOrIs paths.now (S.disk store.old) (S.disk store.new).files) }
     ensures alone { S.tells → LeavesAlone ⟦<S as Store>⟧ (IsNoFileOf paths.now)
         store.old store.new }
     ensures cause { FailsBy ⟦<S as Store>⟧ store.old store.new (IsErrOf result StoreError.Failed) }

@@ -4,11 +4,11 @@ use Rattle.std.specs.Option.{option_copied}
 use Rattle.std.specs.FinMap as map
 use Rattle.std.proofs.lemmas.Result.{err_from_is_err_and, on_ok_weaker}
 use Rattle.lake_store.specs.Disk.{Disk}
-use Rattle.lake_store.specs.Runs.{IsOutside}
+use Rattle.lake_store.specs.Runs.{IsEachMoment, IsOutside}
 use Rattle.lake_store.proofs.RunLaws.{alone_further, alone_of_fewer}
 use Rattle.hudi_names.specs.Time.{IsDigits, IsSomeTime}
 use Rattle.hudi_commit.specs.Names.{completed_path, staged_properties_path, timeline_folder}
-use Rattle.hudi_commit.specs.Runs.{IsCommitted, IsKept, IsKeptBut, IsNext, IsNoFileOf, IsNotOpen, IsOneStep, IsPublished, completed, prepared}
+use Rattle.hudi_commit.specs.Runs.{IsCommitted, IsKept, IsKeptBut, IsNext, IsNoFileOf, IsNotOpen, IsOneStep, IsPublished, LacksOrIs, completed, prepared}
 use Rattle.hudi_commit.proofs.AloneLaws.{alone_begun, alone_sync}
 use Rattle.hudi_commit.proofs.ClaimLaws.{others_not_grown}
 use Rattle.hudi_commit.proofs.CommitLaws.{before_step, committed, completed_here, completed_kept_but, entry_stands, kept_but, kept_from, outside_kept, prepared_next, recovered_idle, step_then, synced_clean, synced_stands, tidied_ready}
@@ -16,6 +16,7 @@ use Rattle.hudi_commit.proofs.KeepLaws.{begun, keeps_then, sync_keeps}
 use Rattle.hudi_commit.proofs.OpenLaws.{completed_not_open, open_same}
 use Rattle.hudi_commit.proofs.OtherLaws.{others_kept, staged_no_file}
 use Rattle.hudi_commit.proofs.StagingLaws.{alike_before, before_then}
+use Rattle.hudi_commit.proofs.TheirsLaws.{IsCompleted, none_yet, theirs_after}
 use Rattle.hudi_commit.proofs.commit.publish_commit.Goals as goal
 
 pub returns-in_err-paths-clause-one_step : goal.returns-in_err-paths-clause-one_step
@@ -392,3 +393,44 @@ returns-clause-folder g c told =
     let f4 = alone_of_fewer store (IsNoFileOf c.in_ok-paths.paths) (IsKept props t (disk s0).files) s3 s4 (λ q kept. subst (λ x. IsNoFileOf x q) (sym at) (kept_from props t (disk s0).files c.requires.real (c.requires.free told) q kept)) (c.complete.ensures.alone told) in
     let a4 = alone_further store (IsKept props t (disk s0).files) s0 s3 s4 (λ _. a3) (λ _. f4) told in
     alone_of_fewer store (IsKept props t (disk s0).files) (IsOutside timeline_folder) s0 s4 (outside_kept props t (disk s0).files) a4
+
+-- up to the last call no image has the instant's completed file
+pub returns-in_err-prepare-clause-theirs : goal.returns-in_err-prepare-clause-theirs
+returns-in_err-prepare-clause-theirs g c told taken =
+    let store = g.S.Store in
+    let disk = g.S.Store.disk in
+    let props = option_copied c.args.properties in
+    let t = c.args.instant.now in
+    let is = c.requires.real.1.digits in
+    let s0 = c.args.store.now in
+    let s1 = c.sync.new.self in
+    let s2 = c.clear_claims.new.store in
+    let s3 = c.prepare.new.store in
+    let K = IsCompleted store told t in
+    let a1 = alone_sync store told g.met.S.Store.only_now K s0 s0 s1 (alone_begun store told g.met.S.Store.only_now K s0) c.sync.ensures.elapses c.sync.result c.sync.ensures.ok c.sync.ensures.err in
+    let f2 = alone_of_fewer store (IsNotOpen (disk s1).files) K s1 s2 (λ q same. subst (IsNotOpen (disk s1).files) (sym same) (completed_not_open (disk s1).files t is)) (c.clear_claims.ensures.alone told) in
+    let a2 = alone_further store K s0 s1 s2 (λ _. a1) (λ _. f2) told in
+    let f3 = alone_of_fewer store (IsKeptBut props) K s2 s3 (λ q same. subst (IsKeptBut props) (sym same) (completed_kept_but props t is)) (c.prepare.ensures.alone told) in
+    let a3 = alone_further store K s0 s2 s3 (λ _. a2) (λ _. f3) told in
+    none_yet store told t s0 s3 (disk s3).files (c.requires.free told) a3
+
+pub returns-clause-theirs : goal.returns-clause-theirs
+returns-clause-theirs g c told taken =
+    let store = g.S.Store in
+    let disk = g.S.Store.disk in
+    let props = option_copied c.args.properties in
+    let t = c.args.instant.now in
+    let is = c.requires.real.1.digits in
+    let s0 = c.args.store.now in
+    let s1 = c.sync.new.self in
+    let s2 = c.clear_claims.new.store in
+    let s3 = c.prepare.new.store in
+    let K = IsCompleted store told t in
+    let a1 = alone_sync store told g.met.S.Store.only_now K s0 s0 s1 (alone_begun store told g.met.S.Store.only_now K s0) c.sync.ensures.elapses c.sync.result c.sync.ensures.ok c.sync.ensures.err in
+    let f2 = alone_of_fewer store (IsNotOpen (disk s1).files) K s1 s2 (λ q same. subst (IsNotOpen (disk s1).files) (sym same) (completed_not_open (disk s1).files t is)) (c.clear_claims.ensures.alone told) in
+    let a2 = alone_further store K s0 s1 s2 (λ _. a1) (λ _. f2) told in
+    let f3 = alone_of_fewer store (IsKeptBut props) K s2 s3 (λ q same. subst (IsKeptBut props) (sym same) (completed_kept_but props t is)) (c.prepare.ensures.alone told) in
+    let a3 = alone_further store K s0 s2 s3 (λ _. a2) (λ _. f3) told in
+    let s4 = c.complete.new.store in
+    theirs_after store told t s0 s3 s4 (c.requires.free told) a3
+    (subst (λ x. IsEachMoment store s3 s4 (LacksOrIs x (disk s3) (disk s4).files)) c.in_ok-paths.ensures (c.complete.ensures.theirs told taken))

@@ -11,6 +11,7 @@ use Rattle.hudi_commit.proofs.AloneLaws.{alone_publish}
 use Rattle.hudi_commit.proofs.KeepLaws.{keeps_then}
 use Rattle.hudi_commit.proofs.PublishLaws.{stored_there}
 use Rattle.hudi_commit.proofs.StagingLaws.{announced_clean, claim_here, claimed_announceable, commit_published, gains_on, has_moved_at, not_yet, still_free, uncontested_at}
+use Rattle.hudi_commit.proofs.TheirsLaws.{IsCompleted, completed_not_of, theirs_come}
 use Rattle.hudi_commit.proofs.publication.complete.Goals as goal
 
 pub returns-in_err-claim-clause-gains : goal.returns-in_err-claim-clause-gains
@@ -137,3 +138,16 @@ pub returns-clause-taken : goal.returns-clause-taken
 returns-clause-taken g c told taken =
     let disk = g.S.Store.disk in
     stored_there (disk c.announce.new.store) (disk c.publish.new.self) c.completed.result.now (completed_path c.args.paths.now) c.completed.ensures (c.publish.ensures.taken told taken)
+
+pub returns-clause-theirs : goal.returns-clause-theirs
+returns-clause-theirs g c told taken =
+    let store = g.S.Store in
+    let disk = store.disk in
+    let t = c.args.paths.now in
+    let s₀ = c.args.store.now in
+    let s₁ = c.claim.new.store in
+    let s₂ = c.announce.new.store in
+    let a₂ = alone_of_fewer store (IsNotOf t) (IsCompleted store told t) s₀ s₂ (completed_not_of t c.requires.real.1.digits) (alone_further store (IsNotOf t) s₀ s₁ s₂ c.claim.ensures.alone c.announce.ensures.alone told) in
+    theirs_come store told t s₀ s₂ c.publish.new.self (c.requires.free told) a₂
+    (announced_clean t c.args.bytes.now c.requires.real (disk s₀) (disk s₁) (disk s₂) (c.in_ok-claim.ensures.claimed told) (c.in_ok-announce.ensures.announced told))
+    c.publish.ensures.elapses c.completed.result.now (c.publish.ensures.taken told taken)
