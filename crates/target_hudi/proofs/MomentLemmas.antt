@@ -2,6 +2,7 @@
 use Rattle.std.proofs.Common.{◌≡◌, ◌⊎◌, ◌≢◌, inl, inr, ⊎_elim, ℕ, List, [], Contains, Option, Some, None, refl, sym, ap, subst, ◌∙◌}
 use Rattle.std.specs.FinMap as map
 use Rattle.lake_store.specs.Disk.{Files, with_file}
+use Rattle.lake_store.specs.Runs.{IsIn}
 use Rattle.lake_store.proofs.DiskLaws.{get-insert_here, get-insert_other, get-remove_here, get-remove_other}
 use Rattle.table_history.proofs.RowListLemmas.{Contains-none}
 use Rattle.hudi_names.specs.Time.{IsSomeTime}
@@ -9,7 +10,7 @@ use Rattle.hudi_names.specs.declared.name.State.{State}
 use Rattle.hudi_names.specs.declared.name.State.TheVariants as state
 use Rattle.hudi_table.specs.Instants.{path_of}
 use Rattle.hudi_table.specs.declared.instants.CompletedInstant.{CompletedInstant}
-use Rattle.hudi_commit.specs.Names.{IsInstantIn, completed_name, completed_path, properties_path, timeline_path}
+use Rattle.hudi_commit.specs.Names.{IsInstantIn, IsLeftover, completed_name, completed_path, properties_path, timeline_folder, timeline_path}
 use Rattle.hudi_commit.specs.Orderly.{IsAlike, IsOrderly}
 use Rattle.hudi_commit.specs.Runs.{IsAfter, IsBase, IsBefore, IsKept, NotGiven, prepared, with_commit}
 use Rattle.hudi_commit.proofs.NameLaws.{cancel, completed_no_leftover, completed_not_properties, completed_stays, not_properties_name, properties_stay}
@@ -74,20 +75,23 @@ module _ (properties : Option (List ℕ)) (instant : List ℕ) (real : IsSomeTim
     properties = λ some. alike properties_path (in_timeline _) properties_stay ∙ but properties_path properties_apart (some_given properties due some);
   }
 
-  -- what is left alone
-  pub beside_kept : (new : Files) → ((path : List ℕ) → IsKept properties instant old path → map.get new path ≡ map.get old path) → IsBeside instant old new
-  beside_kept new keeps = record {
+  -- what is left alone, as far as it is in the timeline's folder and no leftover
+  pub beside_stays : (new : Files) → ((path : List ℕ) → IsKept properties instant old path → IsIn timeline_folder path → (IsLeftover path → ⊥) → map.get new path ≡ map.get old path) → IsBeside instant old new
+  beside_stays new keeps = record {
     completed = λ name proper says apart. keeps (timeline_path name) (record {
       leftover = λ left. completed_no_leftover name proper says (open_leftover old (timeline_path name) left);
       completed = λ same. apart (cancel name (completed_name instant) same);
       given = no_properties state.Completed name properties says;
-    });
+    }) (in_timeline name) (completed_no_leftover name proper says);
     properties = λ some. keeps properties_path (record {
       leftover = λ left. properties_stay (open_leftover old properties_path left);
       completed = properties_apart;
       given = some_given properties due some;
-    });
+    }) (in_timeline _) properties_stay;
   }
+
+  pub beside_kept : (new : Files) → ((path : List ℕ) → IsKept properties instant old path → map.get new path ≡ map.get old path) → IsBeside instant old new
+  beside_kept new keeps = beside_stays new (λ path kept within stays. keeps path kept)
 
   -- what commits reach is left alone
   pub reached_kept : (earlier : AreEarlier old instant) → (path : List ℕ) → IsReached old path → IsKept properties instant old path

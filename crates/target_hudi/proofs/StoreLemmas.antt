@@ -1,5 +1,5 @@
 -- What a commit leaves of the store, where it is refused before it writes, and where its instant is published.
-use Rattle.std.proofs.Common.{◌≡◌, inl, inr, ⊎_elim, ℕ, ◌≢◌, ◌+◌, ◌<◌, ◌≤◌, Bool, true, false, List, [], ◌∷◌, length, Contains, Option, Some, None, refl, sym, ap, subst, ◌∙◌, arith}
+use Rattle.std.proofs.Common.{◌≡◌, ◌⊎◌, inl, inr, ⊎_elim, ℕ, ◌≢◌, ◌+◌, ◌<◌, ◌≤◌, Bool, true, false, List, [], ◌∷◌, length, Contains, Option, Some, None, refl, sym, ap, subst, ◌∙◌, arith}
 use Rattle.std.specs.Prelude.{Err, IsErrOf, is_some, IsSome}
 use Rattle.std.specs.FinMap as map
 use Rattle.std.specs.FinSet as set
@@ -11,13 +11,13 @@ use Rattle.std.proofs.lemmas.Map.Keys.{IsDistinct-from_sorted}
 use Rattle.std.proofs.lemmas.Map.Made.{length-le_from_is_member}
 use Rattle.lake_basics.specs.declared.limits.TheConstants.{MAX_NAMES}
 use Rattle.lake_store.specs.Cause.{HasContest, HasFault}
-use Rattle.lake_store.specs.Disk.{Disk, Files, MayLeave, names_in}
-use Rattle.lake_store.specs.Runs.{LeavesAlone}
+use Rattle.lake_store.specs.Disk.{Disk, Files, IsClean, MayLeave, names_in}
+use Rattle.lake_store.specs.Runs.{IsEachMoment, IsIn, KeepsImage, LeavesAlone}
 use Rattle.lake_store.specs.declared.store.Store.{Ghosts}
 use Rattle.lake_store.specs.declared.store.StoreError.{StoreError}
 use Rattle.lake_store.specs.declared.store.StoreError.TheVariants as errors
 use Rattle.lake_store.proofs.DiskLaws.{is_path}
-use Rattle.lake_store.proofs.MomentLaws.{started, weaker}
+use Rattle.lake_store.proofs.MomentLaws.{both, started, weaker}
 use Rattle.lake_store.proofs.OrderLaws.{names_in_listed, names_in_sorted}
 use Rattle.lake_store.proofs.RunLaws.{NowOnly, alone_by_reading, alone_of_fewer, reading_begins}
 use Rattle.table_history.specs.declared.limit.LimitKind.{LimitKind}
@@ -29,13 +29,15 @@ use Rattle.hudi_names.specs.declared.name.State.TheVariants as state
 use Rattle.hudi_table.specs.declared.instants.CompletedInstant.{CompletedInstant}
 use Rattle.hudi_timeline.proofs.AnyLemmas.{any_from, any_to}
 use Rattle.hudi_timeline.specs.Written.{properties_text}
-use Rattle.hudi_commit.specs.Names.{IsOf, IsThere, Stage, StaysOrGoes, claim_path, claims_folder, completed_name, completed_path, pending_path, properties_path, staged_properties_path, timeline_folder, timeline_path}
+use Rattle.hudi_commit.specs.Names.{IsLeftover, IsOf, IsThere, Stage, StaysOrGoes, claim_path, claims_folder, completed_name, completed_path, pending_path, properties_path, staged_properties_path, timeline_folder, timeline_path}
 use Rattle.hudi_commit.specs.Orderly.{IsOrderly}
-use Rattle.hudi_commit.specs.Runs.{HasNotGrown, IsBeforeOrAfter, IsCommitted, IsKept, IsOneStep, IsOther, IsReady, IsTakenBy, NotGiven}
+use Rattle.hudi_commit.specs.Runs.{HasNotGrown, IsBeforeOrAfter, IsCommitted, IsKept, IsOneStep, IsOther, IsReady, IsTakenBy, LacksOrIs, NotGiven}
 use Rattle.hudi_commit.specs.Settled.{IsSettled, Stands}
-use Rattle.hudi_commit.proofs.StepLaws.{clean_settled}
+use Rattle.hudi_commit.proofs.NameLaws.{completed_stays}
+use Rattle.hudi_commit.proofs.StepLaws.{clean_settled, in_timeline}
 use Rattle.target_core.specs.Conditions.{CanPublish, Fits, GoesOn}
 use Rattle.target_core.specs.Folders.{MayLeaveIn, after_crash}
+use Rattle.target_core.specs.Gained.{CarriesAll}
 use Rattle.target_core.specs.Outcome.{answer_of}
 use Rattle.target_core.specs.Publishing.{Publishes}
 use Rattle.target_core.specs.Refusals.{IsCommitRefusal}
@@ -51,15 +53,15 @@ use Rattle.target_hudi.specs.OnceLemmas.{some_list}
 use Rattle.target_hudi.specs.NewInstant.{AreGiven, IsNewInstant, IsTaken}
 use Rattle.target_hudi.specs.Reading.{IsReached, IsSettledTarget, Reads, commits_in, completed_in}
 use Rattle.target_hudi.specs.ReadingLemmas.{alike_reads, never_pending, orderly, own_of}
-use Rattle.target_hudi.specs.SettledLemmas.{crash_carries, crash_reads, crash_settled}
+use Rattle.target_hudi.specs.SettledLemmas.{carries_own, crash_carries, crash_reads, crash_settled, kept_clean}
 use Rattle.target_hudi.specs.Writes.{Writes}
 use Rattle.target_hudi.specs.Writing.{Passes, TimelineEnd}
 use Rattle.target_hudi.specs.TableName.{new_pairs}
 use Rattle.target_hudi.specs.declared.kept.HudiKept.{HudiKept}
-use Rattle.target_hudi.proofs.BesideLemmas.{IsBeside, completed_behind, few}
+use Rattle.target_hudi.proofs.BesideLemmas.{IsBeside, carried_still, completed_before, completed_behind, few}
 use Rattle.target_hudi.proofs.TimelineLemmas.{AreEarlier, found_completed, new_one}
 use Rattle.target_hudi.proofs.KeepsLemmas.{advanced, newest_is, passes_behind}
-use Rattle.target_hudi.proofs.MomentLemmas.{AreDue, AreGivenNow, IsGrown, beside_kept, grown_after, grown_alike, reached_kept, still_before}
+use Rattle.target_hudi.proofs.MomentLemmas.{AreDue, AreGivenNow, IsGrown, beside_kept, beside_stays, grown_after, grown_alike, reached_kept, still_before}
 use Rattle.target_hudi.proofs.PublishLemmas.{HasFolders, due, earlier, earlier_still, folders_before, folders_behind, is_before, is_behind, stands_now}
 
 -- ---- causes
@@ -218,6 +220,41 @@ module _ {S : Type 0} (store : Ghosts S) (old new : S) (told : store.tells) (nam
   few_now =
       let at_most = few instant v.real entry all_before exit beside_now in
       omega (arith, at_most, counted.commits)
+
+  -- Behind another writer's instant all that a crash would have shown stays.
+  module _ (settled : IsSettledTarget (store.disk old)) where
+    stays_clean : (path : List ℕ) → IsIn timeline_folder path → (IsLeftover path → ⊥) → IsClean (store.disk old) path
+    stays_clean = kept_clean (store.disk old) settled.timeline
+
+    module _ (image : Files) (kept_image : KeepsImage (IsKept properties instant entry) (store.disk old) image) where
+      beside_image : IsBeside instant entry image
+      beside_image = beside_stays properties instant v.real entry given_first image (λ path is within stays. kept_image path is (stays_clean path within stays))
+
+      module _ (none : map.get image (completed_path instant) ≡ None) where
+        same_completed : completed_in image ≡ completed_in entry
+        same_completed = completed_before instant v.real entry all_before image beside_image none
+
+        beside_exit : IsBeside instant image exit
+        beside_exit = record {
+          completed = λ q proper says apart. beside_now.completed q proper says apart ∙ sym (beside_image.completed q proper says apart);
+          properties = λ some. beside_now.properties (λ no. some (same_completed ∙ no)) ∙ sym (beside_image.properties (λ no. some (same_completed ∙ no)));
+        }
+
+        earlier_image : AreEarlier image instant
+        earlier_image c within = all_before c (subst (λ (l : List CompletedInstant). Contains l c) same_completed within)
+
+      all_at : (map.get image (completed_path instant) ≡ None) ⊎ ((path : List ℕ) → map.get image path ≡ map.get exit path) → CarriesAll hudi_meaning image exit
+      all_at one c change standing h = ⊎_elim
+          (λ none. carried_still instant v.real image (earlier_image none) exit (beside_exit none) c change standing h)
+          (λ same. carries_own image exit c change standing (λ path within. sym (same path)) h)
+          one
+
+    pub kept_taken : IsEachMoment store old new (LacksOrIs instant (store.disk old) exit) → IsEachMoment store old new (λ image. CarriesAll hudi_meaning image exit)
+    kept_taken theirs =
+        let P : Files → Type 0 = KeepsImage (IsKept properties instant entry) (store.disk old) in
+        let Q : Files → Type 0 = LacksOrIs instant (store.disk old) exit in
+        let clean : IsClean (store.disk old) (completed_path instant) = stays_clean (completed_path instant) (in_timeline _) (completed_stays instant v.real.1.digits) in
+        weaker store old new (λ image. P image × Q image) (λ image. CarriesAll hudi_meaning image exit) (λ image is. all_at image is.0 (is.1 clean)) (both store old new P Q (λ _. alone.moments) (λ _. theirs)) told
 
   -- another writer was first
   pub taken_now : IsTakenBy properties instant exit → IsTaken exit (end_of name kept) now

@@ -16,6 +16,9 @@ use Rattle.table_history.specs.declared.row.PartValue.TheVariants as value
 use Rattle.table_history.specs.declared.table.Table.{Table}
 use Rattle.partition_map.specs.Columns.{column_kind}
 use Rattle.partition_map.specs.Kind.{part_kind_of}
+use Rattle.partition_map.specs.declared.kind.PartKind.{PartKind}
+use Rattle.partition_map.specs.declared.kind.PartKind.TheVariants as kinds
+use Rattle.partition_map.proofs.Laws.{kind_of_type}
 use Rattle.schema_map.specs.Avro.{avro_schema_of}
 use Rattle.schema_map.specs.AvroSpelling.{AreAvroColumns, IsAvroType}
 use Rattle.schema_map.specs.AvroWriting.{avro_data, avro_fields, avro_field_data, avro_schema_text, avro_text, items_data, key_fault, name_fault, nullable_data, record_data, values_data}
@@ -244,27 +247,42 @@ read_wide text schema is =
 
 -- ---- what may be published
 
-of_wide : (t : TypeTree) (v : PartValue) → IsOfType t v → IsOfType (wide_type t) v
-of_wide t value.Null is = tt
-of_wide t (value.Boolean b) is = ap wide_type is
-of_wide t (value.Int n) is = inr (inr (⊎_elim (λ e. ap wide_type e) (λ (other : (t ≡ tree.short) ⊎ (t ≡ tree.int)). ⊎_elim (λ e. ap wide_type e) (λ e. ap wide_type e) other) is))
-of_wide t (value.Long n) is = ap wide_type is
-of_wide t (value.Text s) is = ap wide_type is
-of_wide t (value.Date days) is = ap wide_type is
+unkinded : (k : PartKind) → None ≡ Some k → ⊥
+unkinded k e = absurd cc
 
-fits_wide : (o : Option TypeTree) (v : PartValue) → FitsColumn o v → FitsColumn (option_map wide_type o) v
-fits_wide None v fits = fits
-fits_wide (Some t) v fits = of_wide t v fits
+-- A type without a kind takes null alone.
+only_null : (t : TypeTree) (v : PartValue) → part_kind_of t ≡ None → IsOfType t v → v ≡ value.Null
+only_null t value.Null none of = refl
+only_null t (value.Boolean b) none of = absurd (unkinded kinds.Boolean (sym none ∙ ap part_kind_of of))
+only_null t (value.Int n) none of = absurd (unkinded kinds.Int (sym none ∙ ⊎_elim (λ e. ap part_kind_of e) (λ (other : (t ≡ tree.short) ⊎ (t ≡ tree.int)). ⊎_elim (λ e. ap part_kind_of e) (λ e. ap part_kind_of e) other) of))
+only_null t (value.Long n) none of = absurd (unkinded kinds.Long (sym none ∙ ap part_kind_of of))
+only_null t (value.Text s) none of = absurd (unkinded kinds.Text (sym none ∙ ap part_kind_of of))
+only_null t (value.Date days) none of = absurd (unkinded kinds.Date (sym none ∙ ap part_kind_of of))
+
+-- Types of one kind, or both without a kind, take the same values.
+of_same : (t u : TypeTree) (o : Option PartKind) → part_kind_of t ≡ o → part_kind_of u ≡ o → (v : PartValue) → IsOfType t v → IsOfType u v
+of_same t u None is also v of = subst (IsOfType u) (sym (only_null t v is of)) tt
+of_same t u (Some k) is also v of = (kind_of_type u k also v).0 ((kind_of_type t k is v).1 of)
+
+of_wide : (t : TypeTree) (v : PartValue) → IsOfType t v ↔ IsOfType (wide_type t) v
+of_wide t v = (of_same t (wide_type t) (part_kind_of t) refl (alike t).kind v, of_same (wide_type t) t (part_kind_of t) (alike t).kind refl v)
+
+fits_by : (o : Option TypeTree) (v : PartValue) → FitsColumn o v ↔ FitsColumn (option_map wide_type o) v
+fits_by None v = (λ fits. fits, λ fits. fits)
+fits_by (Some t) v = of_wide t v
+
+fits_wide : (schema : ColumnTrees) (name : List ℕ) (v : PartValue) → FitsColumn (column_type schema name) v ↔ FitsColumn (column_type (wide_columns schema) name) v
+fits_wide schema name v = subst (λ (o : Option TypeTree). FitsColumn (column_type schema name) v ↔ FitsColumn o v) (sym (wide_column schema name)) (fits_by (column_type schema name) v)
 
 values_fit : (schema : ColumnTrees) (names : List (List ℕ)) (values : List PartValue) → FitColumns schema names values → FitColumns (wide_columns schema) names values
 values_fit schema [] [] fit = tt
 values_fit schema [] (v ∷ values) fit = absurd fit
 values_fit schema (name ∷ names) [] fit = absurd fit
 values_fit schema (name ∷ names) (v ∷ values) fit =
-    (subst (λ (o : Option TypeTree). FitsColumn o v) (sym (wide_column schema name)) (fits_wide (column_type schema name) v fit.0), values_fit schema names values fit.1)
+    ((fits_wide schema name v).0 fit.0, values_fit schema names values fit.1)
 
 kind_wide : (schema : ColumnTrees) (name : List ℕ) → HasKind schema name → HasKind (wide_columns schema) name
-kind_wide schema name (t, v, is, some, of) = (wide_type t, v, wide_column schema name ∙ ap (option_map wide_type) is, some, of_wide t v of)
+kind_wide schema name (t, v, is, some, of) = (wide_type t, v, wide_column schema name ∙ ap (option_map wide_type) is, some, (of_wide t v).0 of)
 
 wide_publishable : (table : Table) → IsPublishable table → IsPublishable (record { schema = wide_columns table.schema; partition = table.partition; rows = table.rows })
 wide_publishable table may = record {
@@ -282,3 +300,8 @@ pub image_publishable : (table : Table) (held : ColumnTrees) → image table.sch
 image_publishable table held defined may =
     let P : ColumnTrees → Type 0 = λ schema. IsPublishable (record { schema = schema; partition = table.partition; rows = table.rows }) in
     subst P (sym (image_wide table.schema held defined)) (wide_publishable table may)
+
+pub image_kinds : (schema held : ColumnTrees) → image schema ≡ Some held → (name : List ℕ) (value : PartValue) → FitsColumn (column_type schema name) value ↔ FitsColumn (column_type held name) value
+image_kinds schema held defined name value =
+    let P : ColumnTrees → Type 0 = λ other. FitsColumn (column_type schema name) value ↔ FitsColumn (column_type other name) value in
+    subst P (sym (image_wide schema held defined)) (fits_wide schema name value)

@@ -2,11 +2,12 @@
 
 ghost use Rattle.std.specs.Prelude.{◌≡◌, ◌<◌, ◌≤◌, ◌+◌, ◌^◌, ◌∷◌, [], IfErr, IsErrOf, List, OnOk, is_ok, ℕ};
 ghost use Rattle.std.specs.Option.{option_copied};
-ghost use Rattle.lake_store.specs.Runs.{ChangesOnlyIn, FailsBy, IsContestedBy};
+ghost use Rattle.lake_store.specs.Runs.{ChangesOnlyIn, FailsBy, IsContestedBy, IsEachMoment};
 ghost use Rattle.hudi_commit.specs.Names.{timeline_folder};
 ghost use Rattle.table_history.specs.declared.limit.LimitKind.{LimitKind};
 ghost use Rattle.table_history.specs.declared.table.Commit.{Commit};
 ghost use Rattle.target_core.specs.Conditions.{CanPublish, Fits, GoesOn};
+ghost use Rattle.target_core.specs.Gained.{CarriesAll};
 ghost use Rattle.target_core.specs.Outcome.{Uncontested};
 ghost use Rattle.target_core.specs.Publishing.{Publishes};
 ghost use Rattle.target_core.specs.Refusals.{IsCommitRefusal, IsOfCommit};
@@ -79,6 +80,10 @@ pub(crate) fn publish<S: Store>(
     ensures contested { S.tells → StandsFor kept.old (S.disk store.old).files
         → IsSettledTarget (S.disk store.old) → IsErrOf result TargetError.Contested
         → commits_in (S.disk store.new).files ≤ kept.old.commits + 1 }
+    ensures kept { S.tells → StandsFor kept.old (S.disk store.old).files
+        → IsSettledTarget (S.disk store.old) → IsErrOf result TargetError.Contested
+        → IsEachMoment ⟦<S as Store>⟧ store.old store.new (λ image.
+        CarriesAll hudi_meaning image (S.disk store.new).files) }
     ensures taken { S.tells → IsErrOf result TargetError.Contested
         → IsTaken (S.disk store.new).files (end_of name.now kept.old) now_ms }
     ensures refusal { S.tells → IfErr result (IsCommitRefusal (Passes (S.disk store.old).files

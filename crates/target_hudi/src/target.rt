@@ -82,7 +82,7 @@ impl Target for HudiTarget {
     ghost use Rattle.target_hudi.specs.ReachedLemmas.{reached_alone, reached_clean, reached_in, reached_stays};
     ghost use Rattle.target_hudi.specs.SettledLemmas.{carries_own, commits_own, crash_carries, crash_reads, crash_settled, reads_own, settled_absent, settled_own};
     ghost use Rattle.target_hudi.specs.ViewLemmas.{absent_any, carries_within, commits_read, newest, one_change, one_view, published};
-    ghost use Rattle.target_hudi.specs.WideLemmas.{image_publishable};
+    ghost use Rattle.target_hudi.specs.WideLemmas.{image_kinds, image_publishable};
 
     type Kept = HudiKept;
 
@@ -179,6 +179,8 @@ impl Target for HudiTarget {
     ghost absent_any = { λ t files p q reads. absent_any files p q reads };
 
     ghost image_publishable = { λ t table held is may. image_publishable table held is may };
+
+    ghost image_kinds = { λ t schema held is name value. image_kinds schema held is name value };
 
     ghost published = { λ t files v reads. published files v reads };
 

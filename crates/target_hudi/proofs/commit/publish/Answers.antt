@@ -13,7 +13,7 @@ use Rattle.target_hudi.specs.Kept.{end_of, view_of}
 use Rattle.target_hudi.proofs.TimelineLemmas.{free}
 use Rattle.target_hudi.proofs.KeepsLemmas.{advanced, fits_behind}
 use Rattle.target_hudi.proofs.PublishLemmas.{earlier}
-use Rattle.target_hudi.proofs.StoreLemmas.{contest_too, contested_error, counted_now, few_now, limited_by, orderly_before, passes_ahead, publishes_instant, publishes_nothing, reads_unmoved, ready, refused_by, same_instant, stands_behind, taken_answer, taken_now, writes}
+use Rattle.target_hudi.proofs.StoreLemmas.{contest_too, contested_error, counted_now, few_now, kept_taken, limited_by, orderly_before, passes_ahead, publishes_instant, publishes_nothing, reads_unmoved, ready, refused_by, same_instant, stands_behind, taken_answer, taken_now, writes}
 use Rattle.target_hudi.proofs.commit.publish.Goals as goal
 
 pub returns-in_err-new-clause-publishes : goal.returns-in_err-new-clause-publishes
@@ -244,6 +244,23 @@ returns-clause-taken g c told contested =
     let origin : Origin = record { source = c.args.source; table = option_copied c.args.table } in
     let v = same_instant (end_of name kept) origin now kept next commit c.in_ok-new.new.time instant c.in_ok-new.new.text text c.in_ok-new.new.properties properties c.as_str.ensures.value c.bytes_of-properties.ensures c.as_slice.ensures.value c.in_ok-new.ensures.is in
     taken_now store old new told name origin now kept next commit instant properties text v (c.requires.counted told) (c.in-Err.ensures.kept told) (c.in-Err.ensures.taken told (taken_answer c.in-Err.error c.of_list.result c.of_list.ensures contested))
+
+pub returns-clause-kept : goal.returns-clause-kept
+returns-clause-kept g c told stands settled contested =
+    let store = g.S.Store in
+    let name = c.args.name.now in
+    let kept = c.args.kept.now in
+    let next = c.new_instant.new.kept in
+    let commit = c.args.commit.now in
+    let old = c.args.store.now in
+    let new = c.publish_commit.new.store in
+    let now = c.args.now_ms in
+    let instant = c.as_str.result.now in
+    let properties = option_copied c.bytes_of-properties.result in
+    let text = c.as_slice.result.now in
+    let origin : Origin = record { source = c.args.source; table = option_copied c.args.table } in
+    let v = same_instant (end_of name kept) origin now kept next commit c.in_ok-new.new.time instant c.in_ok-new.new.text text c.in_ok-new.new.properties properties c.as_str.ensures.value c.bytes_of-properties.ensures c.as_slice.ensures.value c.in_ok-new.ensures.is in
+    kept_taken store old new told name origin now kept next commit instant properties text v (c.requires.counted told) (c.in-Err.ensures.kept told) settled (c.in-Err.ensures.theirs told (taken_answer c.in-Err.error c.of_list.result c.of_list.ensures contested))
 
 pub returns-clause-refusal : goal.returns-clause-refusal
 returns-clause-refusal g c told =
