@@ -8,3 +8,4 @@ pub mod FolderLemmas
 pub mod AvroLemmas
 pub mod Laws
 pub mod ColumnLemmas
+pub mod KindLemmas
