@@ -1,12 +1,13 @@
 //! Which versions of a log are there.
 
-ghost use Rattle.std.specs.Prelude.{◌≡◌, ◌<◌, ◌≤◌, ◌+◌, ◌^◌, ◌⊎◌, ℕ, All, Contains, IfErr, IfOk, IsErrOf, MatchOption, codes};
+ghost use Rattle.std.specs.Prelude.{◌≡◌, ◌<◌, ◌≤◌, ◌+◌, ◌^◌, ◌⊎◌, ℕ, All, Contains, IfErr, IfOk, IsErrOf, MatchOption, OnOk, codes, length};
 ghost use Rattle.std.specs.List.Sorted.{IsSorted};
 ghost use Rattle.std.specs.Ordering.{nat_cmp};
-ghost use Rattle.lake_basics.specs.declared.limits.TheConstants.{MAX_DELTA_VERSION};
+ghost use Rattle.lake_basics.specs.declared.limits.TheConstants.{MAX_DELTA_VERSION, MAX_NAMES};
+ghost use Rattle.lake_store.specs.Disk.{names_in};
 ghost use Rattle.lake_store.specs.Runs.{FailsBy, IsUncontestedBy, OnlyReads};
 ghost use Rattle.delta_log.specs.VersionName.{IsVersionName};
-ghost use Rattle.delta_table.specs.Versions.{AreVersions, HasVersion, IsNamed, IsVersionPath};
+ghost use Rattle.delta_table.specs.Versions.{AreVersions, HasVersion, IsNamed, IsVersionPath, log_folder};
 ghost use Rattle.delta_table.specs.Refusals.{IsListRefusal};
 ghost use Rattle.delta_table.specs.declared.error.LogError.TheVariants.{StoreFault};
 
@@ -91,6 +92,8 @@ pub fn list_versions<S: Store>(alloc: Global, store: &mut S) -> Result<Option<Ve
         (AreVersions (HasVersion (S.disk store.old).files))) }
     ensures within { IfOk result (λ found. MatchOption found (Unit {0})
         (λ v. (v.newest ≤ MAX_DELTA_VERSION) × (v.first ≤ v.newest))) }
+    ensures few { S.tells → OnOk result
+        (length (names_in (S.disk store.old).files log_folder) ≤ MAX_NAMES) }
     ensures refused { S.tells → IfErr result (IsListRefusal (S.disk store.old).files) }
     ensures only_reads { S.tells → OnlyReads ⟦<S as Store>⟧ store.old store.new }
     ensures cause { FailsBy ⟦<S as Store>⟧ store.old store.new (IsErrOf result StoreFault) }
