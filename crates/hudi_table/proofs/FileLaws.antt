@@ -1,16 +1,25 @@
 -- What is told of a file that is refused.
-use Rattle.std.proofs.Common.{◌≡◌, ◌⊎◌, ℕ, ◌<◌, List, Some, refl, sym, subst, ◌∙◌, ⊎_elim}
+use Rattle.std.proofs.Common.{◌≡◌, ◌⊎◌, inr, ℕ, ◌<◌, List, Option, Some, refl, sym, subst, ◌∙◌, ⊎_elim}
 use Rattle.std.specs.FinMap as map
 use Rattle.lake_basics.specs.declared.limits.TheConstants.{MAX_FILE_BYTES}
 use Rattle.lake_store.specs.Disk.{Files, HasLength}
 use Rattle.lake_store.specs.declared.store.StoreError.{StoreError}
 use Rattle.lake_store.specs.declared.store.StoreError.TheVariants as store
+use Rattle.table_history.specs.declared.table.Table.{Table}
+use Rattle.hudi_timeline.specs.Causes.{IsRefusalOf}
+use Rattle.hudi_timeline.specs.Live.{completed}
 use Rattle.hudi_timeline.specs.declared.error.HudiError.{HudiError}
 use Rattle.hudi_timeline.specs.declared.error.HudiError.TheVariants as hudi
+use Rattle.hudi_timeline.specs.declared.instant.Instant.{Instant}
+use Rattle.hudi_timeline.specs.declared.table.HudiTable.{HudiTable}
+use Rattle.hudi_table.specs.Files.{SaysInstant}
 use Rattle.hudi_table.specs.Instants.{path_of}
-use Rattle.hudi_table.specs.Refusals.{IsFileRefusal, TellsOf, error_at, error_of_read}
+use Rattle.hudi_table.specs.Reading.{form_of}
+use Rattle.hudi_table.specs.Refusals.{IsChangeRefusal, IsFileRefusal, IsStepRefusal, TellsOf, error_at, error_of_read}
 use Rattle.hudi_table.specs.declared.error.TimelineError.{TimelineError}
 use Rattle.hudi_table.specs.declared.error.TimelineError.TheVariants as error
+use Rattle.hudi_table.specs.declared.instants.CompletedInstant.{CompletedInstant}
+use Rattle.hudi_table.specs.declared.reading.Naming.{Naming}
 
 -- a file that the store refuses
 pub read_refused : (files : Files) (name path : List ℕ) (e : StoreError) → path ≡ path_of name → ((n : ℕ) → e ≡ store.TooLong n → (MAX_FILE_BYTES < n) × HasLength files path n)
@@ -78,3 +87,29 @@ refusal_no_fault path e r is fault = ⊎_elim (λ m. memory_apart (sym m ∙ fau
   where
     memory_apart : error.Memory ≡ error.StoreFault → ⊥
     memory_apart m = cc
+
+-- ---- an instant that was read and can't be taken over the table before it
+
+module _ (naming : Naming) (table : HudiTable) (c : CompletedInstant) (i : Instant) (base : Option Table) where
+  change_at : (e : HudiError) → IsRefusalOf (completed (form_of naming c.time) i) table base e → IsChangeRefusal naming table c i base (error_at (path_of c.name) e)
+  change_at hudi.Memory cause = tt
+  change_at (hudi.Malformed line) cause = (refl, cause)
+  change_at (hudi.Unsupported feature) cause = (refl, cause)
+  change_at (hudi.Limit which) cause = (refl, cause)
+
+  pub change_refused : (e : HudiError) (r : TimelineError) → (r ≡ error.Memory) ⊎ (r ≡ error_at (path_of c.name) e) → IsRefusalOf (completed (form_of naming c.time) i) table base e → IsChangeRefusal naming table c i base r
+  change_refused e r is cause = ⊎_elim (λ m. subst (IsChangeRefusal naming table c i base) (sym m) tt) (λ told. subst (IsChangeRefusal naming table c i base) (sym told) (change_at e cause)) is
+
+  -- the instant is refused so
+  pub step_refused : (files : Files) (e : TimelineError) → SaysInstant files c i → IsChangeRefusal naming table c i base e → IsStepRefusal files naming table c base e
+  step_refused files error.Memory says refused = tt
+  step_refused files error.StoreFault says refused = tt
+  step_refused files error.ManyNames says refused = refused
+  step_refused files error.ManyCommits says refused = refused
+  step_refused files (error.Missing p) says refused = absurd refused
+  step_refused files (error.Large p) says refused = absurd refused
+  step_refused files (error.Refused p e) says refused = (refused.0, inr (i, says, refused.1))
+
+  -- and that is no fault of the store
+  pub change_no_fault : (e : TimelineError) → IsChangeRefusal naming table c i base e → e ≡ error.StoreFault → ⊥
+  change_no_fault e refused is = subst (IsChangeRefusal naming table c i base) is refused

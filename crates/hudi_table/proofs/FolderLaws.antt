@@ -255,3 +255,7 @@ module _ (files : Files) where
   -- the completed instants before the first pending one are just those that are reached
   pub reached_times : (time : List ℕ) → HasTime (up_to_head (timeline_of names)) time ↔ IsReached files time
   reached_times time = (λ at. subst (IsReached files) at.2 (reached_of at.0 at.1), reached_in time)
+
+  -- and the oldest of them comes first
+  pub order_up_to_head : AreInOrder (up_to_head (timeline_of names))
+  order_up_to_head = in_order (up_to_head (timeline_of names)) (up_front (is_before (first_pending instants)) UpTimes completed up_completed)

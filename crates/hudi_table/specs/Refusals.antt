@@ -77,6 +77,12 @@ IsUnreadable files c e = ((c.is_second ≡ true) × (e ≡ malformed)) ⊎ ((c.i
 abbrev pub IsUnfit : Files → Naming → HudiTable → CompletedInstant → Option Table → HudiError → Type 0
 IsUnfit files naming table c base e = (i : Instant) × SaysInstant files c i × IsRefusalOf (completed (form_of naming c.time) i) table base e
 
+-- An instant that was read can't be taken over the table before it.
+abbrev pub IsChangeRefusal : Naming → HudiTable → CompletedInstant → Instant → Option Table → TimelineError → Type 0
+IsChangeRefusal naming table c i base error.Memory = Unit {0}
+IsChangeRefusal naming table c i base (error.Refused p e) = (p ≡ path_of c.name) × IsRefusalOf (completed (form_of naming c.time) i) table base e
+IsChangeRefusal naming table c i base _ = ⊥
+
 -- The completed instant is refused by itself.
 abbrev pub IsInstantRefusal : Files → CompletedInstant → TimelineError → Type 0
 IsInstantRefusal files c e = IsFileRefusal files c.name (IsUnreadable files c) e

@@ -14,7 +14,8 @@ pub use file::timeline_path;
 pub use instants::{CompletedInstant, InstantName};
 pub use properties::{Properties, read_table_properties};
 pub use reading::{
-    InstantChange, Latest, Naming, read_change, read_instant_file, read_next, read_timeline,
+    InstantChange, Latest, Naming, instant_change, read_change, read_instant_file, read_next,
+    read_timeline,
 };
 pub use timeline::{TIMELINE_FOLDER, Timeline, list_timeline, timeline_of};
 

@@ -6,12 +6,13 @@ ghost use Rattle.lake_basics.specs.declared.limits.TheConstants.{MAX_COMMITS};
 ghost use Rattle.lake_store.specs.Runs.{FailsBy, IsUncontestedBy, OnlyReads};
 ghost use Rattle.table_history.specs.Tables.{CanApply, IsAfter};
 ghost use Rattle.hudi_timeline.specs.Causes.{table_before};
-ghost use Rattle.hudi_timeline.specs.Change.{GoesOn, IsTableOf};
+ghost use Rattle.hudi_timeline.specs.Change.{GoesOn, IsChangeOf, IsTableOf};
 ghost use Rattle.hudi_timeline.specs.InstantText.{IsSound};
+ghost use Rattle.hudi_timeline.specs.Live.{completed};
 ghost use Rattle.hudi_table.specs.Files.{SaysInstant};
 ghost use Rattle.hudi_table.specs.Instants.{path_of};
 ghost use Rattle.hudi_table.specs.Reading.{HasLiveRows, IsChangeHere, IsNextHere, IsReadingOf, form_of, table_in};
-ghost use Rattle.hudi_table.specs.Refusals.{IsInstantRefusal, IsReadingRefusal, IsStepRefusal, TellsOf};
+ghost use Rattle.hudi_table.specs.Refusals.{IsChangeRefusal, IsInstantRefusal, IsReadingRefusal, IsStepRefusal, TellsOf};
 ghost use Rattle.hudi_table.specs.declared.instants.CompletedInstant.{CompletedInstant};
 ghost use Rattle.hudi_table.specs.declared.error.TimelineError.TheVariants.{StoreFault};
 
@@ -85,6 +86,31 @@ pub fn read_instant_file<S: Store>(
     }
 }
 
+/// The change that a completed instant, which says this, makes of the table before it. There is no
+/// table before the first instant (Hudi technical specification, "Timeline").
+pub fn instant_change(
+    alloc: Global,
+    said: &Instant,
+    instant: &CompletedInstant,
+    naming: Naming,
+    table: &HudiTable,
+    base: Option<&Table>,
+) -> Result<Change, TimelineError>
+    ensures found { IfOk result
+        (IsChangeOf (completed (form_of naming instant.now.time) said.now) table.now
+        (option_copied base.entry)) }
+    ensures goes_on { IfOk result (GoesOn table.now (option_copied base.entry)) }
+    ensures told { IfErr result (TellsOf (λ p. p ≡ path_of instant.now.name)) }
+    ensures refused { IfErr result
+        (IsChangeRefusal naming table.now instant.now said.now (option_copied base.entry)) }
+{
+    let form = form_of(alloc, naming, &instant.time)?;
+    match change_of(alloc, said, &form, table, base) {
+        Ok(change) => Ok(change),
+        Err(error) => Err(refusal(alloc, instant.name.as_str(), error)),
+    }
+}
+
 /// The change that a completed instant makes of the table before it, with the instant's mark. There
 /// is no table before the first instant.
 pub fn read_change<S: Store>(
@@ -109,14 +135,11 @@ pub fn read_change<S: Store>(
     ensures contest { IsUncontestedBy ⟦<S as Store>⟧ store.old store.new ⊥ }
 {
     let said = read_instant_file(alloc, store, instant)?;
-    let form = form_of(alloc, naming, &instant.time)?;
-    match change_of(alloc, &said, &form, table, base) {
-        Ok(change) => Ok(InstantChange {
-            change,
-            mark: said.mark,
-        }),
-        Err(error) => Err(refusal(alloc, instant.name.as_str(), error)),
-    }
+    let change = instant_change(alloc, &said, instant, naming, table, base)?;
+    Ok(InstantChange {
+        change,
+        mark: said.mark,
+    })
 }
 
 /// The table after the first instant.

@@ -1,10 +1,11 @@
 //! The timeline that the names in its folder tell.
 
-ghost use Rattle.std.specs.Prelude.{◌≡◌, ◌↔◌, List, ℕ, IfErr, IfOk, IsErrOf, MatchOption};
+ghost use Rattle.std.specs.Prelude.{◌≡◌, ◌↔◌, ◌≤◌, List, ℕ, IfErr, IfOk, IsErrOf, MatchOption, OnOk, length};
 ghost use Rattle.std.specs.Option.{option_copied};
 ghost use Rattle.std.specs.List.Sorted.{IsStrictlySortedBy};
 ghost use Rattle.std.specs.Ordering.{nat_cmp};
 ghost use Rattle.std.specs.Cmp.Lexicographic.{slice_cmp};
+ghost use Rattle.lake_basics.specs.declared.limits.TheConstants.{MAX_NAMES};
 ghost use Rattle.lake_store.specs.Disk.{names_in};
 ghost use Rattle.lake_store.specs.Runs.{FailsBy, IsUncontestedBy, OnlyReads};
 ghost use Rattle.hudi_table.specs.Folder.{AreInOrder, IsFirstPending, IsHead, IsPendingAt, IsReached};
@@ -88,6 +89,8 @@ pub fn list_timeline<S: Store>(alloc: Global, store: &mut S) -> Result<Timeline,
         → HasTime (up_to_head timeline) time ↔ IsReached (S.disk store.old).files time) }
     ensures in_order { S.tells → IfOk result (λ timeline. AreInOrder timeline.completed) }
     ensures of_names { IfOk result IsOfNames }
+    ensures few { S.tells → OnOk result
+        (length (names_in (S.disk store.old).files timeline_folder) ≤ MAX_NAMES) }
     ensures refused { S.tells → IfErr result (IsListRefusal (S.disk store.old).files) }
     ensures only_reads { S.tells → OnlyReads ⟦<S as Store>⟧ store.old store.new }
     ensures cause { FailsBy ⟦<S as Store>⟧ store.old store.new (IsErrOf result StoreFault) }
