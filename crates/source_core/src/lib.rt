@@ -3,10 +3,12 @@
 
 mod error;
 mod head;
+mod since;
 mod source;
 
 pub use error::SourceError;
 pub use head::{Head, position_of};
+pub use since::Since;
 pub use source::Source;
 
 #[cfg(test)]

@@ -1,19 +1,25 @@
 //! A source, by what its files show.
 
-ghost use Rattle.std.specs.Prelude.{◌≡◌, List, ℕ, IfErr, IfOk, IsErrOf};
+ghost use Rattle.std.specs.Prelude.{◌≡◌, ◌++◌, ◌∷◌, List, [], ℕ, IfErr, IfOk, IsErrOf};
 ghost use Rattle.lake_store.specs.Disk.{Files};
 ghost use Rattle.lake_store.specs.Runs.{FailsBy, IsUncontestedBy, OnlyReads};
+ghost use Rattle.table_history.specs.History.{History, IsHistory};
 ghost use Rattle.table_history.specs.declared.kind.Kind.{Kind};
+ghost use Rattle.table_history.specs.declared.table.Commit.{Commit};
 ghost use Rattle.table_history.specs.declared.table.Table.{Table};
 ghost use Rattle.target_core.specs.Conditions.{IsPublishable};
 ghost use Rattle.target_core.specs.Folders.{SameIn, folder_of};
 ghost use Rattle.source_core.specs.Answers.{IsHeadAnswer, IsReadRefusal};
+ghost use Rattle.source_core.specs.Histories.{IsLike, IsLast, LeadAlong, SameTable};
+ghost use Rattle.source_core.specs.Since.{CanApplySince, EndAt, FitSince, IsSinceAnswer, IsSinceRefusal};
 ghost use Rattle.source_core.specs.declared.error.SourceError.{SourceError};
 ghost use Rattle.source_core.specs.declared.error.SourceError.TheVariants.{StoreFault};
 ghost use Rattle.source_core.specs.declared.head.Head.{Head};
 
 use crate::error::SourceError;
 use crate::head::Head;
+use crate::since::Since;
+use lake_basics::Text;
 use lake_store::Store;
 use std::alloc::Global;
 use table_history::{Kind, Table};
@@ -34,11 +40,24 @@ pub trait Source {
     /// rules.
     ghost is_table: { Self → Files → Table → Type 0 };
 
+    /// All commits after this position up to the head are there.
+    ghost reaches: { Self → Files → List ℕ → Type 0 };
+
+    /// The commits after this position up to the head, the oldest first. Each has the change that it
+    /// makes of the table that those before it make of this one.
+    ghost is_since: { Self → Files → List ℕ → Table → List Commit → Type 0 };
+
+    /// The files hold this history of the table: what they still say of its commits is so.
+    ghost holds: { Self → Files → History → Type 0 };
+
     /// What is looked at for the head has this for a fault.
     ghost at_head: { Self → Files → SourceError → Type 0 };
 
     /// What is read for the table, from scratch, has this for a fault.
     ghost from_scratch: { Self → Files → SourceError → Type 0 };
+
+    /// What is read for the commits after this position, over this table, has this for a fault.
+    ghost from_position: { Self → Files → List ℕ → Table → SourceError → Type 0 };
 
     /// The source's format.
     fn kind(&self) -> Kind
@@ -71,6 +90,58 @@ pub trait Source {
         ensures cause { FailsBy ⟦<S as Store>⟧ store.old store.new (IsErrOf result StoreFault) }
         ensures contest { IsUncontestedBy ⟦<S as Store>⟧ store.old store.new ⊥ };
 
+    /// The commits after a position up to the head, which `head` has given, over the table that a
+    /// target has of that position. They aren't told where one of them is no longer there.
+    fn since<S: Store>(
+        &self,
+        alloc: Global,
+        store: &mut S,
+        head: &Head,
+        position: &Text,
+        base: &Table,
+    ) -> Result<Since, SourceError>
+        requires { S.tells → is_head self.now (S.disk store.old).files head.now }
+        ensures since { S.tells → IfOk result
+            (IsSinceAnswer (reaches self.now (S.disk store.old).files position.now)
+            (is_since self.now (S.disk store.old).files position.now base.now)) }
+
+        // Each change may be applied to the table before it, and where this one may be published,
+        // so may the table after it.
+        ensures fits { IfOk result (FitSince base.now) }
+        ensures sound { IsPublishable base.now → IfOk result (CanApplySince base.now) }
+        ensures refused { S.tells → IfErr result (IsSinceRefusal
+            (reaches self.now (S.disk store.old).files position.now)
+            (from_position self.now (S.disk store.old).files position.now base.now)) }
+        ensures only_reads { S.tells → OnlyReads ⟦<S as Store>⟧ store.old store.new }
+        ensures cause { FailsBy ⟦<S as Store>⟧ store.old store.new (IsErrOf result StoreFault) }
+        ensures contest { IsUncontestedBy ⟦<S as Store>⟧ store.old store.new ⊥ };
+
+    /// Files have one head, the commits since a position end there, and since the head's there is none.
+    ghost one_head: { (source : Self) (files : Files) (a b : Head) → is_head source files a
+        → is_head source files b → a ≡ b };
+
+    ghost ends: { (source : Self) (files : Files) (head : Head) (position : List ℕ)
+        (base : Table) (commits : List Commit) → is_head source files head
+        → reaches source files position → is_since source files position base commits
+        → EndAt head.position position commits };
+
+    ghost none_at_head: { (source : Self) (files : Files) (head : Head) (base : Table)
+        (commits : List Commit) → is_head source files head
+        → is_since source files head.position base commits → commits ≡ [] };
+
+    /// A history that the files hold ends at the head, with the table there.
+    ghost last: { (source : Self) (files : Files) (history : History) (head : Head)
+        → IsHistory history → holds source files history → is_head source files head
+        → (last : List ℕ × Table) × IsLast history last × (last.0 ≡ head.position)
+        × ((table : Table) → is_table source files table → SameTable table last.1) };
+
+    /// The commits since one of its positions, over a table like the one there, lead along it.
+    ghost along: { (source : Self) (files : Files) (front behind : History)
+        (entry : List ℕ × Table) (base : Table) (commits : List Commit)
+        → IsHistory (front ++ entry ∷ behind) → holds source files (front ++ entry ∷ behind)
+        → IsLike base entry.1 → reaches source files entry.0
+        → is_since source files entry.0 base commits → LeadAlong entry.1 behind commits };
+
     /// All that is said of the files depends on the source's own folder alone.
     ghost absent_own: { (source : Self) (a b : Files) → SameIn (folder_of (kind source)) a b
         → is_absent source a → is_absent source b };
@@ -81,10 +152,26 @@ pub trait Source {
     ghost table_own: { (source : Self) (a b : Files) (table : Table)
         → SameIn (folder_of (kind source)) a b → is_table source a table → is_table source b table };
 
+    ghost holds_own: { (source : Self) (a b : Files) (history : History)
+        → SameIn (folder_of (kind source)) a b → holds source a history
+        → holds source b history };
+
+    ghost reaches_own: { (source : Self) (a b : Files) (position : List ℕ)
+        → SameIn (folder_of (kind source)) a b → reaches source a position
+        → reaches source b position };
+
+    ghost since_own: { (source : Self) (a b : Files) (position : List ℕ) (base : Table)
+        (commits : List Commit) → SameIn (folder_of (kind source)) a b
+        → is_since source a position base commits → is_since source b position base commits };
+
     ghost at_head_own: { (source : Self) (a b : Files) (e : SourceError)
         → SameIn (folder_of (kind source)) a b → at_head source a e → at_head source b e };
 
     ghost from_scratch_own: { (source : Self) (a b : Files) (e : SourceError)
         → SameIn (folder_of (kind source)) a b → from_scratch source a e
         → from_scratch source b e };
+
+    ghost from_position_own: { (source : Self) (a b : Files) (position : List ℕ) (base : Table)
+        (e : SourceError) → SameIn (folder_of (kind source)) a b
+        → from_position source a position base e → from_position source b position base e };
 }
