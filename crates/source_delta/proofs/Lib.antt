@@ -1,2 +1,3 @@
 pub mod Publishable
 pub mod Refusals
+pub mod SinceLaws

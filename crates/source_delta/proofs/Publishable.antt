@@ -1,5 +1,5 @@
 -- A table that a Delta log makes may be published.
-use Rattle.std.proofs.Common.{◌≡◌, ◌≢◌, List, [], ℕ, Option, Some, None, false, inl, inr, refl, pos}
+use Rattle.std.proofs.Common.{◌≡◌, ◌≢◌, List, [], ℕ, Option, Some, None, false, inl, inr, refl, sym, ap, subst, ◌∙◌, pos}
 use Rattle.std.specs.Prelude.{option_and_then}
 use Rattle.table_history.specs.History.{IsOfType, column_type}
 use Rattle.table_history.specs.TypeTree.{ColumnTrees, TypeTree, boolean, byte, short, int, long, float, double, decimal, text, binary, date, timestamp, timestamp_ntz, struct_of, list_of, map_of}
@@ -45,6 +45,33 @@ publishable_of_log t is = record {
   partition_columns = is.partition_columns;
   partition_distinct = is.partition_distinct;
   partition_kinds = λ name there. has_kind t.schema name (is.partition_kinds name there);
+  schema = is.schema;
+  size = is.size;
+}
+
+-- ---- and the other way round
+
+kind_of : (t : TypeTree) (v : PartValue) → (v ≢ value.Null) → IsOfType t v → part_kind_of t ≡ None → ⊥
+kind_of t value.Null some is = absurd (some refl)
+kind_of t (value.Boolean b) some is = subst (λ (t : TypeTree). part_kind_of t ≡ None → ⊥) (sym is) (λ e. cc)
+kind_of t (value.Int n) some (inl is) = subst (λ (t : TypeTree). part_kind_of t ≡ None → ⊥) (sym is) (λ e. cc)
+kind_of t (value.Int n) some (inr (inl is)) = subst (λ (t : TypeTree). part_kind_of t ≡ None → ⊥) (sym is) (λ e. cc)
+kind_of t (value.Int n) some (inr (inr is)) = subst (λ (t : TypeTree). part_kind_of t ≡ None → ⊥) (sym is) (λ e. cc)
+kind_of t (value.Long n) some is = subst (λ (t : TypeTree). part_kind_of t ≡ None → ⊥) (sym is) (λ e. cc)
+kind_of t (value.Text s) some is = subst (λ (t : TypeTree). part_kind_of t ≡ None → ⊥) (sym is) (λ e. cc)
+kind_of t (value.Date days) some is = subst (λ (t : TypeTree). part_kind_of t ≡ None → ⊥) (sym is) (λ e. cc)
+
+has_column_kind : (schema : ColumnTrees) (name : List ℕ) → HasKind schema name → column_kind schema name ≡ None → ⊥
+has_column_kind schema name has none = kind_of has.0 has.1 has.3 has.4 (sym (ap (option_and_then part_kind_of) has.2) ∙ none)
+
+pub log_of_publishable : (t : Table) → IsPublishable t → IsTableOfLog t
+log_of_publishable t is = record {
+  partition_distinct = is.partition_distinct;
+  partition_kinds = λ name there. has_column_kind t.schema name (is.partition_kinds name there);
+  sound = is.sound;
+  paths = is.paths;
+  partition_columns = is.partition_columns;
+  live_files = is.live_files;
   schema = is.schema;
   size = is.size;
 }

@@ -17,6 +17,7 @@ use Rattle.source_core.specs.declared.error.SourceError.{SourceError}
 use Rattle.source_core.specs.declared.error.SourceError.TheVariants as source
 use Rattle.source_delta.specs.Heads.{IsAbsent, IsNewest, IsTableId}
 use Rattle.source_delta.specs.Reading.{HasEach, HasManyNames, IsLastMissing, IsRefusedLog, ShowsAtHead, ShowsFromScratch, Tells}
+use Rattle.source_delta.specs.SinceLemmas.{one_newest}
 
 -- ---- the names
 
@@ -122,12 +123,6 @@ log_refused files newest cause e h told = weaker (Tells cause) (IsRefusedLog fil
 pub newest_listed : (files : Files) (versions : Versions) → AreVersions (HasVersion files) versions → IsNewest files versions.newest
 newest_listed files versions are = record { there = are.there; last = are.last }
 
-pub one_newest : (files : Files) (a b : ℕ) → IsNewest files a → IsNewest files b → a ≡ b
-one_newest files a b x y =
-    let up = y.last a x.there in
-    let down = x.last b y.there in
-    omega (arith, up, down)
-
 -- what is missing before the versions that run up to the newest
 module _ (files : Files) (newest : ℕ) (is : IsNewest files newest) (versions : Versions) (are : AreVersions (HasVersion files) versions) where
   same : versions.newest ≡ newest
@@ -148,9 +143,6 @@ module _ (files : Files) (newest : ℕ) (is : IsNewest files newest) (versions :
   pub missing_before : (o : Option ℕ) → MatchOption o (versions.first ≡ 0) (λ before. before + 1 ≡ versions.first) → MatchOption o (HasEach files newest) (IsLastMissing files newest)
   missing_before None h = none_missing h
   missing_before (Some version) h = last_missing version h
-
-pub version_within : (files : Files) (version : ℕ) → HasVersion files version → version ≤ MAX_DELTA_VERSION
-version_within files version there = there.1.is.named.within
 
 -- ---- from scratch
 

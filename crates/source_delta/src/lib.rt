@@ -1,7 +1,8 @@
-//! A Delta table as a source: its head, and its table read from scratch.
+//! A Delta table as a source: its head, its table read from scratch, and its commits after a position.
 #![tactic(auto)]
 
 mod position;
+mod since;
 mod source;
 mod told;
 

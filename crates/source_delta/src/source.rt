@@ -1,25 +1,27 @@
 //! The Delta source.
 
-ghost use Rattle.std.specs.Prelude.{◌≡◌, ◌≢◌, ◌≤◌, ◌+◌, ℕ, IfErr, IfOk, IsErrOf, MatchOption, None};
-ghost use Rattle.std.specs.Fmt.{decimal};
-ghost use Rattle.lake_basics.specs.declared.limits.TheConstants.{MAX_DELTA_VERSION};
+ghost use Rattle.std.specs.Prelude.{◌≡◌, ◌≢◌, ◌≤◌, ◌+◌, ℕ, IfErr, IfOk, IsErrOf, MatchOption, None, OnOk, length};
+ghost use Rattle.lake_basics.specs.declared.limits.TheConstants.{MAX_DELTA_VERSION, MAX_NAMES};
+ghost use Rattle.lake_store.specs.Disk.{names_in};
 ghost use Rattle.lake_store.specs.Runs.{FailsBy, IsUncontestedBy, OnlyReads};
 ghost use Rattle.target_core.specs.Conditions.{IsPublishable};
 ghost use Rattle.delta_table.specs.Refusals.{TellsOf};
+ghost use Rattle.delta_table.specs.Versions.{log_folder};
 ghost use Rattle.delta_table.specs.declared.error.LogError.TheVariants as log;
 ghost use Rattle.source_core.specs.Answers.{IsHeadRefusal, IsReadRefusal};
 ghost use Rattle.source_core.specs.declared.error.SourceError.TheVariants.{StoreFault};
 ghost use Rattle.source_delta.specs.Heads.{IsAbsent, IsNewest, IsTableAtHead, IsTableId};
 ghost use Rattle.source_delta.specs.Reading.{HasEach, HasManyNames, IsLastMissing, IsRefusedLog, ShowsAtHead, ShowsFromScratch, Tells};
 
-use crate::position::version_at;
+use crate::position::{position, version_at};
+use crate::since::commits_since;
 use crate::told::{list_error, source_error, unsupported};
 use delta_log::MetaData;
 use delta_table::{LOG_FOLDER, Log, LogError, list_versions, read_log};
 use lake_basics::Text;
 use lake_store::Store;
-use source_core::{Head, Source, SourceError, position_of};
-use std::alloc::{AllocError, Global};
+use source_core::{Head, Since, Source, SourceError};
+use std::alloc::Global;
 use table_history::{Feature, Kind, Table};
 
 /// A Delta table as a source.
@@ -30,6 +32,8 @@ pub struct DeltaSource {}
 fn newest_version<S: Store>(alloc: Global, store: &mut S) -> Result<u64, SourceError>
     ensures newest { S.tells → IfOk result (IsNewest (S.disk store.old).files) }
     ensures within { IfOk result (λ newest. newest ≤ MAX_DELTA_VERSION) }
+    ensures few { S.tells → OnOk result
+        (length (names_in (S.disk store.old).files log_folder) ≤ MAX_NAMES) }
     ensures refused { S.tells → IfErr result
         (IsHeadRefusal (IsAbsent (S.disk store.old).files)
         (HasManyNames (S.disk store.old).files)) }
@@ -152,14 +156,6 @@ fn whole_table<S: Store>(alloc: Global, store: &mut S, newest: u64) -> Result<Ta
     }
 }
 
-/// The position of a version.
-fn position(alloc: Global, version: u64) -> Result<Text, AllocError>
-    requires { version ≤ MAX_DELTA_VERSION }
-    ensures { IfOk result (λ position. position ≡ decimal version) }
-{
-    position_of(alloc, Kind::Delta, version as i64)
-}
-
 /// What is told where the position that was asked for is that of no version.
 fn no_version(alloc: Global) -> SourceError
     ensures { result ≢ StoreFault }
@@ -180,7 +176,11 @@ impl Source for DeltaSource {
     ghost use Rattle.table_history.specs.declared.kind.Kind.TheVariants.{Delta};
     ghost use Rattle.source_delta.specs.Heads.{IsAbsent, IsDeltaHead, IsTableAtHead};
     ghost use Rattle.source_delta.specs.Reading.{ShowsAtHead, ShowsFromScratch};
-    ghost use Rattle.source_delta.specs.OwnLemmas.{absent_own, at_head_own, from_scratch_own, head_own, table_own};
+    ghost use Rattle.source_delta.specs.Since.{IsSince, Reaches, ShowsFromPosition};
+    ghost use Rattle.source_delta.specs.Histories.{HoldsHistory};
+    ghost use Rattle.source_delta.specs.SinceLemmas.{ends, none_at_head, one_head};
+    ghost use Rattle.source_delta.specs.HistoryLemmas.{along, holds_own, last};
+    ghost use Rattle.source_delta.specs.OwnLemmas.{absent_own, at_head_own, from_position_own, from_scratch_own, head_own, reaches_own, since_own, table_own};
 
     ghost kind = { λ source. Delta };
 
@@ -190,9 +190,17 @@ impl Source for DeltaSource {
 
     ghost is_table = { λ source files table. IsTableAtHead files table };
 
+    ghost reaches = { λ source files position. Reaches files position };
+
+    ghost is_since = { λ source files position base commits. IsSince files position base commits };
+
+    ghost holds = { λ source files history. HoldsHistory files history };
+
     ghost at_head = { λ source files e. ShowsAtHead files e };
 
     ghost from_scratch = { λ source files e. ShowsFromScratch files e };
+
+    ghost from_position = { λ source files position base e. ShowsFromPosition files position base e };
 
     fn kind(&self) -> Kind {
         Kind::Delta
@@ -226,13 +234,50 @@ impl Source for DeltaSource {
         }
     }
 
+    /// The commits of the versions after a position up to the head, which `head` has given, over the
+    /// table of that position (Delta protocol, "Action Reconciliation"). They aren't told where one of
+    /// these versions is missing, or where the position is that of no version up to the head. Whether
+    /// the position's version is there, or one before it, is no matter. A refusal is that of the first
+    /// version at fault.
+    fn since<S: Store>(
+        &self,
+        alloc: Global,
+        store: &mut S,
+        head: &Head,
+        position: &Text,
+        base: &Table,
+    ) -> Result<Since, SourceError> {
+        match version_at(head.position.as_str()) {
+            Some(newest) => commits_since(alloc, store, newest, position, base),
+            None => Err(no_version(alloc)),
+        }
+    }
+
+    ghost one_head = { λ source files a b x y. one_head files a b x y };
+
+    ghost ends = { λ source files head position base commits is reached since. ends files head position base commits is since };
+
+    ghost none_at_head = { λ source files head base commits is since. none_at_head files head base commits is since };
+
+    ghost last = { λ source files history head is holds at. last files history head holds at };
+
+    ghost along = { λ source files front behind entry base commits is holds like reached since. along files front behind entry base commits holds like reached since };
+
     ghost absent_own = { λ source a b same h. absent_own a b same h };
 
     ghost head_own = { λ source a b head same h. head_own a b head same h };
 
     ghost table_own = { λ source a b table same h. table_own a b table same h };
 
+    ghost holds_own = { λ source a b history same h. holds_own a b history same h };
+
+    ghost reaches_own = { λ source a b position same h. reaches_own a b position same h };
+
+    ghost since_own = { λ source a b position base commits same h. since_own a b position base commits same h };
+
     ghost at_head_own = { λ source a b e same h. at_head_own a b e same h };
 
     ghost from_scratch_own = { λ source a b e same h. from_scratch_own a b e same h };
+
+    ghost from_position_own = { λ source a b position base e same h. from_position_own a b position base e same h };
 }

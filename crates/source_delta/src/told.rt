@@ -17,7 +17,7 @@ use source_core::SourceError;
 use std::alloc::Global;
 use table_history::{Feature, Kind, LimitKind};
 
-fn limit(which: LimitKind) -> SourceError
+pub(crate) fn limit(which: LimitKind) -> SourceError
     ensures { result ≡ Limit which (limit_number Delta which) }
 {
     SourceError::Limit {
@@ -53,7 +53,7 @@ pub(crate) fn unsupported(alloc: Global, feature: Feature, version: u64) -> Sour
 }
 
 /// What is told of a version's commit that is refused.
-fn commit_error(alloc: Global, version: u64, error: DeltaError) -> SourceError
+pub(crate) fn commit_error(alloc: Global, version: u64, error: DeltaError) -> SourceError
     requires { version ≤ MAX_DELTA_VERSION }
     ensures told { IsReadRefusal (TellsCommit version error) result }
     ensures fault { result ≢ StoreFault }

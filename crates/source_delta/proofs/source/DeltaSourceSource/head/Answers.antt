@@ -57,6 +57,7 @@ returns-clause-head g c told =
         position = c.in_ok-position.ensures;
         pending = refl;
         table = subst (λ (d : Disk). IsTableId d.files c.in_ok-table.table) same (c.in_ok-table.ensures.id told);
+        few = c.in_ok-newest.ensures.few told;
       },
     )
 

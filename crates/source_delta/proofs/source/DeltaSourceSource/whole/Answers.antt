@@ -1,6 +1,6 @@
 use Rattle.std.proofs.Common.{◌≡◌, ℕ, Some, sym, subst, ◌∙◌}
 use Rattle.source_delta.specs.Heads.{IsNewest}
-use Rattle.source_delta.proofs.Refusals.{version_within}
+use Rattle.source_delta.specs.SinceLemmas.{version_within}
 use Rattle.source_delta.proofs.source.DeltaSourceSource.whole.Goals as goal
 
 pub returns-in-Some-clause-table : goal.returns-in-Some-clause-table
