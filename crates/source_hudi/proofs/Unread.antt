@@ -2,20 +2,22 @@
 use Rattle.std.proofs.Common.{◌≡◌, ◌⊎◌, ℕ, ◌&&◌, List, Bool, true, false, not, Contains, Option, Some, None, refl, sym, ap, subst, ◌∙◌, ⊎_elim}
 use Rattle.std.specs.Prelude.{find, option_map}
 use Rattle.std.specs.Cmp.Lexicographic.{slice_cmp}
-use Rattle.std.specs.Ordering.{nat_cmp}
+use Rattle.std.specs.Ordering.{is_lt, nat_cmp}
 use Rattle.std.specs.declared.cmp.Ordering.TheVariants.{Less, Greater}
 use Rattle.lake_store.specs.Disk.{Files, names_in}
 use Rattle.lake_store.proofs.OrderLaws.{names_in_sorted}
 use Rattle.hudi_names.specs.Name.{instant_of}
 use Rattle.hudi_names.specs.declared.name.Action.{Action}
 use Rattle.hudi_names.specs.declared.name.State.{State}
-use Rattle.hudi_table.specs.Folder.{IsUpTo}
-use Rattle.hudi_table.specs.Instants.{instant_named, instant_with, instants_in, timeline_folder}
+use Rattle.hudi_table.specs.Folder.{IsEarlier, IsUpTo}
+use Rattle.hudi_table.specs.Instants.{instant_named, instant_with, instants_in, time_of, timeline_folder}
 use Rattle.hudi_table.specs.declared.instants.InstantName.{InstantName}
 use Rattle.hudi_table.proofs.FolderLaws.{instant_says}
 use Rattle.hudi_table.proofs.TimeOrder.{up_to_itself}
 use Rattle.hudi_table.proofs.UpLists.{Up, found_first, found_there, none_found, picked, sorted_up, up_picked}
 use Rattle.source_hudi.specs.Instants.{AreAllRead, IsFirstUnread, IsUnread, is_read, is_unread, is_up_to}
+use Rattle.source_hudi.specs.Since.{AreAllReadAfter, IsFirstUnreadAfter, IsUnreadAfter, is_later, is_unread_after}
+use Rattle.source_hudi.proofs.Later.{later_earlier}
 use Rattle.source_hudi.proofs.UpToHead.{le_of_up, up_of_le}
 
 abbrev Instant : Type 0
@@ -95,3 +97,35 @@ module _ (files : Files) (head : List ℕ) where
   none_unread is name a unread =
       let j = unread_from name a unread in
       none_found (is_unread head) UpNames instants j.0 is j.1 j.2
+
+  -- ---- after a position
+
+  module _ (position : List ℕ) where
+    after_at : (i : InstantName) → Contains instants i → is_unread_after head position i ≡ true → IsUnreadAfter files position head i.name i.action
+    after_at i within passes =
+        let says = instant_says names i within in
+        let parts = both (is_later position i.time) (is_unread head i) passes in
+        (subst (IsEarlier position) says.time (later_earlier position i.time parts.0), unread_at i within parts.1)
+
+    after_from : (name : List ℕ) (a : Action) → IsUnreadAfter files position head name a → (i : InstantName) × Contains instants i × (is_unread_after head position i ≡ true) × (i.name ≡ name)
+    after_from name a h =
+        let j = unread_from name a h.1 in
+        let time : j.0.time ≡ time_of name = (instant_says names j.0 j.1).time ∙ ap time_of j.3 in
+        let later : is_later position j.0.time ≡ true = ap (is_later position) time ∙ ap is_lt h.0 in
+        (j.0, j.1, ap (λ b. b && is_unread head j.0) later ∙ j.2, j.3)
+
+    -- what is found is the first
+    pub first_found_after : (i : InstantName) → find (is_unread_after head position) instants ≡ Some i → IsFirstUnreadAfter files position head i.name i.action
+    first_found_after i is =
+        let here = found_there (is_unread_after head position) UpNames instants i is in
+        record {
+          is = after_at i here.0 here.1;
+          first = λ other a unread.
+              let j = after_from other a unread in
+              subst (IsUpTo i.name) j.3 (up_names i j.0 (found_first (is_unread_after head position) UpNames instants i j.0 is up_instants j.1 j.2));
+        }
+
+    pub none_unread_after : find (is_unread_after head position) instants ≡ None → AreAllReadAfter files position head
+    none_unread_after is name a unread =
+        let j = after_from name a unread in
+        none_found (is_unread_after head position) UpNames instants j.0 is j.1 j.2

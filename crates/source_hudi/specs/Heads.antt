@@ -1,11 +1,13 @@
 -- The head of a Hudi timeline, and the table that its instants make up to there (Hudi technical specification, "Timeline" and "Table Properties").
-use Rattle.std.specs.Prelude.{◌≡◌, ℕ, List, Option, Some, None, codes}
-use Rattle.lake_store.specs.Disk.{Files}
+use Rattle.std.specs.Prelude.{◌≡◌, ◌≤◌, ℕ, List, Option, Some, None, codes, length}
+use Rattle.lake_basics.specs.declared.limits.TheConstants.{MAX_NAMES}
+use Rattle.lake_store.specs.Disk.{Files, names_in}
 use Rattle.table_history.specs.declared.table.Table.{Table}
 use Rattle.hudi_timeline.specs.TableProperties.{property}
 use Rattle.hudi_timeline.specs.declared.table.HudiTable.{HudiTable}
 use Rattle.hudi_table.specs.Files.{SaysProperties}
 use Rattle.hudi_table.specs.Folder.{IsFirstPending, IsHead, IsPendingAt, IsReached}
+use Rattle.hudi_table.specs.Instants.{timeline_folder}
 use Rattle.hudi_table.specs.Reading.{HasLiveRows, IsLatestOf}
 use Rattle.hudi_table.specs.declared.instants.CompletedInstant.{CompletedInstant}
 use Rattle.hudi_table.specs.declared.properties.Properties.{Properties}
@@ -27,11 +29,12 @@ IsPending files (Some time) = IsFirstPending files time
 abbrev pub IsTableName : Files → Option (List ℕ) → Type 0
 IsTableName files name = (properties : Properties) × SaysProperties files properties × (name ≡ property (codes "hoodie.table.name") properties.pairs)
 
--- The last commit or replacecommit that is completed before the first pending one, that one, and the table's name.
+-- The last commit or replacecommit that is completed before the first pending one, that one, and the table's name, where the names in the timeline's folder aren't too many to be listed.
 pub record IsHudiHead (files : Files) (head : Head) : Type 0 where
   pub position : IsHead files head.position
   pub pending : IsPending files head.pending
   pub table : IsTableName files head.table
+  pub few : length (names_in files timeline_folder) ≤ MAX_NAMES
 
 -- the table that these instants make, whose rows are just those that are live after them
 pub record IsTableOfInstants (files : Files) (table : HudiTable) (instants : List CompletedInstant) (t : Table) : Type 0 where

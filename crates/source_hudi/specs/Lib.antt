@@ -1,4 +1,10 @@
 pub mod Instants
 pub mod Heads
 pub mod Reading
+pub mod Since
 pub mod OwnLemmas
+pub mod SinceLemmas
+pub mod Histories
+pub mod ListLemmas
+pub mod LikeLemmas
+pub mod HistoryLemmas

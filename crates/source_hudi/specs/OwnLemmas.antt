@@ -1,5 +1,5 @@
 -- What is said of a Hudi table's files depends on its timeline's folder alone.
-use Rattle.std.proofs.Common.{◌≡◌, inl, inr, ◌<◌, ℕ, List, [], ◌∷◌, length, Option, Some, None, Contains, codes, refl, sym, ap, subst, ◌∙◌, ⊎_elim}
+use Rattle.std.proofs.Common.{◌≡◌, inl, inr, ◌<◌, ◌≤◌, ℕ, List, [], ◌∷◌, length, Option, Some, None, Contains, codes, refl, sym, ap, subst, ◌∙◌, ⊎_elim}
 use Rattle.std.specs.FinMap as map
 use Rattle.lake_basics.specs.declared.limits.TheConstants.{MAX_NAMES}
 use Rattle.lake_store.specs.Disk.{Files, names_in}
@@ -42,7 +42,7 @@ archive_names a b same = names_own archive_folder (λ name. (name, refl)) a b (�
     codes_behind : (path : List ℕ) → IsIn archive_folder path → IsIn timeline_folder path
     codes_behind path within = (97 ∷ 114 ∷ 99 ∷ 104 ∷ 105 ∷ 118 ∷ 101 ∷ 100 ∷ 47 ∷ within.0, within.1)
 
-reached_same : (a b : Files) → SameIn timeline_folder a b → reached_in a ≡ reached_in b
+pub reached_same : (a b : Files) → SameIn timeline_folder a b → reached_in a ≡ reached_in b
 reached_same a b same = sym (ap (λ (names : List (List ℕ)). up_to_head (timeline_of names)) (timeline_names a b same))
 
 module _ (a b : Files) (same : SameIn timeline_folder a b) where
@@ -80,12 +80,15 @@ module _ (a b : Files) (same : SameIn timeline_folder a b) where
   reached_back : (time : List ℕ) → IsReached b time → IsReached a time
   reached_back time h = reached_too b a (same_back timeline_folder a b same) time h
 
-  head_too : (head : List ℕ) → IsHead a head → IsHead b head
+  pub head_too : (head : List ℕ) → IsHead a head → IsHead b head
   head_too head h = (reached_too a b same head h.0, λ other at. h.1 other (reached_back other at))
 
   is_pending_too : (pending : Option (List ℕ)) → IsPending a pending → IsPending b pending
   is_pending_too None h = λ time at. h time (pending_back a b same time at)
   is_pending_too (Some time) h = first_pending_too a b same time h
+
+pub reaches_own : (a b : Files) (position : List ℕ) → SameIn timeline_folder a b → IsReached a position → IsReached b position
+reaches_own a b position same h = reached_too a b same position h
 
 pub absent_own : (a b : Files) → SameIn timeline_folder a b → IsAbsent a → IsAbsent b
 absent_own a b same none time at = none time (reached_back a b same time at)
@@ -99,10 +102,10 @@ module _ (a b : Files) (same : SameIn timeline_folder a b) where
   missing_too : (name : List ℕ) → map.get a (path_of name) ≡ None → map.get b (path_of name) ≡ None
   missing_too name h = same (path_of name) (name, refl) ∙ h
 
-  properties_too : (p : Properties) → SaysProperties a p → SaysProperties b p
+  pub properties_too : (p : Properties) → SaysProperties a p → SaysProperties b p
   properties_too p h = record { bytes = h.bytes; holds = holds_too (codes "hoodie.properties") h.bytes h.holds; read = h.read }
 
-  says_too : (c : CompletedInstant) (i : Instant) → SaysInstant a c i → SaysInstant b c i
+  pub says_too : (c : CompletedInstant) (i : Instant) → SaysInstant a c i → SaysInstant b c i
   says_too c i h = record { first = h.first; bytes = h.bytes; holds = holds_too c.name h.bytes h.holds; reads = h.reads }
 
   timeline_too : (naming : Naming) (cs : List CompletedInstant) (timeline : Timeline) → SayTimeline a naming cs timeline → SayTimeline b naming cs timeline
@@ -121,7 +124,7 @@ module _ (a b : Files) (same : SameIn timeline_folder a b) where
 
   -- ---- what is refused
 
-  file_too : (name : List ℕ) (P Q : HudiError → Type 0) → ((e : HudiError) → P e → Q e) → (e : TimelineError) → IsFileRefusal a name P e → IsFileRefusal b name Q e
+  pub file_too : (name : List ℕ) (P Q : HudiError → Type 0) → ((e : HudiError) → P e → Q e) → (e : TimelineError) → IsFileRefusal a name P e → IsFileRefusal b name Q e
   file_too name P Q to error.Memory h = h
   file_too name P Q to error.StoreFault h = h
   file_too name P Q to error.ManyNames h = h
@@ -133,7 +136,7 @@ module _ (a b : Files) (same : SameIn timeline_folder a b) where
   fault_too : (e : HudiError) → IsPropertyFault a e → IsPropertyFault b e
   fault_too e h = (h.0, holds_too (codes "hoodie.properties") h.0 h.1, h.2)
 
-  unreadable_too : (c : CompletedInstant) (e : HudiError) → IsUnreadable a c e → IsUnreadable b c e
+  pub unreadable_too : (c : CompletedInstant) (e : HudiError) → IsUnreadable a c e → IsUnreadable b c e
   unreadable_too c e (inl h) = inl h
   unreadable_too c e (inr h) = inr (h.0, h.1, holds_too c.name h.1 h.2, h.3)
 
@@ -170,12 +173,17 @@ name_own : (a b : Files) (name : Option (List ℕ)) → SameIn timeline_folder a
 name_own a b name same h = (h.0, properties_too a b same h.0 h.1, h.2)
 
 pub head_own : (a b : Files) (head : Head) → SameIn timeline_folder a b → IsHudiHead a head → IsHudiHead b head
-head_own a b head same h = record { position = head_too a b same head.position h.position; pending = is_pending_too a b same head.pending h.pending; table = name_own a b head.table same h.table }
+head_own a b head same h = record {
+  position = head_too a b same head.position h.position;
+  pending = is_pending_too a b same head.pending h.pending;
+  table = name_own a b head.table same h.table;
+  few = subst (λ (names : List (List ℕ)). length names ≤ MAX_NAMES) (sym (timeline_names a b same)) h.few;
+}
 
-unread_own : (a b : Files) (head name : List ℕ) (action : Action) → SameIn timeline_folder a b → IsUnread a head name action → IsUnread b head name action
+pub unread_own : (a b : Files) (head name : List ℕ) (action : Action) → SameIn timeline_folder a b → IsUnread a head name action → IsUnread b head name action
 unread_own a b head name action same h = record { there = there_too a b same name h.there; digits = h.digits; state = h.state; says = h.says; up_to = h.up_to; unread = h.unread }
 
-unread_back : (a b : Files) (head name : List ℕ) (action : Action) → SameIn timeline_folder a b → IsUnread b head name action → IsUnread a head name action
+pub unread_back : (a b : Files) (head name : List ℕ) (action : Action) → SameIn timeline_folder a b → IsUnread b head name action → IsUnread a head name action
 unread_back a b head name action same h = unread_own b a head name action (same_back timeline_folder a b same) h
 
 all_read_own : (a b : Files) (head : List ℕ) → SameIn timeline_folder a b → AreAllRead a head → AreAllRead b head
@@ -213,7 +221,7 @@ many_own a b e same h = (subst (λ (names : List (List ℕ)). MAX_NAMES < length
 many_archived_own : (a b : Files) (e : SourceError) → SameIn timeline_folder a b → HasManyNames a archive_folder e → HasManyNames b archive_folder e
 many_archived_own a b e same h = (subst (λ (names : List (List ℕ)). MAX_NAMES < length names) (sym (archive_names a b same)) h.0, h.1)
 
-no_properties_own : (a b : Files) (e : SourceError) → SameIn timeline_folder a b → HasNoProperties a e → HasNoProperties b e
+pub no_properties_own : (a b : Files) (e : SourceError) → SameIn timeline_folder a b → HasNoProperties a e → HasNoProperties b e
 no_properties_own a b e same h = (h.0, file_too a b same (codes "hoodie.properties") _ _ (fault_too a b same) h.0 h.1, h.2)
 
 archived_own : (a b : Files) (e : SourceError) → SameIn timeline_folder a b → HasArchive a e → HasArchive b e

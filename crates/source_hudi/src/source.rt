@@ -1,6 +1,7 @@
 //! The Hudi source.
 
-ghost use Rattle.std.specs.Prelude.{◌≡◌, ◌≢◌, ◌⊎◌, [], codes, IfErr, IfOk, IsErrOf, None, Some};
+ghost use Rattle.std.specs.Prelude.{◌≡◌, ◌≢◌, ◌≤◌, ◌⊎◌, [], codes, IfErr, IfOk, IsErrOf, None, OnOk, Some, length};
+ghost use Rattle.lake_basics.specs.declared.limits.TheConstants.{MAX_NAMES};
 ghost use Rattle.lake_store.specs.Disk.{names_in};
 ghost use Rattle.lake_store.specs.Runs.{FailsBy, IsUncontestedBy, OnlyReads};
 ghost use Rattle.target_core.specs.Conditions.{IsPublishable};
@@ -14,6 +15,7 @@ ghost use Rattle.source_hudi.specs.Reading.{HasManyNames, HasNoProperties, HasRe
 
 use crate::archive::first_archived;
 use crate::instants::{first_unread, unread, up_to};
+use crate::since::since;
 use crate::told::source_error;
 use hudi_table::{
     CompletedInstant, Naming, Properties, Timeline, list_timeline, read_table_properties,
@@ -22,7 +24,7 @@ use hudi_table::{
 use hudi_timeline::HudiTable;
 use lake_basics::Text;
 use lake_store::Store;
-use source_core::{Head, Source, SourceError};
+use source_core::{Head, Since, Source, SourceError};
 use std::alloc::{AllocError, Global};
 use table_history::{Feature, Kind, Table};
 
@@ -54,6 +56,8 @@ fn find_head<S: Store>(alloc: Global, store: &mut S) -> Result<Head, SourceError
         → IfOk result (λ head. IsHead (S.disk store.old).files head.position) }
     ensures pending { S.tells
         → IfOk result (λ head. IsPending (S.disk store.old).files head.pending) }
+    ensures few { S.tells → OnOk result
+        (length (names_in (S.disk store.old).files timeline_folder) ≤ MAX_NAMES) }
     ensures refused { S.tells → IfErr result
         (IsHeadRefusal (IsAbsent (S.disk store.old).files)
         (HasManyNames (S.disk store.old).files timeline_folder)) }
@@ -204,9 +208,14 @@ impl HudiSource {
 
 impl Source for HudiSource {
     ghost use Rattle.table_history.specs.declared.kind.Kind.TheVariants.{Hudi};
+    ghost use Rattle.hudi_table.specs.Folder.{IsReached};
     ghost use Rattle.source_hudi.specs.Heads.{IsAbsent, IsHudiHead, IsTableAtHead};
+    ghost use Rattle.source_hudi.specs.Histories.{HoldsHistory};
+    ghost use Rattle.source_hudi.specs.HistoryLemmas.{along, holds_own, last};
     ghost use Rattle.source_hudi.specs.Reading.{ShowsAtHead, ShowsFromScratch};
-    ghost use Rattle.source_hudi.specs.OwnLemmas.{absent_own, at_head_own, from_scratch_own, head_own, table_own};
+    ghost use Rattle.source_hudi.specs.Since.{IsSince, ShowsSince};
+    ghost use Rattle.source_hudi.specs.OwnLemmas.{absent_own, at_head_own, from_scratch_own, head_own, reaches_own, table_own};
+    ghost use Rattle.source_hudi.specs.SinceLemmas.{ends, from_position_own, none_at_head, one_head, since_own};
 
     ghost kind = { λ source. Hudi };
 
@@ -216,9 +225,17 @@ impl Source for HudiSource {
 
     ghost is_table = { λ source files table. IsTableAtHead files table };
 
+    ghost reaches = { λ source files position. IsReached files position };
+
+    ghost is_since = { λ source files position base commits. IsSince files position base commits };
+
+    ghost holds = { λ source files history. HoldsHistory files history };
+
     ghost at_head = { λ source files e. ShowsAtHead files e };
 
     ghost from_scratch = { λ source files e. ShowsFromScratch files e };
+
+    ghost from_position = { λ source files position base e. ShowsSince files position base e };
 
     fn kind(&self) -> Kind {
         Kind::Hudi
@@ -254,13 +271,51 @@ impl Source for HudiSource {
         }
     }
 
+    /// The commits after a position over the table that a target has of it, up to the head, which
+    /// `head` has given. They are told where the position's completed file is in the timeline up to
+    /// the head; what is archived is no matter. The names of the timeline come first, then the
+    /// properties, with their partition columns, then the actions of the later instants by their
+    /// names, then their number, and then those that are completed, the oldest first: each is read,
+    /// its write stats and replaced ids are counted with those before it, and its change is made.
+    fn since<S: Store>(
+        &self,
+        alloc: Global,
+        store: &mut S,
+        head: &Head,
+        position: &Text,
+        base: &Table,
+    ) -> Result<Since, SourceError> {
+        match list_timeline(alloc, store) {
+            Ok(timeline) => since(alloc, store, &timeline, &head.position, position, base),
+            Err(error) => Err(source_error(error)),
+        }
+    }
+
+    ghost one_head = { λ source files a b ha hb. one_head files a b ha hb };
+
+    ghost ends = { λ source files head position base commits is at since. ends files head position base commits is at since };
+
+    ghost none_at_head = { λ source files head base commits is since. none_at_head files head base commits is since };
+
+    ghost last = { λ source files history head is holds at. last files history head is holds at };
+
+    ghost along = { λ source files front behind entry base commits is holds like at since. along files front behind entry base commits is holds like at since };
+
     ghost absent_own = { λ source a b same h. absent_own a b same h };
 
     ghost head_own = { λ source a b head same h. head_own a b head same h };
 
     ghost table_own = { λ source a b table same h. table_own a b table same h };
 
+    ghost holds_own = { λ source a b history same h. holds_own a b history same h };
+
+    ghost reaches_own = { λ source a b position same h. reaches_own a b position same h };
+
+    ghost since_own = { λ source a b position base commits same h. since_own a b position base commits same h };
+
     ghost at_head_own = { λ source a b e same h. at_head_own a b e same h };
 
     ghost from_scratch_own = { λ source a b e same h. from_scratch_own a b e same h };
+
+    ghost from_position_own = { λ source a b position base e same h. from_position_own a b position base e same h };
 }

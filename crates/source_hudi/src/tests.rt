@@ -1,10 +1,11 @@
-//! Heads and tables of timelines in a store in memory.
+//! Heads, tables and later commits of timelines in a store in memory.
 use super::*;
 use lake_basics::Text;
 use lake_store::MemoryStore;
-use source_core::{Source, SourceError};
+use source_core::{Since, Source, SourceError};
 use std::alloc::{AllocError, Global};
 use std::test::Fail;
+use table_history::{Commit, Table};
 
 const PROPERTIES: (&str, &str) = (
     "hoodie.properties",
@@ -134,6 +135,167 @@ fn heads_and_tables_are_read(rt: HostRuntime) -> Result<(), Fail> {
     let alloc = rt.alloc();
     for (files, told) in TABLES {
         assert_eq!(rt; read(alloc, files)?.as_str(), *told);
+    }
+    Ok(())
+}
+
+/// A commit that writes the first group again.
+const AGAIN: (&str, &str) = (
+    "20240105110000000.commit",
+    "{\"partitionToWriteStats\":{\"\":[{\"fileId\":\"g1-0\",\"path\":\"g1-0_0-3-3_20240105110000000.parquet\",\"partitionPath\":\"\",\"numWrites\":6,\"fileSizeInBytes\":120}]}}",
+);
+
+const REQUESTED: (&str, &str) = ("20240105110000000.commit.requested", "");
+
+/// The files in a timeline's folder, a position, and the commits after it, or what is told, over the
+/// table that the first commit makes.
+const LATER: &[(&[(&str, &str)], &str, &str)] = &[
+    (&[PROPERTIES, FIRST], "20240105100000000", ""),
+    (
+        &[PROPERTIES, FIRST, REQUESTED, SECOND],
+        "20240105100000000",
+        "",
+    ),
+    (
+        &[PROPERTIES, FIRST, REQUESTED, AGAIN, SECOND],
+        "20240105100000000",
+        "at 20240105110000000 -g1-0_0-1-1_20240105100000000.parquet +g1-0_0-3-3_20240105110000000.parquet 6 120; \
+         at 20240105120000000 +g2-0_0-2-2_20240105120000000.parquet 7 140; ",
+    ),
+    (&[PROPERTIES, FIRST, AGAIN, SECOND], "20240105120000000", ""),
+    (
+        &[PROPERTIES, FIRST, AGAIN, SECOND],
+        "20240105113000000",
+        "not reached",
+    ),
+    (
+        &[PROPERTIES, FIRST, AGAIN, SECOND],
+        "20240105100000000.commit",
+        "not reached",
+    ),
+    (
+        &[PROPERTIES, FIRST, REQUESTED, SECOND],
+        "20240105110000000",
+        "not reached",
+    ),
+    (
+        &[PROPERTIES, FIRST, REQUESTED, SECOND],
+        "20240105120000000",
+        "not reached",
+    ),
+    (
+        &[PROPERTIES, FIRST, SECOND, ("archived/a", "")],
+        "20240105100000000",
+        "at 20240105120000000 +g2-0_0-2-2_20240105120000000.parquet 7 140; ",
+    ),
+    (
+        &[
+            PROPERTIES,
+            ("20240105090000000.restore", ""),
+            FIRST,
+            SECOND,
+            ("20240105130000000.restore", ""),
+        ],
+        "20240105100000000",
+        "at 20240105120000000 +g2-0_0-2-2_20240105120000000.parquet 7 140; ",
+    ),
+    (
+        &[
+            PROPERTIES,
+            FIRST,
+            ("20240105113000000.restore.requested", ""),
+            SECOND,
+        ],
+        "20240105100000000",
+        "Restore .hoodie/20240105113000000.restore.requested",
+    ),
+    (
+        &[PARTITIONED, FIRST, SECOND],
+        "20240105100000000",
+        "PartitionChange .hoodie/hoodie.properties",
+    ),
+    (
+        &[PARTITIONED, FIRST, SECOND],
+        "20240105110000000",
+        "not reached",
+    ),
+    (
+        &[
+            PROPERTIES,
+            FIRST,
+            SECOND,
+            ("20240105130000000.replacecommit", "{}"),
+        ],
+        "20240105100000000",
+        "malformed .hoodie/20240105130000000.replacecommit",
+    ),
+];
+
+const PARTITIONED: (&str, &str) = (
+    "hoodie.properties",
+    "hoodie.table.name=t\nhoodie.table.type=COPY_ON_WRITE\nhoodie.table.version=6\nhoodie.table.partition.fields=id\n",
+);
+
+fn first_table(alloc: Global) -> Result<Table, SourceError> {
+    let mut store = store_of(alloc, &[PROPERTIES, FIRST])?;
+    let source = HudiSource::new();
+    let head = source.head(alloc, &mut store)?;
+    source.whole(alloc, &mut store, &head)
+}
+
+/// The commit's position, the paths that it removes, and the files that it adds.
+fn with_commit(alloc: Global, told: String, commit: &Commit) -> Result<String, AllocError> {
+    let mut told = format!(in alloc; "{}at {}", told.as_str(), commit.position.as_str())?;
+    for path in commit.change.removed.as_slice() {
+        told = format!(in alloc; "{} -{}", told.as_str(), path.as_str())?;
+    }
+    for row in commit.change.added.as_slice() {
+        told = format!(in alloc;
+            "{} +{} {} {}",
+            told.as_str(),
+            row.path.as_str(),
+            row.count,
+            row.size
+        )?;
+    }
+    format!(in alloc; "{}; ", told.as_str())
+}
+
+/// The commits after the position, over the table that the first commit makes.
+fn later_commits(
+    alloc: Global,
+    files: &[(&str, &str)],
+    position: &str,
+) -> Result<Since, SourceError> {
+    let base = first_table(alloc)?;
+    let mut store = store_of(alloc, files)?;
+    let source = HudiSource::new();
+    let head = source.head(alloc, &mut store)?;
+    let position = Text::from_str(alloc, position)?;
+    source.since(alloc, &mut store, &head, &position, &base)
+}
+
+fn told_commits(alloc: Global, commits: &[Commit]) -> Result<String, AllocError> {
+    let mut told = String::new(alloc);
+    for commit in commits {
+        told = with_commit(alloc, told, commit)?;
+    }
+    Ok(told)
+}
+
+fn read_later(alloc: Global, files: &[(&str, &str)], position: &str) -> Result<String, AllocError> {
+    match later_commits(alloc, files, position) {
+        Ok(Since::Commits(commits)) => told_commits(alloc, commits.as_slice()),
+        Ok(Since::NotReached) => format!(in alloc; "not reached"),
+        Err(error) => refused(alloc, &error),
+    }
+}
+
+#[test]
+fn later_commits_are_read(rt: HostRuntime) -> Result<(), Fail> {
+    let alloc = rt.alloc();
+    for (files, position, told) in LATER {
+        assert_eq!(rt; read_later(alloc, files, position)?.as_str(), *told);
     }
     Ok(())
 }

@@ -1,18 +1,21 @@
 //! How a fault of a timeline is told.
 
-ghost use Rattle.std.specs.Prelude.{◌≡◌, ◌≢◌, List, ℕ};
+ghost use Rattle.std.specs.Prelude.{◌≡◌, ◌≢◌, ◌⊎◌, List, ℕ, codes};
 ghost use Rattle.table_history.specs.Words.{limit_number};
+ghost use Rattle.table_history.specs.declared.feature.Feature.TheVariants.{PartitionChange};
 ghost use Rattle.table_history.specs.declared.kind.Kind.TheVariants.{Hudi};
+ghost use Rattle.hudi_table.specs.Instants.{path_of};
 ghost use Rattle.hudi_table.specs.declared.error.TimelineError.TheVariants as timeline;
 ghost use Rattle.source_core.specs.Answers.{IsReadRefusal};
-ghost use Rattle.source_core.specs.declared.error.SourceError.TheVariants.{Limit, StoreFault};
+ghost use Rattle.source_core.specs.declared.error.SourceError.TheVariants.{Limit, Memory, StoreFault, Unsupported};
 ghost use Rattle.source_hudi.specs.Reading.{Tells, TellsFile};
 
-use hudi_table::TimelineError;
+use hudi_table::{TimelineError, timeline_path};
 use hudi_timeline::HudiError;
 use lake_basics::Text;
 use source_core::SourceError;
-use table_history::{Kind, LimitKind};
+use std::alloc::Global;
+use table_history::{Feature, Kind, LimitKind};
 
 /// A number is passed.
 pub(crate) fn limit(which: LimitKind) -> SourceError
@@ -50,5 +53,21 @@ pub(crate) fn source_error(error: TimelineError) -> SourceError
         TimelineError::Missing { path } => SourceError::Malformed { path },
         TimelineError::Large { .. } => limit(LimitKind::File),
         TimelineError::Refused { path, error } => file_error(path, error),
+    }
+}
+
+/// What is told where the properties name other partition columns than the table that is gone on
+/// from.
+pub(crate) fn partition_change(alloc: Global) -> SourceError
+    ensures told { (result ≡ Memory)
+        ⊎ (result ≡ Unsupported PartitionChange (path_of (codes "hoodie.properties"))) }
+    ensures fault { result ≢ StoreFault }
+{
+    match timeline_path(alloc, "hoodie.properties") {
+        Ok(path) => SourceError::Unsupported {
+            feature: Feature::PartitionChange,
+            path,
+        },
+        Err(_) => SourceError::Memory,
     }
 }

@@ -6,7 +6,7 @@ use Rattle.hudi_table.specs.Folder.{IsHead}
 use Rattle.source_core.specs.Answers.{IsReadRefusal}
 use Rattle.source_core.proofs.Answers.{errs, oks}
 use Rattle.source_hudi.specs.Heads.{IsTableUpTo, IsWholeTable}
-use Rattle.source_hudi.specs.Instants.{archive_folder, first_archived}
+use Rattle.source_hudi.specs.Instants.{archive_folder}
 use Rattle.source_hudi.specs.Reading.{ShowsInTimeline}
 use Rattle.source_hudi.proofs.Refusals.{archive_empty, shown_in_instants}
 use Rattle.source_hudi.proofs.source.whole_table.Goals as goal

@@ -31,6 +31,7 @@ returns-clause-head g c told =
         position = is;
         pending = c.in_ok-head.ensures.pending told;
         table = subst (λ (d : Disk). IsTableName d.files c.in_ok-table.table) same (c.in_ok-table.ensures.name told);
+        few = c.in_ok-head.ensures.few told;
       },
     )
 
