@@ -9,3 +9,4 @@ pub mod PartNameLemmas
 pub mod LiveLaws
 pub mod MetadataPathLaws
 pub mod StepLemmas
+pub mod KindLaws

@@ -15,3 +15,4 @@ pub mod Location
 pub mod Live
 pub mod LiveRows
 pub mod MetadataPaths
+pub mod Kinds
