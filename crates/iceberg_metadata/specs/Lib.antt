@@ -11,6 +11,7 @@ pub mod PathMaps
 pub mod Paths
 pub mod Reading
 pub mod SchemaLists
+pub mod SourceColumns
 pub mod Schemas
 pub mod VersionName
 pub mod Writing

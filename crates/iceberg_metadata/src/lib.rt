@@ -3,6 +3,7 @@
 #![tactic(auto)]
 
 mod ancestors;
+mod columns;
 mod consistent;
 mod error;
 mod ids;
@@ -17,6 +18,7 @@ mod schemas;
 mod writing;
 
 pub use ancestors::ancestry;
+pub use columns::{SourceColumn, default_columns, held_schema};
 pub use error::MetadataError;
 pub use metadata::{Metadata, Snapshot, Snapshots, Spec, SpecField};
 pub use name::version_of_name;

@@ -147,7 +147,7 @@ fn lacks_kinds(
     Ok(has_other_source(schema, &paths, fields))
 }
 
-fn held_schema(schemas: &[(i32, Schema, Ids)], id: i32) -> Option<&(i32, Schema, Ids)>
+pub(crate) fn held_schema(schemas: &[(i32, Schema, Ids)], id: i32) -> Option<&(i32, Schema, Ids)>
     ensures { option_copied result ≡ held_schema schemas.now id }
 {
     for schema in schemas {
