@@ -1,0 +1,11 @@
+pub mod Runs
+pub mod FaultLaws
+pub mod FolderLaws
+pub mod KindLaws
+pub mod ManifestLaws
+pub mod RowLaws
+pub mod EachLaws
+pub mod ListLaws
+pub mod LiveLaws
+pub mod SnapshotLaws
+pub mod PlanLaws

@@ -1,0 +1,142 @@
+-- A table of rows, with one row more, and with those of manifests more.
+use Rattle.std.proofs.Common.{◌≡◌, ◌≢◌, ◌⊎◌, ◌↔◌, ℕ, ◌+◌, ◌<◌, List, [], ◌∷◌, ◌++◌, Bool, true, false, cond, Contains, Option, None, Some, map, take, drop, length, refl, sym, ap, subst, ◌∙◌, inl, inr, ⊎_elim, append_assoc, append-nil, arith, Bor}
+use Rattle.std.specs.Prelude.{IfOk, IfErr, MatchOption, is_some, flat_map}
+use Rattle.std.specs.List.{AllByRecursion, IsDistinct, list_any}
+use Rattle.std.specs.Str.{bytes_eq}
+use Rattle.std.proofs.lemmas.Bool.{cases_Bool, false≢true}
+use Rattle.std.proofs.lemmas.Cmp.{nat_list_eq_equiv}
+use Rattle.std.proofs.lemmas.Grind.{flat_map-append}
+use Rattle.std.proofs.lemmas.List.{map-append, drop_more, take-append-drop, take_more}
+use Rattle.std.proofs.lemmas.List.Elements.{Contains-append_left, Contains-append_right, Contains-append_cases, Contains-push, Contains-push_cases}
+use Rattle.std.proofs.lemmas.Map.Keys.{IsDistinct-cons, IsDistinct-head, IsDistinct-push, IsDistinct-tail, IsDistinct-from_apart}
+use Rattle.std.proofs.lemmas.Slice.Eq.{bytes_eq-Decides}
+use Rattle.iceberg_metadata.proofs.ListLemmas.{any_to}
+use Rattle.table_history.specs.Rows.{HasDistinctPaths, HasPath, SameRows, paths_of}
+use Rattle.table_history.specs.Tables.{CanApply, IsAfter}
+use Rattle.table_history.specs.TypeTree.{ColumnTrees}
+use Rattle.table_history.specs.declared.row.FileRow.{FileRow}
+use Rattle.table_history.specs.declared.table.Change.{Change}
+use Rattle.table_history.specs.declared.table.Table.{Table}
+use Rattle.table_history.proofs.Laws.{one_row_fits}
+use Rattle.table_history.proofs.RowListLemmas.{Contains-head, Contains-none, Contains-one, Contains-paths, all_at}
+use Rattle.table_history.proofs.TableLemmas.{Contains-paths_cases}
+use Rattle.iceberg_manifest.specs.declared.live.LiveRow.{LiveRow}
+use Rattle.iceberg_table.specs.Tables.{IsTableOfRows, rows_in, rows_of}
+use Rattle.iceberg_table.specs.declared.manifest.Manifest.{Manifest}
+
+-- ---- distinct paths
+
+pub path_there : (rows : List FileRow) (path : List ℕ) (r : Option (Bor FileRow)) → is_some r ≡ true → MatchOption r (HasPath rows path → ⊥) (λ w. Contains rows w.now × (w.now.path ≡ path)) → HasPath rows path
+path_there rows path None is cases = absurd (cc)
+path_there rows path (Some w) is cases = (w.now, cases.0, cases.1)
+
+pub path_lacks : (rows : List FileRow) (path : List ℕ) (r : Option (Bor FileRow)) → is_some r ≡ false → MatchOption r (HasPath rows path → ⊥) (λ w. Contains rows w.now × (w.now.path ≡ path)) → HasPath rows path → ⊥
+path_lacks rows path None is cases = cases
+path_lacks rows path (Some w) is cases = absurd (cc)
+
+no_paths : HasDistinctPaths []
+no_paths = IsDistinct-from_apart bytes_eq [] (λ i j d _ within. absurd (omega arith))
+
+paths_push : (rows : List FileRow) (row : FileRow) → HasDistinctPaths rows → (HasPath rows row.path → ⊥) → HasDistinctPaths (rows ++ row ∷ [])
+paths_push rows row distinct new =
+    subst (IsDistinct bytes_eq) (sym (map-append (λ (r : FileRow). r.path) rows (row ∷ [])))
+    (IsDistinct-push nat_list_eq_equiv (paths_of rows) row.path distinct (⊎_elim (λ is. absurd (there is)) (λ is. is) (cases_Bool (list_any (bytes_eq row.path) (paths_of rows)))))
+  where
+    there : list_any (bytes_eq row.path) (paths_of rows) ≡ true → ⊥
+    there is =
+        let found = any_to (bytes_eq row.path) (paths_of rows) is in
+        let same : row.path ≡ found.0 = (bytes_eq-Decides row.path found.0).0 found.2 in
+        new (Contains-paths_cases rows row.path (subst (Contains (paths_of rows)) (sym same) found.1))
+
+-- a row of a path that is there before it
+pub shared : (rows : List FileRow) (row : FileRow) (rest : List FileRow) → HasPath rows row.path → HasDistinctPaths (rows ++ row ∷ rest) → ⊥
+shared [] row rest there distinct = Contains-none there.0 there.1
+shared (r ∷ rows) row rest there distinct =
+    ⊎_elim
+    (λ same.
+    let apart : bytes_eq r.path row.path ≡ false = all_at (λ y. bytes_eq r.path y ≡ false) (paths_of (rows ++ row ∷ rest)) row.path (IsDistinct-head bytes_eq r.path (paths_of (rows ++ row ∷ rest)) distinct) (Contains-paths (rows ++ row ∷ rest) row (Contains-append_right rows (row ∷ rest) row (Contains-head row rest))) in
+    false≢true (sym apart ∙ (bytes_eq-Decides r.path row.path).1 (ap (λ (w : FileRow). w.path) same ∙ there.2)))
+    (λ later. shared rows row rest (there.0, later, there.2) (IsDistinct-tail bytes_eq r.path (paths_of (rows ++ row ∷ rest)) distinct))
+    (cases there.1)
+  where
+    cases : Contains (r ∷ rows) there.0 → (r ≡ there.0) ⊎ Contains rows there.0
+    cases h = ⊎_elim (λ one. inl (Contains-one r there.0 one)) (λ later. inr later) (Contains-append_cases (r ∷ []) rows there.0 h)
+
+front_all : {X : Type 0} (P : X → Type 0) (xs ys : List X) → AllByRecursion P (xs ++ ys) → AllByRecursion P xs
+front_all P [] ys all = tt
+front_all P (x ∷ xs) ys all = (all.0, front_all P xs ys all.1)
+
+front_distinct : (xs ys : List (List ℕ)) → IsDistinct bytes_eq (xs ++ ys) → IsDistinct bytes_eq xs
+front_distinct [] ys distinct = no_paths
+front_distinct (x ∷ xs) ys distinct = IsDistinct-cons bytes_eq x xs (front_all (λ y. bytes_eq x y ≡ false) xs ys (IsDistinct-head bytes_eq x (xs ++ ys) distinct)) (front_distinct xs ys (IsDistinct-tail bytes_eq x (xs ++ ys) distinct))
+
+pub distinct_front : (rows rest : List FileRow) → HasDistinctPaths (rows ++ rest) → HasDistinctPaths rows
+distinct_front rows rest distinct = front_distinct (paths_of rows) (paths_of rest) (subst (IsDistinct bytes_eq) (map-append (λ (r : FileRow). r.path) rows rest) distinct)
+
+-- ---- a table
+
+pub empty_of : (schema : ColumnTrees) (partition : List (List ℕ)) (t : Table) → t.schema ≡ schema → t.partition ≡ partition → t.rows ≡ [] → IsTableOfRows schema partition [] t
+empty_of schema partition t s p none = record {
+  schema = s;
+  partition = p;
+  distinct = no_paths;
+  same = subst (λ rows. SameRows rows []) (sym none) (λ row. (λ h. h, λ h. h));
+  own = subst HasDistinctPaths (sym none) no_paths;
+}
+
+module _ (schema : ColumnTrees) (partition : List (List ℕ)) (rows : List FileRow) (table : Table) (is : IsTableOfRows schema partition rows table) (row : FileRow) where
+  there_too : HasPath table.rows row.path → HasPath rows row.path
+  there_too h = (h.0, (is.same h.0).0 h.1, h.2)
+
+  there_before : HasPath rows row.path → HasPath table.rows row.path
+  there_before h = (h.0, (is.same h.0).1 h.1, h.2)
+
+  pub row_added : (change : Change) (new : Table) → change ≡ record { schema = None; removed = []; added = row ∷ [] } → (HasPath table.rows row.path → ⊥) → IsAfter table change new → IsTableOfRows schema partition (rows ++ row ∷ []) new
+  row_added change new made lacks after = by (subst (λ (c : Change). IsAfter table c new) made after)
+    where
+      by : IsAfter table (record { schema = None; removed = []; added = row ∷ [] }) new → IsTableOfRows schema partition (rows ++ row ∷ []) new
+      by step = record {
+        schema = step.schema ∙ is.schema;
+        partition = step.partition ∙ is.partition;
+        distinct = paths_push rows row is.distinct (λ h. lacks (there_before h));
+        same = λ r. (
+          λ there. ⊎_elim (λ one. subst (Contains (rows ++ row ∷ [])) (Contains-one row r one) (Contains-push rows row)) (λ was. Contains-append_left rows (row ∷ []) r ((is.same r).0 was.0)) ((step.rows r).0 there),
+          λ there. (step.rows r).1 (⊎_elim (λ was. inr ((is.same r).1 was, λ gone. Contains-none r.path gone)) (λ same. inl (subst (Contains (row ∷ [])) same (Contains-head row []))) (Contains-push_cases rows row r there)),
+        );
+        own = step.distinct;
+      }
+
+  -- a row whose path is there
+  pub row_shared : (rest : List FileRow) → HasPath table.rows row.path → HasDistinctPaths (rows ++ row ∷ rest) → ⊥
+  row_shared rest there = shared rows row rest (there_too there)
+
+pub fits_new : (table : Table) (row : FileRow) (change : Change) → change ≡ record { schema = None; removed = []; added = row ∷ [] } → (HasPath table.rows row.path → ⊥) → CanApply table change
+fits_new table row change made lacks = one_row_fits table row change (ap (λ (c : Change). c.removed) made) (ap (λ (c : Change). c.added) made) lacks
+
+-- ---- item by item
+
+pub split_at : {X : Type 0} (xs : List X) (i : ℕ) (x : X) → i < length xs → drop i xs ≡ x ∷ drop (i + 1) xs → xs ≡ take i xs ++ x ∷ drop (i + 1) xs
+split_at xs i x within at = sym (take-append-drop i xs) ∙ ap (λ l. take i xs ++ l) at
+
+rows_split : (live front rest : List LiveRow) (x : LiveRow) → live ≡ front ++ x ∷ rest → rows_in live ≡ rows_in front ++ x.row ∷ rows_in rest
+rows_split live front rest x is = ap rows_in is ∙ map-append (λ (l : LiveRow). l.row) front (x ∷ rest)
+
+rows_push : (front : List LiveRow) (x : LiveRow) → rows_in (front ++ x ∷ []) ≡ rows_in front ++ x.row ∷ []
+rows_push front x = map-append (λ (l : LiveRow). l.row) front (x ∷ [])
+
+-- one row more of a manifest
+pub row_next : (schema : ColumnTrees) (partition : List (List ℕ)) (rows : List FileRow) (front more : List LiveRow) (x : LiveRow) (t : Table) → more ≡ front ++ x ∷ []
+    → IsTableOfRows schema partition ((rows ++ rows_in front) ++ x.row ∷ []) t → IsTableOfRows schema partition (rows ++ rows_in more) t
+row_next schema partition rows front more x t is made =
+    subst (λ l. IsTableOfRows schema partition l t) (append_assoc rows (rows_in front) (x.row ∷ []) ∙ ap (λ l. rows ++ l) (sym (rows_push front x) ∙ ap rows_in (sym is))) made
+
+pub row_stops : (rows : List FileRow) (live front rest : List LiveRow) (x : LiveRow) → live ≡ front ++ x ∷ rest → (HasDistinctPaths ((rows ++ rows_in front) ++ x.row ∷ rows_in rest) → ⊥) → HasDistinctPaths (rows ++ rows_in live) → ⊥
+row_stops rows live front rest x is none distinct =
+    none (subst HasDistinctPaths (ap (λ l. rows ++ l) (rows_split live front rest x is) ∙ sym (append_assoc rows (rows_in front) (x.row ∷ rows_in rest))) distinct)
+
+-- one manifest more
+pub manifest_next : (schema : ColumnTrees) (partition : List (List ℕ)) (rows : List FileRow) (front more : List Manifest) (m : Manifest) (t : Table) → more ≡ front ++ m ∷ []
+    → IsTableOfRows schema partition ((rows ++ rows_of front) ++ rows_in m.rows) t → IsTableOfRows schema partition (rows ++ rows_of more) t
+manifest_next schema partition rows front more m t is made =
+    let pushed : rows_of (front ++ m ∷ []) ≡ rows_of front ++ rows_in m.rows = flat_map-append (λ (r : Manifest). rows_in r.rows) front (m ∷ []) ∙ ap (λ l. rows_of front ++ l) (append-nil (rows_in m.rows)) in
+    subst (λ l. IsTableOfRows schema partition l t) (append_assoc rows (rows_of front) (rows_in m.rows) ∙ ap (λ l. rows ++ l) (sym pushed ∙ ap rows_of (sym is))) made

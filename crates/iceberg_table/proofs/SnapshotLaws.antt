@@ -1,0 +1,131 @@
+-- A snapshot from what its list and manifests say, and its table as one that may be published.
+use Rattle.std.proofs.Common.{◌≡◌, ◌≢◌, ◌⊎◌, ◌<◌, ◌≤◌, ℕ, List, [], ◌∷◌, Contains, length, map, Option, None, Some, Result, Ok, Err, refl, sym, ap, subst, ◌∙◌, inl, inr, ⊎_elim, arith}
+use Rattle.std.specs.Prelude.{IfOk, IfErr, option_and_then}
+use Rattle.std.specs.List.{IsDistinct}
+use Rattle.std.specs.Str.{bytes_eq}
+use Rattle.lake_basics.specs.declared.limits.TheConstants.{MAX_ACTIONS, MAX_LIVE_FILES}
+use Rattle.table_history.specs.Sound.{IsSound}
+use Rattle.table_history.specs.SchemaSize.{IsWithinLimits}
+use Rattle.lake_store.specs.Disk.{Files}
+use Rattle.partition_map.specs.Columns.{column_kind}
+use Rattle.partition_map.specs.Kind.{IsOfKind, part_kind_of}
+use Rattle.partition_map.specs.declared.kind.PartKind.{PartKind}
+use Rattle.partition_map.proofs.Laws.{kind_of_type}
+use Rattle.table_history.specs.History.{FitColumns, FitsColumn, column_type}
+use Rattle.table_history.specs.Row.{Row}
+use Rattle.table_history.specs.TypeTree.{ColumnTrees, TypeTree}
+use Rattle.table_history.specs.declared.row.PartValue.{PartValue}
+use Rattle.table_history.specs.declared.table.Table.{Table}
+use Rattle.table_history.proofs.RowListLemmas.{Contains-cases, Contains-head, Contains-none, Contains-tail}
+use Rattle.table_history.proofs.Laws.{same_rows_length}
+use Rattle.iceberg_manifest.specs.Kinds.{AreOfKinds}
+use Rattle.iceberg_manifest.specs.Lists.{AreEach}
+use Rattle.iceberg_metadata.specs.declared.columns.SourceColumn.{SourceColumn}
+use Rattle.iceberg_metadata.specs.declared.metadata.Metadata.{Metadata}
+use Rattle.iceberg_metadata.specs.declared.metadata.Snapshot.{Snapshot}
+use Rattle.iceberg_table.specs.Errors.{IsRefusal}
+use Rattle.iceberg_table.specs.Kinds.{FitRows}
+use Rattle.iceberg_table.specs.Lists.{SaysList}
+use Rattle.iceberg_table.specs.Manifests.{IsManifestOf, entry_count}
+use Rattle.iceberg_table.specs.Plan.{IsPlanOf, IsSoundPlan, names_of, part_columns}
+use Rattle.iceberg_table.specs.Refusals.{IsListedRefusal}
+use Rattle.iceberg_table.specs.Snapshots.{IsReadBy, IsTableOfSnapshot}
+use Rattle.iceberg_table.specs.Tables.{IsTableOfRows, IsTableOfSnapshots, rows_of}
+use Rattle.table_history.specs.declared.limit.LimitKind.TheVariants.{LiveFiles}
+use Rattle.iceberg_table.specs.declared.error.Fault.TheVariants as fault
+use Rattle.iceberg_table.specs.declared.error.IcebergError.{IcebergError}
+use Rattle.iceberg_table.specs.declared.error.IcebergError.TheVariants as error
+use Rattle.iceberg_table.specs.declared.list.ManifestFile.{ManifestFile}
+use Rattle.iceberg_table.specs.declared.manifest.Manifest.{Manifest}
+use Rattle.iceberg_table.specs.declared.plan.Plan.{Plan}
+use Rattle.iceberg_table.specs.declared.snapshot.SnapshotTable.{SnapshotTable}
+use Rattle.iceberg_table.proofs.LiveLaws.{table_is}
+
+module _ (files : Files) (m : Metadata) (plan : Plan) (list : List ManifestFile) (says : SaysList files m plan.list list) (manifests : List Manifest) (are : AreEach (IsManifestOf files m.location (part_columns plan.columns)) list manifests) where
+  pub read_by : entry_count manifests ≤ MAX_ACTIONS → ((others : List ManifestFile) → SaysList files m plan.list others → others ≡ list) → (table : Table) → IsTableOfRows plan.schema (names_of plan.columns) (rows_of manifests) table
+      → (r : Result SnapshotTable IcebergError) → IfOk r (λ t. t ≡ record { table = table; manifests = manifests }) → IfOk r (IsReadBy files m plan)
+  read_by few only table is (Ok t) whole = let same : t.manifests ≡ manifests = ap (λ (u : SnapshotTable). u.manifests) whole in record {
+    list = list;
+    says = says;
+    only = only;
+    manifests = subst (λ (l : List Manifest). AreEach (IsManifestOf files m.location (part_columns plan.columns)) list l) (sym same) are;
+    few = subst (λ (l : List Manifest). entry_count l ≤ MAX_ACTIONS) (sym same) few;
+    table = subst (λ (u : SnapshotTable). IsTableOfRows plan.schema (names_of plan.columns) (rows_of u.manifests) u.table) (sym whole) is;
+  }
+  read_by few only table is (Err e) whole = tt
+
+  pub many_refused : entry_count manifests ≤ MAX_ACTIONS → (t : Table) → IsTableOfRows plan.schema (names_of plan.columns) (rows_of manifests) t → (r : Result SnapshotTable IcebergError)
+      → IfErr r (λ e. (e ≡ error.Refused plan.list (fault.Limit LiveFiles)) × (MAX_LIVE_FILES < length t.rows)) → IfErr r (IsRefusal (IsListedRefusal files m plan))
+  many_refused few t is (Ok read) many = tt
+  many_refused few t is (Err e) many =
+      let same = same_rows_length t.rows (rows_of manifests) is.own is.distinct is.same in
+      let past = many.1 in
+      let more : MAX_LIVE_FILES < length (rows_of manifests) = omega (arith, same, past) in
+      subst (IsRefusal (IsListedRefusal files m plan)) (sym many.0) (inr (list, says, inr (manifests, are, (few, (fault.Limit LiveFiles, refl, (is.distinct, more, refl))))))
+
+pub table_found : (files : Files) (m : Metadata) (s : Snapshot) (plan : Plan) → IsPlanOf m s plan → (r : Result SnapshotTable IcebergError) → IfOk r (IsReadBy files m plan) → IfOk r (λ t. IsTableOfSnapshot files m s t.table)
+table_found files m s plan planned (Ok t) read = table_is files m s plan planned t read
+table_found files m s plan planned (Err e) read = tt
+
+pub with_schema : (a b : ColumnTrees) (p q : List (List ℕ)) (rows : List Row) (t : Table) → a ≡ b → p ≡ q → IsTableOfRows a p rows t → IsTableOfRows b q rows t
+with_schema a b p q rows t schema partition is = subst (λ (c : ColumnTrees). IsTableOfRows c q rows t) schema (subst (λ (n : List (List ℕ)). IsTableOfRows a n rows t) partition is)
+
+-- ---- a table that may be published
+
+no_kind : (o : Option TypeTree) (k : PartKind) → option_and_then part_kind_of o ≡ Some k → (t : TypeTree) × (o ≡ Some t) × (part_kind_of t ≡ Some k)
+no_kind None k is = absurd (cc)
+no_kind (Some t) k is = (t, refl, is)
+
+fits : (schema : ColumnTrees) (name : List ℕ) (k : PartKind) (v : PartValue) → column_kind schema name ≡ Some k → IsOfKind k v → FitsColumn (column_type schema name) v
+fits schema name k v is of =
+    let typed = no_kind (column_type schema name) k is in
+    subst (λ (o : Option TypeTree). FitsColumn o v) (sym typed.1) ((kind_of_type typed.0 k typed.2 v).0 of)
+
+fit_columns : (schema : ColumnTrees) (columns : List SourceColumn) (values : List PartValue) → ((c : SourceColumn) → Contains columns c → column_kind schema c.name ≡ Some c.kind) → AreOfKinds (part_columns columns) values → FitColumns schema (names_of columns) values
+fit_columns schema [] [] kinds of = tt
+fit_columns schema [] (v ∷ vs) kinds of = absurd of
+fit_columns schema (c ∷ cs) [] kinds of = absurd of
+fit_columns schema (c ∷ cs) (v ∷ vs) kinds of = (fits schema c.name c.kind v (kinds c (Contains-head c cs)) of.0, fit_columns schema cs vs (λ d there. kinds d (Contains-tail c cs d there)) of.1)
+
+named : (columns : List SourceColumn) (name : List ℕ) → Contains (names_of columns) name → (c : SourceColumn) × Contains columns c × (c.name ≡ name)
+named [] name there = absurd (Contains-none name there)
+named (c ∷ cs) name there =
+    ⊎_elim (λ same. (c, Contains-head c cs, same)) (λ later. let rest = named cs name later in (rest.0, Contains-tail c cs rest.0 rest.1, rest.2)) (Contains-cases c.name (names_of cs) name there)
+
+some_kind : (o : Option PartKind) (k : PartKind) → o ≡ Some k → o ≡ None → ⊥
+some_kind o k is none = cc (sym is ∙ none)
+
+names_length : (columns : List SourceColumn) → length (names_of columns) ≡ length columns
+names_length [] = refl
+names_length (c ∷ cs) = let rest = names_length cs in omega (arith, rest)
+
+module _ (plan : Plan) (sound : IsSoundPlan plan) (rows : List Row) (fit : FitRows (part_columns plan.columns) rows) where
+  sound_table : (t : Table) → IsTableOfRows plan.schema (names_of plan.columns) rows t → length t.rows ≤ MAX_LIVE_FILES → IsTableOfSnapshots t
+  sound_table t is few = record {
+    partition_distinct = subst (λ (names : List (List ℕ)). IsDistinct bytes_eq names) (sym is.partition) sound.distinct;
+    partition_kinds = λ name there none.
+        let c = named plan.columns name (subst (λ (names : List (List ℕ)). Contains names name) is.partition there) in
+        some_kind (column_kind plan.schema c.0.name) c.0.kind (sound.kinds c.0 c.1) (ap (column_kind plan.schema) c.2 ∙ ap (λ (schema : ColumnTrees). column_kind schema name) (sym is.schema) ∙ none);
+    sound = record {
+      distinct = is.own;
+      values = λ row there.
+          subst (λ (schema : ColumnTrees). FitColumns schema t.partition row.values) (sym is.schema)
+          (subst (λ (names : List (List ℕ)). FitColumns plan.schema names row.values) (sym is.partition) (fit_columns plan.schema plan.columns row.values sound.kinds (fit row ((is.same row).0 there)).values));
+    };
+    paths = λ row there. (fit row ((is.same row).0 there)).path;
+    partition_columns =
+        let few_columns = sound.few in
+        let names = names_length plan.columns in
+        let same = ap length is.partition in omega (arith, few_columns, names, same);
+    live_files = few;
+    schema = subst IsSound (sym is.schema) sound.schema;
+    size = subst IsWithinLimits (sym is.schema) sound.size;
+  }
+
+  pub table_sound : (table : Table) → IsTableOfRows plan.schema (names_of plan.columns) rows table → (r : Result SnapshotTable IcebergError) → IfOk r (λ t. t.table ≡ table) → IfOk r (λ t. length t.table.rows ≤ MAX_LIVE_FILES) → IfOk r (λ t. IsTableOfSnapshots t.table)
+  table_sound table is (Ok t) same few = sound_table t.table (subst (IsTableOfRows plan.schema (names_of plan.columns) rows) (sym same) is) few
+  table_sound table is (Err e) same few = tt
+
+  pub whole_table : (table : Table) (manifests : List Manifest) (r : Result SnapshotTable IcebergError) → IfOk r (λ t. t ≡ record { table = table; manifests = manifests }) → IfOk r (λ t. t.table ≡ table)
+  whole_table table manifests (Ok t) whole = ap (λ (u : SnapshotTable). u.table) whole
+  whole_table table manifests (Err e) whole = tt

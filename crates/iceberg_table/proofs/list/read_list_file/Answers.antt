@@ -1,0 +1,11 @@
+use Rattle.std.proofs.Common.{ℕ, List, sym, subst}
+use Rattle.iceberg_table.specs.Files.{HoldsFile}
+use Rattle.iceberg_table.proofs.ListLaws.{list_once}
+use Rattle.iceberg_table.proofs.list.read_list_file.Goals as goal
+
+pub returns-in-Ok-clause-only : goal.returns-in-Ok-clause-only
+returns-in-Ok-clause-only g c told others says =
+    let files = (g.S.Store.disk c.args.store.now).files in
+    let found = c.in-Ok.ensures.found in
+    let holds = subst (λ (bs : List ℕ). HoldsFile files c.args.path.now bs) (sym c.as_slice.ensures.value) (c.in_ok-bytes.ensures.holds told) in
+    list_once files c.args.metadata.now c.args.path.now c.as_slice.result.now found.0 c.in-Ok.list holds found.3 found.2 others says

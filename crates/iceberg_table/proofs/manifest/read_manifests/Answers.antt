@@ -1,0 +1,131 @@
+use Rattle.std.proofs.Common.{◌≡◌, ◌++◌, ◌+◌, ◌∷◌, ◌≤◌, [], ℕ, List, ap, refl, sym, subst, ◌∙◌, inl, inr, arith}
+use Rattle.std.specs.Prelude.{IfErr}
+use Rattle.std.proofs.lemmas.Result.{err_from_is_err_and}
+use Rattle.lake_basics.specs.declared.limits.TheConstants.{MAX_ACTIONS}
+use Rattle.lake_store.specs.Disk.{Disk}
+use Rattle.lake_store.proofs.RunLaws as runs
+use Rattle.iceberg_manifest.specs.Lists.{AreEach}
+use Rattle.iceberg_manifest.specs.declared.live.LiveRow.{LiveRow}
+use Rattle.iceberg_table.specs.Errors.{IsRefusal, IsTold}
+use Rattle.iceberg_table.specs.Kinds.{FitRows}
+use Rattle.iceberg_table.specs.Manifests.{AreManifestsRefused, IsManifestOf, IsManifestRefusal, entry_count}
+use Rattle.iceberg_table.specs.Tables.{AreShared, IsTableOfRows, rows_in, rows_of}
+use Rattle.iceberg_table.specs.declared.error.IcebergError.{IcebergError}
+use Rattle.iceberg_table.specs.declared.list.ManifestFile.{ManifestFile}
+use Rattle.iceberg_table.specs.declared.manifest.Manifest.{Manifest}
+use Rattle.iceberg_table.proofs.EachLaws.{count_push, each_push, fit_none, fit_push, left_moved, left_next}
+use Rattle.iceberg_table.proofs.FaultLaws.{refused_further}
+use Rattle.iceberg_table.proofs.RowLaws.{manifest_next}
+use Rattle.iceberg_table.proofs.Runs.{fails_never, uncontested_further}
+use Rattle.iceberg_table.proofs.manifest.read_manifests.Goals as goal
+
+pub returns-in_err-manifest-clause-refused : goal.returns-in_err-manifest-clause-refused
+returns-in_err-manifest-clause-refused g c told =
+    let exit = err_from_is_err_and c.from_residual.result c.from_residual.ensures.1 in
+    let store = g.S.Store in
+    let files = (store.disk c.args.store.now).files in
+    let location = c.args.location.now in
+    let columns = c.args.columns.now in
+    let so_far = c.loop-file.invariant in
+    let was = so_far.parts in
+    let x = c.in-Some.file in
+    let e = c.in_err-manifest.field-0.0 in
+    let split = left_next c.args.list was.0 c.loop-file.file-iterator.rest.items c.next.new.self.rest.items x was.1 c.in-Some.ensures.steps.0 in
+    let P : IcebergError → Type 0 = AreManifestsRefused files location columns c.args.path.now c.args.list in
+    let step = subst (λ (d : Disk). IsRefusal (IsManifestRefusal d.files location columns c.loop-file.count x) e) (so_far.reads told).disk (c.in_err-manifest.ensures.refused told) in
+    let counted = subst (λ (n : ℕ). IsRefusal (IsManifestRefusal files location columns n x) e) (sym so_far.counted) step in
+    subst (λ r. IfErr r (IsRefusal P)) (sym exit.1)
+    (subst (IsRefusal P) (sym exit.2)
+    (refused_further (IsManifestRefusal files location columns (entry_count c.loop-file.manifests) x) P e
+    (λ d refused. record { front = was.0; item = x; behind = c.next.new.self.rest.items; split = split; found = c.loop-file.manifests; are = was.2 told; refused = (subst (λ (n : ℕ). n ≤ MAX_ACTIONS) (sym so_far.counted) so_far.within, inl refused) })
+    counted))
+
+pub returns-in_err-manifest-clause-only_reads : goal.returns-in_err-manifest-clause-only_reads
+returns-in_err-manifest-clause-only_reads g c = runs.reading_further g.S.Store c.args.store.now c.loop-file.store c.read_one.new.store c.loop-file.invariant.reads c.in_err-manifest.ensures.only_reads
+
+pub loop-file-preserved : goal.loop-file-preserved
+loop-file-preserved g c =
+    let store = g.S.Store in
+    let old = c.args.store.now in
+    let mid = c.loop-file.store in
+    let new = c.read_one.new.store in
+    let files = (store.disk old).files in
+    let location = c.args.location.now in
+    let columns = c.args.columns.now in
+    let so_far = c.loop-file.invariant in
+    let was = so_far.parts in
+    let x = c.in-Some.file in
+    let r = c.in_ok-manifest.manifest in
+    let split = left_next c.args.list was.0 c.loop-file.file-iterator.rest.items c.next.new.self.rest.items x was.1 c.in-Some.ensures.steps.0 in
+    record {
+      within = c.in_ok-manifest.ensures.within;
+      counted = ap entry_count c.in_ok-push.ensures.ok ∙ count_push c.loop-file.manifests r ∙ ap (λ (n : ℕ). n + r.entries) so_far.counted;
+      parts = (
+        was.0 ++ x ∷ [],
+        left_moved c.args.list was.0 c.next.new.self.rest.items x split,
+        λ told.
+            let one = subst (λ (d : Disk). IsManifestOf d.files location columns x r) (so_far.reads told).disk (c.in_ok-manifest.ensures.found told) in
+            subst (λ (l : List Manifest). AreEach (IsManifestOf files location columns) (was.0 ++ x ∷ []) l) (sym c.in_ok-push.ensures.ok) (each_push (IsManifestOf files location columns) was.0 c.loop-file.manifests x r (was.2 told) one),
+      );
+      table =
+          let s = c.args.empty.schema in
+          let p = c.args.empty.partition in
+          let rows = rows_of c.loop-file.manifests in
+          let joined = subst (λ (l : List LiveRow). IsTableOfRows s p (rows ++ rows_in l) c.in_ok-table.table) c.as_slice.ensures (c.in_ok-table.ensures.found s p rows so_far.table) in
+          manifest_next s p [] c.loop-file.manifests c.push.new.self r c.in_ok-table.table c.in_ok-push.ensures.ok joined;
+      fit = subst (λ (l : List Manifest). FitRows columns (rows_of l)) (sym c.in_ok-push.ensures.ok) (fit_push columns c.loop-file.manifests r so_far.fit c.in_ok-manifest.ensures.fit);
+      reads = runs.reading_further store old mid new so_far.reads c.in_ok-manifest.ensures.only_reads;
+      cause = fails_never store.faults store.may_fail old mid new _ so_far.cause c.in_ok-manifest.ensures.cause;
+      contest = uncontested_further store.contests store.may_contest old mid new so_far.contest c.in_ok-manifest.ensures.contest;
+    }
+
+pub loop-file-init : goal.loop-file-init
+loop-file-init g c =
+    let store = g.S.Store in
+    let none = c.new-manifests.ensures in
+    record {
+      within = omega arith;
+      counted = ap entry_count none;
+      parts = (
+        [],
+        sym (c.into_iter-file-iterator.ensures.into_iter_gives.0 ∙ c.into_vec-file-items.ensures),
+        λ told. subst (λ (l : List Manifest). AreEach (IsManifestOf (store.disk c.args.store.now).files c.args.location.now c.args.columns.now) [] l) (sym none) tt,
+      );
+      table = subst (λ (l : List Manifest). IsTableOfRows c.args.empty.schema c.args.empty.partition (rows_of l) c.args.empty) (sym none) c.requires;
+      fit = fit_none c.args.columns.now c.new-manifests.result none;
+      reads = runs.reading_begins store g.met.S.Store.only_now c.args.store.now;
+      cause = record { later = omega arith; still = λ m. m; rose = λ never. absurd never; allowed = λ never. absurd never };
+      contest = record { same = refl; still = λ m. m; never = λ never. never };
+    }
+
+pub returns-in_err-table-clause-refused : goal.returns-in_err-table-clause-refused
+returns-in_err-table-clause-refused g c told =
+    let exit = err_from_is_err_and c.from_residual-in_err-table.result c.from_residual-in_err-table.ensures.1 in
+    let store = g.S.Store in
+    let files = (store.disk c.args.store.now).files in
+    let location = c.args.location.now in
+    let columns = c.args.columns.now in
+    let path = c.args.path.now in
+    let so_far = c.loop-file.invariant in
+    let was = so_far.parts in
+    let x = c.in-Some.file in
+    let r = c.in_ok-manifest.manifest in
+    let e = c.in_err-table.field-0.0 in
+    let rows = rows_of c.loop-file.manifests in
+    let split = left_next c.args.list was.0 c.loop-file.file-iterator.rest.items c.next.new.self.rest.items x was.1 c.in-Some.ensures.steps.0 in
+    let P : IcebergError → Type 0 = AreManifestsRefused files location columns path c.args.list in
+    let one = subst (λ (d : Disk). IsManifestOf d.files location columns x r) (so_far.reads told).disk (c.in_ok-manifest.ensures.found told) in
+    let bound = subst (λ (n : ℕ). n + r.entries ≤ MAX_ACTIONS) (sym so_far.counted) c.in_ok-manifest.ensures.within in
+    let within = subst (λ (n : ℕ). n ≤ MAX_ACTIONS) (sym so_far.counted) so_far.within in
+    let shared = subst (λ (l : List LiveRow). IsRefusal (IsTold path (AreShared (rows ++ rows_in l))) e) c.as_slice.ensures (c.in_err-table.ensures.refused c.args.empty.schema c.args.empty.partition rows so_far.table) in
+    subst (λ q. IfErr q (IsRefusal P)) (sym exit.1)
+    (subst (IsRefusal P) (sym exit.2)
+    (refused_further (IsTold path (AreShared (rows ++ rows_in r.rows))) P e
+    (λ d shares. record { front = was.0; item = x; behind = c.next.new.self.rest.items; split = split; found = c.loop-file.manifests; are = was.2 told; refused = (within, inr (r, one, bound, shares)) })
+    shared))
+
+pub returns-in_err-table-clause-only_reads : goal.returns-in_err-table-clause-only_reads
+returns-in_err-table-clause-only_reads g c = runs.reading_further g.S.Store c.args.store.now c.loop-file.store c.read_one.new.store c.loop-file.invariant.reads c.in_ok-manifest.ensures.only_reads
+
+pub returns-in_err-push-clause-only_reads : goal.returns-in_err-push-clause-only_reads
+returns-in_err-push-clause-only_reads g c = runs.reading_further g.S.Store c.args.store.now c.loop-file.store c.read_one.new.store c.loop-file.invariant.reads c.in_ok-manifest.ensures.only_reads

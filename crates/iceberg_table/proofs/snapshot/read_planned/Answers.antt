@@ -1,0 +1,62 @@
+use Rattle.std.proofs.Common.{◌≡◌, ℕ, List, ap, sym, subst, ◌∙◌}
+use Rattle.lake_store.specs.Disk.{Disk}
+use Rattle.lake_store.proofs.RunLaws as runs
+use Rattle.iceberg_manifest.specs.Lists.{AreEach}
+use Rattle.iceberg_manifest.specs.declared.partition.PartColumn.{PartColumn}
+use Rattle.iceberg_table.specs.Kinds.{FitRows}
+use Rattle.iceberg_table.specs.Manifests.{IsManifestOf}
+use Rattle.iceberg_table.specs.Plan.{names_of, part_columns}
+use Rattle.iceberg_table.specs.Tables.{rows_of}
+use Rattle.iceberg_table.proofs.SnapshotLaws.{many_refused, read_by, table_sound, whole_table, with_schema}
+use Rattle.iceberg_table.proofs.snapshot.read_planned.Goals as goal
+
+pub returns-in_err-read-clause-only_reads : goal.returns-in_err-read-clause-only_reads
+returns-in_err-read-clause-only_reads g c = runs.reading_further g.S.Store c.args.store.now c.read_list_file.new.store c.read_manifests.new.store c.in_ok-list.ensures.only_reads c.in_err-read.ensures.only_reads
+
+pub returns-clause-only_reads : goal.returns-clause-only_reads
+returns-clause-only_reads g c = runs.reading_further g.S.Store c.args.store.now c.read_list_file.new.store c.read_manifests.new.store c.in_ok-list.ensures.only_reads c.in_ok-read.ensures.only_reads
+
+pub returns-clause-read : goal.returns-clause-read
+returns-clause-read g c told =
+    let store = g.S.Store in
+    let files = (store.disk c.args.store.now).files in
+    let m = c.args.metadata.now in
+    let plan = c.args.plan in
+    let list = c.in_ok-list.list in
+    let manifests = c.in_ok-read.read.manifests in
+    let columns = c.as_slice-3.ensures ∙ c.in_ok-columns.ensures ∙ ap part_columns c.as_slice-2.ensures in
+    let at = subst (λ (d : Disk). AreEach (IsManifestOf d.files c.as_str-location.result.now c.as_slice-3.result.now) list manifests) (c.in_ok-list.ensures.only_reads told).disk (c.in_ok-read.ensures.found told) in
+    let placed = subst (λ (l : List ℕ). AreEach (IsManifestOf files l c.as_slice-3.result.now) list manifests) c.as_str-location.ensures.value at in
+    let are = subst (λ (cs : List PartColumn). AreEach (IsManifestOf files m.location cs) list manifests) columns placed in
+    let empty = c.empty_table-empty.result in
+    let names = c.empty_table-empty.ensures.partition ∙ c.in_ok-names.ensures ∙ ap names_of c.as_slice.ensures in
+    let table = with_schema empty.schema c.args.plan.schema empty.partition (names_of c.args.plan.columns) (rows_of c.in_ok-read.read.manifests) c.in_ok-read.read.table c.empty_table-empty.ensures.schema names c.in_ok-read.ensures.table in
+    read_by files m plan list (c.in_ok-list.ensures.says told) manifests are c.in_ok-read.ensures.within (c.in_ok-list.ensures.only told) c.in_ok-read.read.table table c.bounded.result c.bounded.ensures.same
+
+pub returns-clause-sound : goal.returns-clause-sound
+returns-clause-sound g c sound =
+    let columns = c.as_slice-3.ensures ∙ c.in_ok-columns.ensures ∙ ap part_columns c.as_slice-2.ensures in
+    let rows = rows_of c.in_ok-read.read.manifests in
+    let empty = c.empty_table-empty.result in
+    let names = c.empty_table-empty.ensures.partition ∙ c.in_ok-names.ensures ∙ ap names_of c.as_slice.ensures in
+    let table = with_schema empty.schema c.args.plan.schema empty.partition (names_of c.args.plan.columns) (rows_of c.in_ok-read.read.manifests) c.in_ok-read.read.table c.empty_table-empty.ensures.schema names c.in_ok-read.ensures.table in
+    let fit = subst (λ (cs : List PartColumn). FitRows cs rows) columns c.in_ok-read.ensures.fit in
+    let whole = whole_table c.args.plan sound rows fit c.in_ok-read.read.table c.in_ok-read.read.manifests c.bounded.result c.bounded.ensures.same in
+    table_sound c.args.plan sound rows fit c.in_ok-read.read.table table c.bounded.result whole c.bounded.ensures.few
+
+pub returns-clause-refused : goal.returns-clause-refused
+returns-clause-refused g c told =
+    let store = g.S.Store in
+    let files = (store.disk c.args.store.now).files in
+    let m = c.args.metadata.now in
+    let plan = c.args.plan in
+    let list = c.in_ok-list.list in
+    let manifests = c.in_ok-read.read.manifests in
+    let columns = c.as_slice-3.ensures ∙ c.in_ok-columns.ensures ∙ ap part_columns c.as_slice-2.ensures in
+    let at = subst (λ (d : Disk). AreEach (IsManifestOf d.files c.as_str-location.result.now c.as_slice-3.result.now) list manifests) (c.in_ok-list.ensures.only_reads told).disk (c.in_ok-read.ensures.found told) in
+    let placed = subst (λ (l : List ℕ). AreEach (IsManifestOf files l c.as_slice-3.result.now) list manifests) c.as_str-location.ensures.value at in
+    let are = subst (λ (cs : List PartColumn). AreEach (IsManifestOf files m.location cs) list manifests) columns placed in
+    let empty = c.empty_table-empty.result in
+    let names = c.empty_table-empty.ensures.partition ∙ c.in_ok-names.ensures ∙ ap names_of c.as_slice.ensures in
+    let table = with_schema empty.schema c.args.plan.schema empty.partition (names_of c.args.plan.columns) (rows_of c.in_ok-read.read.manifests) c.in_ok-read.read.table c.empty_table-empty.ensures.schema names c.in_ok-read.ensures.table in
+    many_refused files m plan list (c.in_ok-list.ensures.says told) manifests are c.in_ok-read.ensures.within c.in_ok-read.read.table table c.bounded.result c.bounded.ensures.many

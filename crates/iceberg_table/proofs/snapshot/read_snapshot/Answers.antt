@@ -1,0 +1,24 @@
+use Rattle.std.proofs.Common.{inl}
+use Rattle.iceberg_table.specs.Folder.{version_path}
+use Rattle.iceberg_table.specs.Plan.{IsPlanFault}
+use Rattle.iceberg_table.specs.Errors.{IsTold}
+use Rattle.iceberg_table.specs.Refusals.{IsSnapshotRefusal}
+use Rattle.iceberg_table.proofs.FaultLaws.{refused_further, told_at}
+use Rattle.iceberg_table.proofs.PlanLaws.{plan_sound}
+use Rattle.iceberg_table.proofs.SnapshotLaws.{table_found}
+use Rattle.iceberg_table.proofs.snapshot.read_snapshot.Goals as goal
+
+pub returns-in-Ok-clause-table : goal.returns-in-Ok-clause-table
+returns-in-Ok-clause-table g c told = table_found (g.S.Store.disk c.args.store.now).files c.args.metadata.now c.args.snapshot.now c.in-Ok.plan c.in-Ok.ensures.found c.read_planned.result (c.read_planned.ensures.read told)
+
+pub returns-in-Ok-clause-sound : goal.returns-in-Ok-clause-sound
+returns-in-Ok-clause-sound g c writable = c.read_planned.ensures.sound (plan_sound c.args.metadata.now c.args.snapshot.now c.in-Ok.plan writable c.in-Ok.ensures.found)
+
+pub returns-in-Err-clause-refused : goal.returns-in-Err-clause-refused
+returns-in-Err-clause-refused g c told =
+    let files = (g.S.Store.disk c.args.store.now).files in
+    let m = c.args.metadata.now in
+    let s = c.args.snapshot.now in
+    let v = c.args.version in
+    refused_further (IsTold (version_path v) (IsPlanFault m s)) (IsSnapshotRefusal files m v s) c.version_refusal.result (λ d shows. inl shows)
+    (told_at (version_path v) (IsPlanFault m s) c.in-Err.error c.version_refusal.result c.version_refusal.ensures c.in-Err.ensures.refused)

@@ -1,0 +1,12 @@
+pub mod Errors
+pub mod Folder
+pub mod Order
+pub mod Files
+pub mod Plan
+pub mod Lists
+pub mod Kinds
+pub mod Manifests
+pub mod Tables
+pub mod Snapshots
+pub mod Refusals
+pub mod OwnFolder

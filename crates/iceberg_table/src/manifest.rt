@@ -1,0 +1,193 @@
+//! The manifests of a snapshot.
+
+ghost use Rattle.std.specs.Prelude.{◌≡◌, ◌≤◌, ◌+◌, [], length, IfErr, IfOk, IsErrOf};
+ghost use Rattle.lake_basics.specs.declared.limits.TheConstants.{MAX_ACTIONS};
+ghost use Rattle.lake_store.specs.Runs.{FailsBy, IsUncontestedBy, OnlyReads};
+ghost use Rattle.iceberg_manifest.specs.Lists.{AreEach};
+ghost use Rattle.iceberg_table.specs.Errors.{IsFault, IsFileFault, IsRefusal};
+ghost use Rattle.iceberg_manifest.specs.LiveRows.{AreLiveRows};
+ghost use Rattle.iceberg_table.specs.Kinds.{FitLive, FitRows};
+ghost use Rattle.iceberg_table.specs.Manifests.{AreManifestsRefused, HasEntries, IsContent, IsEntriesFault, IsManifestFault, IsManifestOf, IsManifestRefusal, entry_count};
+ghost use Rattle.iceberg_table.specs.Tables.{IsTableOfRows, rows_of};
+ghost use Rattle.iceberg_table.specs.declared.error.IcebergError.TheVariants.{StoreFault};
+
+use crate::error::{Fault, IcebergError, manifest_fault};
+use crate::file::{read_file, refusal};
+use crate::list::ManifestFile;
+use crate::rows::joined;
+use crate::snapshot::SnapshotTable;
+use iceberg_manifest::{Entries, PartColumn, Rows, live_rows, read_manifest};
+use lake_basics::limits::MAX_ACTIONS;
+use lake_basics::{Items, ReadError, Text};
+use lake_store::Store;
+use std::alloc::Global;
+use table_history::{LimitKind, Table};
+
+/// What is read of a manifest: how many entries it has, and the rows of those that are live, in
+/// their order. No row is taken from a manifest of deletes.
+#[derive(Debug, Drop)]
+pub struct Manifest {
+    pub file: ManifestFile,
+    pub entries: u64,
+    pub rows: Rows,
+}
+
+/// How many entries the bytes of a manifest have, and the rows of those that are live.
+#[derive(Drop)]
+struct Content {
+    entries: u64,
+    rows: Rows,
+}
+
+/// What these entries of a manifest give, behind those of the manifests before it.
+fn content_of(
+    alloc: Global,
+    location: &str,
+    file: &ManifestFile,
+    before: u64,
+    entries: &Entries,
+) -> Result<Content, ReadError<Fault>>
+    requires { before ≤ MAX_ACTIONS }
+    ensures count { IfOk result (λ c. c.entries ≡ length entries.now) }
+    ensures within { IfOk result (λ c. before + c.entries ≤ MAX_ACTIONS) }
+    ensures rows { IfOk result
+        (λ c. AreLiveRows location.now file.now.info entries.now c.rows) }
+    ensures refused { IfErr result
+        (IsFault (IsEntriesFault location.now file.now before entries.now)) }
+{
+    let count = entries.len() as u64;
+    if count > MAX_ACTIONS - before {
+        return Err(ReadError::Fault(Fault::Limit {
+            which: LimitKind::Actions,
+        }));
+    }
+    match live_rows(alloc, entries.as_slice(), &file.info, location) {
+        Ok(rows) => Ok(Content {
+            entries: count,
+            rows,
+        }),
+        Err(error) => Err(manifest_fault(error)),
+    }
+}
+
+/// What the bytes of a manifest give, behind the entries of the manifests before it.
+fn content_in(
+    alloc: Global,
+    location: &str,
+    columns: &[PartColumn],
+    file: &ManifestFile,
+    before: u64,
+    bytes: &[u8],
+) -> Result<Content, ReadError<Fault>>
+    requires { before ≤ MAX_ACTIONS }
+    ensures found { IfOk result (IsContent location.now columns.now file.now bytes.now) }
+    ensures fit { IfOk result (λ c. FitLive columns.now c.rows) }
+    ensures within { IfOk result (λ c. before + c.entries ≤ MAX_ACTIONS) }
+    ensures refused { IfErr result
+        (IsFault (IsManifestFault location.now columns.now before file.now bytes.now)) }
+{
+    match read_manifest(alloc, bytes, columns) {
+        Ok(entries) => content_of(alloc, location, file, before, &entries),
+        Err(error) => Err(manifest_fault(error)),
+    }
+}
+
+/// The entries and live rows of a manifest, behind the entries of the manifests before it.
+fn read_entries<S: Store>(
+    alloc: Global,
+    store: &mut S,
+    location: &str,
+    columns: &[PartColumn],
+    before: u64,
+    file: ManifestFile,
+) -> Result<Manifest, IcebergError>
+    requires { before ≤ MAX_ACTIONS }
+    ensures file { IfOk result (λ r. r.file ≡ file) }
+    ensures entries { S.tells
+        → IfOk result (HasEntries (S.disk store.old).files location.now columns.now) }
+    ensures fit { IfOk result (λ r. FitLive columns.now r.rows) }
+    ensures within { IfOk result (λ r. before + r.entries ≤ MAX_ACTIONS) }
+    ensures refused { S.tells → IfErr result (IsRefusal
+        (IsFileFault (S.disk store.old).files file.path
+        (IsManifestFault location.now columns.now before file))) }
+    ensures only_reads { S.tells → OnlyReads ⟦<S as Store>⟧ store.old store.new }
+    ensures cause { FailsBy ⟦<S as Store>⟧ store.old store.new (IsErrOf result StoreFault) }
+    ensures contest { IsUncontestedBy ⟦<S as Store>⟧ store.old store.new ⊥ }
+{
+    let bytes = read_file(alloc, store, &file.path)?;
+    match content_in(alloc, location, columns, &file, before, bytes.as_slice()) {
+        Ok(Content { entries, rows }) => Ok(Manifest {
+            file,
+            entries,
+            rows,
+        }),
+        Err(error) => Err(refusal(alloc, &file.path, error)),
+    }
+}
+
+/// What is read of a manifest, behind the entries of the manifests before it.
+fn read_one<S: Store>(
+    alloc: Global,
+    store: &mut S,
+    location: &str,
+    columns: &[PartColumn],
+    before: u64,
+    file: ManifestFile,
+) -> Result<Manifest, IcebergError>
+    requires { before ≤ MAX_ACTIONS }
+    ensures found { S.tells
+        → IfOk result (IsManifestOf (S.disk store.old).files location.now columns.now file) }
+    ensures fit { IfOk result (λ r. FitLive columns.now r.rows) }
+    ensures within { IfOk result (λ r. before + r.entries ≤ MAX_ACTIONS) }
+    ensures refused { S.tells → IfErr result (IsRefusal
+        (IsManifestRefusal (S.disk store.old).files location.now columns.now before file)) }
+    ensures only_reads { S.tells → OnlyReads ⟦<S as Store>⟧ store.old store.new }
+    ensures cause { FailsBy ⟦<S as Store>⟧ store.old store.new (IsErrOf result StoreFault) }
+    ensures contest { IsUncontestedBy ⟦<S as Store>⟧ store.old store.new ⊥ }
+{
+    let manifest = read_entries(alloc, store, location, columns, before, file)?;
+    if manifest.file.info.content == 0 {
+        return Ok(manifest);
+    }
+    Ok(Manifest {
+        file: manifest.file,
+        entries: manifest.entries,
+        rows: Items::new(alloc),
+    })
+}
+
+/// What is read of the manifests that the list at this path names, one after another, and the table
+/// of their live rows, which is empty at first.
+pub(crate) fn read_manifests<S: Store>(
+    alloc: Global,
+    store: &mut S,
+    location: &str,
+    columns: &[PartColumn],
+    path: &Text,
+    list: Items<ManifestFile>,
+    empty: Table,
+) -> Result<SnapshotTable, IcebergError>
+    requires { IsTableOfRows empty.schema empty.partition [] empty }
+    ensures found { S.tells → IfOk result (λ t. AreEach
+        (IsManifestOf (S.disk store.old).files location.now columns.now) list t.manifests) }
+    ensures table { IfOk result
+        (λ t. IsTableOfRows empty.schema empty.partition (rows_of t.manifests) t.table) }
+    ensures fit { IfOk result (λ t. FitRows columns.now (rows_of t.manifests)) }
+    ensures within { IfOk result (λ t. entry_count t.manifests ≤ MAX_ACTIONS) }
+    ensures refused { S.tells → IfErr result (IsRefusal (AreManifestsRefused
+        (S.disk store.old).files location.now columns.now path.now list)) }
+    ensures only_reads { S.tells → OnlyReads ⟦<S as Store>⟧ store.old store.new }
+    ensures cause { FailsBy ⟦<S as Store>⟧ store.old store.new (IsErrOf result StoreFault) }
+    ensures contest { IsUncontestedBy ⟦<S as Store>⟧ store.old store.new ⊥ }
+{
+    let mut manifests = Items::new(alloc);
+    let mut table = empty;
+    let mut count = 0;
+    for file in list.into_vec() {
+        let manifest = read_one(alloc, store, location, columns, count, file)?;
+        count += manifest.entries;
+        table = joined(alloc, path, table, manifest.rows.as_slice())?;
+        manifests.push(manifest)?;
+    }
+    Ok(SnapshotTable { table, manifests })
+}
