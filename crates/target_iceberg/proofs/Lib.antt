@@ -1,0 +1,13 @@
+pub mod AddedLemmas
+pub mod CarryingLemmas
+pub mod ColumnLemmas
+pub mod CountLemmas
+pub mod FlatLemmas
+pub mod InfoLemmas
+pub mod PartLemmas
+pub mod RemovedLemmas
+pub mod RewritingLemmas
+pub mod RowLemmas
+pub mod SchemaLemmas
+pub mod SpecLemmas
+pub mod TouchedLemmas

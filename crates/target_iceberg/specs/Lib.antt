@@ -1,0 +1,12 @@
+pub mod Names
+pub mod Manifests
+pub mod Schemas
+pub mod Writing
+pub mod Writes
+pub mod Fitting
+pub mod TableId
+pub mod KeptEnd
+pub mod Carrying
+pub mod Removed
+pub mod Sound
+pub mod Touched
