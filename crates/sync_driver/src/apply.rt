@@ -29,7 +29,11 @@ pub struct Report {
 }
 
 /// The position that the target stands at, and the empty text where nothing is published.
-fn position_of<T: Target>(alloc: Global, target: &T, kept: &T::Kept) -> Result<Text, AllocError>
+pub(crate) fn position_of<T: Target>(
+    alloc: Global,
+    target: &T,
+    kept: &T::Kept,
+) -> Result<Text, AllocError>
     ensures { IfOk result (λ at. at ≡ position_at (T.view target.now kept.now).mark) }
 {
     match target.mark(kept) {

@@ -1,12 +1,15 @@
 //! Syncs that are stopped at each of their calls of the store, and repeated behind a crash.
 use crate::fixtures::{
-    File, INSTANT_10, INSTANT_11, PROPERTIES, VERSION_0, VERSION_1, delta_standing, delta_synced,
-    hudi_standing, put_files, store_of, told,
+    File, INSTANT_10, INSTANT_11, PROPERTIES, VERSION_0, VERSION_1, delta_standing, hudi_standing,
+    put_files, store_of, told,
 };
 use lake_store::FuseStore;
 use std::alloc::{AllocError, Global};
 use std::test::Fail;
 use table_history::Kind;
+
+/// What a sync answers where the store fails.
+const FAULT: &str = "9\nstatus 9: StoreFault\n";
 
 /// The target of a sync, from the other one of these formats.
 #[derive(Clone, Copy)]
@@ -16,19 +19,11 @@ enum To {
 }
 
 impl To {
-    /// What a full sync answers.
+    /// What a sync answers.
     fn synced(self, alloc: Global, store: &mut FuseStore) -> Result<String, AllocError> {
         match self {
-            To::Delta => delta_synced(alloc, store),
-            To::Hudi => told(alloc, store, "full delta hudi"),
-        }
-    }
-
-    /// What a sync answers where the store fails.
-    fn fault(self) -> &'static str {
-        match self {
-            To::Delta => "status 9",
-            To::Hudi => "9\nstatus 9: StoreFault\n",
+            To::Delta => told(alloc, store, "sync hudi delta"),
+            To::Hudi => told(alloc, store, "sync delta hudi"),
         }
     }
 
@@ -50,8 +45,9 @@ struct Step<'a> {
     /// What the target stands at before the sync and after it.
     before: &'a str,
     after: &'a str,
-    /// What the sync answers.
+    /// What the sync answers where the target stands as before, and where it is at the head.
     answer: &'a str,
+    repeated: &'a str,
     crashes: &'a [&'a [u64]],
 }
 
@@ -62,7 +58,8 @@ const STEPS: &[Step<'static>] = &[
         later: &[PROPERTIES, INSTANT_10],
         before: "absent",
         after: "delta at 20240105100000000: columns 1, partitions 0, files 1, records 5, bytes 100\n[\"p1.parquet\",5,100,[]]\n",
-        answer: "full, published 1, files 1, at 20240105100000000",
+        answer: "0\ndelta: full, published 1, files 1, at 20240105100000000\n",
+        repeated: "0\ndelta: incremental, published 0, files 1, at 20240105100000000\n",
         crashes: &[&[0, 0], &[2, 2], &[5, 2]],
     },
     Step {
@@ -71,7 +68,8 @@ const STEPS: &[Step<'static>] = &[
         later: &[INSTANT_11],
         before: "delta at 20240105100000000: columns 1, partitions 0, files 1, records 5, bytes 100\n[\"p1.parquet\",5,100,[]]\n",
         after: "delta at 20240105110000000: columns 1, partitions 0, files 1, records 7, bytes 140\n[\"p2.parquet\",7,140,[]]\n",
-        answer: "full, published 1, files 1, at 20240105110000000",
+        answer: "0\ndelta: incremental, published 1, files 1, at 20240105110000000\n",
+        repeated: "0\ndelta: incremental, published 0, files 1, at 20240105110000000\n",
         crashes: &[&[0, 0], &[2, 2], &[5, 2]],
     },
     Step {
@@ -81,6 +79,7 @@ const STEPS: &[Step<'static>] = &[
         before: "absent",
         after: "hudi at 0: columns 1, partitions 0, files 1, records 5, bytes 100\n[\"p1.parquet\",5,100,[]]\n",
         answer: "0\nhudi: full, published 1, files 1, at 0\n",
+        repeated: "0\nhudi: incremental, published 0, files 1, at 0\n",
         crashes: &[&[0, 0, 0, 0], &[2, 2, 2, 2], &[5, 0, 2, 1]],
     },
     Step {
@@ -89,7 +88,8 @@ const STEPS: &[Step<'static>] = &[
         later: &[VERSION_1],
         before: "hudi at 0: columns 1, partitions 0, files 1, records 5, bytes 100\n[\"p1.parquet\",5,100,[]]\n",
         after: "hudi at 1: columns 1, partitions 0, files 1, records 7, bytes 140\n[\"p2.parquet\",7,140,[]]\n",
-        answer: "0\nhudi: full, published 1, files 1, at 1\n",
+        answer: "0\nhudi: incremental, published 1, files 1, at 1\n",
+        repeated: "0\nhudi: incremental, published 0, files 1, at 1\n",
         crashes: &[&[0, 0, 0, 0], &[2, 2, 2, 2], &[5, 0, 2, 1]],
     },
 ];
@@ -114,7 +114,7 @@ fn is_stopped(
     store.set_stop(Some(call));
     let answer = step.to.synced(alloc, store)?;
     store.set_stop(None);
-    Ok(answer.as_str() == step.to.fault())
+    Ok(answer.as_str() == FAULT)
 }
 
 /// The number of the store's calls in the step's sync.
@@ -153,12 +153,12 @@ fn a_stopped_sync_is_made_good_by_the_next(rt: HostRuntime) -> Result<(), Fail> 
         for choices in step.crashes {
             for call in 0..calls {
                 let (between, answer, after) = recovered(alloc, step, call, choices)?;
-                let between = between.as_str();
-                assert!(rt;
-                    between == step.before || between == step.after,
-                    "{call}: {between}"
-                );
-                assert_eq!(rt; answer.as_str(), step.answer, "{call}");
+                let answers = match between.as_str() {
+                    between if between == step.before => step.answer,
+                    between if between == step.after => step.repeated,
+                    _ => "neither before nor after",
+                };
+                assert_eq!(rt; answer.as_str(), answers, "{call}: {between}");
                 assert_eq!(rt; after.as_str(), step.after, "{call}");
             }
         }
