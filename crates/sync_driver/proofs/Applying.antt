@@ -1,10 +1,10 @@
 -- What applying a plan leaves, by how it ends.
-use Rattle.std.proofs.Common.{◌≡◌, ◌≢◌, inl, inr, ◌+◌, ◌<◌, ◌≤◌, ℕ, Bool, true, false, List, [], ◌∷◌, length, take, Option, sym, ap, subst}
+use Rattle.std.proofs.Common.{◌≡◌, ◌≢◌, inl, inr, ◌+◌, ◌<◌, ◌≤◌, ℕ, Bool, true, false, List, [], ◌∷◌, length, take, Option, sym, ap, subst, arith}
 use Rattle.std.specs.Prelude.{Result, Ok, Err, IsErrOf}
-use Rattle.lake_store.specs.Disk.{Disk, Files}
-use Rattle.lake_store.specs.Runs.{ChangesOnlyIn, FailsBy, IsContestedBy, IsOutside, OnlyReads}
+use Rattle.lake_store.specs.Disk.{Disk, Files, MayLeave}
+use Rattle.lake_store.specs.Runs.{ChangesOnlyIn, FailsBy, IsContestedBy, IsEachMoment, IsOutside, OnlyReads}
 use Rattle.lake_store.specs.declared.store.Store.{Ghosts}
-use Rattle.lake_store.proofs.MomentLaws.{started}
+use Rattle.lake_store.proofs.MomentLaws.{goes_further, started, weaker}
 use Rattle.lake_store.proofs.RunLaws.{NowOnly, alone_by_reading, reading_begins}
 use Rattle.table_history.specs.declared.kind.Kind.{Kind}
 use Rattle.table_history.specs.declared.limit.LimitKind.{LimitKind}
@@ -15,14 +15,14 @@ use Rattle.target_core.specs.Conditions.{CanPublishAll, Fits, GoesOn}
 use Rattle.target_core.specs.Folders.{MayLeaveIn, after_crash, folder_of}
 use Rattle.target_core.specs.Meaning.{Meaning}
 use Rattle.target_core.specs.Outcome.{Uncontested}
-use Rattle.target_core.specs.Progress.{IsRefusedAt}
+use Rattle.target_core.specs.Progress.{IsRefusedAt, KeepsShown}
 use Rattle.target_core.specs.Publishing.{LeavesSome, Publishes}
 use Rattle.target_core.specs.Refusals.{IsCommitRefusal, IsFitsRefusal}
-use Rattle.target_core.specs.Views.{Origin, Standing, View}
+use Rattle.target_core.specs.Views.{Origin, Standing, View, standing_at}
 use Rattle.target_core.proofs.Steps.{gained_none}
 use Rattle.target_core.specs.declared.target.TargetError.{TargetError}
 use Rattle.target_core.specs.declared.target.TargetError.TheVariants.{Memory, StoreFault, Contested, Limit, Unsupported}
-use Rattle.sync_driver.specs.Applied.{Applies, IsApplyRefusal, IsTold, PassesIn}
+use Rattle.sync_driver.specs.Applied.{Applies, IsApplyRefusal, IsTold, PassesIn, StayShown}
 use Rattle.sync_driver.specs.Targets.{IsStart}
 use Rattle.sync_driver.specs.declared.apply.Report.{Report}
 use Rattle.sync_driver.proofs.Counting.{contested_as, contested_never, fails_as, fails_never}
@@ -33,6 +33,7 @@ pub record CrashLaws (target : Meaning) : Type 0 where
   pub carries : (disk : Disk) (image : Files) (v : View) (c : ℕ) (change : Change) (m : Standing) → target.settled disk → MayLeaveIn (folder_of target.kind) disk image → target.reads disk.files v → c ≤ v.commits
       → target.carries disk.files c change m → target.carries image c change m
   pub settled : (disk : Disk) (image : Files) → target.settled disk → MayLeaveIn (folder_of target.kind) disk image → target.settled (after_crash image)
+  pub within : (files : Files) (v : View) (c : ℕ) (change : Change) (m : Standing) → target.reads files v → target.carries files c change m → c ≤ v.commits
 
 false_true : false ≡ true → ⊥
 false_true is = cc is
@@ -47,6 +48,18 @@ ok_err : {X : Type 0} (x : X) (d : TargetError) → ◌≡◌ {A = Result X Targ
 ok_err x d is = cc is
 
 module _ {S : Type 0} (store : Ghosts S) (target : Meaning) (origin : Origin) (start : View) (commits : List Commit) where
+  -- while files are only read a crash shows none of them
+  pub stay_behind : CrashLaws target → (old mid new : S) → store.tells → OnlyReads store old mid → target.reads (store.disk old).files start → target.settled (store.disk old) → (files : Files)
+      → IsEachMoment store mid new (StayShown target origin start.commits commits files) → IsEachMoment store old new (StayShown target origin start.commits commits files)
+  stay_behind crash old mid new told reading reads settled files stay =
+      goes_further store old mid new (StayShown target origin start.commits commits files)
+      (weaker store old mid (MayLeave (store.disk old)) (StayShown target origin start.commits commits files)
+      (λ image may i shown.
+      let le : start.commits + i + 1 ≤ start.commits = crash.within image start (start.commits + i + 1) shown.0.change (standing_at origin shown.0.position) (crash.reads (store.disk old) image start settled (λ path own clean. may path clean) reads) shown.2 in
+      absurd (omega (arith, le)))
+      (λ t. reading.moments))
+      (λ t. stay) told
+
   -- of another answer
   publishes_as : (U V : Type 0) (done other : Bool) (old new : S) → (V → U) → (other ≡ true → done ≡ true) → Publishes store target origin start commits U done old new → Publishes store target origin start commits V other old new
   publishes_as U V done other old new from is run = record {
@@ -101,15 +114,18 @@ module _ {S : Type 0} (store : Ghosts S) (target : Meaning) (origin : Origin) (s
         record {
           alone = λ told. alone_by_reading store (IsOutside (folder_of target.kind)) s s (reading told);
           publishes = λ told stands. publishes_nothing only_now crash s (Uncontested {T = Report} (Err e)) told (from stands).0 (from stands).1;
+          none = λ told none. reading told;
           columns = λ some. inr ((λ is. false_true is), reading);
           writes = λ told stands. tt;
           reported = tt;
+          contested = λ told stands is_contest. absurd (no_contest e is (err_same e Contested is_contest));
+          limited = λ told stands which number is_limit. inl (reading told);
           refused = λ told. unfit_refusal (OnlyReads store s s) (PassesIn passes commits) e (reading told) is;
           fault = fails_never store.faults store.may_fail s _ (λ same. no_fault e is (err_same e StoreFault same));
           contest = contested_never store.contests store.may_contest s _ (λ same. no_contest e is (err_same e Contested same));
         }
 
-    module _ (Stands : Type 0) (old new : S) (columns : commits ≢ [] → start.table.partition ≡ partition) (alone : store.tells → ChangesOnlyIn store (folder_of target.kind) old new) where
+    module _ (Stands : Type 0) (old new : S) (columns : commits ≢ [] → start.table.partition ≡ partition) (still : store.tells → commits ≡ [] → OnlyReads store old new) (alone : store.tells → ChangesOnlyIn store (folder_of target.kind) old new) where
       refusal_at : (Idle : Type 0) (place : ℕ) → place < length commits → (e : TargetError) → IsCommitRefusal (passes (take (place + 1) commits)) e → IsApplyRefusal Idle unfit (PassesIn passes commits) e
       refusal_at Idle place within Memory is = tt
       refusal_at Idle place within StoreFault is = tt
@@ -117,18 +133,45 @@ module _ {S : Type 0} (store : Ghosts S) (target : Meaning) (origin : Origin) (s
       refusal_at Idle place within (Limit which number) is = inr (place, within, is)
       refusal_at Idle place within (Unsupported feature path) is = absurd is
 
+      has_some : (cs : List Commit) (place : ℕ) → place < length cs → cs ≢ []
+      has_some [] place within none = omega (arith, within)
+      has_some (c ∷ cs) place within none = cc none
+
       -- publishing was refused
-      pub applies_refused : (Settled : Type 0) (e : TargetError)
+      pub applies_refused : (e : TargetError)
           → (store.tells → Stands → Publishes store target origin start commits (e ≡ Contested → ⊥) false old new)
-          → (store.tells → IsRefusedAt target passes Settled origin start (store.disk old).files commits (store.disk new).files e)
+          → (store.tells → IsRefusedAt target passes Stands origin start (store.disk old).files commits (store.disk new).files e)
+          → (store.tells → Stands → IsEachMoment store old new (KeepsShown target origin start commits (store.disk new).files e))
           → FailsBy store old new (IsErrOf {T = ℕ} (Err e) StoreFault) → IsContestedBy store old new (IsErrOf {T = ℕ} (Err e) Contested)
           → Applies store target unfit passes written origin start partition commits full Stands old new (Err e)
-      applies_refused Settled e publishes refused cause contest = record {
+      applies_refused e publishes refused kept cause contest = record {
         alone = alone;
         publishes = publishes;
+        none = still;
         columns = λ some. inl (columns some);
         writes = λ told stands. tt;
         reported = tt;
+        contested = λ told stands is_contest.
+            let at = refused told in
+            record {
+              place = at.place;
+              within = at.within;
+              columns = columns (has_some commits at.place at.within);
+              published = at.before stands;
+              newest = at.contested stands (err_same e Contested is_contest);
+              stay = weaker store old new (KeepsShown target origin start commits (store.disk new).files e) (StayShown target origin start.commits commits (store.disk new).files)
+                  (λ image kept_at. kept_at.contested (err_same e Contested is_contest)) (λ t. kept t stands) told;
+            };
+        limited = λ told stands which number is_limit.
+            let at = refused told in
+            let same : e ≡ Limit which number = err_same e (Limit which number) is_limit in
+            inr (record {
+              place = at.place;
+              within = at.within;
+              columns = columns (has_some commits at.place at.within);
+              passed = subst (λ (x : TargetError). IsCommitRefusal (passes (take (at.place + 1) commits)) x) same at.cause;
+              gained = at.limited stands which number same;
+            });
         refused = λ told. refusal_at (OnlyReads store old new) (refused told).place (refused told).within e (refused told).cause;
         fault = fails_as store.faults store.may_fail old new _ _ (err_is e StoreFault) cause;
         contest = contested_as store.contests store.may_contest old new _ _ (err_is e Contested) (err_is e Contested) contest;
@@ -144,9 +187,12 @@ module _ {S : Type 0} (store : Ghosts S) (target : Meaning) (origin : Origin) (s
         applies_untold = record {
           alone = alone;
           publishes = λ told stands. publishes_as (Unit {0}) (Memory ≡ Contested → ⊥) true false old new (λ v. tt) (λ is. absurd (false_true is)) (publishes told stands);
+          none = still;
           columns = λ some. inl (columns some);
           writes = λ told stands. tt;
           reported = tt;
+          contested = λ told stands is. absurd (memory_is Contested (λ same. cc same) is);
+          limited = λ told stands which number is. absurd (memory_is (Limit which number) (λ same. cc same) is);
           refused = λ told. tt;
           fault = fails_as store.faults store.may_fail old new _ _ (λ is. absurd (memory_is StoreFault (λ same. cc same) is)) cause;
           contest = contested_as store.contests store.may_contest old new _ _ (λ is. absurd (memory_is Contested (λ same. cc same) is)) (λ is. absurd (ok_err count Contested is)) contest;
@@ -156,9 +202,12 @@ module _ {S : Type 0} (store : Ghosts S) (target : Meaning) (origin : Origin) (s
         applies_all has_written report told = record {
           alone = alone;
           publishes = publishes;
+          none = still;
           columns = λ some. inl (columns some);
           writes = has_written;
           reported = told;
+          contested = λ told stands is. absurd (ok_err report Contested is);
+          limited = λ told stands which number is. absurd (ok_err report (Limit which number) is);
           refused = λ told. tt;
           fault = fails_as store.faults store.may_fail old new _ _ (λ is. absurd (ok_err report StoreFault is)) cause;
           contest = contested_as store.contests store.may_contest old new _ _ (λ is. absurd (ok_err report Contested is)) (λ is. absurd (ok_err count Contested is)) contest;

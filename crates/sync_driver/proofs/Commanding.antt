@@ -17,26 +17,30 @@ use Rattle.sync_driver.specs.Tellings.{Tells}
 use Rattle.sync_driver.specs.declared.plan.Mode.{Mode}
 use Rattle.sync_driver.specs.declared.status.Status.{Status}
 use Rattle.sync_driver.specs.declared.status.Status.TheVariants as status
+use Rattle.sync_driver.proofs.Along.{AlongLaws, with_histories}
 use Rattle.sync_driver.proofs.Applying.{CrashLaws}
 use Rattle.sync_driver.proofs.Counting.{contested_of_none, fails_as}
-use Rattle.sync_driver.proofs.Standing.{SourceLaws, ViewLaws, source_kept, synced_idle}
+use Rattle.sync_driver.proofs.Standing.{SourceLaws, source_kept, synced_idle}
 
 module _ {S : Type 0} (store : Ghosts S) (source : SourceMeaning) (target : TargetFacts) (mode : Mode) (now : ℕ) where
   -- the command ended before the target was looked at
-  pub sync_none : SourceLaws source → ViewLaws target.files → CrashLaws target.files → (old new : S) → (store.tells → OnlyReads store old new) → (A B : Type 0) → FailsBy store old new A → IsUncontestedBy store old new B
+  pub sync_none : SourceLaws source → CrashLaws target.files → (old new : S) → (store.tells → OnlyReads store old new) → (A B : Type 0) → FailsBy store old new A → IsUncontestedBy store old new B
       → (store.tells → ¬ source.is_absent (store.disk old).files) → IsSync store source target mode now old new None
-  sync_none own views crash old new reading A B cause quiet there =
+  sync_none own crash old new reading A B cause quiet there =
       let folder = folder_of target.files.kind in
       let alone : store.tells → ChangesOnlyIn store folder old new = λ told. alone_by_reading store (IsOutside folder) old new (reading told) in
       record {
         alone = alone;
         source_stays = λ told apart clean. source_kept store source own target.files.kind apart old new told (alone told) clean;
-        synced = λ told start ready. (synced_idle source target.files views crash store start (Unit {0}) ⊥ (λ never. never) old new told (reading told) ready.reads ready.settled, tt);
+        synced = λ told start ready. (synced_idle source own target.files mode crash store start (Unit {0}) ⊥ (λ never. never) old new told (reading told) ready.reads ready.settled, tt);
         in_full = tt;
+        still = λ told mode_is done start ready at. absurd done;
+        contested = λ told is start ready. absurd (cc is);
+        limited = λ told which number is start ready. absurd (cc is);
+        few = tt;
         caused = reading;
         absent = λ told is. absurd (there told is);
         foreign = λ told path is. tt;
-        later = λ told mode_is is. tt;
         fault = fails_as store.faults store.may_fail old new A (None ≡ Some (Err status.StoreFault)) (λ is. absurd (cc is)) cause;
         contest = none_contested;
         complete = λ told can no_fault no_contest. tt;
@@ -51,16 +55,18 @@ module _ {S : Type 0} (store : Ghosts S) (source : SourceMeaning) (target : Targ
     ends (Some (Ok report)) line complete told no_sink = ⊎_elim (λ due. inl due) (λ other. ⊎_elim (λ memory. inr memory) (λ failed. absurd (no_sink failed.1.1.0)) other) told.status
     ends (Some (Err e)) line complete told no_sink = ⊎_elim (λ due. inr (due ∙ complete)) (λ other. ⊎_elim (λ memory. inr memory) (λ failed. absurd (no_sink failed.1.1.0)) other) told.status
 
-    pub syncs : (pending : Option (List ℕ)) (answer : Answer) → IsSync store source target mode now old new answer
-        → (store.tells → IsPending source (store.disk old).files pending (λ e. answer ≡ Some (Err (status_of_source e))))
+    pub syncs : (pending : Option (List ℕ)) (answer : Answer) → AlongLaws source target.files → IsSync store source target mode now old new answer
+        → (store.tells → IsPending source (store.disk old).files pending (λ e. (answer ≡ Some (Err (status_of_source e))) × OnlyReads store old new))
+        → (sink.tells → ¬ (answer ≡ None) → (rest : List ℕ) × (sink.output out_new ≡ sink.output out_old ++ pending_line pending ++ rest))
         → Tells sink out_old out_new (pending_line pending ++ answer_line target.files.kind answer) (answer_status answer) given → (answer ≡ None → ¬ (given ≡ status.Done))
         → Syncs store sink source target mode now old new out_old out_new given
-    syncs pending answer sync pending_is told answered = record {
+    syncs pending answer laws sync pending_is first told answered = record {
       pending = pending;
       answer = answer;
-      sync = sync;
+      sync = with_histories store source target laws mode now old new answer sync;
       pending_is = pending_is;
       told = told;
+      first = first;
       answered = answered;
       complete = λ tells can no_fault no_contest no_sink. ends answer _ (sync.complete tells can no_fault no_contest) told no_sink;
     }

@@ -5,17 +5,21 @@ use Rattle.lake_store.specs.Disk.{Disk, Files}
 use Rattle.lake_store.specs.Runs.{ChangesOnlyIn, FailsBy, IsOutside, IsUncontestedBy, OnlyReads}
 use Rattle.lake_store.specs.declared.store.Store.{Ghosts}
 use Rattle.lake_store.proofs.RunLaws.{alone_by_reading, alone_further, reading_further}
+use Rattle.table_history.specs.declared.limit.LimitKind.{LimitKind}
 use Rattle.target_core.specs.Folders.{folder_of}
-use Rattle.sync_driver.specs.Answered.{Answer, CanSync, IsAbsent, IsCaused, IsOurs, IsReady, IsRefusal, IsReported, IsStatus, IsSync}
+use Rattle.target_core.specs.Views.{View}
+use Rattle.sync_driver.specs.Answered.{Answer, CanSync, IsAbsent, IsCaused, IsReady, IsRefusal, IsReported, IsStatus, IsSync, StandsAtHead}
+use Rattle.sync_driver.specs.Dues.{origin_of}
 use Rattle.sync_driver.specs.Sources.{SourceMeaning}
+use Rattle.sync_driver.specs.Synced.{IsContested, IsLimited}
 use Rattle.sync_driver.specs.Targets.{TargetFacts}
 use Rattle.sync_driver.specs.declared.plan.Mode.{Mode}
 use Rattle.sync_driver.specs.declared.status.Side.TheVariants as side
 use Rattle.sync_driver.specs.declared.status.Status.{Status}
 use Rattle.sync_driver.specs.declared.status.Status.TheVariants as status
-use Rattle.sync_driver.proofs.Applying.{CrashLaws}
+use Rattle.sync_driver.proofs.Applying.{CrashLaws, stay_behind}
 use Rattle.sync_driver.proofs.Counting.{contested_then, fails_then}
-use Rattle.sync_driver.proofs.Standing.{SourceLaws, ViewLaws, source_kept, synced_behind}
+use Rattle.sync_driver.proofs.Standing.{SourceLaws, source_kept, synced_behind}
 
 -- what is idle in one way is so in another
 refusal_as : (Idle Other : Type 0) → (Idle → Other) → (source : SourceMeaning) (target : TargetFacts) (mode : Mode) (now : ℕ) (files : Files) (e : Status) → IsRefusal Idle source target mode now files e → IsRefusal Other source target mode now files e
@@ -29,17 +33,17 @@ refusal_as Idle Other from source target mode now files (status.Unsupported (sid
 refusal_as Idle Other from source target mode now files (status.Limit side.Source which number) is = (from is.0, is.1)
 refusal_as Idle Other from source target mode now files (status.Limit (side.Target kind) which number) is = (is.0, limit_as is.1)
   where
-    limit_as : {A B C : Type 0} → (Idle × A) ⊎ ((Idle × B) ⊎ C) → (Other × A) ⊎ ((Other × B) ⊎ C)
-    limit_as (inl a) = inl (from a.0, a.1)
+    limit_as : {H A B C : Type 0} → (Idle × H × A) ⊎ ((Idle × B) ⊎ C) → (Other × H × A) ⊎ ((Other × B) ⊎ C)
+    limit_as (inl a) = inl (from a.0, a.1, a.2)
     limit_as (inr (inl b)) = inr (inl (from b.0, b.1))
     limit_as (inr (inr c)) = inr (inr c)
-refusal_as Idle Other from source target mode now files (status.Foreign kind path) is = (from is.0, is.1, is.2)
+refusal_as Idle Other from source target mode now files (status.Foreign kind path) is = (from is.0, is.1, is.2, is.3)
 refusal_as Idle Other from source target mode now files (status.Contested kind) is = is
 refusal_as Idle Other from source target mode now files status.StoreFault is = is
 refusal_as Idle Other from source target mode now files status.SinkFault is = is
 refusal_as Idle Other from source target mode now files (status.Behind kind at head) is = is
 refusal_as Idle Other from source target mode now files (status.Differs kind path) is = is
-refusal_as Idle Other from source target mode now files status.Later is = (from is.0, is.1, is.2)
+refusal_as Idle Other from source target mode now files status.Later is = is
 
 caused_as : (Idle Other : Type 0) → (Idle → Other) → (source : SourceMeaning) (target : TargetFacts) (mode : Mode) (now : ℕ) (files : Files) (answer : Answer) → IsCaused Idle source target mode now files answer → IsCaused Other source target mode now files answer
 caused_as Idle Other from source target mode now files None is = from is
@@ -49,7 +53,7 @@ caused_as Idle Other from source target mode now files (Some (Err e)) is = refus
 rose_from : (a b c : ℕ) → a ≤ b → Rose b c → Rose a c
 rose_from a b c le rose = omega (arith, le, rose)
 
-module _ {S : Type 0} (store : Ghosts S) (source : SourceMeaning) (target : TargetFacts) (own : SourceLaws source) (views : ViewLaws target.files) (crash : CrashLaws target.files) (mode : Mode) (now : ℕ) where
+module _ {S : Type 0} (store : Ghosts S) (source : SourceMeaning) (target : TargetFacts) (own : SourceLaws source) (crash : CrashLaws target.files) (mode : Mode) (now : ℕ) where
   pub sync_behind : (old mid new : S) → (store.tells → OnlyReads store old mid) → (A B : Type 0) → FailsBy store old mid A → IsUncontestedBy store old mid B → (answer : Answer) → IsSync store source target mode now mid new answer
       → IsSync store source target mode now old new answer
   sync_behind old mid new reading A B cause quiet answer sync =
@@ -62,23 +66,21 @@ module _ {S : Type 0} (store : Ghosts S) (source : SourceMeaning) (target : Targ
         alone = alone;
         source_stays = λ told apart clean. source_kept store source own target.files.kind apart old new told (alone told) clean;
         synced = λ told start ready.
-            let here : IsReady source target (store.disk mid).files start (target.files.settled (store.disk mid)) = record {
-              reads = subst (λ (d : Disk). target.files.reads d.files start) (sym (same told)) ready.reads;
-              goes_on = ready.goes_on;
-              settled = subst (λ (d : Disk). target.files.settled d) (sym (same told)) ready.settled;
-            } in
-            let was = sync.synced told start here in (
-              synced_behind source target.files views crash store start _ _ old mid new told (reading told) ready.reads ready.settled was.0,
-              subst (λ (d : Disk). IsReported source target now start d.files (store.disk new).files answer) (same told) was.1,
+            let was = sync.synced told start (ready_mid told start ready) in (
+              synced_behind source own target.files mode crash store start _ _ old mid new told (reading told) ready.reads ready.settled was.0,
+              subst (λ (d : Disk). IsReported source target mode now start d.files (store.disk new).files answer) (same told) was.1,
             );
         in_full = sync.in_full;
+        still = λ told mode_is done start ready at.
+            reading_further store old mid new reading (λ t. sync.still t mode_is done start (ready_mid t start ready) (subst (λ (d : Disk). StandsAtHead source d.files start) (sym (same t)) at)) told;
+        contested = λ told is start ready. contested_old told start ready (subst (λ (d : Disk). IsContested store source target.files mode start d.files mid new) (same told) (sync.contested told is start (ready_mid told start ready)));
+        limited = λ told which number is start ready. limited_old told start which number (sync.limited told which number is start (ready_mid told start ready));
+        few = sync.few;
         caused = λ told. subst (λ (d : Disk). IsCaused (OnlyReads store old new) source target mode now d.files answer) (same told)
             (caused_as (OnlyReads store mid new) (OnlyReads store old new) (λ idle. reading_further store old mid new reading (λ t. idle) told) source target mode now (store.disk mid).files answer (sync.caused told));
         absent = λ told is. subst (λ (d : Disk). IsAbsent source d.files answer) (same told) (sync.absent told (subst (λ (d : Disk). source.is_absent d.files) (sym (same told)) is));
         foreign = λ told path is. subst (λ (d : Disk). IsStatus source target d.files (status.Foreign target.files.kind path) answer) (same told)
             (sync.foreign told path (subst (λ (d : Disk). target.is_foreign source.kind d.files path) (sym (same told)) is));
-        later = λ told mode_is is. subst (λ (d : Disk). IsStatus source target d.files status.Later answer) (same told)
-            (sync.later told mode_is (subst (λ (d : Disk). IsOurs source target d.files) (sym (same told)) is));
         fault = fault;
         contest = contest;
         complete = λ told can no_fault no_contest. sync.complete told (subst (λ (d : Disk). CanSync source target mode now d.files) (sym (same told)) can)
@@ -86,5 +88,28 @@ module _ {S : Type 0} (store : Ghosts S) (source : SourceMeaning) (target : Targ
             (λ rose. no_contest (rose_same (store.contests old) (store.contests mid) (store.contests new) quiet.same rose));
       }
     where
+      ready_mid : store.tells → (start : View) → IsReady source target (store.disk old).files start (target.files.settled (store.disk old)) → IsReady source target (store.disk mid).files start (target.files.settled (store.disk mid))
+      ready_mid told start ready = record {
+        reads = subst (λ (d : Disk). target.files.reads d.files start) (sym (reading told).disk) ready.reads;
+        goes_on = ready.goes_on;
+        settled = subst (λ (d : Disk). target.files.settled d) (sym (reading told).disk) ready.settled;
+      }
+
+      limited_old : store.tells → (start : View) (which : LimitKind) (number : ℕ) → OnlyReads store mid new ⊎ IsLimited source target.files (λ files partition origin. target.passes files partition origin now) mode start (store.disk mid).files (store.disk new).files which number → OnlyReads store old new ⊎ IsLimited source target.files (λ files partition origin. target.passes files partition origin now) mode start (store.disk old).files (store.disk new).files which number
+      limited_old told start which number (inl idle) = inl (reading_further store old mid new reading (λ t. idle) told)
+      limited_old told start which number (inr at) = inr (subst (λ (d : Disk). IsLimited source target.files (λ files partition origin. target.passes files partition origin now) mode start d.files (store.disk new).files which number) (reading told).disk at)
+
+      contested_old : store.tells → (start : View) → IsReady source target (store.disk old).files start (target.files.settled (store.disk old)) → IsContested store source target.files mode start (store.disk old).files mid new
+          → IsContested store source target.files mode start (store.disk old).files old new
+      contested_old told start ready is = record {
+        due = is.due;
+        columns = is.columns;
+        place = is.place;
+        within = is.within;
+        published = is.published;
+        newest = is.newest;
+        stay = stay_behind store target.files (origin_of is.due) start is.due.commits crash old mid new told (reading told) ready.reads ready.settled (store.disk new).files is.stay;
+      }
+
       rose_same : (a b c : ℕ) → b ≡ a → Rose b c → Rose a c
       rose_same a b c is rose = subst (λ (n : ℕ). Rose n c) is rose

@@ -125,3 +125,14 @@ module _ {O : Type 0} (sink : Ghosts O) (old mid new : O) (first second : List �
 -- with no line behind it
 pub told_alone : {O : Type 0} (sink : Ghosts O) (old new : O) (line : List ℕ) (due given : Status) → Tells sink old new line due given → Tells sink old new (line ++ []) due given
 told_alone sink old new line due given told = subst (λ (l : List ℕ). Tells sink old new l due given) (sym (append-nil line)) told
+
+-- the first line went out whole before the second, of which a part did
+pub first_behind : {O : Type 0} (sink : Ghosts O) (old mid new : O) (first second : List ℕ) (due given : Status) → Tells sink old mid first Done Done → Tells sink mid new second due given → sink.tells → (rest : List ℕ) × (sink.output new ≡ sink.output old ++ first ++ rest)
+first_behind sink old mid new first second due given one two tells =
+    let part = two.front tells in
+    (take part.0 second, part.1 ∙ ap (λ (l : List ℕ). l ++ take part.0 second) (one.whole tells tt))
+
+pub first_alone : {O : Type 0} (sink : Ghosts O) (old new : O) (line : List ℕ) (due given : Status) → Tells sink old new line due given → sink.tells → (rest : List ℕ) × (sink.output new ≡ sink.output old ++ [] ++ rest)
+first_alone sink old new line due given told tells =
+    let part = told.front tells in
+    (take part.0 line, part.1 ∙ ap (λ (l : List ℕ). l ++ take part.0 line) (sym (append-nil (sink.output old))))

@@ -1,5 +1,5 @@
 -- What a sync of one target answers, and why.
-use Rattle.std.specs.Prelude.{◌≡◌, ◌⊎◌, ℕ, List, [], ◌∷◌, length, Option, Some, None, Result, Ok, Err, true}
+use Rattle.std.specs.Prelude.{◌≡◌, ◌⊎◌, ℕ, List, length, Option, Some, None, Result, Ok, Err, true}
 use Rattle.lake_store.specs.Cause.{Rose}
 use Rattle.lake_store.specs.Disk.{Files, IsClean}
 use Rattle.lake_store.specs.Runs.{ChangesOnlyIn, FailsBy, IsContestedBy, IsIn, OnlyReads}
@@ -7,16 +7,19 @@ use Rattle.lake_store.specs.declared.store.Store.{Ghosts}
 use Rattle.table_history.specs.Rows.{HasDistinctPaths}
 use Rattle.table_history.specs.declared.kind.Kind.{Kind}
 use Rattle.table_history.specs.declared.limit.LimitKind.{LimitKind}
-use Rattle.source_core.specs.Answers.{IsReadable}
+use Rattle.source_core.specs.Answers.{IsReadRefusal}
+use Rattle.source_core.specs.declared.error.SourceError.{SourceError}
 use Rattle.source_core.specs.declared.error.SourceError.TheVariants as source_error
+use Rattle.source_core.specs.declared.head.Head.{Head}
 use Rattle.target_core.specs.Conditions.{GoesOn}
 use Rattle.target_core.specs.Folders.{folder_of}
-use Rattle.target_core.specs.Views.{IsOfSource, IsUnpublished, View}
+use Rattle.target_core.specs.Views.{View}
 use Rattle.target_core.specs.declared.target.TargetError.{TargetError}
 use Rattle.target_core.specs.declared.target.TargetError.TheVariants as target_error
-use Rattle.sync_driver.specs.Dues.{Due}
-use Rattle.sync_driver.specs.Sources.{IsSourceFault, SourceMeaning, origin_of}
-use Rattle.sync_driver.specs.Synced.{IsAtHead, KeepsSource, Synced}
+use Rattle.sync_driver.specs.Applied.{PassesIn, status_of_source}
+use Rattle.sync_driver.specs.Dues.{Due, IsMarked, IsSinceFault, IsWhole, TakesCommits, origin_of}
+use Rattle.sync_driver.specs.Sources.{HasHead, SourceMeaning}
+use Rattle.sync_driver.specs.Synced.{IsAtHead, IsContested, IsLimited, KeepsSource, Synced}
 use Rattle.sync_driver.specs.Targets.{TargetFacts}
 use Rattle.sync_driver.specs.declared.apply.Report.{Report}
 use Rattle.sync_driver.specs.declared.plan.Mode.{Mode}
@@ -31,19 +34,27 @@ use Rattle.sync_driver.specs.declared.status.Status.TheVariants as status
 abbrev pub StandsAt : TargetFacts → Files → (View → Type 0) → Type 0
 StandsAt target files P = (start : View) × target.files.reads files start × P start
 
--- the newest commit's mark names the source's format
-abbrev pub IsOurs : SourceMeaning → TargetFacts → Files → Type 0
-IsOurs source target files = StandsAt target files (IsOfSource source.kind)
+-- What is read of the source behind its head has this for a fault. Where the history since the target's mark is whole, a sync reads the commits after it, over the
+-- target's table, and otherwise the whole table from scratch.
+abbrev pub IsReadFault : SourceMeaning → TargetFacts → Mode → Files → SourceError → Type 0
+IsReadFault source target mode files e =
+    HasHead source files
+    × StandsAt target files (λ start. GoesOn source.kind start
+    × (((mode ≡ modes.Sync) × IsSinceFault source files start e)
+    ⊎ ((¬ TakesCommits source mode files start) × source.from_scratch files e)))
 
--- The commit that is due doesn't fit the target, for this cause.
-abbrev pub IsUnfit : SourceMeaning → TargetFacts → Files → TargetError → Type 0
-IsUnfit source target files e = StandsAt target files (λ start. GoesOn source.kind start
-    × ((due : Due source files start) × target.unfit files due.table.partition (due.commit ∷ []) e))
+abbrev pub IsSourceFault : SourceMeaning → TargetFacts → Mode → Files → SourceError → Type 0
+IsSourceFault source target mode files e = source.at_head files e ⊎ IsReadFault source target mode files e
 
--- Publishing the commit that is due passes this number.
-abbrev pub IsPassed : SourceMeaning → TargetFacts → ℕ → Files → LimitKind → ℕ → Type 0
-IsPassed source target now files which number = StandsAt target files (λ start. GoesOn source.kind start
-    × ((due : Due source files start) × target.passes files due.table.partition (origin_of source.kind due.head) now (due.commit ∷ []) which number))
+-- The commits that are due don't fit the target, for this cause.
+abbrev pub IsUnfit : SourceMeaning → TargetFacts → Mode → Files → TargetError → Type 0
+IsUnfit source target mode files e = StandsAt target files (λ start. GoesOn source.kind start
+    × ((due : Due source mode files start) × target.unfit files due.partition due.commits e))
+
+-- Publishing one of the commits that are due, behind those before it, passes this number.
+abbrev pub IsPassed : SourceMeaning → TargetFacts → Mode → ℕ → Files → LimitKind → ℕ → Type 0
+IsPassed source target mode now files which number = StandsAt target files (λ start. GoesOn source.kind start
+    × ((due : Due source mode files start) × PassesIn (target.passes files due.partition (origin_of due) now) due.commits which number))
 
 -- Why a sync is refused. Want of memory and a fault of the store have no cause in the files, nor has a contest. `Idle` says that no file changed.
 abbrev pub IsRefusal : Type 0 → SourceMeaning → TargetFacts → Mode → ℕ → Files → Status → Type 0
@@ -51,30 +62,49 @@ IsRefusal Idle source target mode now files status.Done = ⊥
 IsRefusal Idle source target mode now files status.Memory = Unit {0}
 IsRefusal Idle source target mode now files status.Usage = ⊥
 IsRefusal Idle source target mode now files status.Absent = Idle × source.is_absent files
-IsRefusal Idle source target mode now files (status.Malformed path) = Idle × IsSourceFault source files (source_error.Malformed path)
-IsRefusal Idle source target mode now files (status.Unsupported side.Source feature path) = Idle × IsSourceFault source files (source_error.Unsupported feature path)
-IsRefusal Idle source target mode now files (status.Unsupported (side.Target kind) feature path) = Idle × (kind ≡ target.files.kind) × IsUnfit source target files (target_error.Unsupported feature path)
-IsRefusal Idle source target mode now files (status.Limit side.Source which number) = Idle × IsSourceFault source files (source_error.Limit which number)
+IsRefusal Idle source target mode now files (status.Malformed path) = Idle × IsSourceFault source target mode files (source_error.Malformed path)
+IsRefusal Idle source target mode now files (status.Unsupported side.Source feature path) = Idle × IsSourceFault source target mode files (source_error.Unsupported feature path)
+IsRefusal Idle source target mode now files (status.Unsupported (side.Target kind) feature path) = Idle × (kind ≡ target.files.kind) × IsUnfit source target mode files (target_error.Unsupported feature path)
+IsRefusal Idle source target mode now files (status.Limit side.Source which number) = Idle × IsSourceFault source target mode files (source_error.Limit which number)
 IsRefusal Idle source target mode now files (status.Limit (side.Target kind) which number) =
     (kind ≡ target.files.kind)
-    × ((Idle × target.is_crowded source.kind files which number)
-    ⊎ ((Idle × IsUnfit source target files (target_error.Limit which number))
-    ⊎ IsPassed source target now files which number))
-IsRefusal Idle source target mode now files (status.Foreign kind path) = Idle × (kind ≡ target.files.kind) × target.is_foreign source.kind files path
+    × ((Idle × HasHead source files × target.is_crowded source.kind files which number)
+    ⊎ ((Idle × IsUnfit source target mode files (target_error.Limit which number))
+    ⊎ IsPassed source target mode now files which number))
+IsRefusal Idle source target mode now files (status.Foreign kind path) = Idle × (kind ≡ target.files.kind) × HasHead source files × target.is_foreign source.kind files path
 IsRefusal Idle source target mode now files (status.Contested kind) = kind ≡ target.files.kind
 IsRefusal Idle source target mode now files status.StoreFault = Unit {0}
 IsRefusal Idle source target mode now files status.SinkFault = ⊥
 IsRefusal Idle source target mode now files (status.Behind kind at head) = ⊥
 IsRefusal Idle source target mode now files (status.Differs kind path) = ⊥
-IsRefusal Idle source target mode now files status.Later = Idle × (mode ≡ modes.Sync) × IsOurs source target files
+IsRefusal Idle source target mode now files status.Later = ⊥
+
+-- a refusal of a sync with a target of this format, also where the store tells nothing
+abbrev pub IsOfSync : Kind → Status → Type 0
+IsOfSync target status.Memory = Unit {0}
+IsOfSync target status.Absent = Unit {0}
+IsOfSync target (status.Malformed path) = Unit {0}
+IsOfSync target (status.Unsupported side.Source feature path) = Unit {0}
+IsOfSync target (status.Unsupported (side.Target kind) feature path) = kind ≡ target
+IsOfSync target (status.Limit side.Source which number) = Unit {0}
+IsOfSync target (status.Limit (side.Target kind) which number) = kind ≡ target
+IsOfSync target (status.Foreign kind path) = kind ≡ target
+IsOfSync target (status.Contested kind) = kind ≡ target
+IsOfSync target status.StoreFault = Unit {0}
+IsOfSync target _ = ⊥
 
 -- why inspecting a target is refused
-abbrev pub IsLookRefusal : Kind → (List ℕ → Type 0) → (LimitKind → ℕ → Type 0) → Status → Type 0
-IsLookRefusal target is_foreign is_crowded status.Memory = Unit {0}
-IsLookRefusal target is_foreign is_crowded status.StoreFault = Unit {0}
-IsLookRefusal target is_foreign is_crowded (status.Limit (side.Target kind) which number) = (kind ≡ target) × is_crowded which number
-IsLookRefusal target is_foreign is_crowded (status.Foreign kind path) = (kind ≡ target) × is_foreign path
-IsLookRefusal target is_foreign is_crowded _ = ⊥
+abbrev pub IsLookRefusal : Kind → (LimitKind → ℕ → Type 0) → Status → Type 0
+IsLookRefusal target is_crowded status.Memory = Unit {0}
+IsLookRefusal target is_crowded status.StoreFault = Unit {0}
+IsLookRefusal target is_crowded (status.Limit (side.Target kind) which number) = (kind ≡ target) × is_crowded which number
+IsLookRefusal target is_crowded _ = ⊥
+
+-- Why planning is refused: the target is foreign, or reading the source is refused.
+abbrev pub IsPlanRefusal : SourceMeaning → TargetFacts → Mode → Files → Status → Type 0
+IsPlanRefusal source target mode files e =
+    ((path : List ℕ) × (e ≡ status.Foreign target.files.kind path) × target.is_foreign source.kind files path)
+    ⊎ ((fault : SourceError) × (e ≡ status_of_source fault) × IsReadRefusal (IsReadFault source target mode files) fault)
 
 -- ---- answers, of which there is none where the command ended before
 
@@ -85,6 +115,11 @@ abbrev pub IsCaused : Type 0 → SourceMeaning → TargetFacts → Mode → ℕ 
 IsCaused Idle source target mode now files None = Idle
 IsCaused Idle source target mode now files (Some (Ok report)) = Unit {0}
 IsCaused Idle source target mode now files (Some (Err e)) = IsRefusal Idle source target mode now files e
+
+abbrev pub IsFew : Kind → Answer → Type 0
+IsFew target None = Unit {0}
+IsFew target (Some (Ok report)) = Unit {0}
+IsFew target (Some (Err e)) = IsOfSync target e
 
 abbrev pub IsDone : Answer → Type 0
 IsDone None = ⊥
@@ -124,7 +159,7 @@ CameBefore source target files status.Absent = source.is_absent files
 CameBefore source target files (status.Malformed path) = source.at_head files (source_error.Malformed path)
 CameBefore source target files (status.Unsupported side.Source feature path) = source.at_head files (source_error.Unsupported feature path)
 CameBefore source target files (status.Limit side.Source which number) = source.at_head files (source_error.Limit which number)
-CameBefore source target files (status.Limit (side.Target kind) which number) = target.is_crowded source.kind files which number
+CameBefore source target files (status.Limit (side.Target kind) which number) = HasHead source files × target.is_crowded source.kind files which number
 CameBefore source target files _ = ⊥
 
 -- the answer is this status, unless another one came before; or there is none
@@ -135,18 +170,14 @@ IsStatus source target files due (Some (Err e)) = (e ≡ due) ⊎ CameBefore sou
 
 -- ---- when a sync is done
 
--- A target that isn't absent is served by a sync in full alone.
-abbrev pub IsServed : Mode → Kind → View → Type 0
-IsServed modes.Sync source start = IsUnpublished start
-IsServed modes.Full source start = GoesOn source start
-
--- The source can be read, the target is absent or ours, and no cause of a refusal is there.
+-- The source has a head and what is to be read of it can be read, the target is absent or ours, and no cause of a refusal is there.
 pub record CanSync (source : SourceMeaning) (target : TargetFacts) (mode : Mode) (now : ℕ) (files : Files) : Type 0 where
-  pub readable : IsReadable (source.is_absent files) (source.at_head files) (source.from_scratch files)
-  pub served : StandsAt target files (IsServed mode source.kind)
+  pub there : ¬ source.is_absent files
+  pub readable : (e : SourceError) → ¬ IsSourceFault source target mode files e
+  pub served : StandsAt target files (GoesOn source.kind)
   pub roomy : (which : LimitKind) (number : ℕ) → ¬ target.is_crowded source.kind files which number
-  pub fits : (e : TargetError) → ¬ IsUnfit source target files e
-  pub small : (which : LimitKind) (number : ℕ) → ¬ IsPassed source target now files which number
+  pub fits : (e : TargetError) → ¬ IsUnfit source target mode files e
+  pub small : (which : LimitKind) (number : ℕ) → ¬ IsPassed source target mode now files which number
 
 -- it is done, or memory ran out, or there is no answer
 abbrev pub IsComplete : Answer → Type 0
@@ -154,26 +185,29 @@ IsComplete None = Unit {0}
 IsComplete (Some (Ok report)) = Unit {0}
 IsComplete (Some (Err e)) = e ≡ status.Memory
 
--- One commit was published, and the target has so many rows and stands at this position. Just what publishing the commit at this time writes has come.
-pub record IsReport (source : SourceMeaning) (target : TargetFacts) (now : ℕ) (start : View) (before files : Files) (report : Report) : Type 0 where
-  pub at : IsAtHead source target.files start before files
-  pub written : target.writes before at.due.table.partition (origin_of source.kind at.due.head) now at.due.commit files
-  pub distinct : HasDistinctPaths at.view.table.rows
-  pub files_are : report.files ≡ length at.view.table.rows
+-- The commits that were due were published, in this way, and the target has so many rows and stands at this position. Just what publishing them at
+-- this time writes has come.
+pub record IsReport (source : SourceMeaning) (target : TargetFacts) (mode : Mode) (now : ℕ) (start : View) (before files : Files) (report : Report) : Type 0 where
+  pub at : IsAtHead source target.files mode start before files
+  pub way : report.full ≡ at.due.full
+  pub published : report.published ≡ length at.due.commits
+  pub written : target.writes before at.due.partition (origin_of at.due) now at.due.commits files
+  pub distinct : HasDistinctPaths at.gained.view.table.rows
+  pub files_are : report.files ≡ length at.gained.view.table.rows
   pub position : report.at ≡ at.due.head.position
 
 -- ---- one target
 
-abbrev pub IsReported : SourceMeaning → TargetFacts → ℕ → View → Files → Files → Answer → Type 0
-IsReported source target now start before files None = Unit {0}
-IsReported source target now start before files (Some (Ok report)) = IsReport source target now start before files report
-IsReported source target now start before files (Some (Err e)) = Unit {0}
+abbrev pub IsReported : SourceMeaning → TargetFacts → Mode → ℕ → View → Files → Files → Answer → Type 0
+IsReported source target mode now start before files None = Unit {0}
+IsReported source target mode now start before files (Some (Ok report)) = IsReport source target mode now start before files report
+IsReported source target mode now start before files (Some (Err e)) = Unit {0}
 
--- what is told of each target that is done: it went in full, by one commit
-abbrev pub IsOneInFull : Answer → Type 0
-IsOneInFull None = Unit {0}
-IsOneInFull (Some (Ok report)) = (report.full ≡ true) × (report.published ≡ 1)
-IsOneInFull (Some (Err e)) = Unit {0}
+-- What is told of each target that is done: in full it took one commit, and the command `full` goes no other way.
+abbrev pub IsOneInFull : Mode → Answer → Type 0
+IsOneInFull mode None = Unit {0}
+IsOneInFull mode (Some (Ok report)) = (report.full ≡ true → report.published ≡ 1) × (mode ≡ modes.Full → report.full ≡ true)
+IsOneInFull mode (Some (Err e)) = Unit {0}
 
 -- a target that is absent or ours, and that a crash can't damage
 pub record IsReady (source : SourceMeaning) (target : TargetFacts) (files : Files) (start : View) (Settled : Type 0) : Type 0 where
@@ -181,19 +215,32 @@ pub record IsReady (source : SourceMeaning) (target : TargetFacts) (files : File
   pub goes_on : GoesOn source.kind start
   pub settled : Settled
 
+-- the history since the target's mark is whole, and the mark has the head's position
+abbrev pub StandsAtHead : SourceMeaning → Files → View → Type 0
+StandsAtHead source files start = IsMarked start (λ standing. IsWhole source files standing × ((head : Head) × source.is_head files head × (standing.to ≡ head.position)))
+
 -- A sync of one target: what it answers, and what it leaves.
 pub record IsSync {S : Type 0} (store : Ghosts S) (source : SourceMeaning) (target : TargetFacts) (mode : Mode) (now : ℕ) (old new : S) (answer : Answer) : Type 0 where
   -- No file outside the target's folder changes.
   pub alone : store.tells → ChangesOnlyIn store (folder_of target.files.kind) old new
   pub source_stays : store.tells → ¬ (source.kind ≡ target.files.kind) → ((path : List ℕ) → IsIn (folder_of source.kind) path → IsClean (store.disk old) path) → KeepsSource store source old new
   pub synced : store.tells → (start : View) → IsReady source target (store.disk old).files start (target.files.settled (store.disk old))
-      → Synced store source target.files start (IsUndisturbed answer) (IsDone answer) old new × IsReported source target now start (store.disk old).files (store.disk new).files answer
-  pub in_full : IsOneInFull answer
+      → Synced store source target.files mode start (IsUndisturbed answer) (IsDone answer) old new × IsReported source target mode now start (store.disk old).files (store.disk new).files answer
+  pub in_full : IsOneInFull mode answer
+  -- Of a target whose mark has the head's position files are read alone.
+  pub still : store.tells → mode ≡ modes.Sync → IsDone answer → (start : View) → IsReady source target (store.disk old).files start (target.files.settled (store.disk old)) → StandsAtHead source (store.disk old).files start → OnlyReads store old new
+  -- Where another writer was in the way, the commits published before stay, and nothing is published behind that writer's.
+  pub contested : store.tells → answer ≡ Some (Err (status.Contested target.files.kind)) → (start : View) → IsReady source target (store.disk old).files start (target.files.settled (store.disk old))
+      → IsContested store source target.files mode start (store.disk old).files old new
+  -- Where a number is passed, no file changed, or just the commits before the one that passes it are published.
+  pub limited : store.tells → (which : LimitKind) (number : ℕ) → answer ≡ Some (Err (status.Limit (side.Target target.files.kind) which number)) → (start : View) → IsReady source target (store.disk old).files start (target.files.settled (store.disk old))
+      → OnlyReads store old new ⊎ IsLimited source target.files (λ files partition origin. target.passes files partition origin now) mode start (store.disk old).files (store.disk new).files which number
+  -- Each refusal is one of a sync, and a target's names this target.
+  pub few : IsFew target.files.kind answer
   -- Each refusal has its cause, and comes exactly where it is due.
   pub caused : store.tells → IsCaused (OnlyReads store old new) source target mode now (store.disk old).files answer
   pub absent : store.tells → source.is_absent (store.disk old).files → IsAbsent source (store.disk old).files answer
   pub foreign : store.tells → (path : List ℕ) → target.is_foreign source.kind (store.disk old).files path → IsStatus source target (store.disk old).files (status.Foreign target.files.kind path) answer
-  pub later : store.tells → mode ≡ modes.Sync → IsOurs source target (store.disk old).files → IsStatus source target (store.disk old).files status.Later answer
   pub fault : FailsBy store old new (answer ≡ Some (Err status.StoreFault))
   pub contest : IsContestedBy store old new (answer ≡ Some (Err (status.Contested target.files.kind)))
   pub complete : store.tells → CanSync source target mode now (store.disk old).files → ¬ Rose (store.faults old) (store.faults new) → ¬ Rose (store.contests old) (store.contests new) → IsComplete answer

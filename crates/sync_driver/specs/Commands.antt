@@ -2,13 +2,15 @@
 use Rattle.std.specs.Prelude.{◌≡◌, ◌⊎◌, ◌++◌, ℕ, List, [], Option, Some, None, Ok, Err}
 use Rattle.lake_store.specs.Cause.{Rose}
 use Rattle.lake_store.specs.Disk.{Files}
+use Rattle.lake_store.specs.Runs.{OnlyReads}
 use Rattle.lake_store.specs.declared.sink.Sink as sinks
 use Rattle.lake_store.specs.declared.store.Store.{Ghosts}
 use Rattle.source_core.specs.Answers.{IsHeadRefusal}
 use Rattle.source_core.specs.declared.error.SourceError.{SourceError}
 use Rattle.source_core.specs.declared.head.Head.{Head}
 use Rattle.table_history.specs.declared.kind.Kind.{Kind}
-use Rattle.sync_driver.specs.Answered.{Answer, CanSync, IsSync}
+use Rattle.sync_driver.specs.Along.{IsWholeSync}
+use Rattle.sync_driver.specs.Answered.{Answer, CanSync}
 use Rattle.sync_driver.specs.Applied.{status_of_source}
 use Rattle.sync_driver.specs.Lines.{pending_line, refusal_line, report_line}
 use Rattle.sync_driver.specs.Sources.{SourceMeaning}
@@ -39,9 +41,11 @@ answer_status (Some (Err e)) = e
 pub record Syncs {S O : Type 0} (store : Ghosts S) (sink : sinks.Ghosts O) (source : SourceMeaning) (target : TargetFacts) (mode : Mode) (now : ℕ) (old new : S) (out_old out_new : O) (status : Status) : Type 0 where
   pub pending : Option (List ℕ)
   pub answer : Answer
-  pub sync : IsSync store source target mode now old new answer
-  pub pending_is : store.tells → IsPending source (store.disk old).files pending (λ e. answer ≡ Some (Err (status_of_source e)))
+  pub sync : IsWholeSync store source target mode now old new answer
+  pub pending_is : store.tells → IsPending source (store.disk old).files pending (λ e. (answer ≡ Some (Err (status_of_source e))) × OnlyReads store old new)
   pub told : Tells sink out_old out_new (pending_line pending ++ answer_line target.files.kind answer) (answer_status answer) status
+  -- where there is an answer, the pending commit's line went out whole before it
+  pub first : sink.tells → ¬ (answer ≡ None) → (rest : List ℕ) × (sink.output out_new ≡ sink.output out_old ++ pending_line pending ++ rest)
   pub answered : answer ≡ None → ¬ (status ≡ Done)
   pub complete : store.tells → CanSync source target mode now (store.disk old).files → ¬ Rose (store.faults old) (store.faults new) → ¬ Rose (store.contests old) (store.contests new)
       → ¬ Rose (sink.faults out_old) (sink.faults out_new) → (status ≡ Done) ⊎ (status ≡ Memory)

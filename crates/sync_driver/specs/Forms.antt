@@ -7,7 +7,7 @@ use Rattle.table_history.specs.Words.{kind_named}
 use Rattle.sync_driver.specs.declared.words.Verb.{Verb}
 use Rattle.sync_driver.specs.declared.words.Verb.TheVariants as verb
 use Rattle.sync_driver.specs.declared.words.Form.{Form}
-use Rattle.sync_driver.specs.declared.words.Form.TheVariants.{Sync, Full, Show}
+use Rattle.sync_driver.specs.declared.words.Form.TheVariants.{Sync, Full, Show, Check}
 
 abbrev pub Words : Type 0
 Words = List (String Global)
@@ -24,6 +24,7 @@ abbrev pub verb_word : Verb → List ℕ
 verb_word verb.Sync = codes "sync"
 verb_word verb.Full = codes "full"
 verb_word verb.Show = codes "show"
+verb_word verb.Check = codes "check"
 
 -- so many words, the first of them a place: behind it the verb and the source
 abbrev pub Begins : Words → ℕ → Verb → Kind → Type 0
@@ -36,21 +37,25 @@ Spells words (Sync f t (Some u)) = Begins words 5 verb.Sync f × (kind_at words 
 Spells words (Full f t None) = Begins words 4 verb.Full f × (kind_at words 3 ≡ Some t) × (f ≢ t)
 Spells words (Full f t (Some u)) = Begins words 5 verb.Full f × (kind_at words 3 ≡ Some t) × (kind_at words 4 ≡ Some u) × (f ≢ t) × (f ≢ u) × (t ≢ u)
 Spells words (Show f) = Begins words 3 verb.Show f
+Spells words (Check f t) = Begins words 4 verb.Check f × (kind_at words 3 ≡ Some t) × (f ≢ t)
 
 abbrev pub show_by : Verb → Kind → Option Form
 show_by verb.Sync f = None
 show_by verb.Full f = None
 show_by verb.Show f = Some (Show f)
+show_by verb.Check f = None
 
 abbrev pub pair_by : Verb → Kind → Kind → Option Form
 pair_by verb.Sync f t = Some (Sync f t None)
 pair_by verb.Full f t = Some (Full f t None)
 pair_by verb.Show f t = None
+pair_by verb.Check f t = Some (Check f t)
 
 abbrev pub triple_by : Verb → Kind → Kind → Kind → Option Form
 triple_by verb.Sync f t u = Some (Sync f t (Some u))
 triple_by verb.Full f t u = Some (Full f t (Some u))
 triple_by verb.Show f t u = None
+triple_by verb.Check f t u = None
 
 -- a byte before a location, which ends with no slash
 abbrev pub before : ℕ → List ℕ → List ℕ

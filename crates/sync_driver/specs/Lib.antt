@@ -1,6 +1,8 @@
+pub mod Along
 pub mod Answered
 pub mod Answers
 pub mod Applied
+pub mod Checked
 pub mod Commands
 pub mod Dues
 pub mod Forms

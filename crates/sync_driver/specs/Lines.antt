@@ -5,6 +5,7 @@ use Rattle.table_history.specs.declared.kind.Kind.{Kind}
 use Rattle.table_history.specs.Words.{kind_word, feature_word, limit_word}
 use Rattle.table_lines.specs.Lines.{line}
 use Rattle.sync_driver.specs.declared.apply.Report.{Report}
+use Rattle.sync_driver.specs.declared.checking.Same.{Same}
 use Rattle.sync_driver.specs.declared.status.Side.{Side}
 use Rattle.sync_driver.specs.declared.status.Side.TheVariants.{Source, Target}
 use Rattle.sync_driver.specs.declared.status.Status.{Status}
@@ -51,3 +52,7 @@ way_word full = if full then codes "full" else codes "incremental"
 -- the line of a target that is done
 abbrev pub report_line : Kind → Report → List ℕ
 report_line target report = line (kind_word target ++ (codes ": " ++ (way_word report.full ++ (codes ", published " ++ (decimal report.published ++ (codes ", files " ++ (decimal report.files ++ (codes ", at " ++ report.at))))))))
+
+-- the line of a target that has the source's rows
+abbrev pub same_line : Kind → Same → List ℕ
+same_line target same = line (kind_word target ++ (codes ": same, files " ++ (decimal same.files ++ (codes ", at " ++ same.at))))

@@ -21,8 +21,8 @@ pub record TargetFacts : Type 1 where
   pub unfit : Files → List (List ℕ) → List Commit → TargetError → Type 0
   -- publishing these commits of a source of these partition columns over the files, at this time, passes this number at the last of them
   pub passes : Files → List (List ℕ) → Origin → ℕ → List Commit → LimitKind → ℕ → Type 0
-  -- over the files, publishing this commit of a source of these partition columns, at this time, leaves these files
-  pub writes : Files → List (List ℕ) → Origin → ℕ → Commit → Files → Type 0
+  -- over the files, publishing these commits of a source of these partition columns one behind the other, at this time, leaves these files
+  pub writes : Files → List (List ℕ) → Origin → ℕ → List Commit → Files → Type 0
 
 -- A target without a commit has these partition columns.
 abbrev pub Begins : List (List ℕ) → View → Type 0
@@ -32,6 +32,10 @@ Begins partition view = IsUnpublished view → view.table.partition ≡ partitio
 abbrev pub IsKept : {T K : Type 0} → Ghosts T K → T → Files → List (List ℕ) → K → Type 0
 IsKept target t files partition kept = target.stands_for t kept files × Begins partition (target.view t kept)
 
+-- Over these files, of which this is kept, publishing these commits one behind the other, at this time, leaves these files.
+abbrev pub HaveWritten : {T K : Type 0} → Ghosts T K → T → K → Files → Origin → ℕ → List Commit → Files → Type 0
+HaveWritten {T} {K} target t kept files origin now commits after = (last : K) × AreWritten (target.stands_for t) (λ here before commit next. target.writes t here before origin now commit next) kept files commits last after
+
 abbrev pub target_facts : {T K : Type 0} → Ghosts T K → T → TargetFacts
 target_facts {T} {K} target t = record {
   files = meaning target t;
@@ -39,12 +43,8 @@ target_facts {T} {K} target t = record {
   is_crowded = target.is_crowded t;
   unfit = λ files partition commits e. (kept : K) × IsKept target t files partition kept × target.unfit t kept partition commits e;
   passes = λ files partition origin now commits which number. (kept : K) × IsKept target t files partition kept × target.passes t kept files origin now commits which number;
-  writes = λ files partition origin now commit after. (kept : K) × IsKept target t files partition kept × target.writes t kept files origin now commit after;
+  writes = λ files partition origin now commits after. (kept : K) × IsKept target t files partition kept × HaveWritten target t kept files origin now commits after;
 }
-
--- Over these files, of which this is kept, publishing these commits one behind the other, at this time, leaves these files.
-abbrev pub HaveWritten : {T K : Type 0} → Ghosts T K → T → K → Files → Origin → ℕ → List Commit → Files → Type 0
-HaveWritten {T} {K} target t kept files origin now commits after = (last : K) × AreWritten (target.stands_for t) (λ here before commit next. target.writes t here before origin now commit next) kept files commits last after
 
 -- Nothing is published and the partition columns are these, or a commit is published and its mark names a source of this format.
 abbrev pub IsStart : Kind → List (List ℕ) → View → Type 0

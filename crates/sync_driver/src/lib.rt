@@ -3,6 +3,7 @@
 
 mod apply;
 mod cause;
+mod checking;
 mod command;
 mod line;
 mod plan;
@@ -14,12 +15,15 @@ mod top;
 mod words;
 
 pub use apply::{Report, apply_one};
-pub use plan::{Mode, Plan};
+pub use checking::{Same, check};
+pub use plan::{Mode, Plan, plan_one};
 pub use showing::show;
 pub use status::{Side, Status};
 pub use sync::sync_one;
 pub use top::{refuse_words, run};
 
+#[cfg(test)]
+mod check_tests;
 #[cfg(test)]
 mod delta_target_tests;
 #[cfg(test)]
@@ -28,6 +32,8 @@ mod fixtures;
 mod hostile_tests;
 #[cfg(test)]
 mod hudi_target_tests;
+#[cfg(test)]
+mod incremental_tests;
 #[cfg(test)]
 mod show_hudi_tests;
 #[cfg(test)]

@@ -3,9 +3,10 @@ ghost use Rattle.std.specs.Prelude.{◌≡◌, ◌++◌, IfOk, Some, codes, stri
 ghost use Rattle.std.specs.Fmt.{decimal};
 ghost use Rattle.table_history.specs.Words.{kind_word, feature_word, limit_word};
 ghost use Rattle.table_lines.specs.Lines.{line};
-ghost use Rattle.sync_driver.specs.Lines.{side_word, position_word, path_part, pending_line, refusal_line, report_line, way_word};
+ghost use Rattle.sync_driver.specs.Lines.{side_word, position_word, path_part, pending_line, refusal_line, report_line, same_line, way_word};
 
 use crate::apply::Report;
+use crate::checking::Same;
 use crate::status::{Side, Status};
 use lake_store::Text;
 use std::alloc::{AllocError, Global};
@@ -177,5 +178,16 @@ pub(crate) fn report_line(
     let files = report.files;
     let at = report.at.as_str();
     let text = format!(in alloc; "{target}: {way}, published {published}, files {files}, at {at}")?;
+    line_of_text(alloc, text.as_str())
+}
+
+/// The line of a target that has the source's rows.
+pub(crate) fn same_line(alloc: Global, target: Kind, same: &Same) -> Result<Vec<u8>, AllocError>
+    ensures { IfOk result (λ bytes. bytes.items ≡ same_line target same.now) }
+{
+    let target = target.word();
+    let files = same.files;
+    let at = same.at.as_str();
+    let text = format!(in alloc; "{target}: same, files {files}, at {at}")?;
     line_of_text(alloc, text.as_str())
 }

@@ -117,7 +117,7 @@ fn other_answers_have_their_lines(rt: HostRuntime) -> Result<(), Fail> {
             "status 2: Usage\n",
         ),
         (
-            "/data/t check delta hudi",
+            "/data/t check delta delta",
             Some(ONE_FILE),
             99,
             99,

@@ -18,6 +18,7 @@ pub(crate) enum Verb {
     Sync,
     Full,
     Show,
+    Check,
 }
 
 /// What a command asks for: a source, and the targets.
@@ -26,6 +27,7 @@ pub(crate) enum Form {
     Sync(Kind, Kind, Option<Kind>),
     Full(Kind, Kind, Option<Kind>),
     Show(Kind),
+    Check(Kind, Kind),
 }
 
 fn word_at(words: &[String], place: usize) -> Option<&str>
@@ -51,6 +53,7 @@ fn verb_at(words: &[String], place: usize) -> Option<Verb>
         "sync" => Some(Verb::Sync),
         "full" => Some(Verb::Full),
         "show" => Some(Verb::Show),
+        "check" => Some(Verb::Check),
         _ => None,
     }
 }
@@ -62,6 +65,7 @@ fn show_form(verb: Verb, source: Kind) -> Option<Form>
         Verb::Show => Some(Form::Show(source)),
         Verb::Sync => None,
         Verb::Full => None,
+        Verb::Check => None,
     }
 }
 
@@ -72,6 +76,7 @@ fn pair_form(verb: Verb, source: Kind, target: Kind) -> Option<Form>
         Verb::Sync => Some(Form::Sync(source, target, None)),
         Verb::Full => Some(Form::Full(source, target, None)),
         Verb::Show => None,
+        Verb::Check => Some(Form::Check(source, target)),
     }
 }
 
@@ -82,6 +87,7 @@ fn triple_form(verb: Verb, source: Kind, first: Kind, second: Kind) -> Option<Fo
         Verb::Sync => Some(Form::Sync(source, first, Some(second))),
         Verb::Full => Some(Form::Full(source, first, Some(second))),
         Verb::Show => None,
+        Verb::Check => None,
     }
 }
 

@@ -2,11 +2,12 @@ use Rattle.std.proofs.Common.{◌≡◌, ℕ, true, false, List, Option, Result,
 use Rattle.std.proofs.lemmas.Result.{err_from_is_err_and}
 use Rattle.std.specs.Option.{option_copied}
 use Rattle.std.specs.Prelude.{length}
+use Rattle.lake_store.specs.Runs.{IsEachMoment}
 use Rattle.lake_store.specs.Disk.{Files}
 use Rattle.table_history.specs.declared.table.Commit.{Commit}
 use Rattle.table_history.specs.declared.limit.LimitKind.{LimitKind}
 use Rattle.target_core.specs.Conditions.{CanPublishAll, Fits}
-use Rattle.target_core.specs.Progress.{IsRefusedAt}
+use Rattle.target_core.specs.Progress.{IsRefusedAt, KeepsShown}
 use Rattle.target_core.specs.Publishing.{Publishes}
 use Rattle.target_core.specs.Refusals.{IsFitsRefusal}
 use Rattle.target_core.specs.TargetMeanings.{meaning}
@@ -77,7 +78,7 @@ returns-in_err-fits g c =
     subst (λ (r : Result Report TargetError). Applies store (meaning g.T.Target t) (unfit partition commits) passes written origin view partition commits c.args.plan.full Stands old old r)
     (sym (exit.1 ∙ ap (λ (x : TargetError). Err x) exit.2))
     (applies_unfit store (meaning g.T.Target t) origin view commits (unfit partition commits) passes written partition c.args.plan.full g.met.S.Store.only_now
-    (record { reads = g.met.T.Target.crash_reads t; carries = g.met.T.Target.crash_carries t; settled = g.met.T.Target.crash_settled t })
+    (record { reads = g.met.T.Target.crash_reads t; carries = g.met.T.Target.crash_carries t; settled = g.met.T.Target.crash_settled t; within = g.met.T.Target.carries_within t })
     old Stands (λ stands. (g.met.T.Target.kept_view t kept files stands.0, stands.1)) e refused)
 
 pub returns-in_err-published : goal.returns-in_err-published
@@ -105,8 +106,8 @@ returns-in_err-published g c =
     let e : TargetError = c.in_err-published.field-0.0 in
     subst (λ (r : Result Report TargetError). Applies store (meaning g.T.Target t) (unfit partition commits) (passes_at c.args.plan.table) (written_at c.args.plan.table) (origin_at c.args.plan.table) view partition commits c.args.plan.full Stands old new r)
     (sym (exit.1 ∙ ap (λ (x : TargetError). Err x) exit.2))
-    (applies_refused store (meaning g.T.Target t) (origin_at c.args.plan.table) view commits (unfit partition commits) (passes_at c.args.plan.table) (written_at c.args.plan.table) partition c.args.plan.full Stands old new columns
-    c.in_err-published.ensures.alone Stands e
+    (applies_refused store (meaning g.T.Target t) (origin_at c.args.plan.table) view commits (unfit partition commits) (passes_at c.args.plan.table) (written_at c.args.plan.table) partition c.args.plan.full Stands old new columns (λ told none. c.in_err-published.ensures.none told (commits_is ∙ none))
+    c.in_err-published.ensures.alone e
     (λ told stands.
     subst (λ (cs : List Commit). Publishes store (meaning g.T.Target t) (origin_at c.args.plan.table) view cs (e ≡ Contested → ⊥) false old new) commits_is
     (subst (λ (id : Option (List ℕ)). Publishes store (meaning g.T.Target t) (origin_at id) view c.as_slice-commits.result.now (e ≡ Contested → ⊥) false old new) id_is
@@ -115,6 +116,10 @@ returns-in_err-published g c =
     subst (λ (cs : List Commit). IsRefusedAt (meaning g.T.Target t) (passes_at c.args.plan.table) Stands (origin_at c.args.plan.table) view files cs (store.disk new).files e) commits_is
     (subst (λ (id : Option (List ℕ)). IsRefusedAt (meaning g.T.Target t) (passes_at id) Stands (origin_at id) view files c.as_slice-commits.result.now (store.disk new).files e) id_is
     (c.in_err-published.ensures.refusal told)))
+    (λ told stands.
+    subst (λ (cs : List Commit). IsEachMoment store old new (KeepsShown (meaning g.T.Target t) (origin_at c.args.plan.table) view cs (store.disk new).files e)) commits_is
+    (subst (λ (id : Option (List ℕ)). IsEachMoment store old new (KeepsShown (meaning g.T.Target t) (origin_at id) view c.as_slice-commits.result.now (store.disk new).files e)) id_is
+    (c.in_err-published.ensures.kept told stands.0 stands.1)))
     c.in_err-published.ensures.cause c.in_err-published.ensures.contest)
 
 pub returns-in_err-report_of : goal.returns-in_err-report_of
@@ -141,7 +146,7 @@ returns-in_err-report_of g c =
     let exit = err_from_is_err_and c.from_residual-in_err-report_of.result c.from_residual-in_err-report_of.ensures.1 in
     subst (λ (r : Result Report TargetError). Applies store (meaning g.T.Target t) (unfit partition commits) (passes_at c.args.plan.table) (written_at c.args.plan.table) (origin_at c.args.plan.table) view partition commits c.args.plan.full Stands old new r)
     (sym (exit.1 ∙ ap (λ (x : TargetError). Err x) exit.2))
-    (applies_untold store (meaning g.T.Target t) (origin_at c.args.plan.table) view commits (unfit partition commits) (passes_at c.args.plan.table) (written_at c.args.plan.table) partition c.args.plan.full Stands old new columns
+    (applies_untold store (meaning g.T.Target t) (origin_at c.args.plan.table) view commits (unfit partition commits) (passes_at c.args.plan.table) (written_at c.args.plan.table) partition c.args.plan.full Stands old new columns (λ told none. c.in_ok-published.ensures.none told (commits_is ∙ none))
     c.in_ok-published.ensures.alone c.in_ok-published.published
     (λ told stands.
     subst (λ (cs : List Commit). Publishes store (meaning g.T.Target t) (origin_at c.args.plan.table) view cs (Unit {0}) true old new) commits_is
@@ -172,7 +177,7 @@ returns g c =
     let id_is = c.as_ref.ensures.value in
     let last = g.T.Target.view t c.follow.new.kept in
     let count = c.in_ok-published.ensures.count ∙ ap (λ (cs : List Commit). length cs) commits_is in
-    applies_all store (meaning g.T.Target t) (origin_at c.args.plan.table) view commits (unfit partition commits) (passes_at c.args.plan.table) (written_at c.args.plan.table) partition c.args.plan.full Stands old new columns
+    applies_all store (meaning g.T.Target t) (origin_at c.args.plan.table) view commits (unfit partition commits) (passes_at c.args.plan.table) (written_at c.args.plan.table) partition c.args.plan.full Stands old new columns (λ told none. c.in_ok-published.ensures.none told (commits_is ∙ none))
     c.in_ok-published.ensures.alone c.in_ok-published.published
     (λ told stands.
     subst (λ (cs : List Commit). Publishes store (meaning g.T.Target t) (origin_at c.args.plan.table) view cs (Unit {0}) true old new) commits_is

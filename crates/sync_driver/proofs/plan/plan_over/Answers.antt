@@ -6,14 +6,15 @@ use Rattle.sync_driver.specs.Dues.{IsChangeTo}
 use Rattle.sync_driver.proofs.Planning.{publishable_after}
 use Rattle.sync_driver.proofs.plan.plan_over.Goals as goal
 
-pub returns-clause-plan : goal.returns-clause-plan
-returns-clause-plan g c =
+pub returns : goal.returns
+returns g c =
     let commit : Commit = c.in_ok-commit.commit in
     let change = commit.change in
-    let before : Table = (g.T.Target.view c.args.target.now c.in_ok-kept.kept).table in
+    let before : Table = (g.T.Target.view c.args.target.now c.args.kept).table in
     let is_change = subst (λ (t : Table). IsChangeTo t c.args.table change) c.table.ensures c.in_ok-commit.ensures.change in
     let leads = subst (λ (t : Table). LeadsTo t.rows change.removed change.added c.args.table.rows) c.table.ensures c.in_ok-commit.ensures.leads in
     record {
+      is_kept = refl;
       commit = commit;
       commits = c.from_vec.ensures ∙ c.in_ok-vec.ensures.items;
       position = c.in_ok-commit.ensures.position;
@@ -21,7 +22,7 @@ returns-clause-plan g c =
       leads = leads;
       partition = refl;
       full = refl;
-      id = c.in_ok-copy_id.ensures;
+      id = refl;
       can = λ columns. record {
         change = subst (λ (t : Table). CanApply t change) c.table.ensures c.in_ok-commit.ensures.fits;
         after = λ t is. publishable_after before c.args.table t change c.requires leads is_change.schema columns is;
