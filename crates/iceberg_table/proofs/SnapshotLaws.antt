@@ -29,7 +29,7 @@ use Rattle.iceberg_table.specs.Lists.{SaysList}
 use Rattle.iceberg_table.specs.Manifests.{IsManifestOf, entry_count}
 use Rattle.iceberg_table.specs.Plan.{IsPlanOf, IsSoundPlan, names_of, part_columns}
 use Rattle.iceberg_table.specs.Refusals.{IsListedRefusal}
-use Rattle.iceberg_table.specs.Snapshots.{IsReadBy, IsTableOfSnapshot}
+use Rattle.iceberg_table.specs.Snapshots.{HasColumnsOf, IsReadBy, IsTableOfSnapshot}
 use Rattle.iceberg_table.specs.Tables.{IsTableOfRows, IsTableOfSnapshots, rows_of}
 use Rattle.table_history.specs.declared.limit.LimitKind.TheVariants.{LiveFiles}
 use Rattle.iceberg_table.specs.declared.error.Fault.TheVariants as fault
@@ -129,3 +129,11 @@ module _ (plan : Plan) (sound : IsSoundPlan plan) (rows : List Row) (fit : FitRo
   pub whole_table : (table : Table) (manifests : List Manifest) (r : Result SnapshotTable IcebergError) → IfOk r (λ t. t ≡ record { table = table; manifests = manifests }) → IfOk r (λ t. t.table ≡ table)
   whole_table table manifests (Ok t) whole = ap (λ (u : SnapshotTable). u.table) whole
   whole_table table manifests (Err e) whole = tt
+
+pub columns_found : (plan : Plan) (read : SnapshotTable) (rows : List Row) → IsTableOfRows plan.schema (names_of plan.columns) rows read.table → (r : Result SnapshotTable IcebergError) → IfOk r (λ t. t ≡ read) → IfOk r (λ t. (t.table.schema ≡ plan.schema) × (t.table.partition ≡ names_of plan.columns))
+columns_found plan read rows table (Ok t) same = (ap (λ (x : SnapshotTable). x.table.schema) same ∙ table.schema, ap (λ (x : SnapshotTable). x.table.partition) same ∙ table.partition)
+columns_found plan read rows table (Err e) same = tt
+
+pub columns_planned : (m : Metadata) (s : Snapshot) (plan : Plan) → IsPlanOf m s plan → (r : Result SnapshotTable IcebergError) → IfOk r (λ t. (t.table.schema ≡ plan.schema) × (t.table.partition ≡ names_of plan.columns)) → IfOk r (λ t. HasColumnsOf m s t.table)
+columns_planned m s plan planned (Ok t) columns = record { plan = plan; planned = planned; schema = columns.0; partition = columns.1 }
+columns_planned m s plan planned (Err e) columns = tt

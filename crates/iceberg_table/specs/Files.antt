@@ -1,6 +1,7 @@
 -- What the metadata of a version says.
-use Rattle.std.specs.Prelude.{◌≡◌, ℕ, List, Some}
+use Rattle.std.specs.Prelude.{◌≡◌, ◌≤◌, ℕ, List, Some, length}
 use Rattle.std.specs.FinMap as map
+use Rattle.lake_basics.specs.declared.limits.TheConstants.{MAX_FILE_BYTES}
 use Rattle.lake_store.specs.Disk.{Files}
 use Rattle.table_history.specs.First.{NoneOf}
 use Rattle.iceberg_metadata.specs.Ancestry.{FormsCycle}
@@ -16,6 +17,7 @@ HoldsFile files path bytes = map.get files path ≡ Some bytes
 pub record SaysMetadata (files : Files) (version : ℕ) (m : Metadata) : Type 0 where
   pub bytes : List ℕ
   pub holds : HoldsFile files (version_path version) bytes
+  pub small : length bytes ≤ MAX_FILE_BYTES
   pub read : IsRead bytes m
   pub supported : NoneOf (HasCause bytes) causes
   pub acyclic : ¬ FormsCycle m

@@ -58,7 +58,7 @@ module _ (a b : Files) (same : SameMetadataFiles a b) where
   holds_too path bytes within holds = same path within ∙ holds
 
   pub metadata_too : (version : ℕ) (m : Metadata) → SaysMetadata a version m → SaysMetadata b version m
-  metadata_too version m h = record { bytes = h.bytes; holds = holds_too (version_path version) h.bytes (version_within version) h.holds; read = h.read; supported = h.supported; acyclic = h.acyclic }
+  metadata_too version m h = record { bytes = h.bytes; holds = holds_too (version_path version) h.bytes (version_within version) h.holds; small = h.small; read = h.read; supported = h.supported; acyclic = h.acyclic }
 
   pub list_too : (m : Metadata) (path : List ℕ) (list : List ManifestFile) → IsIn metadata_folder path → SaysList a m path list → SaysList b m path list
   list_too m path list within h = record { bytes = h.bytes; holds = holds_too path h.bytes within h.holds; infos = h.infos; rows = h.rows; listed = h.listed }

@@ -43,6 +43,13 @@ pub record IsTableOfSnapshot (files : Files) (m : Metadata) (s : Snapshot) (t : 
   pub partition : t.partition ≡ names_of plan.columns
   pub rows : (row : Row) → Contains t.rows row ↔ IsLiveIn files m s row
 
+-- The table has the snapshot's schema and the partition columns of the default spec.
+pub record HasColumnsOf (m : Metadata) (s : Snapshot) (t : Table) : Type 0 where
+  pub plan : Plan
+  pub planned : IsPlanOf m s plan
+  pub schema : t.schema ≡ plan.schema
+  pub partition : t.partition ≡ names_of plan.columns
+
 -- The list and each manifest that it names are read so, and their live rows are the table's.
 pub record IsReadBy (files : Files) (m : Metadata) (plan : Plan) (t : SnapshotTable) : Type 0 where
   pub list : List ManifestFile

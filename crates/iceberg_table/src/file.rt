@@ -1,6 +1,7 @@
 //! One file of a table's metadata.
 
-ghost use Rattle.std.specs.Prelude.{◌≡◌, ◌⊎◌, IfErr, IfOk, IsErrOf};
+ghost use Rattle.std.specs.Prelude.{◌≡◌, ◌≤◌, ◌⊎◌, length, IfErr, IfOk, IsErrOf};
+ghost use Rattle.lake_basics.specs.declared.limits.TheConstants.{MAX_FILE_BYTES};
 ghost use Rattle.lake_store.specs.Runs.{FailsBy, IsUncontestedBy, OnlyReads};
 ghost use Rattle.iceberg_table.specs.Errors.{IsFileFault, IsRefusal, error_at};
 ghost use Rattle.iceberg_table.specs.Files.{HoldsFile};
@@ -26,6 +27,7 @@ pub(crate) fn read_file<S: Store>(
     path: &Text,
 ) -> Result<Blob, IcebergError>
     ensures holds { S.tells → IfOk result (HoldsFile (S.disk store.old).files path.now) }
+    ensures short { IfOk result (λ bytes. length bytes ≤ MAX_FILE_BYTES) }
     ensures refused { S.tells → IfErr result
         (IsRefusal (IsFileFault (S.disk store.old).files path.now (λ _ _. ⊥))) }
     ensures only_reads { S.tells → OnlyReads ⟦<S as Store>⟧ store.old store.new }

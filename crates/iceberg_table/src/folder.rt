@@ -1,7 +1,8 @@
 //! Which versions of a table's metadata are there.
 
-ghost use Rattle.std.specs.Prelude.{◌≡◌, ℕ, find, IfErr, IfOk, IsErrOf, MatchOption};
+ghost use Rattle.std.specs.Prelude.{◌≡◌, ◌≤◌, ℕ, find, length, IfErr, IfOk, IsErrOf, MatchOption};
 ghost use Rattle.std.specs.Option.{option_copied};
+ghost use Rattle.lake_basics.specs.declared.limits.TheConstants.{MAX_NAMES};
 ghost use Rattle.lake_store.specs.Disk.{names_in};
 ghost use Rattle.lake_store.specs.Runs.{FailsBy, IsUncontestedBy, OnlyReads};
 ghost use Rattle.iceberg_table.specs.Errors.{IsRefusal};
@@ -89,6 +90,7 @@ pub fn list_metadata<S: Store>(alloc: Global, store: &mut S) -> Result<MetadataN
     ensures newest { S.tells → IfOk result (λ found. MatchOption found.newest
         ((v : ℕ) → ¬ HasVersion (S.disk store.old).files v)
         (IsNewest (HasVersion (S.disk store.old).files))) }
+    ensures few { IfOk result (λ found. length found.names ≤ MAX_NAMES) }
     ensures refused { S.tells
         → IfErr result (IsRefusal (HasManyNames (S.disk store.old).files)) }
     ensures only_reads { S.tells → OnlyReads ⟦<S as Store>⟧ store.old store.new }

@@ -7,9 +7,9 @@ ghost use Rattle.lake_store.specs.Runs.{FailsBy, IsUncontestedBy, OnlyReads};
 ghost use Rattle.iceberg_metadata.specs.Writing.{IsWritable};
 ghost use Rattle.iceberg_table.specs.Errors.{IsRefusal, error_at};
 ghost use Rattle.iceberg_table.specs.Folder.{version_path};
-ghost use Rattle.iceberg_table.specs.Plan.{IsSoundPlan};
+ghost use Rattle.iceberg_table.specs.Plan.{IsSoundPlan, names_of};
 ghost use Rattle.iceberg_table.specs.Refusals.{IsListedRefusal, IsSnapshotRefusal};
-ghost use Rattle.iceberg_table.specs.Snapshots.{IsReadAs, IsReadBy, IsTableOfSnapshot};
+ghost use Rattle.iceberg_table.specs.Snapshots.{HasColumnsOf, IsReadAs, IsReadBy, IsTableOfSnapshot};
 ghost use Rattle.iceberg_table.specs.Tables.{IsTableOfSnapshots};
 ghost use Rattle.iceberg_table.specs.declared.error.IcebergError.TheVariants.{Memory, Refused, StoreFault};
 
@@ -68,6 +68,8 @@ fn read_planned<S: Store>(
 ) -> Result<SnapshotTable, IcebergError>
     ensures read { S.tells
         → IfOk result (IsReadBy (S.disk store.old).files metadata.now plan) }
+    ensures columns { IfOk result (λ t. (t.table.schema ≡ plan.schema)
+        × (t.table.partition ≡ names_of plan.columns)) }
     // The table may be published where the schema and the columns are a table's own.
     ensures sound { IsSoundPlan plan → IfOk result (λ t. IsTableOfSnapshots t.table) }
     ensures refused { S.tells → IfErr result
@@ -115,6 +117,8 @@ pub fn read_snapshot<S: Store>(
     // What was read of the list and of each manifest.
     ensures read { S.tells → IfOk result
         (IsReadAs (S.disk store.old).files metadata.now snapshot.now) }
+    ensures columns { IfOk result
+        (λ t. HasColumnsOf metadata.now snapshot.now t.table) }
     // What is read of a table's own metadata may be published, and passes no number.
     ensures sound { IsWritable metadata.now
         → IfOk result (λ t. IsTableOfSnapshots t.table) }

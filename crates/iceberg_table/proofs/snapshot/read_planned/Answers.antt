@@ -7,7 +7,7 @@ use Rattle.iceberg_table.specs.Kinds.{FitRows}
 use Rattle.iceberg_table.specs.Manifests.{IsManifestOf}
 use Rattle.iceberg_table.specs.Plan.{names_of, part_columns}
 use Rattle.iceberg_table.specs.Tables.{rows_of}
-use Rattle.iceberg_table.proofs.SnapshotLaws.{many_refused, read_by, table_sound, whole_table, with_schema}
+use Rattle.iceberg_table.proofs.SnapshotLaws.{columns_found, many_refused, read_by, table_sound, whole_table, with_schema}
 use Rattle.iceberg_table.proofs.snapshot.read_planned.Goals as goal
 
 pub returns-in_err-read-clause-only_reads : goal.returns-in_err-read-clause-only_reads
@@ -60,3 +60,11 @@ returns-clause-refused g c told =
     let names = c.empty_table-empty.ensures.partition ∙ c.in_ok-names.ensures ∙ ap names_of c.as_slice.ensures in
     let table = with_schema empty.schema c.args.plan.schema empty.partition (names_of c.args.plan.columns) (rows_of c.in_ok-read.read.manifests) c.in_ok-read.read.table c.empty_table-empty.ensures.schema names c.in_ok-read.ensures.table in
     many_refused files m plan list (c.in_ok-list.ensures.says told) manifests are c.in_ok-read.ensures.within c.in_ok-read.read.table table c.bounded.result c.bounded.ensures.many
+
+pub returns-clause-columns : goal.returns-clause-columns
+returns-clause-columns g c =
+    let rows = rows_of c.in_ok-read.read.manifests in
+    let empty = c.empty_table-empty.result in
+    let names = c.empty_table-empty.ensures.partition ∙ c.in_ok-names.ensures ∙ ap names_of c.as_slice.ensures in
+    let table = with_schema empty.schema c.args.plan.schema empty.partition (names_of c.args.plan.columns) rows c.in_ok-read.read.table c.empty_table-empty.ensures.schema names c.in_ok-read.ensures.table in
+    columns_found c.args.plan c.in_ok-read.read rows table c.bounded.result c.bounded.ensures.same

@@ -5,7 +5,7 @@ use Rattle.iceberg_table.specs.Errors.{IsTold}
 use Rattle.iceberg_table.specs.Refusals.{IsSnapshotRefusal}
 use Rattle.iceberg_table.proofs.FaultLaws.{refused_further, told_at}
 use Rattle.iceberg_table.proofs.PlanLaws.{plan_sound}
-use Rattle.iceberg_table.proofs.SnapshotLaws.{table_found}
+use Rattle.iceberg_table.proofs.SnapshotLaws.{columns_planned, table_found}
 use Rattle.iceberg_table.proofs.snapshot.read_snapshot.Goals as goal
 
 pub returns-in-Ok-clause-table : goal.returns-in-Ok-clause-table
@@ -22,3 +22,6 @@ returns-in-Err-clause-refused g c told =
     let v = c.args.version in
     refused_further (IsTold (version_path v) (IsPlanFault m s)) (IsSnapshotRefusal files m v s) c.version_refusal.result (λ d shows. inl shows)
     (told_at (version_path v) (IsPlanFault m s) c.in-Err.error c.version_refusal.result c.version_refusal.ensures c.in-Err.ensures.refused)
+
+pub returns-in-Ok-clause-columns : goal.returns-in-Ok-clause-columns
+returns-in-Ok-clause-columns g c = columns_planned c.args.metadata.now c.args.snapshot.now c.in-Ok.plan c.in-Ok.ensures.found c.read_planned.result c.read_planned.ensures.columns
