@@ -1,0 +1,6 @@
+pub mod AtHead
+pub mod LaterLaws
+pub mod Names
+pub mod Present
+pub mod Publishable
+pub mod SinceLaws

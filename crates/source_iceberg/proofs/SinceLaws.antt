@@ -1,0 +1,275 @@
+-- The commits of snapshots, one after another over a base.
+use Rattle.std.proofs.Common.{Bool, true, false, Result, Ok, Err, ◌≡◌, ◌≤◌, ◌+◌, inl, inr, ⊎_elim, ℕ, Option, Some, List, [], ◌∷◌, ◌++◌, Contains, length, arith, refl, sym, ap, subst, ◌∙◌}
+use Rattle.std.specs.Prelude.{unwrap_or}
+use Rattle.std.specs.Bool.{Decides}
+use Rattle.std.specs.Cmp.Lexicographic.{pointwise}
+use Rattle.std.specs.Str.{bytes_eq}
+use Rattle.std.specs.List.{IsDistinct}
+use Rattle.std.specs.Prelude.{IfErr, IfOk}
+use Rattle.table_history.specs.Sound.{IsSound}
+use Rattle.table_history.specs.SchemaSize.{IsWithinLimits}
+use Rattle.std.proofs.lemmas.Bool.{cases_Bool, false≢true}
+use Rattle.std.proofs.lemmas.Slice.Eq.{bytes_eq-Decides, slice_eq-Decides}
+use Rattle.lake_basics.specs.declared.limits.TheConstants.{MAX_ACTIONS, MAX_COMMITS, MAX_LIVE_FILES, MAX_PARTITION_COLUMNS}
+use Rattle.lake_store.specs.Disk.{Files}
+use Rattle.iceberg_metadata.specs.Ancestry.{IsAncestry}
+use Rattle.iceberg_table.specs.Errors.{IsRefusal}
+use Rattle.iceberg_table.specs.Refusals.{IsSnapshotRefusal}
+use Rattle.iceberg_table.specs.Snapshots.{HasColumnsOf, IsReadAs}
+use Rattle.iceberg_table.specs.declared.error.IcebergError.{IcebergError}
+use Rattle.iceberg_table.specs.declared.error.IcebergError.TheVariants as iceberg
+use Rattle.source_core.proofs.Answers.{weaker}
+use Rattle.source_core.specs.Answers.{IsReadRefusal}
+use Rattle.source_core.specs.declared.error.SourceError.{SourceError}
+use Rattle.source_core.specs.declared.error.SourceError.TheVariants as source
+use Rattle.source_iceberg.specs.HeadLemmas.{metadata_once}
+use Rattle.source_iceberg.specs.Heads.{IsNewestMetadata}
+use Rattle.source_iceberg.specs.Reading.{Tells}
+use Rattle.table_history.specs.History.{FitColumns}
+use Rattle.table_history.specs.Rows.{HasDistinctPaths, HasPath, SameRows}
+use Rattle.table_history.specs.Tables.{CanApply, IsAfter, LeadsTo}
+use Rattle.table_history.specs.TypeTree.{ColumnTrees}
+use Rattle.table_history.specs.declared.table.Change.{Change}
+use Rattle.table_history.specs.declared.table.Commit.{Commit}
+use Rattle.table_history.specs.declared.table.Table.{Table}
+use Rattle.table_history.proofs.Laws.{same_rows_after, same_rows_length}
+use Rattle.target_core.specs.Conditions.{HasKind, IsPublishable}
+use Rattle.source_core.specs.Since.{CanApplyAll, FitAll, IsSinceRefusal}
+use Rattle.iceberg_metadata.specs.declared.metadata.Metadata.{Metadata}
+use Rattle.iceberg_metadata.specs.declared.metadata.Snapshot.{Snapshot}
+use Rattle.iceberg_table.specs.Manifests.{entry_count}
+use Rattle.source_iceberg.specs.Later.{GoesOnBy, IsFoundBehind, IsNotBehind, IsOneMore}
+use Rattle.source_iceberg.specs.Since.{AreCommits, AreCommitsBehind, AreCommitsOver, HasManyEntries, IsCommitOf, IsReached, IsRefusedBehind, NamesOtherColumns, Reaches, ShowsBehind, SnapshotChanges, StopsBehind}
+use Rattle.iceberg_table.specs.declared.snapshot.SnapshotTable.{SnapshotTable}
+use Rattle.source_iceberg.specs.declared.since.Later.{Later}
+
+-- ---- tables of the same rows, columns and partition columns
+
+record AreAlike (a b : Table) : Type 0 where
+  pub rows : SameRows a.rows b.rows
+  pub partition : a.partition ≡ b.partition
+  pub schema : a.schema ≡ b.schema
+
+alike_itself : (t : Table) → AreAlike t t
+alike_itself t = record { rows = λ row. ((λ h. h), (λ h. h)); partition = refl; schema = refl }
+
+path_alike : (a b : Table) → AreAlike a b → (path : List ℕ) → HasPath a.rows path → HasPath b.rows path
+path_alike a b same path h = (h.0, (same.rows h.0).0 h.1, h.2)
+
+path_back : (a b : Table) → AreAlike a b → (path : List ℕ) → HasPath b.rows path → HasPath a.rows path
+path_back a b same path h = (h.0, (same.rows h.0).1 h.1, h.2)
+
+apply_alike : (a b : Table) (change : Change) → AreAlike a b → CanApply a change → CanApply b change
+apply_alike a b change same can = record {
+  removed_distinct = can.removed_distinct;
+  removed_there = λ path there. path_alike a b same path (can.removed_there path there);
+  added_distinct = can.added_distinct;
+  added_new = λ row added there. can.added_new row added (path_back a b same row.path there);
+}
+
+after_alike : (a b : Table) (change : Change) (after : Table) → AreAlike a b → IsAfter b change after → IsAfter a change after
+after_alike a b change after same is = record {
+  rows = λ row. (
+    λ h. ⊎_elim (λ added. inl added) (λ kept. inr ((same.rows row).1 kept.0, kept.1)) ((is.rows row).0 h),
+    λ h. (is.rows row).1 (⊎_elim (λ added. inl added) (λ kept. inr ((same.rows row).0 kept.0, kept.1)) h),
+  );
+  distinct = is.distinct;
+  schema = is.schema ∙ ap (λ (s : ColumnTrees). unwrap_or change.schema s) (sym same.schema);
+  partition = is.partition ∙ sym same.partition;
+}
+
+afters_alike : (before : Table) (change : Change) (a b : Table) → IsAfter before change a → IsAfter before change b → AreAlike a b
+afters_alike before change a b x y = record {
+  rows = same_rows_after before before change a b (λ row. ((λ h. h), (λ h. h))) x y;
+  partition = x.partition ∙ sym y.partition;
+  schema = x.schema ∙ sym y.schema;
+}
+
+-- a table like one that may be published, and of distinct paths
+publishable_alike : (a b : Table) → AreAlike a b → HasDistinctPaths b.rows → IsPublishable a → IsPublishable b
+publishable_alike a b same distinct is = record {
+  sound = record {
+    distinct = distinct;
+    values = λ row there.
+        subst (λ (schema : ColumnTrees). FitColumns schema b.partition row.values) same.schema
+        (subst (λ (names : List (List ℕ)). FitColumns a.schema names row.values) same.partition (is.sound.values row ((same.rows row).1 there)));
+  };
+  paths = λ row there. is.paths row ((same.rows row).1 there);
+  live_files = subst (λ n. n ≤ MAX_LIVE_FILES) (same_rows_length a.rows b.rows is.sound.distinct distinct same.rows) is.live_files;
+  partition_columns = subst (λ (names : List (List ℕ)). length names ≤ MAX_PARTITION_COLUMNS) same.partition is.partition_columns;
+  partition_distinct = subst (λ (names : List (List ℕ)). IsDistinct bytes_eq names) same.partition is.partition_distinct;
+  partition_kinds = λ name there.
+      subst (λ (schema : ColumnTrees). HasKind schema name) same.schema (is.partition_kinds name (subst (λ (names : List (List ℕ)). Contains names name) (sym same.partition) there));
+  schema = subst (λ (schema : ColumnTrees). IsSound schema) same.schema is.schema;
+  size = subst (λ (schema : ColumnTrees). IsWithinLimits schema) same.schema is.size;
+}
+
+-- ---- commits that may be applied one after another
+
+-- Each change fits the table before it, leads to the next, and that one may be published.
+abbrev pub LeadOn : Table → List Commit → Table → Type 0
+LeadOn before [] last = before ≡ last
+LeadOn before (commit ∷ commits) last = (after : Table) × CanApply before commit.change × IsAfter before commit.change after × IsPublishable after × LeadOn after commits last
+
+lead_more : (commits : List Commit) (base : Table) (before after : Later) (more : GoesOnBy before after) → LeadOn base commits before.table → LeadOn base (commits ++ more.commit ∷ []) after.table
+lead_more [] base before after more on =
+    subst (λ (t : Table). LeadOn t (more.commit ∷ []) after.table) (sym on) (after.table, more.fits, more.leads, more.sound, refl)
+lead_more (commit ∷ commits) base before after more on = (on.0, on.1, on.2, on.3, lead_more commits on.0 before after more on.4)
+
+pub lead_begins : (base : Table) (later : Later) → later.commits ≡ [] → later.table ≡ base → LeadOn base later.commits later.table
+lead_begins base later commits table = subst (λ (cs : List Commit). LeadOn base cs later.table) (sym commits) (sym table)
+
+pub lead_on : (base : Table) (before after : Later) → LeadOn base before.commits before.table → GoesOnBy before after → LeadOn base after.commits after.table
+lead_on base before after on more = subst (λ (cs : List Commit). LeadOn base cs after.table) (sym more.commits) (lead_more before.commits base before after more on)
+
+fit_each : (commits : List Commit) (before alike last : Table) → AreAlike before alike → LeadOn before commits last → FitAll alike commits
+fit_each [] before alike last same on = tt
+fit_each (commit ∷ commits) before alike last same on = (
+  apply_alike before alike commit.change same on.1,
+  λ table after. fit_each commits on.0 table last (afters_alike before commit.change on.0 table on.2 (after_alike before alike commit.change table same after)) on.4,
+)
+
+pub fit_all : (base : Table) (commits : List Commit) (last : Table) → LeadOn base commits last → FitAll base commits
+fit_all base commits last on = fit_each commits base base last (alike_itself base) on
+
+apply_each : (commits : List Commit) (before alike last : Table) → AreAlike before alike → LeadOn before commits last → CanApplyAll alike commits
+apply_each [] before alike last same on = tt
+apply_each (commit ∷ commits) before alike last same on = (
+  apply_alike before alike commit.change same on.1,
+  λ table after.
+      let next = afters_alike before commit.change on.0 table on.2 (after_alike before alike commit.change table same after) in
+      (publishable_alike on.0 table next after.distinct on.3, apply_each commits on.0 table last next on.4),
+)
+
+pub can_apply_all : (base : Table) (commits : List Commit) (last : Table) → LeadOn base commits last → CanApplyAll base commits
+can_apply_all base commits last on = apply_each commits base base last (alike_itself base) on
+
+-- the table behind a snapshot's commit is its own
+pub leads_to_own : (before own : Table) (commit : Commit) → commit.change.schema ≡ Some own.schema → LeadsTo before.rows commit.change.removed commit.change.added own.rows → HasDistinctPaths own.rows → own.partition ≡ before.partition
+    → IsAfter before commit.change own
+leads_to_own before own commit schema leads distinct partition = record {
+  rows = λ row. ((leads row).1, (leads row).0);
+  distinct = distinct;
+  schema = sym (ap (λ (o : Option ColumnTrees). unwrap_or o before.schema) schema);
+  partition = partition;
+}
+
+-- ---- one snapshot more
+
+module _ (files : Files) (m : Metadata) where
+  pub commits_begin : (base : Table) (later : Later) → later.commits ≡ [] → later.table ≡ base → later.entries ≡ 0 → AreCommits files m base [] later.commits later.table later.entries
+  commits_begin base later commits table entries = (commits, table, entries)
+
+  commits_more : (front : List Snapshot) (s : Snapshot) (base : Table) (commits : List Commit) (before after : Later) (entries : ℕ) (more : IsOneMore files m s before after)
+      → AreCommits files m base front commits before.table entries → AreCommits files m base (front ++ s ∷ []) (commits ++ more.commit ∷ []) after.table (entries + entry_count more.own.manifests)
+  commits_more [] s base commits before after entries more are =
+      let own = entry_count more.own.manifests in
+      let none = are.2 in
+      let count : entries + own ≡ own + 0 = omega (arith, none) in (
+        more.commit,
+        [],
+        more.own,
+        0,
+        ap (λ (cs : List Commit). cs ++ more.commit ∷ []) are.0,
+        subst (λ (t : Table). IsCommitOf files m t s more.commit more.own) are.1 more.is,
+        (refl, more.table, refl),
+        count,
+      )
+  commits_more (f ∷ front) s base commits before after entries more are =
+      let own = entry_count more.own.manifests in
+      let rest = commits_more front s are.2.table are.1 before after are.3 more are.6 in
+      let sum = are.7 in
+      let count : entries + own ≡ entry_count are.2.manifests + (are.3 + own) = omega (arith, sum) in
+      (are.0, are.1 ++ more.commit ∷ [], are.2, are.3 + own, ap (λ (cs : List Commit). cs ++ more.commit ∷ []) are.4, are.5, rest, count)
+
+  pub commits_on : (front : List Snapshot) (s : Snapshot) (base : Table) (before after : Later) → AreCommits files m base front before.commits before.table before.entries → IsOneMore files m s before after → AreCommits files m base (front ++ s ∷ []) after.commits after.table after.entries
+  commits_on front s base before after are more =
+      let next = commits_more front s base before.commits before after before.entries more are in
+      subst (λ (cs : List Commit). AreCommits files m base (front ++ s ∷ []) cs after.table after.entries) (sym more.commits)
+      (subst (λ n. AreCommits files m base (front ++ s ∷ []) (before.commits ++ more.commit ∷ []) after.table n) (sym more.entries) next)
+
+-- ---- what is told
+
+-- a refusal that is told has its cause
+told_cause : (P : IcebergError → Type 0) (error : IcebergError) (d : SourceError) → IsRefusal P error → Tells error d → P error
+told_cause P iceberg.Memory d h told = absurd told
+told_cause P iceberg.StoreFault d h told = absurd told
+told_cause P iceberg.ManyNames d h told = h
+told_cause P (iceberg.Missing path) d h told = h
+told_cause P (iceberg.Large path) d h told = h
+told_cause P (iceberg.Refused path f) d h told = h
+
+pub snapshot_refused : (files : Files) (version : ℕ) (m : Metadata) (before : Table) (entries : ℕ) (s : Snapshot) → (SnapshotChanges m s before → ⊥) → (error : IcebergError) (e : SourceError) → IsRefusal (IsSnapshotRefusal files m version s) error → IsReadRefusal (Tells error) e
+    → IsReadRefusal (IsRefusedBehind files version m before entries s) e
+snapshot_refused files version m before entries s unchanged error e refused told =
+    weaker (Tells error) (IsRefusedBehind files version m before entries s) (λ d of. inr (unchanged, inl (error, told_cause (IsSnapshotRefusal files m version s) error d refused of, of))) e told
+
+pub stops_at : (files : Files) (version : ℕ) (m : Metadata) (base : Table) (snapshots front rest : List Snapshot) (s : Snapshot) (later : Later) → snapshots ≡ front ++ s ∷ rest → AreCommits files m base front later.commits later.table later.entries → later.entries ≤ MAX_ACTIONS
+    → (e : SourceError) → IsReadRefusal (IsRefusedBehind files version m later.table later.entries s) e → IsReadRefusal (StopsBehind files version m base snapshots) e
+stops_at files version m base snapshots front rest s later split taken few e refused =
+    weaker (IsRefusedBehind files version m later.table later.entries s) (StopsBehind files version m base snapshots)
+    (λ d of. record { front = front; snapshot = s; behind = rest; split = split; commits = later.commits; before = later.table; entries = later.entries; taken = taken; few = few; refused = of }) e refused
+
+-- where nothing is told
+pub none_refused : (reached : Type 0) (shows : SourceError → Type 0) (e : SourceError) → IsReadRefusal (λ d. ⊥) e → IsSinceRefusal reached shows e
+none_refused reached shows source.Memory h = tt
+none_refused reached shows source.Absent h = h
+none_refused reached shows (source.Malformed path) h = absurd h
+none_refused reached shows (source.Unsupported feature path) h = absurd h
+none_refused reached shows (source.Limit which number) h = absurd h
+none_refused reached shows source.StoreFault h = tt
+
+-- what is told is told of a position that is reached
+pub since_refused : (reached : Type 0) (shows : SourceError → Type 0) → reached → (e : SourceError) → IsReadRefusal shows e → IsSinceRefusal reached shows e
+since_refused reached shows at source.Memory h = tt
+since_refused reached shows at source.Absent h = h
+since_refused reached shows at (source.Malformed path) h = (at, h)
+since_refused reached shows at (source.Unsupported feature path) h = (at, h)
+since_refused reached shows at (source.Limit which number) h = (at, h)
+since_refused reached shows at source.StoreFault h = tt
+
+pub reached_by : (files : Files) (position : List ℕ) (version : ℕ) (m : Metadata) (later : List Snapshot) → IsNewestMetadata files version m → IsFoundBehind m position later → IsReached files position version m later
+reached_by files position version m later newest found = record { metadata = newest; ancestors = found.ancestors; are = found.are; behind = found.behind }
+
+pub not_reached : (files : Files) (position : List ℕ) (version : ℕ) (m : Metadata) → IsNewestMetadata files version m → IsNotBehind m position → Reaches files position → ⊥
+not_reached files position version m newest none at =
+    let is = at.3 in
+    let same : at.1 ≡ m = metadata_once files at.0 version at.1 m is.metadata newest in
+    none is.ancestors (subst (λ (x : Metadata). IsAncestry x is.ancestors) same is.are) at.2 is.behind
+
+pub decided_not : {P : Type 0} (b : Bool) → Decides b P → b ≡ false → P → ⊥
+decided_not b decides is h = false≢true (sym is ∙ decides.1 h)
+
+-- The partition columns go on where the snapshot doesn't change them.
+pub partition_kept : (m : Metadata) (s : Snapshot) (before own : Table) → HasColumnsOf m s own → (SnapshotChanges m s before → ⊥) → own.partition ≡ before.partition
+partition_kept m s before own columns unchanged =
+    ⊎_elim
+    (λ (same : pointwise bytes_eq own.partition before.partition ≡ true). (slice_eq-Decides bytes_eq-Decides own.partition before.partition (pointwise bytes_eq own.partition before.partition) refl).0 same)
+    (λ (other : pointwise bytes_eq own.partition before.partition ≡ false).
+    absurd
+    (unchanged (
+      columns.planned.held,
+      columns.planned.named,
+      inl (
+        columns.plan.columns,
+        columns.planned.columns,
+        λ same. false≢true (sym other ∙ (slice_eq-Decides bytes_eq-Decides own.partition before.partition (pointwise bytes_eq own.partition before.partition) refl).1 (columns.partition ∙ same)),
+      ),
+    )))
+    (cases_Bool (pointwise bytes_eq own.partition before.partition))
+
+pub entries_refused : (files : Files) (version : ℕ) (m : Metadata) (before : Table) (entries : ℕ) (s : Snapshot) (own : SnapshotTable) → (SnapshotChanges m s before → ⊥) → IsReadAs files m s own → (e : SourceError) → HasManyEntries entries own e → IsReadRefusal (IsRefusedBehind files version m before entries s) e
+entries_refused files version m before entries s own unchanged read e many =
+    subst (IsReadRefusal (IsRefusedBehind files version m before entries s)) (sym many.1) (inr (unchanged, inr (own, read, (many.0, refl))))
+
+pub behind_refused : (files : Files) (version : ℕ) (m : Metadata) (base : Table) (given snapshots : List Snapshot) → given ≡ snapshots → (NamesOtherColumns m base → ⊥) → length snapshots ≤ MAX_COMMITS
+    → (r : Result (List Commit) SourceError) → IfErr r (IsReadRefusal (StopsBehind files version m base given)) → IfErr r (IsReadRefusal (ShowsBehind files version m base snapshots))
+behind_refused files version m base given snapshots same unchanged few (Ok commits) refused = tt
+behind_refused files version m base given snapshots same unchanged few (Err e) refused =
+    weaker (StopsBehind files version m base snapshots) (ShowsBehind files version m base snapshots) (λ d h. inr (unchanged, inr (few, h))) e
+    (subst (λ (ss : List Snapshot). IsReadRefusal (StopsBehind files version m base ss) e) same refused)
+
+pub behind_found : (files : Files) (m : Metadata) (base : Table) (given snapshots : List Snapshot) → given ≡ snapshots → (NamesOtherColumns m base → ⊥) → length snapshots ≤ MAX_COMMITS
+    → (r : Result (List Commit) SourceError) → IfOk r (AreCommitsBehind files m base given) → IfOk r (AreCommitsOver files m base snapshots)
+behind_found files m base given snapshots same unchanged few (Ok commits) are = record { unchanged = unchanged; few = few; behind = subst (λ (ss : List Snapshot). AreCommitsBehind files m base ss commits) same are }
+behind_found files m base given snapshots same unchanged few (Err e) are = tt

@@ -1,0 +1,22 @@
+use Rattle.std.proofs.Common.{◌≤◌, length, arith}
+use Rattle.lake_basics.specs.declared.limits.TheConstants.{MAX_COMMITS}
+use Rattle.source_iceberg.proofs.SinceLaws.{behind_found, behind_refused, decided_not}
+use Rattle.source_iceberg.proofs.since.commits_behind.Goals as goal
+
+pub returns-clause-refused : goal.returns-clause-refused
+returns-clause-refused g c told =
+    let files = (g.S.Store.disk c.args.store.now).files in
+    let unchanged = decided_not c.in_ok-names_other_columns.field-0 c.in_ok-names_other_columns.ensures.other c.if-branch.false in
+    let count = c.len.ensures in
+    let within = c.if-len-gt-MAX_COMMITS.false in
+    let few : length c.args.snapshots ≤ MAX_COMMITS = omega (arith, count, within) in
+    behind_refused files c.args.version c.args.metadata.now c.args.base.now c.as_slice.result.now c.args.snapshots c.as_slice.ensures unchanged few c.read_later.result (c.read_later.ensures.refused told)
+
+pub returns-clause-commits : goal.returns-clause-commits
+returns-clause-commits g c told =
+    let files = (g.S.Store.disk c.args.store.now).files in
+    let unchanged = decided_not c.in_ok-names_other_columns.field-0 c.in_ok-names_other_columns.ensures.other c.if-branch.false in
+    let count = c.len.ensures in
+    let within = c.if-len-gt-MAX_COMMITS.false in
+    let few : length c.args.snapshots ≤ MAX_COMMITS = omega (arith, count, within) in
+    behind_found files c.args.metadata.now c.args.base.now c.as_slice.result.now c.args.snapshots c.as_slice.ensures unchanged few c.read_later.result (c.read_later.ensures.commits told)

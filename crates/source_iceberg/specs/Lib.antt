@@ -1,0 +1,11 @@
+pub mod Heads
+pub mod Reading
+pub mod HeadLemmas
+pub mod OwnLemmas
+pub mod Since
+pub mod Later
+pub mod Histories
+pub mod ListLemmas
+pub mod SinceLemmas
+pub mod HistoryLemmas
+pub mod SinceOwnLemmas

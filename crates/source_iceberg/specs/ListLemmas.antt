@@ -1,0 +1,53 @@
+-- The last item of a list, and where texts that are distinct stand.
+use Rattle.std.proofs.Common.{◌≡◌, ℕ, true, false, List, [], ◌∷◌, ◌++◌, Contains, refl, sym, ap, subst, ◌∙◌}
+use Rattle.std.specs.List.{IsDistinct}
+use Rattle.std.specs.Str.{bytes_eq}
+use Rattle.std.proofs.lemmas.Bool.{false≢true}
+use Rattle.table_history.specs.History.{History, positions_of}
+use Rattle.table_history.specs.declared.table.Table.{Table}
+use Rattle.table_history.proofs.RowListLemmas.{Contains-head, Contains-tail, all_at, bytes_itself}
+
+-- ---- the last item
+
+abbrev pub end_of : {X : Type 0} → X → List X → X
+end_of x [] = x
+end_of x (y ∷ ys) = end_of y ys
+
+pub end_in : {X : Type 0} (x : X) (xs : List X) → Contains (x ∷ xs) (end_of x xs)
+end_in x [] = Contains-head x []
+end_in x (y ∷ ys) = Contains-tail x (y ∷ ys) (end_of y ys) (end_in y ys)
+
+end_append : {X : Type 0} (x : X) (xs : List X) (y : X) (ys : List X) → end_of x (xs ++ y ∷ ys) ≡ end_of y ys
+end_append x [] y ys = refl
+end_append x (z ∷ zs) y ys = end_append z zs y ys
+
+-- lists that are one have one last item
+pub same_end : {X : Type 0} (xs : List X) (x : X) (ys zs : List X) (z : X) → xs ++ x ∷ ys ≡ zs ++ z ∷ [] → end_of x ys ≡ z
+same_end xs x ys zs z e = sym (end_append x xs x ys) ∙ ap (end_of x) e ∙ end_append x zs z []
+
+-- ---- texts that are distinct
+
+first_apart : (p q : List ℕ) (ys : List (List ℕ)) → IsDistinct bytes_eq (p ∷ ys) → Contains ys q → p ≡ q → ⊥
+unfolding IsDistinct
+first_apart p q ys distinct there e = false≢true (sym (all_at (λ y. bytes_eq p y ≡ false) ys q distinct.0 there) ∙ subst (λ r. bytes_eq p r ≡ true) e (bytes_itself p))
+
+behind_distinct : (p : List ℕ) (ys : List (List ℕ)) → IsDistinct bytes_eq (p ∷ ys) → IsDistinct bytes_eq ys
+unfolding IsDistinct
+behind_distinct p ys distinct = distinct.1
+
+in_positions : (xs : History) (e : List ℕ × Table) (ps : History) → Contains (positions_of (xs ++ e ∷ ps)) e.0
+in_positions [] e ps = Contains-head e.0 (positions_of ps)
+in_positions (x ∷ xs) e ps = Contains-tail x.0 (positions_of (xs ++ e ∷ ps)) e.0 (in_positions xs e ps)
+
+-- in a history of distinct positions one position has the same behind it
+pub same_behind : (xs : History) (e : List ℕ × Table) (ps ys : History) (f : List ℕ × Table) (bs : History) → IsDistinct bytes_eq (positions_of (xs ++ e ∷ ps)) → xs ++ e ∷ ps ≡ ys ++ f ∷ bs → e.0 ≡ f.0 → ps ≡ bs
+same_behind [] e ps [] f bs distinct is at = cc
+same_behind [] e ps (y ∷ ys) f bs distinct is at =
+    let tails : ps ≡ ys ++ f ∷ bs = cc in
+    absurd (first_apart e.0 f.0 (positions_of ps) distinct (subst (λ (l : History). Contains (positions_of l) f.0) (sym tails) (in_positions ys f bs)) at)
+same_behind (x ∷ xs) e ps [] f bs distinct is at =
+    let first : x ≡ f = cc in
+    absurd (first_apart x.0 e.0 (positions_of (xs ++ e ∷ ps)) distinct (in_positions xs e ps) (ap (λ (p : List ℕ × Table). p.0) first ∙ sym at))
+same_behind (x ∷ xs) e ps (y ∷ ys) f bs distinct is at =
+    let tails : xs ++ e ∷ ps ≡ ys ++ f ∷ bs = cc in
+    same_behind xs e ps ys f bs (behind_distinct x.0 (positions_of (xs ++ e ∷ ps)) distinct) tails at
