@@ -1,15 +1,16 @@
 -- What is found of each item of a list, item by item.
 use Rattle.std.proofs.Common.{◌≡◌, ◌⊎◌, ℕ, ◌+◌, List, [], ◌∷◌, ◌++◌, Contains, length, refl, sym, ap, subst, ◌∙◌, ⊎_elim, inl, inr, append_assoc, append-nil, arith}
 use Rattle.std.proofs.lemmas.Grind.{flat_map-append}
-use Rattle.std.proofs.lemmas.List.Elements.{Contains-append_cases}
+use Rattle.std.proofs.lemmas.List.Elements.{Contains-append_cases, Contains-append_right}
 use Rattle.table_history.proofs.RowListLemmas.{Contains-cases, Contains-head, Contains-none, Contains-tail}
 use Rattle.table_history.specs.declared.row.FileRow.{FileRow}
+use Rattle.iceberg_manifest.specs.ListWriting.{HasContent}
 use Rattle.iceberg_manifest.specs.Lists.{AreEach}
 use Rattle.iceberg_manifest.specs.declared.live.LiveRow.{LiveRow}
 use Rattle.iceberg_manifest.specs.declared.partition.PartColumn.{PartColumn}
 use Rattle.iceberg_table.specs.Kinds.{FitLive, FitRows, FitsColumns}
 use Rattle.iceberg_table.specs.Manifests.{entry_count}
-use Rattle.iceberg_table.specs.Tables.{rows_in, rows_of}
+use Rattle.iceberg_table.specs.Tables.{AreOfContents, TakeNoDeletes, TakesNoDeletes, rows_in, rows_of}
 use Rattle.iceberg_table.specs.declared.manifest.Manifest.{Manifest}
 
 pub each_push : {A B : Type 0} (P : A → B → Type 0) (xs : List A) (ys : List B) (x : A) (y : B) → AreEach P xs ys → P x y → AreEach P (xs ++ x ∷ []) (ys ++ y ∷ [])
@@ -71,6 +72,18 @@ fit_push columns rs r before here =
     let pushed : rows_of (rs ++ r ∷ []) ≡ rows_of rs ++ rows_in r.rows = flat_map-append (λ (m : Manifest). rows_in m.rows) rs (r ∷ []) ∙ ap (λ l. rows_of rs ++ l) (append-nil (rows_in r.rows)) in
     λ row there. ⊎_elim (λ was. before row was) (λ new. in_rows columns r.rows here row new) (Contains-append_cases (rows_of rs) (rows_in r.rows) row (subst (λ (l : List FileRow). Contains l row) pushed there))
 
+pub no_deletes_push : (rs : List Manifest) (r : Manifest) → TakeNoDeletes rs → TakesNoDeletes r → TakeNoDeletes (rs ++ r ∷ [])
+no_deletes_push rs r before here m there =
+    ⊎_elim (λ was. before m was)
+    (λ new. ⊎_elim (λ same. subst TakesNoDeletes same here) (λ none. absurd (Contains-none m none)) (Contains-cases r [] m new))
+    (Contains-append_cases rs (r ∷ []) m there)
+
+pub contents_push : (rs : List Manifest) (r : Manifest) → AreOfContents rs → HasContent r.file.info → AreOfContents (rs ++ r ∷ [])
+contents_push rs r before here m there =
+    ⊎_elim (λ was. before m was)
+    (λ new. ⊎_elim (λ same. subst (λ (n : Manifest). HasContent n.file.info) same here) (λ none. absurd (Contains-none m none)) (Contains-cases r [] m new))
+    (Contains-append_cases rs (r ∷ []) m there)
+
 -- ---- a list from its front
 
 -- what is left of a list is nothing
@@ -83,3 +96,6 @@ left_next xs front rest more x split next = split ∙ ap (λ l. front ++ l) next
 
 pub left_moved : {A : Type 0} (xs front more : List A) (x : A) → xs ≡ front ++ x ∷ more → xs ≡ (front ++ x ∷ []) ++ more
 left_moved xs front more x split = split ∙ sym (append_assoc front (x ∷ []) more)
+
+pub in_list : {A : Type 0} (xs front more : List A) (x : A) → xs ≡ front ++ x ∷ more → Contains xs x
+in_list xs front more x split = subst (λ l. Contains l x) (sym split) (Contains-append_right front (x ∷ more) x (Contains-head x more))

@@ -29,8 +29,8 @@ use Rattle.iceberg_table.specs.Lists.{SaysList}
 use Rattle.iceberg_table.specs.Manifests.{IsManifestOf, entry_count}
 use Rattle.iceberg_table.specs.Plan.{IsPlanOf, IsSoundPlan, names_of, part_columns}
 use Rattle.iceberg_table.specs.Refusals.{IsListedRefusal}
-use Rattle.iceberg_table.specs.Snapshots.{HasColumnsOf, IsReadBy, IsTableOfSnapshot}
-use Rattle.iceberg_table.specs.Tables.{IsTableOfRows, IsTableOfSnapshots, rows_of}
+use Rattle.iceberg_table.specs.Snapshots.{HasColumnsOf, HasManifestRows, IsReadBy, IsTableOfSnapshot}
+use Rattle.iceberg_table.specs.Tables.{AreOfContents, IsTableOfRows, IsTableOfSnapshots, TakeNoDeletes, rows_of}
 use Rattle.table_history.specs.declared.limit.LimitKind.TheVariants.{LiveFiles}
 use Rattle.iceberg_table.specs.declared.error.Fault.TheVariants as fault
 use Rattle.iceberg_table.specs.declared.error.IcebergError.{IcebergError}
@@ -69,6 +69,18 @@ table_found files m s plan planned (Err e) read = tt
 
 pub with_schema : (a b : ColumnTrees) (p q : List (List ℕ)) (rows : List Row) (t : Table) → a ≡ b → p ≡ q → IsTableOfRows a p rows t → IsTableOfRows b q rows t
 with_schema a b p q rows t schema partition is = subst (λ (c : ColumnTrees). IsTableOfRows c q rows t) schema (subst (λ (n : List (List ℕ)). IsTableOfRows a n rows t) partition is)
+
+pub rows_found : (schema : ColumnTrees) (partition : List (List ℕ)) (read : SnapshotTable) → IsTableOfRows schema partition (rows_of read.manifests) read.table → (r : Result SnapshotTable IcebergError) → IfOk r (λ t. t ≡ read) → IfOk r HasManifestRows
+rows_found schema partition read is (Ok t) same = subst HasManifestRows (sym same) (with_schema schema read.table.schema partition read.table.partition (rows_of read.manifests) read.table (sym is.schema) (sym is.partition) is)
+rows_found schema partition read is (Err e) same = tt
+
+pub no_deletes_found : (read : SnapshotTable) → TakeNoDeletes read.manifests → (r : Result SnapshotTable IcebergError) → IfOk r (λ t. t ≡ read) → IfOk r (λ t. TakeNoDeletes t.manifests)
+no_deletes_found read none (Ok t) same = subst (λ (u : SnapshotTable). TakeNoDeletes u.manifests) (sym same) none
+no_deletes_found read none (Err e) same = tt
+
+pub contents_found : (read : SnapshotTable) → AreOfContents read.manifests → (r : Result SnapshotTable IcebergError) → IfOk r (λ t. t ≡ read) → IfOk r (λ t. AreOfContents t.manifests)
+contents_found read are (Ok t) same = subst (λ (u : SnapshotTable). AreOfContents u.manifests) (sym same) are
+contents_found read are (Err e) same = tt
 
 -- ---- a table that may be published
 

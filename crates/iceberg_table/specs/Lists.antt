@@ -1,10 +1,11 @@
 -- What a snapshot's manifest list says (Iceberg specification, "Manifest Lists").
-use Rattle.std.specs.Prelude.{◌≡◌, ◌≢◌, ◌⊎◌, ℕ, pos, List}
+use Rattle.std.specs.Prelude.{◌≡◌, ◌≢◌, ◌⊎◌, ℕ, pos, List, Contains}
 use Rattle.lake_basics.specs.declared.outcome.ReadError.TheVariants as read
 use Rattle.lake_store.specs.Disk.{Files}
 use Rattle.avro_value.specs.declared.api.TheConstants.{MAX_VALUES}
 use Rattle.table_history.specs.declared.feature.Feature.TheVariants as feature
 use Rattle.iceberg_manifest.specs.Containers.{StandsFor, IsRefusedBy}
+use Rattle.iceberg_manifest.specs.ListWriting.{HasContent}
 use Rattle.iceberg_manifest.specs.Lists.{AreEach}
 use Rattle.iceberg_manifest.specs.MetadataPaths.{IsMetadataPath}
 use Rattle.iceberg_manifest.specs.Scans.{infos_of}
@@ -39,6 +40,10 @@ IsRowFault m info =
 -- The bytes are a list of these rows.
 abbrev pub AreRows : List ℕ → List ManifestInfo → Type 0
 AreRows bytes infos = StandsFor MAX_VALUES infos_of bytes infos
+
+-- Each of these manifests is one of data or of deletes.
+abbrev pub HaveContents : List ManifestFile → Type 0
+HaveContents list = (file : ManifestFile) → Contains list file → HasContent file.info
 
 -- The list at this path is there and names these manifests, in the order of its rows.
 pub record SaysList (files : Files) (m : Metadata) (path : List ℕ) (list : List ManifestFile) : Type 0 where

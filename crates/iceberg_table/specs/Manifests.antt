@@ -4,6 +4,7 @@ use Rattle.lake_basics.specs.declared.limits.TheConstants.{MAX_ACTIONS}
 use Rattle.lake_basics.specs.declared.outcome.ReadError.TheVariants as read
 use Rattle.lake_store.specs.Disk.{Files}
 use Rattle.avro_value.specs.declared.api.TheConstants.{MAX_VALUES}
+use Rattle.table_history.specs.Rows.{HasDistinctPaths}
 use Rattle.table_history.specs.declared.limit.LimitKind.TheVariants.{Actions}
 use Rattle.iceberg_manifest.specs.Containers.{StandsFor, IsRefusedBy}
 use Rattle.iceberg_manifest.specs.Entry.{EntryData}
@@ -79,8 +80,9 @@ abbrev pub SharesFile : Files → List ℕ → List PartColumn → List ℕ → 
 SharesFile files location columns path found file e =
     (r : Manifest) × IsManifestOf files location columns file r × (entry_count found + r.entries ≤ MAX_ACTIONS) × IsTold path (AreShared (rows_of found ++ rows_in r.rows)) e
 
--- The first of the manifests that is refused, behind those before it, is refused so by itself, or else for a file that it shares.
+-- The first of the manifests that is refused, behind those before it, whose live rows have distinct paths, is refused so by itself, or else for a file
+-- that it shares.
 abbrev pub AreManifestsRefused : Files → List ℕ → List PartColumn → List ℕ → List ManifestFile → IcebergError → Type 0
 AreManifestsRefused files location columns path list =
     StopsAt (IsManifestOf files location columns)
-    (λ found file e. (entry_count found ≤ MAX_ACTIONS) × (IsManifestRefusal files location columns (entry_count found) file e ⊎ SharesFile files location columns path found file e)) list
+    (λ found file e. (entry_count found ≤ MAX_ACTIONS) × HasDistinctPaths (rows_of found) × (IsManifestRefusal files location columns (entry_count found) file e ⊎ SharesFile files location columns path found file e)) list

@@ -158,10 +158,11 @@ module _ (a b : Files) (same : SameMetadataFiles a b) (location : List ℕ) (col
         are = of_files_too h.front h.found in_front h.are;
         refused = (
           h.refused.0,
+          h.refused.1,
           ⊎_elim
               (λ fault. inl (fault_too a b same h.item.path (IsManifestFault location columns (entry_count h.found) h.item) e at fault))
               (λ (shares : SharesFile a location columns path h.found h.item e). inr (shares.0, of_file_too h.item shares.0 at shares.1, shares.2, shares.3))
-              h.refused.1,
+              h.refused.2,
         );
       }
 

@@ -50,6 +50,10 @@ pub record HasColumnsOf (m : Metadata) (s : Snapshot) (t : Table) : Type 0 where
   pub schema : t.schema ≡ plan.schema
   pub partition : t.partition ≡ names_of plan.columns
 
+-- The table has just the rows of the manifests' live entries, of which no two have one path.
+abbrev pub HasManifestRows : SnapshotTable → Type 0
+HasManifestRows t = IsTableOfRows t.table.schema t.table.partition (rows_of t.manifests) t.table
+
 -- The list and each manifest that it names are read so, and their live rows are the table's.
 pub record IsReadBy (files : Files) (m : Metadata) (plan : Plan) (t : SnapshotTable) : Type 0 where
   pub list : List ManifestFile

@@ -1,5 +1,5 @@
 -- The table of a snapshot's live rows.
-use Rattle.std.specs.Prelude.{◌≡◌, ◌≢◌, ◌⊎◌, ◌<◌, ◌≤◌, ℕ, List, map, flat_map, length, Contains, None}
+use Rattle.std.specs.Prelude.{◌≡◌, ◌≢◌, ◌⊎◌, ◌<◌, ◌≤◌, ℕ, pos, List, [], map, flat_map, length, Contains, None}
 use Rattle.std.specs.List.{IsDistinct}
 use Rattle.std.specs.Str.{bytes_eq}
 use Rattle.lake_basics.specs.declared.limits.TheConstants.{MAX_LIVE_FILES, MAX_PARTITION_COLUMNS}
@@ -14,6 +14,7 @@ use Rattle.table_history.specs.TypeTree.{ColumnTrees}
 use Rattle.table_history.specs.declared.feature.Feature.TheVariants as feature
 use Rattle.table_history.specs.declared.limit.LimitKind.TheVariants.{LiveFiles}
 use Rattle.table_history.specs.declared.table.Table.{Table}
+use Rattle.iceberg_manifest.specs.ListWriting.{HasContent}
 use Rattle.iceberg_manifest.specs.declared.live.LiveRow.{LiveRow}
 use Rattle.iceberg_table.specs.declared.error.Fault.{Fault}
 use Rattle.iceberg_table.specs.declared.error.Fault.TheVariants as fault
@@ -25,6 +26,17 @@ rows_in rows = map (λ live. live.row) rows
 -- the rows of the live entries of manifests
 abbrev pub rows_of : List Manifest → List Row
 rows_of manifests = flat_map (λ r. rows_in r.rows) manifests
+
+-- No row is taken from a manifest of deletes.
+abbrev pub TakesNoDeletes : Manifest → Type 0
+TakesNoDeletes r = r.file.info.content ≢ pos 0 → r.rows ≡ []
+
+abbrev pub TakeNoDeletes : List Manifest → Type 0
+TakeNoDeletes manifests = (r : Manifest) → Contains manifests r → TakesNoDeletes r
+
+-- Each manifest that was read is one of data or of deletes.
+abbrev pub AreOfContents : List Manifest → Type 0
+AreOfContents manifests = (r : Manifest) → Contains manifests r → HasContent r.file.info
 
 -- The table has this schema, these partition columns and just these rows, of which no two have one path.
 pub record IsTableOfRows (columns : ColumnTrees) (names : List (List ℕ)) (rows : List Row) (t : Table) : Type 0 where

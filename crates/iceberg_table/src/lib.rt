@@ -17,8 +17,9 @@ pub use file::metadata_file_path;
 pub use folder::{METADATA_FOLDER, MetadataNames, list_metadata};
 pub use list::ManifestFile;
 pub use manifest::Manifest;
+pub use plan::Plan;
 pub use snapshot::{SnapshotTable, read_snapshot};
-pub use version::read_version;
+pub use version::{read_version, version_path};
 
 #[cfg(test)]
 mod files;

@@ -4,7 +4,7 @@ ghost use Rattle.std.specs.Prelude.{◌≡◌, ◌↔◌, List, Ok, IfErr, IfOk,
 ghost use Rattle.lake_store.specs.Runs.{FailsBy, IsUncontestedBy, OnlyReads};
 ghost use Rattle.iceberg_manifest.specs.Lists.{AreEach};
 ghost use Rattle.iceberg_table.specs.Errors.{IsFault, IsFileFault, IsRefusal};
-ghost use Rattle.iceberg_table.specs.Lists.{AreRows, HasDeletes, IsListFault, IsListed, IsRowFault, SaysList};
+ghost use Rattle.iceberg_table.specs.Lists.{AreRows, HasDeletes, HaveContents, IsListFault, IsListed, IsRowFault, SaysList};
 ghost use Rattle.iceberg_table.specs.Order.{StopsAt};
 ghost use Rattle.iceberg_table.specs.declared.error.IcebergError.TheVariants.{StoreFault};
 ghost use Rattle.iceberg_table.specs.declared.list.ManifestFile.{ManifestFile};
@@ -96,6 +96,7 @@ pub(crate) fn read_list_file<S: Store>(
         (SaysList (S.disk store.old).files metadata.now path.now) }
     ensures only { S.tells → IfOk result (λ list. (others : List ManifestFile)
         → SaysList (S.disk store.old).files metadata.now path.now others → others ≡ list) }
+    ensures contents { IfOk result HaveContents }
     ensures refused { S.tells → IfErr result (IsRefusal
         (IsFileFault (S.disk store.old).files path.now (IsListFault metadata.now))) }
     ensures only_reads { S.tells → OnlyReads ⟦<S as Store>⟧ store.old store.new }

@@ -7,8 +7,9 @@ ghost use Rattle.iceberg_manifest.specs.Lists.{AreEach};
 ghost use Rattle.iceberg_table.specs.Errors.{IsFault, IsFileFault, IsRefusal};
 ghost use Rattle.iceberg_manifest.specs.LiveRows.{AreLiveRows};
 ghost use Rattle.iceberg_table.specs.Kinds.{FitLive, FitRows};
+ghost use Rattle.iceberg_table.specs.Lists.{HaveContents};
 ghost use Rattle.iceberg_table.specs.Manifests.{AreManifestsRefused, HasEntries, IsContent, IsEntriesFault, IsManifestFault, IsManifestOf, IsManifestRefusal, entry_count};
-ghost use Rattle.iceberg_table.specs.Tables.{IsTableOfRows, rows_of};
+ghost use Rattle.iceberg_table.specs.Tables.{AreOfContents, IsTableOfRows, TakeNoDeletes, TakesNoDeletes, rows_of};
 ghost use Rattle.iceberg_table.specs.declared.error.IcebergError.TheVariants.{StoreFault};
 
 use crate::error::{Fault, IcebergError, manifest_fault};
@@ -137,7 +138,9 @@ fn read_one<S: Store>(
     requires { before ≤ MAX_ACTIONS }
     ensures found { S.tells
         → IfOk result (IsManifestOf (S.disk store.old).files location.now columns.now file) }
+    ensures file { IfOk result (λ r. r.file ≡ file) }
     ensures fit { IfOk result (λ r. FitLive columns.now r.rows) }
+    ensures no_deletes { IfOk result TakesNoDeletes }
     ensures within { IfOk result (λ r. before + r.entries ≤ MAX_ACTIONS) }
     ensures refused { S.tells → IfErr result (IsRefusal
         (IsManifestRefusal (S.disk store.old).files location.now columns.now before file)) }
@@ -167,12 +170,15 @@ pub(crate) fn read_manifests<S: Store>(
     list: Items<ManifestFile>,
     empty: Table,
 ) -> Result<SnapshotTable, IcebergError>
-    requires { IsTableOfRows empty.schema empty.partition [] empty }
+    requires table { IsTableOfRows empty.schema empty.partition [] empty }
+    requires contents { HaveContents list }
     ensures found { S.tells → IfOk result (λ t. AreEach
         (IsManifestOf (S.disk store.old).files location.now columns.now) list t.manifests) }
     ensures table { IfOk result
         (λ t. IsTableOfRows empty.schema empty.partition (rows_of t.manifests) t.table) }
     ensures fit { IfOk result (λ t. FitRows columns.now (rows_of t.manifests)) }
+    ensures no_deletes { IfOk result (λ t. TakeNoDeletes t.manifests) }
+    ensures contents { IfOk result (λ t. AreOfContents t.manifests) }
     ensures within { IfOk result (λ t. entry_count t.manifests ≤ MAX_ACTIONS) }
     ensures refused { S.tells → IfErr result (IsRefusal (AreManifestsRefused
         (S.disk store.old).files location.now columns.now path.now list)) }

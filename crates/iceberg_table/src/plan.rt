@@ -18,7 +18,7 @@ use table_history::{Feature, Schema};
 /// What the metadata says of a snapshot: the path of its manifest list, its schema, and the columns
 /// of the default spec in that schema.
 #[derive(Drop)]
-pub(crate) struct Plan {
+pub struct Plan {
     pub list: Text,
     pub schema: Schema,
     pub columns: Items<SourceColumn>,

@@ -9,8 +9,8 @@ ghost use Rattle.iceberg_table.specs.Errors.{IsRefusal, error_at};
 ghost use Rattle.iceberg_table.specs.Folder.{version_path};
 ghost use Rattle.iceberg_table.specs.Plan.{IsSoundPlan, names_of};
 ghost use Rattle.iceberg_table.specs.Refusals.{IsListedRefusal, IsSnapshotRefusal};
-ghost use Rattle.iceberg_table.specs.Snapshots.{HasColumnsOf, IsReadAs, IsReadBy, IsTableOfSnapshot};
-ghost use Rattle.iceberg_table.specs.Tables.{IsTableOfSnapshots};
+ghost use Rattle.iceberg_table.specs.Snapshots.{HasColumnsOf, HasManifestRows, IsReadAs, IsReadBy, IsTableOfSnapshot};
+ghost use Rattle.iceberg_table.specs.Tables.{AreOfContents, IsTableOfSnapshots, TakeNoDeletes};
 ghost use Rattle.iceberg_table.specs.declared.error.IcebergError.TheVariants.{Memory, Refused, StoreFault};
 
 use crate::error::{Fault, IcebergError, error_at};
@@ -70,6 +70,10 @@ fn read_planned<S: Store>(
         → IfOk result (IsReadBy (S.disk store.old).files metadata.now plan) }
     ensures columns { IfOk result (λ t. (t.table.schema ≡ plan.schema)
         × (t.table.partition ≡ names_of plan.columns)) }
+    // Its rows are those of the manifests, also where the store tells nothing.
+    ensures rows { IfOk result HasManifestRows }
+    ensures no_deletes { IfOk result (λ t. TakeNoDeletes t.manifests) }
+    ensures contents { IfOk result (λ t. AreOfContents t.manifests) }
     // The table may be published where the schema and the columns are a table's own.
     ensures sound { IsSoundPlan plan → IfOk result (λ t. IsTableOfSnapshots t.table) }
     ensures refused { S.tells → IfErr result
@@ -119,6 +123,10 @@ pub fn read_snapshot<S: Store>(
         (IsReadAs (S.disk store.old).files metadata.now snapshot.now) }
     ensures columns { IfOk result
         (λ t. HasColumnsOf metadata.now snapshot.now t.table) }
+    // Its rows are those of the manifests, also where the store tells nothing.
+    ensures rows { IfOk result HasManifestRows }
+    ensures no_deletes { IfOk result (λ t. TakeNoDeletes t.manifests) }
+    ensures contents { IfOk result (λ t. AreOfContents t.manifests) }
     // What is read of a table's own metadata may be published, and passes no number.
     ensures sound { IsWritable metadata.now
         → IfOk result (λ t. IsTableOfSnapshots t.table) }

@@ -20,7 +20,7 @@ use lake_store::Store;
 use std::alloc::{AllocError, Global};
 
 /// The path of the metadata of a version.
-pub(crate) fn version_path(alloc: Global, version: u32) -> Result<Text, AllocError>
+pub fn version_path(alloc: Global, version: u32) -> Result<Text, AllocError>
     ensures { IfOk result (λ path. path ≡ version_path version) }
 {
     Ok(Text::from_string(format!(in alloc; "metadata/v{}.metadata.json", version)?))

@@ -4,16 +4,18 @@ use Rattle.std.proofs.lemmas.Result.{err_from_is_err_and}
 use Rattle.lake_basics.specs.declared.limits.TheConstants.{MAX_ACTIONS}
 use Rattle.lake_store.specs.Disk.{Disk}
 use Rattle.lake_store.proofs.RunLaws as runs
+use Rattle.table_history.proofs.RowListLemmas.{Contains-none}
+use Rattle.iceberg_manifest.specs.ListWriting.{HasContent}
 use Rattle.iceberg_manifest.specs.Lists.{AreEach}
 use Rattle.iceberg_manifest.specs.declared.live.LiveRow.{LiveRow}
 use Rattle.iceberg_table.specs.Errors.{IsRefusal, IsTold}
 use Rattle.iceberg_table.specs.Kinds.{FitRows}
 use Rattle.iceberg_table.specs.Manifests.{AreManifestsRefused, IsManifestOf, IsManifestRefusal, entry_count}
-use Rattle.iceberg_table.specs.Tables.{AreShared, IsTableOfRows, rows_in, rows_of}
+use Rattle.iceberg_table.specs.Tables.{AreOfContents, AreShared, IsTableOfRows, TakeNoDeletes, rows_in, rows_of}
 use Rattle.iceberg_table.specs.declared.error.IcebergError.{IcebergError}
 use Rattle.iceberg_table.specs.declared.list.ManifestFile.{ManifestFile}
 use Rattle.iceberg_table.specs.declared.manifest.Manifest.{Manifest}
-use Rattle.iceberg_table.proofs.EachLaws.{count_push, each_push, fit_none, fit_push, left_moved, left_next}
+use Rattle.iceberg_table.proofs.EachLaws.{contents_push, count_push, no_deletes_push, each_push, fit_none, fit_push, in_list, left_moved, left_next}
 use Rattle.iceberg_table.proofs.FaultLaws.{refused_further}
 use Rattle.iceberg_table.proofs.RowLaws.{manifest_next}
 use Rattle.iceberg_table.proofs.Runs.{fails_never, uncontested_further}
@@ -37,7 +39,7 @@ returns-in_err-manifest-clause-refused g c told =
     subst (λ r. IfErr r (IsRefusal P)) (sym exit.1)
     (subst (IsRefusal P) (sym exit.2)
     (refused_further (IsManifestRefusal files location columns (entry_count c.loop-file.manifests) x) P e
-    (λ d refused. record { front = was.0; item = x; behind = c.next.new.self.rest.items; split = split; found = c.loop-file.manifests; are = was.2 told; refused = (subst (λ (n : ℕ). n ≤ MAX_ACTIONS) (sym so_far.counted) so_far.within, inl refused) })
+    (λ d refused. record { front = was.0; item = x; behind = c.next.new.self.rest.items; split = split; found = c.loop-file.manifests; are = was.2 told; refused = (subst (λ (n : ℕ). n ≤ MAX_ACTIONS) (sym so_far.counted) so_far.within, so_far.table.distinct, inl refused) })
     counted))
 
 pub returns-in_err-manifest-clause-only_reads : goal.returns-in_err-manifest-clause-only_reads
@@ -74,6 +76,8 @@ loop-file-preserved g c =
           let joined = subst (λ (l : List LiveRow). IsTableOfRows s p (rows ++ rows_in l) c.in_ok-table.table) c.as_slice.ensures (c.in_ok-table.ensures.found s p rows so_far.table) in
           manifest_next s p [] c.loop-file.manifests c.push.new.self r c.in_ok-table.table c.in_ok-push.ensures.ok joined;
       fit = subst (λ (l : List Manifest). FitRows columns (rows_of l)) (sym c.in_ok-push.ensures.ok) (fit_push columns c.loop-file.manifests r so_far.fit c.in_ok-manifest.ensures.fit);
+      no_deletes = subst TakeNoDeletes (sym c.in_ok-push.ensures.ok) (no_deletes_push c.loop-file.manifests r so_far.no_deletes c.in_ok-manifest.ensures.no_deletes);
+      contents = subst AreOfContents (sym c.in_ok-push.ensures.ok) (contents_push c.loop-file.manifests r so_far.contents (subst (λ (f : ManifestFile). HasContent f.info) (sym c.in_ok-manifest.ensures.file) (c.requires.contents x (in_list c.args.list was.0 c.next.new.self.rest.items x split))));
       reads = runs.reading_further store old mid new so_far.reads c.in_ok-manifest.ensures.only_reads;
       cause = fails_never store.faults store.may_fail old mid new _ so_far.cause c.in_ok-manifest.ensures.cause;
       contest = uncontested_further store.contests store.may_contest old mid new so_far.contest c.in_ok-manifest.ensures.contest;
@@ -91,8 +95,10 @@ loop-file-init g c =
         sym (c.into_iter-file-iterator.ensures.into_iter_gives.0 ∙ c.into_vec-file-items.ensures),
         λ told. subst (λ (l : List Manifest). AreEach (IsManifestOf (store.disk c.args.store.now).files c.args.location.now c.args.columns.now) [] l) (sym none) tt,
       );
-      table = subst (λ (l : List Manifest). IsTableOfRows c.args.empty.schema c.args.empty.partition (rows_of l) c.args.empty) (sym none) c.requires;
+      table = subst (λ (l : List Manifest). IsTableOfRows c.args.empty.schema c.args.empty.partition (rows_of l) c.args.empty) (sym none) c.requires.table;
       fit = fit_none c.args.columns.now c.new-manifests.result none;
+      no_deletes = subst TakeNoDeletes (sym none) (λ m there. absurd (Contains-none m there));
+      contents = subst AreOfContents (sym none) (λ m there. absurd (Contains-none m there));
       reads = runs.reading_begins store g.met.S.Store.only_now c.args.store.now;
       cause = record { later = omega arith; still = λ m. m; rose = λ never. absurd never; allowed = λ never. absurd never };
       contest = record { same = refl; still = λ m. m; never = λ never. never };
@@ -121,7 +127,7 @@ returns-in_err-table-clause-refused g c told =
     subst (λ q. IfErr q (IsRefusal P)) (sym exit.1)
     (subst (IsRefusal P) (sym exit.2)
     (refused_further (IsTold path (AreShared (rows ++ rows_in r.rows))) P e
-    (λ d shares. record { front = was.0; item = x; behind = c.next.new.self.rest.items; split = split; found = c.loop-file.manifests; are = was.2 told; refused = (within, inr (r, one, bound, shares)) })
+    (λ d shares. record { front = was.0; item = x; behind = c.next.new.self.rest.items; split = split; found = c.loop-file.manifests; are = was.2 told; refused = (within, so_far.table.distinct, inr (r, one, bound, shares)) })
     shared))
 
 pub returns-in_err-table-clause-only_reads : goal.returns-in_err-table-clause-only_reads

@@ -7,7 +7,7 @@ use Rattle.iceberg_table.specs.Kinds.{FitRows}
 use Rattle.iceberg_table.specs.Manifests.{IsManifestOf}
 use Rattle.iceberg_table.specs.Plan.{names_of, part_columns}
 use Rattle.iceberg_table.specs.Tables.{rows_of}
-use Rattle.iceberg_table.proofs.SnapshotLaws.{columns_found, many_refused, read_by, table_sound, whole_table, with_schema}
+use Rattle.iceberg_table.proofs.SnapshotLaws.{columns_found, contents_found, many_refused, no_deletes_found, read_by, rows_found, table_sound, whole_table, with_schema}
 use Rattle.iceberg_table.proofs.snapshot.read_planned.Goals as goal
 
 pub returns-in_err-read-clause-only_reads : goal.returns-in_err-read-clause-only_reads
@@ -68,3 +68,12 @@ returns-clause-columns g c =
     let names = c.empty_table-empty.ensures.partition ∙ c.in_ok-names.ensures ∙ ap names_of c.as_slice.ensures in
     let table = with_schema empty.schema c.args.plan.schema empty.partition (names_of c.args.plan.columns) rows c.in_ok-read.read.table c.empty_table-empty.ensures.schema names c.in_ok-read.ensures.table in
     columns_found c.args.plan c.in_ok-read.read rows table c.bounded.result c.bounded.ensures.same
+
+pub returns-clause-rows : goal.returns-clause-rows
+returns-clause-rows g c = let empty = c.empty_table-empty.result in rows_found empty.schema empty.partition c.in_ok-read.read c.in_ok-read.ensures.table c.bounded.result c.bounded.ensures.same
+
+pub returns-clause-no_deletes : goal.returns-clause-no_deletes
+returns-clause-no_deletes g c = no_deletes_found c.in_ok-read.read c.in_ok-read.ensures.no_deletes c.bounded.result c.bounded.ensures.same
+
+pub returns-clause-contents : goal.returns-clause-contents
+returns-clause-contents g c = contents_found c.in_ok-read.read c.in_ok-read.ensures.contents c.bounded.result c.bounded.ensures.same
