@@ -1,9 +1,11 @@
 -- Why commits don't fit an Iceberg target.
-use Rattle.std.specs.Prelude.{◌≡◌, ◌≢◌, ◌⊎◌, ◌≤ℤ◌, ◌<◌, ◌+◌, ◌&&◌, ◌==◌, nat_le, ℕ, ℤ, pos, List, [], ◌∷◌, ◌++◌, length, map, Contains, Bool, true, false, Option, None, Some, unwrap_or, if◌then◌else◌}
+use Rattle.std.specs.Prelude.{◌≡◌, ◌≢◌, ◌⊎◌, ◌≤ℤ◌, ◌<◌, ◌+◌, ◌&&◌, ◌==◌, nat_le, ℕ, ℤ, pos, List, [], ◌∷◌, ◌++◌, length, map, Contains, Bool, true, false, Option, None, Some, option_map, unwrap_or, if◌then◌else◌}
 use Rattle.std.specs.Cmp.Lexicographic.{pointwise}
 use Rattle.std.specs.List.{zip}
 use Rattle.std.specs.Str.{bytes_eq}
 use Rattle.lake_basics.specs.declared.limits.TheConstants.{MAX_PUBLISHED_COMMITS}
+use Rattle.iceberg_metadata.specs.Paths.{current_schema}
+use Rattle.iceberg_version.specs.declared.kept.IcebergKept.{IcebergKept}
 use Rattle.partition_map.specs.Columns.{column_kind}
 use Rattle.partition_map.specs.declared.kind.PartKind.{PartKind}
 use Rattle.schema_map.specs.Ids.{Path, column_paths}
@@ -148,3 +150,15 @@ pub data Unfit (state : HeldState) (partition : List (List ℕ)) (commits : List
   many : MAX_PUBLISHED_COMMITS < length commits → Unfit state partition commits (Limit Publish MAX_PUBLISHED_COMMITS)
   changes : ¬ (MAX_PUBLISHED_COMMITS < length commits) → ChangesPartition state partition commits → Unfit state partition commits (Unsupported PartitionChange [])
   type : (name : List ℕ) → ¬ (MAX_PUBLISHED_COMMITS < length commits) → ¬ ChangesPartition state partition commits → IsFirstChange state commits name → Unfit state partition commits (Unsupported TypeChange name)
+
+-- ---- what is kept
+
+-- what commits are to fit
+abbrev pub state_of : IcebergKept → HeldState
+state_of kept = record {
+  version = kept.version;
+  partition = kept.table.partition;
+  schema = kept.table.schema;
+  held = map (λ s. (s.0, s.1)) kept.metadata.schemas;
+  current = option_map (λ s. s.1) (current_schema kept.metadata);
+}

@@ -5,8 +5,9 @@ use Rattle.lake_store.specs.Disk.{Files}
 use Rattle.table_history.specs.declared.table.Commit.{Commit}
 use Rattle.iceberg_metadata.specs.Writing.{metadata_text}
 use Rattle.target_core.specs.Views.{Origin}
-use Rattle.target_iceberg.specs.Names.{list_name, manifest_name, path_of, staged_name, version_path}
-use Rattle.target_iceberg.specs.Writing.{IsWritten, NewVersion, TableEnd, next_version}
+use Rattle.iceberg_table.specs.Folder.{path_of, version_path}
+use Rattle.iceberg_version.specs.Names.{list_name, manifest_name, staged_name}
+use Rattle.iceberg_version.specs.Writing.{IsWritten, NewVersion, TableEnd, next_version}
 
 -- Publishing the commit over the files before has left those after: the new version's metadata, its list and its new manifests have the bytes that are
 -- written for it, the name that the metadata was staged under is gone, and all other files are as before.

@@ -1,25 +1,20 @@
 //! An Iceberg table as the target of a sync: what its metadata, lists and manifests stand for, and
-//! what a commit to it writes.
+//! the calls that inspect it and publish commits.
 #![tactic(auto)]
 
-mod added;
-mod carrying;
-mod columns;
-mod entries;
-mod fresh;
-mod infos;
-mod json;
-mod kept;
-mod mark;
-mod metadata;
+mod fitting;
+mod form;
+mod inspect;
+mod linking;
 mod names;
-mod removed;
-mod rewriting;
-mod rows;
-mod schemas;
-mod spec;
+mod newest;
+mod publish;
+mod shape;
 mod target;
-mod touched;
 
-pub use kept::IcebergKept;
 pub use target::IcebergTarget;
+
+#[cfg(test)]
+mod fitting_tests;
+#[cfg(test)]
+mod inspect_tests;

@@ -1,65 +1,96 @@
-//! The names of the files that a commit writes.
+//! The names in the folder of a table's metadata that a commit may have written and not published.
 
-ghost use Rattle.std.specs.Prelude.{◌≡◌, ◌++◌, IfOk};
-ghost use Rattle.iceberg_manifest.specs.Location.{front_of as front_at, without_slash as without_slash_of};
-ghost use Rattle.target_iceberg.specs.Manifests.{file_at as name_of_file};
-ghost use Rattle.target_iceberg.specs.Names.{list_name, manifest_name, path_of, staged_name, version_path as path_of_version};
+ghost use Rattle.std.specs.Prelude.{◌≡◌, ◌≢◌, ◌↔◌, ◌==◌, ◌++◌, ℕ, List, Contains, IsTrue, MatchOption};
+ghost use Rattle.std.specs.Char.{is_ascii_digit};
+ghost use Rattle.std.specs.List.{list_all, position};
+ghost use Rattle.target_iceberg.specs.Leftovers.{IsDecimal, IsLeftoverName};
+ghost use Rattle.target_iceberg.specs.InspectSteps.{AreNumbers, IsFirstOf, IsManifestName, IsNumbered};
 
 use lake_basics::Text;
-use std::alloc::{AllocError, Global};
 
-/// The path of a version's metadata.
-pub(crate) fn version_path(alloc: Global, version: u32) -> Result<Text, AllocError>
-    ensures { IfOk result (λ path. path ≡ path_of_version version) }
+/// The first of the names that no commit writes before it publishes.
+pub(crate) fn first_stray(names: &[Text]) -> Option<&Text>
+    ensures { MatchOption result
+        ((name : List ℕ) → Contains names.now name → IsLeftoverName name)
+        (λ name. IsFirstOf names.now name.now) }
 {
-    Ok(Text::from_string(format!(in alloc; "metadata/v{version}.metadata.json")?))
+    for name in names {
+        if !is_leftover(name.as_bytes()) {
+            return Some(name);
+        }
+    }
+    None
 }
 
-/// The path that a version's metadata is staged under.
-pub(crate) fn staged_path(alloc: Global, version: u32) -> Result<Text, AllocError>
-    ensures { IfOk result (λ path. path ≡ path_of (staged_name version)) }
+/// Whether a commit may have written the name before it published.
+fn is_leftover(name: &[u8]) -> bool
+    ensures { IsTrue result ↔ IsLeftoverName name.now }
 {
-    Ok(Text::from_string(format!(in alloc; "metadata/lb-v-{version}.json")?))
+    is_numbered(name, b"lb-v-", b".json")
+        || is_numbered(name, b"lb-s-", b".avro")
+        || is_manifest(name)
 }
 
-/// The path of the manifest list of a version.
-pub(crate) fn list_path(alloc: Global, version: u32) -> Result<Text, AllocError>
-    ensures { IfOk result (λ path. path ≡ path_of (list_name version)) }
+/// Whether the name is a decimal between these.
+fn is_numbered(name: &[u8], front: &[u8], behind: &[u8]) -> bool
+    ensures { IsTrue result ↔ IsNumbered front.now behind.now name.now }
 {
-    Ok(Text::from_string(format!(in alloc; "metadata/lb-s-{version}.avro")?))
-}
-
-/// The path of a version's manifest of this number.
-pub(crate) fn manifest_path(alloc: Global, version: u32, number: u32) -> Result<Text, AllocError>
-    ensures { IfOk result (λ path. path ≡ path_of (manifest_name version number)) }
-{
-    Ok(Text::from_string(format!(in alloc; "metadata/lb-m-{version}-{number}.avro")?))
-}
-
-/// The location without the slash at its end.
-fn without_slash(location: &[u8]) -> &[u8]
-    ensures { result.now ≡ without_slash_of location.now }
-{
-    location.strip_suffix(b"/").unwrap_or(location)
-}
-
-/// What the names of the files of a table at this location begin with.
-pub(crate) fn front_of(alloc: Global, location: &Text) -> Result<Text, AllocError>
-    ensures { IfOk result (λ front. front ≡ front_at location.now) }
-{
-    let mut front = Vec::from_slice(alloc, without_slash(location.as_bytes()))?;
-    front.push(b'/')?;
-    match Text::from_bytes(alloc, front.as_slice()) {
-        Ok(front) => Ok(front),
-        Err(_) => Err(AllocError),
+    match between(name, front, behind) {
+        Some(number) => is_decimal(number),
+        None => false,
     }
 }
 
-/// The name of the file of a path, behind what all of them begin with.
-pub(crate) fn file_at(alloc: Global, front: &Text, path: &str) -> Result<Text, AllocError>
-    ensures { IfOk result (λ file. file ≡ name_of_file front.now path.now) }
+fn is_manifest(name: &[u8]) -> bool
+    ensures { IsTrue result ↔ IsManifestName name.now }
 {
-    let mut file = String::from_str(alloc, front.as_str())?;
-    file.push_str(path)?;
-    Ok(Text::from_string(file))
+    match between(name, b"lb-m-", b".avro") {
+        Some(numbers) => are_numbers(numbers),
+        None => false,
+    }
+}
+
+/// What stands in the name between these.
+fn between<'a>(name: &'a [u8], front: &[u8], behind: &[u8]) -> Option<&'a [u8]>
+    ensures { MatchOption result
+        ((middle : List ℕ) → name.now ≢ front.now ++ (middle ++ behind.now))
+        (λ middle. name.now ≡ front.now ++ (middle.now ++ behind.now)) }
+{
+    let rest = name.strip_prefix(front)?;
+    rest.strip_suffix(behind)
+}
+
+/// Whether the bytes are two decimals with a hyphen between them.
+fn are_numbers(bytes: &[u8]) -> bool
+    ensures { IsTrue result ↔ AreNumbers bytes.now }
+{
+    match hyphen_in(bytes) {
+        Some(place) => is_decimal(&bytes[..place]) && is_decimal(&bytes[place + 1..]),
+        None => false,
+    }
+}
+
+fn hyphen_in(bytes: &[u8]) -> Option<usize>
+    ensures { result ≡ position (λ b. b == 45) bytes.now }
+{
+    bytes.iter().position(|b| *b == b'-')
+}
+
+/// Whether the bytes are digits without a leading zero.
+fn is_decimal(bytes: &[u8]) -> bool
+    ensures { IsTrue result ↔ IsDecimal bytes.now }
+{
+    if bytes.is_empty() {
+        return false;
+    }
+    if bytes[0] == b'0' && bytes.len() != 1 {
+        return false;
+    }
+    are_digits(bytes)
+}
+
+fn are_digits(bytes: &[u8]) -> bool
+    ensures { result ≡ list_all is_ascii_digit bytes.now }
+{
+    bytes.iter().all(|b| b.is_ascii_digit())
 }

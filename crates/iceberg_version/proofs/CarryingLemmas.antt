@@ -1,0 +1,154 @@
+-- Whether rows of a manifest are removed, and what then becomes of it.
+use Rattle.std.proofs.Common.{◌≡◌, ◌≢◌, ◌+◌, ◌<◌, ℕ, Bool, true, false, Contains, List, [], ◌∷◌, ◌++◌, drop, ◌≤◌, Option, Some, None, IsSome, cond, get_or, map, length, refl, sym, ap, subst, ◌∙◌, inl, inr, ⊎_elim}
+use Rattle.std.specs.Prelude.{◌||◌, is_some, unwrap_or}
+use Rattle.std.specs.List.{list_any}
+use Rattle.std.specs.Str.{bytes_eq}
+use Rattle.std.proofs.lemmas.Bool.{false≢true}
+use Rattle.std.proofs.lemmas.List.Folds.{list_any_at}
+use Rattle.std.proofs.lemmas.List.{append-nil, append_assoc, drop_all, drop_more, get_or-map, length-map}
+use Rattle.std.proofs.lemmas.Slice.Eq.{bytes_eq-Decides}
+use Rattle.table_history.proofs.RowListLemmas.{Contains-cases, Contains-head, Contains-none, Contains-tail}
+use Rattle.file_links.specs.Rows.{Entry, IsFirstOf, OwnedRows, rows_of, slot_at}
+use Rattle.file_links.specs.declared.slots.Held.{Held}
+use Rattle.iceberg_version.specs.Carrying.{AreCarriedOn, IsCarriedOn}
+use Rattle.iceberg_version.specs.KeptEnd.{held_rows, live_manifest}
+use Rattle.iceberg_version.specs.Manifests.{LiveManifest, is_lost}
+use Rattle.iceberg_version.specs.Touched.{IsTouched}
+use Rattle.iceberg_version.specs.declared.carrying.Next.{Next}
+use Rattle.iceberg_version.specs.declared.kept.KeptManifest.{KeptManifest}
+use Rattle.iceberg_version.specs.declared.carrying.Next.TheVariants.{Anew, Stays}
+use Rattle.iceberg_version.proofs.RowLemmas.{entries_of, there}
+
+contains_any : {X : Type 0} (p : X → Bool) (xs : List X) (x : X) → Contains xs x → p x ≡ true → list_any p xs ≡ true
+contains_any p xs x c h = list_any_at p xs c.0 x c.1 (ap p c.2 ∙ h)
+
+abbrev Found : {X : Type 0} → (X → Bool) → List X → Type 0
+Found {X} p xs = (x : X) × Contains xs x × (p x ≡ true)
+
+any_by : {X : Type 0} (p : X → Bool) (x : X) (xs : List X) (b : Bool) → p x ≡ b → (b || list_any p xs) ≡ true → (list_any p xs ≡ true → Found p xs) → Found p (x ∷ xs)
+any_by p x xs true is h later = (x, Contains-head x xs, is)
+any_by p x xs false is h later = let f = later h in (f.0, Contains-tail x xs f.0 f.1, f.2)
+
+any_found : {X : Type 0} (p : X → Bool) (xs : List X) → list_any p xs ≡ true → Found p xs
+any_found p [] h = absurd (false≢true h)
+any_found p (x ∷ xs) h = any_by p x xs (p x) refl h (any_found p xs)
+
+map_there : {X Y : Type 0} (f : X → Y) (xs : List X) (x : X) → Contains xs x → Contains (map f xs) (f x)
+map_there {Y = Y} f [] x c = absurd (Contains-none x c)
+map_there {Y = Y} f (y ∷ ys) x c =
+    ⊎_elim
+    (λ e. subst (λ (z : Y). Contains (f y ∷ map f ys) z) (ap f e) (Contains-head (f y) (map f ys)))
+    (λ later. Contains-tail (f y) (map f ys) (f x) (map_there f ys x later))
+    (Contains-cases y ys x c)
+
+map_back : {X Y : Type 0} (f : X → Y) (xs : List X) (y : Y) → Contains (map f xs) y → (x : X) × Contains xs x × (f x ≡ y)
+map_back f [] y c = absurd (Contains-none y c)
+map_back f (x ∷ xs) y c =
+    ⊎_elim
+    (λ e. (x, Contains-head x xs, e))
+    (λ later. let r = map_back f xs y later in (r.0, Contains-tail x xs r.0 r.1, r.2))
+    (Contains-cases (f x) (map f xs) y c)
+
+-- ---- rows that are removed
+
+pub any_lost : (links : OwnedRows) (owner : ℕ) (paths : List (List ℕ)) → IsTouched links paths owner → list_any (is_lost paths) (held_rows links owner) ≡ true
+any_lost links owner paths t =
+    let rows = t.owned.0 in
+    let are : held_rows links owner ≡ map (λ (e : Entry). e.held) rows = ap (λ (o : Option (List Entry)). map (λ (e : Entry). e.held) (unwrap_or o [])) t.owned.1 in
+    let lost : is_lost paths t.entry.held ≡ true = contains_any (bytes_eq t.entry.held.row.path) paths t.entry.held.row.path t.lost ((bytes_eq-Decides t.entry.held.row.path t.entry.held.row.path).1 refl) in
+    ap (list_any (is_lost paths)) are ∙ contains_any (is_lost paths) (map (λ (e : Entry). e.held) rows) t.entry.held (map_there (λ (e : Entry). e.held) rows t.entry t.owned.2) lost
+
+touched_by : (links : OwnedRows) (owner : ℕ) (paths : List (List ℕ)) → IsSome (rows_of links owner) → list_any (is_lost paths) (held_rows links owner) ≡ true → IsTouched links paths owner
+touched_by links owner paths h any =
+    let f = any_found (is_lost paths) (held_rows links owner) any in
+    let e = map_back (λ (e : Entry). e.held) (entries_of links owner) f.0 f.1 in
+    let p = any_found (bytes_eq f.0.row.path) paths f.2 in
+    let path : e.0.held.row.path ≡ p.0 = ap (λ (x : Held). x.row.path) e.2 ∙ (bytes_eq-Decides f.0.row.path p.0).0 p.2 in
+    record { entry = e.0; owned = (entries_of links owner, there links owner h, e.1); lost = subst (λ (q : List ℕ). Contains paths q) (sym path) p.1 }
+
+none_by : (b : Bool) → (b ≡ true → ⊥) → b ≡ false
+none_by true h = absurd (h refl)
+none_by false h = refl
+
+pub none_lost : (links : OwnedRows) (owner : ℕ) (paths : List (List ℕ)) → IsSome (rows_of links owner) → (IsTouched links paths owner → ⊥) → list_any (is_lost paths) (held_rows links owner) ≡ false
+none_lost links owner paths h untouched = none_by (list_any (is_lost paths) (held_rows links owner)) (λ any. untouched (touched_by links owner paths h any))
+
+-- ---- live rows
+
+first_none : (es : List Entry) → None ≡ slot_at es 0 → es ≡ []
+first_none [] h = refl
+first_none (e ∷ es) h = cc
+
+none_if : (o : Option ℕ) → is_some o ≡ false → o ≡ None
+none_if None h = refl
+none_if (Some n) h = absurd (false≢true (sym h))
+
+not_none : (o : Option ℕ) → is_some o ≡ true → o ≡ None → ⊥
+not_none o h none = false≢true (sym (ap is_some none) ∙ h)
+
+pub no_rows : (links : OwnedRows) (owner : ℕ) (first : Option ℕ) → IsSome (rows_of links owner) → IsFirstOf links owner first → is_some first ≡ false → held_rows links owner ≡ []
+no_rows links owner first h is none = ap (map (λ (e : Entry). e.held)) (first_none (entries_of links owner) (sym (none_if first none) ∙ is (entries_of links owner) (there links owner h)))
+
+filled : (es : List Entry) → map (λ (e : Entry). e.held) es ≡ [] → slot_at es 0 ≡ None
+filled [] h = refl
+filled (e ∷ es) h = cc
+
+pub some_rows : (links : OwnedRows) (owner : ℕ) (first : Option ℕ) → IsSome (rows_of links owner) → IsFirstOf links owner first → is_some first ≡ true → held_rows links owner ≢ []
+some_rows links owner first h is some = λ none. not_none first some (is (entries_of links owner) (there links owner h) ∙ filled (entries_of links owner) none)
+
+-- ---- what becomes of it
+
+pub rewritten : (paths : List (List ℕ)) (place : ℕ) (m : LiveManifest) → list_any (is_lost paths) m.rows ≡ true → IsCarriedOn paths place m (Anew place)
+rewritten paths place m any = record {
+  rows = λ none. false≢true (sym (ap (list_any (is_lost paths)) none) ∙ any);
+  is = sym (ap (λ (b : Bool). cond b (Anew place) (Stays place)) any);
+}
+
+pub stays_as_it_is : (paths : List (List ℕ)) (place : ℕ) (m : LiveManifest) → m.rows ≢ [] → list_any (is_lost paths) m.rows ≡ false → IsCarriedOn paths place m (Stays place)
+stays_as_it_is paths place m some none = record {
+  rows = some;
+  is = sym (ap (λ (b : Bool). cond b (Anew place) (Stays place)) none);
+}
+
+-- ---- one manifest more
+
+-- Whatever the manifests from this place on become, it comes behind these.
+abbrev pub AreCarriedUpTo : List (List ℕ) → List LiveManifest → ℕ → List Next → Type 0
+AreCarriedUpTo paths ms i so_far = (rest : List Next) → AreCarriedOn paths i (drop i ms) rest → AreCarriedOn paths 0 ms (so_far ++ rest)
+
+pub none_carried : (paths : List (List ℕ)) (ms : List LiveManifest) (so_far : List Next) → so_far ≡ [] → AreCarriedUpTo paths ms 0 so_far
+none_carried paths ms so_far none = λ rest are. subst (λ (ns : List Next). AreCarriedOn paths 0 ms (ns ++ rest)) (sym none) are
+
+left_of : (ms : List LiveManifest) (i : ℕ) (m : LiveManifest) → i < length ms → m ≡ get_or ms i m → drop i ms ≡ m ∷ drop (i + 1) ms
+left_of ms i m within at = drop_more ms i m within ∙ ap (λ (x : LiveManifest). x ∷ drop (i + 1) ms) (sym at)
+
+pub left_out : (paths : List (List ℕ)) (ms : List LiveManifest) (i : ℕ) (m : LiveManifest) (so_far after : List Next) → i < length ms → m ≡ get_or ms i m → m.rows ≡ [] → after ≡ so_far → AreCarriedUpTo paths ms i so_far → AreCarriedUpTo paths ms (i + 1) after
+left_out paths ms i m so_far after within at none same before = λ rest are.
+    let here : AreCarriedOn paths i (m ∷ drop (i + 1) ms) rest = inl (none, are) in
+    let all = before rest (subst (λ (xs : List LiveManifest). AreCarriedOn paths i xs rest) (sym (left_of ms i m within at)) here) in
+    subst (λ (ns : List Next). AreCarriedOn paths 0 ms (ns ++ rest)) (sym same) all
+
+pub carried_more : (paths : List (List ℕ)) (ms : List LiveManifest) (i : ℕ) (m : LiveManifest) (one : Next) (so_far after : List Next) → i < length ms → m ≡ get_or ms i m → IsCarriedOn paths i m one → after ≡ so_far ++ one ∷ [] → AreCarriedUpTo paths ms i so_far → AreCarriedUpTo paths ms (i + 1) after
+carried_more paths ms i m one so_far after within at is pushes before = λ rest are.
+    let here : AreCarriedOn paths i (m ∷ drop (i + 1) ms) (one ∷ rest) = inr (one, rest, refl, is, are) in
+    let all = before (one ∷ rest) (subst (λ (xs : List LiveManifest). AreCarriedOn paths i xs (one ∷ rest)) (sym (left_of ms i m within at)) here) in
+    let joined : after ++ rest ≡ so_far ++ (one ∷ rest) = ap (λ (ns : List Next). ns ++ rest) pushes ∙ append_assoc so_far (one ∷ []) rest in
+    subst (λ (ns : List Next). AreCarriedOn paths 0 ms ns) (sym joined) all
+
+pub all_carried : (paths : List (List ℕ)) (ms : List LiveManifest) (i : ℕ) (so_far : List Next) → length ms ≤ i → AreCarriedUpTo paths ms i so_far → AreCarriedOn paths 0 ms so_far
+all_carried paths ms i so_far past before =
+    let empty : AreCarriedOn paths i (drop i ms) [] = subst (λ (xs : List LiveManifest). AreCarriedOn paths i xs []) (sym (drop_all i ms past)) refl in
+    subst (λ (ns : List Next). AreCarriedOn paths 0 ms ns) (append-nil so_far) (before [] empty)
+
+-- the live manifest at a place
+pub live_at : (links : OwnedRows) (ms : List KeptManifest) (i : ℕ) (m : KeptManifest) → i < length ms → m ≡ get_or ms i m → live_manifest links m ≡ get_or (map (live_manifest links) ms) i (live_manifest links m)
+live_at links ms i m within at = sym (get_or-map (live_manifest links) ms i m (live_manifest links m) within ∙ ap (live_manifest links) (sym at))
+
+pub live_within : (links : OwnedRows) (ms : List KeptManifest) (i : ℕ) → i < length ms → i < length (map (live_manifest links) ms)
+live_within links ms i within = subst (λ (n : ℕ). i < n) (sym (length-map ms (live_manifest links))) within
+
+pub live_past : (links : OwnedRows) (ms : List KeptManifest) (i : ℕ) → length ms ≤ i → length (map (live_manifest links) ms) ≤ i
+live_past links ms i past = subst (λ (n : ℕ). n ≤ i) (sym (length-map ms (live_manifest links))) past
+
+pub kept_there : (ms : List KeptManifest) (i : ℕ) (m : KeptManifest) → i < length ms → m ≡ get_or ms i m → Contains ms m
+kept_there ms i m within at = (i, within, sym at)

@@ -1,0 +1,13 @@
+pub mod Names
+pub mod Manifests
+pub mod Schemas
+pub mod Writing
+pub mod KeptEnd
+pub mod Carrying
+pub mod Removed
+pub mod Sound
+pub mod Touched
+pub mod Advance
+pub mod Texts
+pub mod NewVersion
+pub mod Behind

@@ -1,0 +1,46 @@
+//! The manifests of the list before, and what a commit removes and adds.
+
+ghost use Rattle.std.specs.Prelude.{◌≡◌, IfOk};
+ghost use Rattle.iceberg_version.specs.Removed.{HoldsPaths};
+
+use crate::kept::KeptManifest;
+use crate::removed::{Paths, path_set};
+use file_links::Links;
+use lake_basics::Text;
+use std::alloc::{AllocError, Global};
+use table_history::FileRow;
+
+/// The manifests of the list before with their live rows, and what a commit removes and adds.
+#[derive(Drop)]
+pub(crate) struct Before<'a> {
+    pub(crate) links: &'a Links,
+    pub(crate) manifests: &'a [KeptManifest],
+    pub(crate) removed: &'a [Text],
+    pub(crate) paths: Paths<'a>,
+    /// The rows that the commit adds, in the parts that the new manifests are of.
+    pub(crate) parts: &'a [&'a [&'a FileRow]],
+    ghost held: { HoldsPaths paths removed.now },
+}
+
+/// These manifests with their live rows, the paths that are removed, and the parts that are added.
+pub(crate) fn before_of<'a>(
+    alloc: Global,
+    links: &'a Links,
+    manifests: &'a [KeptManifest],
+    removed: &'a [Text],
+    parts: &'a [&'a [&'a FileRow]],
+) -> Result<Before<'a>, AllocError>
+    ensures links { IfOk result (λ before. before.links.now ≡ links.now) }
+    ensures manifests { IfOk result (λ before. before.manifests.now ≡ manifests.now) }
+    ensures removed { IfOk result (λ before. before.removed.now ≡ removed.now) }
+    ensures parts { IfOk result (λ before. before.parts.now ≡ parts.now) }
+{
+    let paths = path_set(alloc, removed)?;
+    Ok(Before {
+        links,
+        manifests,
+        removed,
+        paths,
+        parts,
+    })
+}

@@ -1,0 +1,117 @@
+//! The rows of new manifests in their list.
+
+ghost use Rattle.std.specs.Prelude.{◌≡◌, ◌≤◌, ◌∷◌, ◌++◌, [], ℤ, IfOk, List, Some, length};
+ghost use Rattle.iceberg_manifest.specs.Live.{is_live};
+ghost use Rattle.lake_basics.specs.declared.limits.TheConstants.{MAX_LIVE_FILES};
+ghost use Rattle.iceberg_version.specs.Manifests.{IsInfoOf, IsLeast, IsLeastOf, files_of as count_of_files, if_any, live_sequences, records_of as count_of_records, sequence_in as sequence_of};
+
+use crate::entries::{ADDED, DELETED, EXISTING};
+use crate::names::{file_at, manifest_path};
+use iceberg_manifest::{Entry, ManifestInfo};
+use lake_basics::{Blob, Text};
+use std::alloc::{AllocError, Global};
+
+const MAX_LONG: u64 = i64::MAX as u64;
+
+/// How many entries are of this status.
+#[tactic(auto, using(crate::proofs::CountLemmas::few_of_status))]
+fn files_of(entries: &[Entry], status: u8) -> i32
+    requires { length entries.now ≤ MAX_LIVE_FILES }
+    ensures { result ≡ count_of_files status entries.now }
+{
+    let mut count: u32 = 0;
+    for entry in entries {
+        if entry.status == status {
+            count += 1;
+        }
+    }
+    count as i32
+}
+
+/// How many records the files of this status have, or the greatest whole number where there are
+/// more.
+fn records_of(entries: &[Entry], status: u8) -> i64
+    ensures { result ≡ count_of_records status entries.now }
+{
+    let mut total: u64 = 0;
+    for entry in entries {
+        if entry.status == status {
+            total = (total + entry.count).min(MAX_LONG);
+        }
+    }
+    total as i64
+}
+
+/// The sequence number of an entry in a manifest of this version.
+fn sequence_in(entry: &Entry, version: u32) -> i64
+    ensures { result ≡ sequence_of version entry.now }
+{
+    entry.sequence.unwrap_or(i64::from(version))
+}
+
+/// The least of some numbers and of one more, where `least` is that of the numbers if there is any.
+fn least_with(any: bool, least: i64, number: i64) -> i64
+    ensures { (numbers : List ℤ) → IsLeastOf numbers (if_any any least)
+        → IsLeastOf (numbers ++ number ∷ []) (Some result) }
+{
+    if !any {
+        return number;
+    }
+    if number < least { number } else { least }
+}
+
+/// Whether the entry is live.
+fn is_live(entry: &Entry) -> bool
+    ensures { result ≡ is_live entry.now }
+{
+    entry.status < DELETED
+}
+
+/// The least sequence number of the live entries, and the version where none is live.
+fn least_sequence(entries: &[Entry], version: u32) -> i64
+    ensures { IsLeast version (live_sequences version entries.now) result }
+{
+    let mut any = false;
+    let mut least = i64::from(version);
+    for entry in entries {
+        if is_live(entry) {
+            least = least_with(any, least, sequence_in(entry, version));
+            any = true;
+        }
+    }
+    least
+}
+
+/// The row in its list of a version's new manifest of this number, which has these entries and
+/// these bytes.
+pub(crate) fn info_of(
+    alloc: Global,
+    front: &Text,
+    version: u32,
+    number: u32,
+    entries: &[Entry],
+    bytes: &Blob,
+    place: u32,
+) -> Result<ManifestInfo, AllocError>
+    requires { length entries.now ≤ MAX_LIVE_FILES }
+    ensures { IfOk result
+        (IsInfoOf front.now version number entries.now bytes.now place) }
+{
+    let path = manifest_path(alloc, version, number)?;
+    Ok(ManifestInfo {
+        manifest_path: file_at(alloc, front, path.as_str())?,
+        manifest_length: bytes.as_slice().len() as i64,
+        partition_spec_id: 0,
+        content: 0,
+        sequence_number: i64::from(version),
+        min_sequence_number: least_sequence(entries, version),
+        added_snapshot_id: i64::from(version),
+        added_files_count: files_of(entries, ADDED),
+        existing_files_count: files_of(entries, EXISTING),
+        deleted_files_count: files_of(entries, DELETED),
+        added_rows_count: records_of(entries, ADDED),
+        existing_rows_count: records_of(entries, EXISTING),
+        deleted_rows_count: records_of(entries, DELETED),
+        place,
+    })
+}

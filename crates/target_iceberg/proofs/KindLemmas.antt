@@ -1,0 +1,111 @@
+-- Whether the kinds of partition columns change along commits.
+use Rattle.std.proofs.Common.{◌≡◌, ◌≢◌, ⊎_elim, inl, inr, ℕ, ◌<◌, List, [], ◌∷◌, Bool, true, false, cond, Option, Some, None, refl, sym, ap, ◌∙◌, arith}
+use Rattle.std.proofs.Common.{Decides, rules}
+use lib.Pointwise.{pointwise}
+use Rattle.std.specs.Prelude.{IsTrue, unwrap_or, option_and_then}
+use Rattle.std.specs.Option.{option_eq}
+use Rattle.std.specs.Str.{bytes_eq}
+use Rattle.std.proofs.lemmas.Bool.{cases_Bool, false≢true}
+use Rattle.std.proofs.lemmas.Slice.Eq.{slice_eq-Decides}
+use denote.Enum.Bare.{same_false, same_true}
+use Rattle.partition_map.specs.contracts.kind.PartKind.{the_type}
+use Rattle.partition_map.specs.contracts.kind.PartKindPartialEq.TheImpl.{eq-value}
+use Rattle.partition_map.specs.Columns.{column_kind}
+use Rattle.partition_map.specs.Kind.{part_kind_of}
+use Rattle.partition_map.specs.declared.kind.PartKind.{PartKind}
+use Rattle.schema_map.specs.Image.{wide_columns, wide_type}
+use Rattle.table_history.specs.History.{column_type}
+use Rattle.table_history.specs.TypeTree as tree
+use Rattle.table_history.specs.TypeTree.{ColumnTrees, TypeTree, column, no_columns}
+use Rattle.table_history.specs.declared.table.Commit.{Commit}
+use Rattle.target_iceberg.specs.Fitting.{ChangesKinds, HeldState, kinds_of, state_behind}
+use Rattle.target_iceberg.specs.Following.{AreKindsOf}
+
+-- ---- Iceberg's types change no kind
+
+same_kind : (t : TypeTree) → part_kind_of (wide_type t) ≡ part_kind_of t
+same_kind tree.byte = refl
+same_kind tree.short = refl
+same_kind tree.boolean = refl
+same_kind tree.int = refl
+same_kind tree.long = refl
+same_kind tree.float = refl
+same_kind tree.double = refl
+same_kind (tree.decimal p s) = refl
+same_kind tree.text = refl
+same_kind tree.binary = refl
+same_kind tree.date = refl
+same_kind tree.timestamp = refl
+same_kind tree.timestamp_ntz = refl
+same_kind (tree.struct_of cs) = refl
+same_kind (tree.list_of t b) = refl
+same_kind (tree.map_of k v b) = refl
+
+kind_by : (here : Bool) (t wide : TypeTree) (o w : Option TypeTree) → part_kind_of wide ≡ part_kind_of t → option_and_then part_kind_of w ≡ option_and_then part_kind_of o → option_and_then part_kind_of (cond here (Some wide) w) ≡ option_and_then part_kind_of (cond here (Some t) o)
+kind_by true t wide o w one others = one
+kind_by false t wide o w one others = others
+
+wide_kind : (schema : ColumnTrees) (name : List ℕ) → column_kind (wide_columns schema) name ≡ column_kind schema name
+wide_kind no_columns name = refl
+wide_kind (column n t b cs) name = kind_by (bytes_eq n name) t (wide_type t) (column_type cs name) (column_type (wide_columns cs) name) (same_kind t) (wide_kind cs name)
+
+wide_kinds : (schema : ColumnTrees) (names : List (List ℕ)) → kinds_of (wide_columns schema) names ≡ kinds_of schema names
+wide_kinds schema [] = refl
+wide_kinds schema (name ∷ names) = λ i. wide_kind schema name i ∷ wide_kinds schema names i
+
+-- ---- along the commits
+
+-- Behind the first commits the target has these kinds, and they change along all of them just where they change along the rest.
+pub record AtKinds (names : List (List ℕ)) (kinds : List (Option PartKind)) (has : Bool) (state : HeldState) (commits rest : List Commit) : Type 0 where
+  pub here : HeldState
+  pub are : AreKindsOf here names kinds has
+  pub to : ChangesKinds state names commits → ChangesKinds here names rest
+  pub back : ChangesKinds here names rest → ChangesKinds state names commits
+
+module _ (names : List (List ℕ)) (kinds : List (Option PartKind)) (has : Bool) (state : HeldState) (commits : List Commit) (commit : Commit) (rest : List Commit) (s : AtKinds names kinds has state commits (commit ∷ rest)) where
+  stated_none : (schema : ColumnTrees) → commit.change.schema ≡ None → commit.change.schema ≡ Some schema → ⊥
+  stated_none schema none some = cc
+
+  kinds_behind : (schema : ColumnTrees) → unwrap_or commit.change.schema s.here.schema ≡ schema → kinds_of (state_behind s.here commit).schema names ≡ kinds_of schema names
+  kinds_behind schema is = wide_kinds (unwrap_or commit.change.schema s.here.schema) names ∙ ap (λ (t : ColumnTrees). kinds_of t names) is
+
+  pub kinds_none : commit.change.schema ≡ None → AtKinds names kinds true state commits rest
+  kinds_none none = record {
+    here = state_behind s.here commit;
+    are = record { are = kinds_behind s.here.schema (ap (λ (o : Option ColumnTrees). unwrap_or o s.here.schema) none) ∙ s.are.are; commit = (λ _. omega arith, λ _. refl) };
+    to = λ h. ⊎_elim (λ a. absurd (stated_none a.1.0 none a.1.1)) (λ later. later) (s.to h);
+    back = λ later. s.back (inr later);
+  }
+
+  module _ (schema : ColumnTrees) (stated : commit.change.schema ≡ Some schema) (new : List (Option PartKind)) (are : new ≡ kinds_of schema names) where
+    same_stated : (other : ColumnTrees) → commit.change.schema ≡ Some other → schema ≡ other
+    same_stated other is = let both : Some schema ≡ Some other = sym stated ∙ is in cc
+
+    pub kinds_some : (IsTrue has → kinds ≡ new) → AtKinds names new true state commits rest
+    kinds_some same = record {
+      here = state_behind s.here commit;
+      are = record { are = kinds_behind schema (ap (λ (o : Option ColumnTrees). unwrap_or o s.here.schema) stated) ∙ sym are; commit = (λ _. omega arith, λ _. refl) };
+      to = λ h. ⊎_elim
+          (λ (a : (0 < s.here.version) × ((other : ColumnTrees) × (commit.change.schema ≡ Some other) × (kinds_of s.here.schema names ≢ kinds_of other names))).
+          absurd (a.1.2 (s.are.are ∙ same (s.are.commit.1 a.0) ∙ are ∙ ap (λ (t : ColumnTrees). kinds_of t names) (same_stated a.1.0 a.1.1))))
+          (λ later. later)
+          (s.to h);
+      back = λ later. s.back (inr later);
+    }
+
+    pub kinds_found : IsTrue has → kinds ≢ new → ChangesKinds state names commits
+    kinds_found published apart = s.back (inl (s.are.commit.0 published, (schema, stated, λ same. apart (sym s.are.are ∙ same ∙ sym are))))
+
+-- ---- equal kinds
+
+option_decides : {A : Type 0} {E : A → A → Bool} → ((a b : A) → Decides (E a b) (a ≡ b)) → (a b : Option A) → Decides (option_eq E a b) (a ≡ b)
+option_decides each None None = (λ _. refl, λ _. refl)
+option_decides each None (Some y) = (λ is. absurd (false≢true is), λ same. absurd (cc))
+option_decides each (Some x) None = (λ is. absurd (false≢true is), λ same. absurd (cc))
+option_decides each (Some x) (Some y) = (λ is. ap (λ z. Some z) ((each x y).0 is), λ same. (each x y).1 (cc))
+
+kind_decides : (a b : PartKind) → Decides (eq-value.it a b) (a ≡ b)
+kind_decides a b = (λ is. same_true the_type (search rules) a b is, λ same. ⊎_elim (λ is. is) (λ is. absurd (same_false the_type a b is same)) (cases_Bool (eq-value.it a b)))
+
+pub kinds_decide : (a b : List (Option PartKind)) (r : Bool) → r ≡ pointwise (option_eq eq-value.it) a b → Decides r (a ≡ b)
+kinds_decide a b r is = slice_eq-Decides (option_decides kind_decides) a b r is

@@ -1,0 +1,188 @@
+-- The tests of a name against what a commit may have written.
+use Rattle.std.proofs.Common.{◌≡◌, ◌≢◌, ◌⊎◌, ◌+◌, ◌-◌, ◌<◌, ℕ, suc, Bool, true, false, ◌&&◌, ◌==◌, cond, nat_lt, Bor, ◌≤◌, List, [], ◌∷◌, ◌++◌, codes, length, take, drop, get_or, Contains, Option, Some, None, refl, sym, ap, subst, ◌∙◌, inl, inr, ⊎_elim, append_assoc, add-one, drop-cons, arith}
+use Rattle.std.specs.Prelude.{◌↔◌, IsTrue, MatchOption}
+use Rattle.std.specs.Char.{is_ascii_digit, digit_value}
+use Rattle.std.specs.List.{after_first, before_first, list_all, position, position_or_len}
+use Rattle.std.specs.Str.{all_ascii_digits}
+use Rattle.std.specs.Str.Parse.{AllDigits, digits_value}
+use Rattle.std.proofs.lemmas.Bool.{cases_Bool, false≢true}
+use Rattle.std.proofs.lemmas.Bool.Decides.{nat_tests}
+use Rattle.std.proofs.Math.ListN.{get_or-append}
+use Rattle.std.proofs.Math.Seq.{drop-append-add, get_or-append_seam, take-append_seam, take-length}
+use Rattle.std.proofs.lemmas.List.{append_cancel_left, append_cancel_right, length-append, length-drop, take-append-drop, take_all, take_more}
+use Rattle.std.proofs.lemmas.List.Sums.{passes_at_first, position_or_len_is, split_at_first}
+use Rattle.std.proofs.lemmas.List.Elements.{Contains-push_cases}
+use Rattle.std.proofs.lemmas.Str.Parse.{IsNumeralModel, numerals_by_value, tells_all_ascii_digits, digit_at}
+use Rattle.target_iceberg.specs.Leftovers.{IsDecimal, IsLeftoverName, list, manifest, staged}
+use Rattle.target_iceberg.specs.InspectSteps.{AreNumbers, IsFirstOf, IsManifestName, IsNumbered}
+
+-- ---- decimals
+
+own : IsNumeralModel (λ ds. all_ascii_digits ds ≡ true) (digits_value 10)
+own = numerals_by_value _ tells_all_ascii_digits
+
+same_digits : (ds : List ℕ) → list_all is_ascii_digit ds ≡ all_ascii_digits ds
+same_digits [] = refl
+same_digits (c ∷ ds) = ap (λ b. is_ascii_digit c && b) (same_digits ds)
+
+pub decimal_tested : (ds : List ℕ) (are : Bool) → 0 < length ds → (get_or ds 0 0 ≡ 48 → length ds ≡ 1) → are ≡ list_all is_ascii_digit ds → IsTrue are ↔ IsDecimal ds
+decimal_tested ds are some plain is = (
+  λ whole. record { numeral = (some, own.to ds (sym (same_digits ds) ∙ sym is ∙ whole)); plain = plain },
+  λ decimal. is ∙ same_digits ds ∙ own.from ds decimal.numeral.1,
+)
+
+-- ---- between two texts
+
+pub between_unique : (front behind a b : List ℕ) → front ++ (a ++ behind) ≡ front ++ (b ++ behind) → a ≡ b
+between_unique front behind a b same = append_cancel_right a b behind (append_cancel_left front (a ++ behind) (b ++ behind) same)
+
+module _ (name front behind : List ℕ) where
+  abbrev IsBetween : List ℕ → Type 0
+  IsBetween middle = name ≡ front ++ (middle ++ behind)
+
+  pub numbered_at : (middle : List ℕ) (is : Bool) → IsBetween middle → IsTrue is ↔ IsDecimal middle → IsTrue is ↔ IsNumbered front behind name
+  numbered_at middle is at test = (
+    λ whole. record { number = middle; decimal = test.0 whole; is = at },
+    λ numbered. test.1 (subst IsDecimal (between_unique front behind numbered.number middle (sym numbered.is ∙ at)) numbered.decimal),
+  )
+
+pub manifest_at : (name middle : List ℕ) (is : Bool) → name ≡ codes "lb-m-" ++ (middle ++ codes ".avro") → IsTrue is ↔ AreNumbers middle → IsTrue is ↔ IsManifestName name
+manifest_at name middle is at test = (
+  λ whole. record { numbers = middle; are = test.0 whole; is = at },
+  λ named. test.1 (subst AreNumbers (between_unique (codes "lb-m-") (codes ".avro") named.numbers middle (sym named.is ∙ at)) named.are),
+)
+
+-- ---- two numbers
+
+abbrev is_hyphen : ℕ → Bool
+is_hyphen b = b == 45
+
+-- the place of the first hyphen
+abbrev place_of : List ℕ → ℕ
+place_of bytes = position_or_len is_hyphen bytes
+
+hyphen_seen : (bytes : List ℕ) (place : ℕ) → Some place ≡ position is_hyphen bytes → (position_or_len is_hyphen bytes < length bytes) × (place ≡ position_or_len is_hyphen bytes)
+hyphen_seen bytes place found = by (nat_lt (place_of bytes) (length bytes)) refl found
+  where
+    by : (b : Bool) → nat_lt (place_of bytes) (length bytes) ≡ b → Some place ≡ cond b (Some (place_of bytes)) None → (place_of bytes < length bytes) × (place ≡ place_of bytes)
+    by true is found = (grind (arith, nat_tests), cc)
+    by false is found = absurd cc
+
+hyphen_at : (version number : List ℕ) → IsDecimal version → position_or_len is_hyphen (version ++ (codes "-" ++ number)) ≡ length version
+hyphen_at version number decimal =
+    position_or_len_is is_hyphen (version ++ (codes "-" ++ number)) (length version) 0
+    (omega (arith, length-append version (codes "-" ++ number)))
+    (λ k within. rw (get_or-append version (codes "-" ++ number) 0 k within) (no_hyphen k within))
+    (λ _. rw (get_or-append_seam version 45 number 0))
+  where
+    no_hyphen : (k : ℕ) → k < length version → is_hyphen (get_or version k 0) ≡ false
+    no_hyphen k within = let digit = digit_at version k decimal.numeral.1 within in grind (arith, nat_tests)
+
+numbers_split : (bytes : List ℕ) (place : ℕ) → Some place ≡ position is_hyphen bytes → bytes ≡ take place bytes ++ (codes "-" ++ drop (place + 1) bytes)
+numbers_split bytes place found =
+    let seen = hyphen_seen bytes place found in
+    let hyphen : get_or bytes (position_or_len is_hyphen bytes) 0 ≡ 45 = let passes = passes_at_first is_hyphen bytes 0 seen.0 in grind (arith, nat_tests) in
+    subst (λ (n : ℕ). bytes ≡ take n bytes ++ (codes "-" ++ drop (n + 1) bytes)) (sym seen.1)
+    (split_at_first is_hyphen bytes 0 seen.0 ∙ ap (λ (b : ℕ). before_first is_hyphen bytes ++ (b ∷ after_first is_hyphen bytes)) hyphen)
+
+-- the two parts of numbers stand before and behind the first hyphen
+numbers_parts : (bytes : List ℕ) (place : ℕ) → Some place ≡ position is_hyphen bytes → (are : AreNumbers bytes) → (are.version ≡ take place bytes) × (are.number ≡ drop (place + 1) bytes)
+numbers_parts bytes place found are =
+    let seen = hyphen_seen bytes place found in
+    let here : place ≡ length are.version = seen.1 ∙ ap (position_or_len is_hyphen) are.is ∙ hyphen_at are.version are.number are.first in (
+      sym (ap (λ (n : ℕ). take n bytes) here ∙ ap (take (length are.version)) are.is ∙ take-append_seam are.version (codes "-" ++ are.number)),
+      sym (ap (λ (n : ℕ). drop (n + 1) bytes) here ∙ ap (drop (length are.version + 1)) are.is ∙ drop-append-add are.version (codes "-" ++ are.number) 1),
+    )
+
+-- all that stands behind a place
+pub behind_place : (n : ℕ) (xs : List ℕ) → take (length xs - n) (drop n xs) ≡ drop n xs
+behind_place n xs = ap (λ k. take k (drop n xs)) (sym (length-drop n xs)) ∙ take-length (drop n xs)
+
+module _ (bytes : List ℕ) (place : ℕ) (found : Some place ≡ position is_hyphen bytes) (first : Bool) (is_first : IsTrue first ↔ IsDecimal (take place bytes)) where
+  pub numbers_by : first ≡ true → (second : Bool) → IsTrue second ↔ IsDecimal (drop (place + 1) bytes) → IsTrue second ↔ AreNumbers bytes
+  numbers_by whole second is_second = (
+    λ also. record { version = take place bytes; number = drop (place + 1) bytes; first = is_first.0 whole; second = is_second.0 also; is = numbers_split bytes place found },
+    λ are. is_second.1 (subst IsDecimal (numbers_parts bytes place found are).1 are.second),
+  )
+
+  pub no_numbers : first ≡ false → IsTrue first ↔ AreNumbers bytes
+  no_numbers none = (
+    λ whole. absurd (false≢true (sym none ∙ whole)),
+    λ are. is_first.1 (subst IsDecimal (numbers_parts bytes place found are).0 are.first),
+  )
+
+pub hyphen_lacks : (bytes : List ℕ) → None ≡ position is_hyphen bytes → AreNumbers bytes → ⊥
+hyphen_lacks bytes none are = by (nat_lt (place_of bytes) (length bytes)) refl none
+  where
+    by : (b : Bool) → nat_lt (place_of bytes) (length bytes) ≡ b → None ≡ cond b (Some (place_of bytes)) None → ⊥
+    by true is found = absurd cc
+    by false is found =
+        let here : place_of bytes ≡ length are.version = ap (position_or_len is_hyphen) are.is ∙ hyphen_at are.version are.number are.first in
+        let long : length bytes ≡ length are.version + length (codes "-" ++ are.number) = ap length are.is ∙ length-append are.version (codes "-" ++ are.number) in
+        let past : length bytes ≤ place_of bytes = grind (arith, nat_tests) in
+        omega (arith, here, long, past)
+
+-- ---- leftovers
+
+module _ (name : List ℕ) where
+  pub staged_name : IsNumbered (codes "lb-v-") (codes ".json") name → IsLeftoverName name
+  staged_name n = staged n.number n.decimal n.is
+
+  pub list_name : IsNumbered (codes "lb-s-") (codes ".avro") name → IsLeftoverName name
+  list_name n = list n.number n.decimal n.is
+
+  manifest_name : IsManifestName name → IsLeftoverName name
+  manifest_name m =
+      manifest m.are.version m.are.number m.are.first m.are.second
+      (m.is ∙ ap (λ (l : List ℕ). codes "lb-m-" ++ l) (ap (λ (l : List ℕ). l ++ codes ".avro") m.are.is ∙ append_assoc m.are.version (codes "-" ++ m.are.number) (codes ".avro")))
+
+  leftover_kinds : IsLeftoverName name → IsNumbered (codes "lb-v-") (codes ".json") name ⊎ (IsNumbered (codes "lb-s-") (codes ".avro") name ⊎ IsManifestName name)
+  leftover_kinds (staged version plain is) = inl (record { number = version; decimal = plain; is = is })
+  leftover_kinds (list version plain is) = inr (inl (record { number = version; decimal = plain; is = is }))
+  leftover_kinds (manifest version number first second is) =
+      inr (inr (record {
+        numbers = version ++ (codes "-" ++ number);
+        are = record { version = version; number = number; first = first; second = second; is = refl };
+        is = is ∙ ap (λ (l : List ℕ). codes "lb-m-" ++ l) (sym (append_assoc version (codes "-" ++ number) (codes ".avro")));
+      }))
+
+  -- none of the first two, and the third as it is tested
+  pub manifest_left : (s l m : Bool) → IsTrue s ↔ IsNumbered (codes "lb-v-") (codes ".json") name → IsTrue l ↔ IsNumbered (codes "lb-s-") (codes ".avro") name → IsTrue m ↔ IsManifestName name
+      → s ≡ false → l ≡ false → IsTrue m ↔ IsLeftoverName name
+  manifest_left s l m is_staged is_list is_manifest no_staged no_list = (
+    λ whole. manifest_name (is_manifest.0 whole),
+    λ leftover. by (leftover_kinds leftover),
+  )
+    where
+      by : IsNumbered (codes "lb-v-") (codes ".json") name ⊎ (IsNumbered (codes "lb-s-") (codes ".avro") name ⊎ IsManifestName name) → IsTrue m
+      by (inl n) = absurd (false≢true (sym no_staged ∙ is_staged.1 n))
+      by (inr (inl n)) = absurd (false≢true (sym no_list ∙ is_list.1 n))
+      by (inr (inr x)) = is_manifest.1 x
+
+-- ---- the first stray name
+
+pub between_by : (name front behind rest : List ℕ) → name ≡ front ++ rest → (r : Option (Bor (List ℕ))) → MatchOption r ((first : List ℕ) → rest ≢ first ++ behind) (λ x. rest ≡ x.now ++ behind)
+    → MatchOption r ((middle : List ℕ) → name ≢ front ++ (middle ++ behind)) (λ x. name ≡ front ++ (x.now ++ behind))
+between_by name front behind rest at None none = λ middle is. none middle (append_cancel_left front rest (middle ++ behind) (sym at ∙ is))
+between_by name front behind rest at (Some x) is = at ∙ ap (λ (l : List ℕ). front ++ l) is
+
+module _ (names : List (List ℕ)) (i : ℕ) (earlier : (other : List ℕ) → Contains (take i names) other → IsLeftoverName other) where
+  module _ (name : List ℕ) (within : i < length names) (is : name ≡ get_or names i name) where
+    pub first_of : ¬ IsLeftoverName name → IsFirstOf names name
+    first_of stray = record {
+      front = take i names;
+      behind = drop (i + 1) names;
+      split = sym (take-append-drop i names) ∙ ap (λ (l : List (List ℕ)). take i names ++ l) (rw (add-one, drop-cons names i name within) (ap (λ (n : List ℕ). n ∷ drop (suc i) names) (sym is)));
+      earlier = earlier;
+      stray = stray;
+    }
+
+    pub one_more : IsLeftoverName name → (other : List ℕ) → Contains (take (i + 1) names) other → IsLeftoverName other
+    one_more leftover other there =
+        ⊎_elim
+        (λ before. earlier other before)
+        (λ (same : get_or names i name ≡ other). subst IsLeftoverName (is ∙ same) leftover)
+        (Contains-push_cases (take i names) (get_or names i name) other (subst (λ (l : List (List ℕ)). Contains l other) (take_more names i name within) there))
+
+  pub all_of : length names ≤ i → (name : List ℕ) → Contains names name → IsLeftoverName name
+  all_of past name there = earlier name (subst (λ (l : List (List ℕ)). Contains l name) (sym (take_all i names past)) there)

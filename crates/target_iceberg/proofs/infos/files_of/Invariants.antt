@@ -1,6 +1,0 @@
-use Rattle.std.proofs.Common.{◌≡◌, length, take}
-use Rattle.target_iceberg.specs.Manifests.{of_status}
-use Rattle.target_iceberg.proofs.infos.files_of.Given as goal
-
-abbrev pub invariant-loop-entry : goal.invariant-loop-entry
-invariant-loop-entry l = l.count ≡ length (of_status l.status (take l.entry-index l.entries))

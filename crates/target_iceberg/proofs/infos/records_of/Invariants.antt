@@ -1,6 +1,0 @@
-use Rattle.std.proofs.Common.{◌≡◌, take}
-use Rattle.target_iceberg.specs.Manifests.{capped_records}
-use Rattle.target_iceberg.proofs.infos.records_of.Given as goal
-
-abbrev pub invariant-loop-entry : goal.invariant-loop-entry
-invariant-loop-entry l = l.total ≡ capped_records l.status (take l.entry-index l.entries)

@@ -1,6 +1,0 @@
-use Rattle.std.proofs.Common.{◌≡◌, ◌++◌, drop, map}
-use Rattle.target_iceberg.specs.Manifests.{added_entry}
-use Rattle.target_iceberg.proofs.rewriting.added_entries.Given as goal
-
-abbrev pub invariant-loop-row : goal.invariant-loop-row
-invariant-loop-row l = l.entries.items ++ map (added_entry l.front l.version) (map (λ r. r.now) (drop l.row-index l.rows)) ≡ map (added_entry l.front l.version) (map (λ r. r.now) l.rows)

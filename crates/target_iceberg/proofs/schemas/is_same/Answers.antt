@@ -1,5 +1,0 @@
-use Rattle.target_iceberg.proofs.SchemaLemmas.{same_columns}
-use Rattle.target_iceberg.proofs.schemas.is_same.Goals as goal
-
-pub returns : goal.returns
-returns c = same_columns c.args.schema.now c.args.other.now c.eq.result c.eq.ensures

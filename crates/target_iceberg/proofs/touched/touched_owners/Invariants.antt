@@ -1,6 +1,0 @@
-use Rattle.std.proofs.Common.{take}
-use Rattle.target_iceberg.specs.Touched.{AreTouched}
-use Rattle.target_iceberg.proofs.touched.touched_owners.Given as goal
-
-abbrev pub invariant-loop-path : goal.invariant-loop-path
-invariant-loop-path l = AreTouched l.links (take l.path-index l.removed) l.owners

@@ -1,0 +1,235 @@
+-- What the files of an Iceberg target say, they say once: reading is a function of the bytes.
+use Rattle.std.proofs.Common.{◌≡◌, inl, inr, ℕ, ℤ, List, [], ◌∷◌, length, Contains, Option, Some, None, Result, Ok, Err, Bool, true, false, cond, refl, sym, ap, subst, ◌∙◌, arith}
+use Rattle.std.specs.Ordering.{int_eq}
+use Rattle.avro_schema.specs.Tree.{SchemaTree}
+use Rattle.avro_value.specs.ValueTree.{ValueTree}
+use Rattle.avro_value.specs.declared.api.TheConstants.{MAX_VALUES}
+use Rattle.avro_container.specs.Format.{IsWithin, Pairs}
+use Rattle.avro_container.specs.Reading.{container_at}
+use Rattle.avro_container.proofs.Containers.{container_again, container_refused}
+use Rattle.lake_store.specs.Disk.{Files}
+use Rattle.table_history.specs.declared.table.Table.{Table}
+use Rattle.table_history.specs.Rows.{SameRows}
+use Rattle.table_history.proofs.RowListLemmas.{Contains-head, Contains-tail}
+use Rattle.iceberg_manifest.specs.Containers.{IsRefusedBy, Scan, StandsFor}
+use Rattle.iceberg_manifest.specs.Entry.{EntryData}
+use Rattle.iceberg_manifest.specs.Lists.{AreEach}
+use Rattle.iceberg_manifest.specs.Live.{rows_in}
+use Rattle.iceberg_manifest.specs.LiveRows.{AreLiveRows}
+use Rattle.iceberg_manifest.specs.Location.{front_of}
+use Rattle.iceberg_manifest.specs.Scans.{entries_of, infos_of}
+use Rattle.iceberg_manifest.specs.declared.error.ManifestError.{ManifestError}
+use Rattle.iceberg_manifest.specs.declared.info.ManifestInfo.{ManifestInfo}
+use Rattle.iceberg_manifest.specs.declared.live.LiveRow.{LiveRow}
+use Rattle.iceberg_manifest.specs.declared.partition.PartColumn.{PartColumn}
+use Rattle.iceberg_manifest.proofs.LiveLaws.{rows_given}
+use Rattle.iceberg_metadata.specs.Ancestry.{held, held_at}
+use Rattle.iceberg_metadata.specs.Grammar.{IsMetadataText}
+use Rattle.iceberg_metadata.specs.Judging.{contents}
+use Rattle.iceberg_metadata.specs.Reading.{IsRead}
+use Rattle.iceberg_metadata.specs.Schemas.{HeldSchema, HeldUnread, SchemaReading, schema_ids, unread}
+use Rattle.iceberg_metadata.specs.declared.error.MetadataError.{MetadataError}
+use Rattle.iceberg_metadata.specs.declared.metadata.Metadata.{Metadata}
+use Rattle.iceberg_metadata.specs.declared.metadata.Snapshot.{Snapshot}
+use Rattle.iceberg_metadata.proofs.ConsistentLemmas.{consistent_Decides}
+use Rattle.iceberg_metadata.proofs.ContentLemmas.{contents_are}
+use Rattle.iceberg_table.specs.Files.{HoldsFile, SaysMetadata}
+use Rattle.iceberg_table.specs.Folder.{IsNewest, version_path}
+use Rattle.iceberg_table.specs.Lists.{AreRows, SaysList}
+use Rattle.iceberg_table.specs.Manifests.{AreEntries, HasEntries, IsManifestOf, SaysManifest}
+use Rattle.iceberg_table.specs.Plan.{IsPlanOf, names_of, part_columns, snapshot_schema}
+use Rattle.iceberg_table.specs.Snapshots.{IsTableOfSnapshot}
+use Rattle.iceberg_table.specs.declared.list.ManifestFile.{ManifestFile}
+use Rattle.iceberg_table.specs.declared.manifest.Manifest.{Manifest}
+use Rattle.iceberg_table.specs.declared.plan.Plan.{Plan}
+use Rattle.iceberg_table.proofs.EachLaws.{each_once}
+use Rattle.iceberg_table.proofs.ListLaws as lists
+use Rattle.iceberg_table.proofs.LiveLaws.{columns_same, list_same}
+use Rattle.iceberg_table.proofs.ManifestLaws.{held_once}
+use Rattle.target_core.specs.Mark.{IsMarkText}
+use Rattle.target_core.specs.Views.{Standing, standing_of}
+use Rattle.target_core.specs.declared.mark.Mark.{Mark}
+use Rattle.target_core.proofs.Marks.{one_mark}
+use Rattle.target_iceberg.specs.Reading.{HasMark, IsCurrent, IsMarked, SaysCurrent}
+
+-- ---- answers
+
+pub ok_once : {A E : Type 0} (r : Result A E) (x y : A) → r ≡ Ok x → r ≡ Ok y → x ≡ y
+ok_once r x y p q = cc (sym p ∙ q)
+
+pub ok_or_err : {A E : Type 0} (r : Result A E) (x : A) (e : E) → r ≡ Ok x → r ≡ Err e → ⊥
+ok_or_err r x e p q = cc (sym p ∙ q)
+
+pub some_once : {A : Type 0} (o : Option A) (x y : A) → o ≡ Some x → o ≡ Some y → x ≡ y
+some_once o x y p q = cc (sym p ∙ q)
+
+pub none_or_some : {A : Type 0} (o : Option A) (x : A) → o ≡ None → o ≡ Some x → ⊥
+none_or_some o x p q = cc (sym p ∙ q)
+
+-- ---- files of Avro values
+
+abbrev Whole : Type 0
+Whole = Pairs × SchemaTree × List ValueTree
+
+module _ {B : Type 0} (limit : ℕ) (scan : Scan B) (bytes : List ℕ) where
+  whole_once : (v w : Whole) → IsWithin limit bytes v.0 v.1 v.2 → IsWithin limit bytes w.0 w.1 w.2 → scan v.1 v.2 ≡ scan w.1 w.2
+  whole_once v w a b =
+      let one : v ≡ w = ok_once (container_at limit bytes) v w (container_again limit bytes v.0 v.1 v.2 a) (container_again limit bytes w.0 w.1 w.2 b) in
+      ap (λ (u : Whole). scan u.1 u.2) one
+
+  pub stands_once : (x y : B) → StandsFor limit scan bytes x → StandsFor limit scan bytes y → x ≡ y
+  stands_once x y h k =
+      let same : scan h.schema h.values ≡ scan k.schema k.values = whole_once (h.meta, h.schema, h.values) (k.meta, k.schema, k.values) h.container k.container in
+      ok_once (scan k.schema k.values) x y (sym same ∙ h.read) k.read
+
+  -- Bytes that stand for something aren't refused.
+  pub stands_or_refused : (x : B) (e : ManifestError) → StandsFor limit scan bytes x → IsRefusedBy limit scan bytes e → ⊥
+  stands_or_refused x e h (inl flaw) = ok_or_err (container_at limit bytes) (h.meta, h.schema, h.values) flaw.1.fault (container_again limit bytes h.meta h.schema h.values h.container) (container_refused limit bytes flaw.1.fault flaw.1.first)
+  stands_or_refused x e h (inr k) =
+      let same : scan h.schema h.values ≡ scan k.schema k.values = whole_once (h.meta, h.schema, h.values) (k.meta, k.schema, k.values) h.container k.container in
+      ok_or_err (scan k.schema k.values) x e (sym same ∙ h.read) k.read
+
+pub rows_once : (bytes : List ℕ) (a b : List ManifestInfo) → AreRows bytes a → AreRows bytes b → a ≡ b
+rows_once bytes a b h k = stands_once MAX_VALUES infos_of bytes a b h k
+
+pub entries_once : (columns : List PartColumn) (bytes : List ℕ) (a b : List EntryData) → AreEntries columns bytes a → AreEntries columns bytes b → a ≡ b
+entries_once columns bytes a b h k = stands_once MAX_VALUES (entries_of columns) bytes a b h k
+
+-- ---- metadata
+
+first_once : (m n : Metadata) (es fs : List HeldUnread) (r : Result (Metadata × List HeldUnread) MetadataError) → r ≡ Ok (m, es) → r ≡ Ok (n, fs) → m ≡ n
+first_once m n es fs r a b = ap (λ (p : Metadata × List HeldUnread). p.0) (ok_once r (m, es) (n, fs) a b)
+
+pub text_once : (bytes : List ℕ) (rs qs : List SchemaReading) (m n : Metadata) → IsMetadataText bytes rs m → IsMetadataText bytes qs n → m ≡ n
+text_once bytes rs qs m n a b =
+    let value : a.value ≡ b.value = some_once _ a.value b.value a.is b.is in
+    let one : contents a.value ≡ Ok (m, unread rs) = contents_are a.value rs m a.says ((consistent_Decides m (schema_ids rs)).1 a.consistent) in
+    let two : contents b.value ≡ Ok (n, unread qs) = contents_are b.value qs n b.says ((consistent_Decides n (schema_ids qs)).1 b.consistent) in
+    first_once m n (unread rs) (unread qs) (contents a.value) one (ap contents value ∙ two)
+
+pub read_once : (bytes : List ℕ) (m n : Metadata) → IsRead bytes m → IsRead bytes n → m ≡ n
+read_once bytes m n a b = text_once bytes a.readings b.readings m n a.text b.text
+
+held_metadata_once : (files : Files) (path a b : List ℕ) (m n : Metadata) → HoldsFile files path a → HoldsFile files path b → IsRead a m → IsRead b n → m ≡ n
+held_metadata_once files path a b m n ha hb ra rb = read_once b m n (subst (λ (bytes : List ℕ). IsRead bytes m) (held_once files path a b ha hb) ra) rb
+
+pub metadata_once : (files : Files) (version : ℕ) (m n : Metadata) → SaysMetadata files version m → SaysMetadata files version n → m ≡ n
+metadata_once files version m n a b = held_metadata_once files (version_path version) a.bytes b.bytes m n a.holds b.holds a.read b.read
+
+pub newest_once : (Held : ℕ → Type 0) (v w : ℕ) → IsNewest Held v → IsNewest Held w → v ≡ w
+newest_once Held v w a b =
+    let up = b.last v a.there in
+    let down = a.last w b.there in omega (arith, up, down)
+
+-- ---- snapshots
+
+held_by : (s t : Snapshot) (ss : List Snapshot) (b : Bool) (o : Option Snapshot) → (o ≡ Some t → Contains ss t) → cond b (Some s) o ≡ Some t → Contains (s ∷ ss) t
+held_by s t ss true o later is = subst (λ (u : Snapshot). Contains (s ∷ ss) u) (some_once (Some s) s t refl is) (Contains-head s ss)
+held_by s t ss false o later is = Contains-tail s ss t (later is)
+
+held_in : (ss : List Snapshot) (id : ℤ) (t : Snapshot) → held ss id ≡ Some t → Contains ss t
+held_in [] id t is = absurd (none_or_some None t refl is)
+held_in (s ∷ ss) id t is = held_by s t ss (int_eq s.id id) (held ss id) (λ later. held_in ss id t later) is
+
+held_at_in : (ss : List Snapshot) (id : Option ℤ) (t : Snapshot) → held_at ss id ≡ Some t → Contains ss t
+held_at_in ss None t is = absurd (none_or_some None t refl is)
+held_at_in ss (Some id) t is = held_in ss id t is
+
+pub current_in : (m : Metadata) (s : Snapshot) → IsCurrent m s → Contains m.snapshots s
+current_in m s is = held_at_in m.snapshots m.current_snapshot s is
+
+pub current_once : (m : Metadata) (s t : Snapshot) → IsCurrent m s → IsCurrent m t → s ≡ t
+current_once m s t a b = some_once (held_at m.snapshots m.current_snapshot) s t a b
+
+plan_by : (a b : Plan) → a.list ≡ b.list → a.schema ≡ b.schema → a.columns ≡ b.columns → a ≡ b
+plan_by a b list schema columns = λ i. record { list = list i; schema = schema i; columns = columns i }
+
+pub plan_once : (m : Metadata) (s : Snapshot) (a b : Plan) → IsPlanOf m s a → IsPlanOf m s b → a ≡ b
+plan_once m s a b h k =
+    let held : h.held ≡ k.held = ok_once (snapshot_schema m s) h.held k.held h.named k.named in
+    let schema : a.schema ≡ b.schema = h.schema ∙ ap (λ (x : HeldSchema). x.1) held ∙ sym k.schema in
+    plan_by a b (list_same m s a b h k) schema (columns_same m s a b h k)
+
+-- ---- lists and manifests
+
+pub list_once : (files : Files) (m : Metadata) (path : List ℕ) (a b : List ManifestFile) → SaysList files m path a → SaysList files m path b → a ≡ b
+list_once files m path a b h k = lists.list_once files m path k.bytes k.infos b k.holds (λ others are. rows_once k.bytes others k.infos are k.rows) k.listed a h
+
+pub manifest_says_once : (files : Files) (columns : List PartColumn) (path : List ℕ) (a b : List EntryData) → SaysManifest files columns path a → SaysManifest files columns path b → a ≡ b
+manifest_says_once files columns path a b h k =
+    entries_once columns k.bytes a b (subst (λ (bytes : List ℕ). AreEntries columns bytes a) (held_once files path h.bytes k.bytes h.holds k.holds) h.are) k.are
+
+pub live_rows_once : (location : List ℕ) (info : ManifestInfo) (entries : List EntryData) (a b : List LiveRow) → AreLiveRows location info entries a → AreLiveRows location info entries b → a ≡ b
+live_rows_once location info entries a b h k = ok_once (rows_in (front_of location) info entries) a b (rows_given location info entries a h) (rows_given location info entries b k)
+
+manifest_by : (a b : Manifest) → a.file ≡ b.file → a.entries ≡ b.entries → a.rows ≡ b.rows → a ≡ b
+manifest_by a b file entries rows = λ i. record { file = file i; entries = entries i; rows = rows i }
+
+abbrev manifest_with : ManifestFile → ℕ → List LiveRow → Manifest
+manifest_with file entries rows = record { file = file; entries = entries; rows = rows }
+
+module _ (files : Files) (location : List ℕ) (columns : List PartColumn) (file : ManifestFile) where
+  has_once : (n m : ℕ) (rs qs : List LiveRow) → HasEntries files location columns (manifest_with file n rs) → HasEntries files location columns (manifest_with file m qs) → (n ≡ m) × (rs ≡ qs)
+  has_once n m rs qs h k =
+      let same : h.entries ≡ k.entries = manifest_says_once files columns file.path h.entries k.entries h.says k.says in (
+        h.count ∙ ap (λ (es : List EntryData). length es) same ∙ sym k.count,
+        live_rows_once location file.info k.entries rs qs (subst (λ (es : List EntryData). AreLiveRows location file.info es rs) same h.rows) k.rows,
+      )
+
+  has_at : (r : Manifest) (rows : List LiveRow) → r.file ≡ file → HasEntries files location columns (manifest_with r.file r.entries rows) → HasEntries files location columns (manifest_with file r.entries rows)
+  has_at r rows is h = subst (λ (f : ManifestFile). HasEntries files location columns (manifest_with f r.entries rows)) is h
+
+  pub manifest_once : (a b : Manifest) → IsManifestOf files location columns file a → IsManifestOf files location columns file b → a ≡ b
+  manifest_once a b (sa, inl (za, ha)) (sb, inl (zb, hb)) =
+      let one = has_once a.entries b.entries a.rows b.rows (has_at a a.rows sa ha) (has_at b b.rows sb hb) in
+      manifest_by a b (sa ∙ sym sb) one.0 one.1
+  manifest_once a b (sa, inl (za, ha)) (sb, inr (nb, hb, eb)) = absurd (nb za)
+  manifest_once a b (sa, inr (na, ha, ea)) (sb, inl (zb, hb)) = absurd (na zb)
+  manifest_once a b (sa, inr (na, ha, ea)) (sb, inr (nb, hb, eb)) =
+      let one = has_once a.entries b.entries ha.0 hb.0 (has_at a ha.0 sa ha.1) (has_at b hb.0 sb hb.1) in
+      manifest_by a b (sa ∙ sym sb) one.0 (ea ∙ sym eb)
+
+pub manifests_once : (files : Files) (location : List ℕ) (columns : List PartColumn) (list : List ManifestFile) (a b : List Manifest) → AreEach (IsManifestOf files location columns) list a → AreEach (IsManifestOf files location columns) list b → a ≡ b
+manifests_once files location columns list a b h k = each_once (IsManifestOf files location columns) list a b (manifest_once files location columns) h k
+
+-- ---- what the current snapshot says
+
+pub record SaysOnce (files : Files) (m : Metadata) (a b : SaysCurrent files m) : Type 0 where
+  pub snapshot : a.snapshot ≡ b.snapshot
+  pub plan : a.plan ≡ b.plan
+  pub list : a.list ≡ b.list
+  pub manifests : a.manifests ≡ b.manifests
+
+pub says_once : (files : Files) (m : Metadata) (a b : SaysCurrent files m) → SaysOnce files m a b
+says_once files m a b =
+    let snapshot : a.snapshot ≡ b.snapshot = current_once m a.snapshot b.snapshot a.current b.current in
+    let plan : a.plan ≡ b.plan = plan_once m b.snapshot a.plan b.plan (subst (λ (s : Snapshot). IsPlanOf m s a.plan) snapshot a.says.planned) b.says.planned in
+    let list : a.list ≡ b.list = list_once files m b.plan.list a.list b.list (subst (λ (p : Plan). SaysList files m p.list a.list) plan a.says.says) b.says.says in
+    let manifests : a.manifests ≡ b.manifests = manifests_once files m.location (part_columns b.plan.columns) b.list a.manifests b.manifests
+    (subst (λ (l : List ManifestFile). AreEach (IsManifestOf files m.location (part_columns b.plan.columns)) l a.manifests) list (subst (λ (p : Plan). AreEach (IsManifestOf files m.location (part_columns p.columns)) a.list a.manifests) plan a.says.are)) b.says.are in
+    record { snapshot = snapshot; plan = plan; list = list; manifests = manifests }
+
+-- one table, up to the order of rows
+pub record SameTable (a b : Table) : Type 0 where
+  pub rows : SameRows a.rows b.rows
+  pub schema : a.schema ≡ b.schema
+  pub partition : a.partition ≡ b.partition
+
+pub table_once : (files : Files) (m : Metadata) (s : Snapshot) (a b : Table) → IsTableOfSnapshot files m s a → IsTableOfSnapshot files m s b → SameTable a b
+table_once files m s a b h k =
+    let plan : h.plan ≡ k.plan = plan_once m s h.plan k.plan h.planned k.planned in
+    record {
+      rows = λ row. (λ there. (k.rows row).1 ((h.rows row).0 there), λ there. (h.rows row).1 ((k.rows row).0 there));
+      schema = h.schema ∙ ap (λ (p : Plan). p.schema) plan ∙ sym k.schema;
+      partition = h.partition ∙ ap (λ (p : Plan). names_of p.columns) plan ∙ sym k.partition;
+    }
+
+-- ---- marks
+
+pub mark_once : (m : Metadata) (a b : Mark) → HasMark m a → HasMark m b → a ≡ b
+mark_once m a b h k =
+    let text : h.text ≡ k.text = some_once _ h.text k.text h.found k.found in
+    one_mark k.text a b (subst (λ (t : List ℕ). IsMarkText t a) text h.reads) k.reads
+
+pub standing_once : (m : Metadata) (version : ℕ) (s t : Standing) → IsMarked m version s → IsMarked m version t → s ≡ t
+standing_once m version s t h k = sym h.is ∙ ap standing_of (mark_once m h.mark k.mark h.has k.has) ∙ k.is
