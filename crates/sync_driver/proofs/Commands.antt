@@ -1,26 +1,16 @@
 -- What each kind of words makes of a command.
-use Rattle.std.proofs.Common.{◌≡◌, ℕ, List, get_or, refl, inl, inr, sym, ◌∙◌, ap, subst, arith}
+use Rattle.std.proofs.Common.{◌≡◌, ℕ, List, get_or, refl, sym, ◌∙◌, ap, subst, arith}
 use Rattle.std.specs.Prelude.{Option, Some, None}
 use Rattle.lake_store.specs.declared.store.Store.{Ghosts}
 use Rattle.lake_store.specs.declared.sink.Sink as sinks
-use Rattle.source_core.specs.declared.source.Source as sources
-use Rattle.source_delta.specs.declared.source.DeltaSource.{DeltaSource}
-use Rattle.source_hudi.specs.declared.source.HudiSource.{HudiSource}
-use Rattle.table_history.specs.declared.kind.Kind.TheVariants.{Delta, Hudi}
 use Rattle.table_history.specs.declared.kind.Kind.{Kind}
-use Rattle.target_core.specs.declared.target.Target as targets
-use Rattle.target_delta.specs.declared.kept.DeltaKept.{DeltaKept}
-use Rattle.target_delta.specs.declared.target.DeltaTarget.{DeltaTarget}
-use Rattle.target_hudi.specs.declared.kept.HudiKept.{HudiKept}
-use Rattle.target_hudi.specs.declared.target.HudiTarget.{HudiTarget}
-use Rattle.sync_driver.specs.Answers.{Brings, Command, Compares, IsDeltaAt, IsHudiAt, IsServed, one_target}
-use Rattle.sync_driver.specs.declared.plan.Mode.{Mode}
-use Rattle.sync_driver.specs.declared.plan.Mode.TheVariants as modes
+use Rattle.sync_driver.specs.Answers.{Brings, Command, Compares, IsServed, Prints, one_target}
+use Rattle.sync_driver.specs.Formats.{Formats, IsTarget}
 use Rattle.sync_driver.specs.Forms.{Words, IsCommand, IsNoCommand, Spells, verb_word}
 use Rattle.sync_driver.specs.Lines.{refusal_line}
-use Rattle.sync_driver.specs.Shown.{Shows}
-use Rattle.sync_driver.specs.Sources.{source_meaning}
 use Rattle.sync_driver.specs.Tellings.{Tells}
+use Rattle.sync_driver.specs.declared.plan.Mode.{Mode}
+use Rattle.sync_driver.specs.declared.plan.Mode.TheVariants as modes
 use Rattle.sync_driver.specs.declared.status.Status.{Status}
 use Rattle.sync_driver.specs.declared.status.Status.TheVariants.{Usage, Later}
 use Rattle.sync_driver.specs.declared.words.Verb.TheVariants as verb
@@ -75,41 +65,43 @@ one_form words (Check f t) (Show g) is other = let e : 4 ≡ 3 = sym is.0.0 ∙ 
 one_form words (Check f t) (Check g s) is other = let a : Some f ≡ Some g = sym is.0.2 ∙ other.0.2 in let b : Some t ≡ Some s = sym is.1 ∙ other.1 in cc
 one_form words (Show f) (Show g) is other = let a : Some f ≡ Some g = sym is.2 ∙ other.2 in cc
 
--- each way and each pair has a form of its own
-one_mode : (f t : Kind) (a b : Mode) → one_target a f t ≡ one_target b f t → a ≡ b
-one_mode f t modes.Sync modes.Sync is = refl
-one_mode f t modes.Sync modes.Full is = cc is
-one_mode f t modes.Full modes.Sync is = cc is
-one_mode f t modes.Full modes.Full is = refl
+-- a served sync has one target, which can be one
+pub sync_to : (source target : Kind) (second : Option Kind) → IsServed (Sync source target second) → IsTarget target
+sync_to source target None served = served
+sync_to source target (Some second) served = absurd served
 
-not_shown : (mode : Mode) (f t kind : Kind) → one_target mode f t ≡ Show kind → ⊥
-not_shown modes.Sync f t kind is = cc is
-not_shown modes.Full f t kind is = cc is
+pub full_to : (source target : Kind) (second : Option Kind) → IsServed (Full source target second) → IsTarget target
+full_to source target None served = served
+full_to source target (Some second) served = absurd served
 
-not_checked : (mode : Mode) (f t g s : Kind) → one_target mode f t ≡ Check g s → ⊥
-not_checked modes.Sync f t g s is = cc is
-not_checked modes.Full f t g s is = cc is
+served_target : (mode : Mode) (source target : Kind) → IsTarget target → IsServed (one_target mode source target)
+served_target modes.Sync source target is = is
+served_target modes.Full source target is = is
 
-shown_not_checked : (kind f t : Kind) → Show kind ≡ Check f t → ⊥
-shown_not_checked kind f t is = cc is
+module _ {S O : Type 0} (store : Ghosts S) (sink : sinks.Ghosts O) (formats : Formats) (gives : ℕ → Type 0) (words : Words) (old new : S) (out_old out_new : O) (status : Status) where
+  abbrev pub IsBrought : List ℕ → Mode → Kind → Kind → Type 0
+  IsBrought place mode source target = (now : ℕ) × gives now × Brings store sink formats place source target mode now old new out_old out_new status
 
-other_pair : (a b : Mode) → one_target a Delta Hudi ≡ one_target b Hudi Delta → ⊥
-other_pair modes.Sync modes.Sync is = cc is
-other_pair modes.Sync modes.Full is = cc is
-other_pair modes.Full modes.Sync is = cc is
-other_pair modes.Full modes.Full is = cc is
+  -- what a form that is served does
+  abbrev pub Does : List ℕ → Form → Type 0
+  Does place (Show source) = Prints store sink formats source old new out_old out_new status
+  Does place (Sync source target None) = IsBrought place modes.Sync source target
+  Does place (Full source target None) = IsBrought place modes.Full source target
+  Does place (Check source target) = Compares store sink formats place source target old new out_old out_new status
+  Does place (Sync source first (Some second)) = ⊥
+  Does place (Full source first (Some second)) = ⊥
 
-module _ {S O : Type 0} (store : Ghosts S) (sink : sinks.Ghosts O) (delta : sources.Ghosts DeltaSource) (hudi : sources.Ghosts HudiSource) (to_delta : targets.Ghosts DeltaTarget DeltaKept) (to_hudi : targets.Ghosts HudiTarget HudiKept) (gives : ℕ → Type 0) (words : Words) (old : S) (out_old out_new : O) (status : Status) where
-  pub no_command : IsNoCommand words → Tells sink out_old out_new (refusal_line Usage) Usage status → Command store sink delta hudi to_delta to_hudi gives words old old out_old out_new status
-  no_command none told = record {
-    usage = λ no. (told, refl);
+  brought_by : (place : List ℕ) (mode : Mode) (source target : Kind) → Does place (one_target mode source target) → IsBrought place mode source target
+  brought_by place modes.Sync source target does = does
+  brought_by place modes.Full source target does = does
+
+  pub no_command : IsNoCommand words → Tells sink out_old out_new (refusal_line Usage) Usage status → new ≡ old → Command store sink formats gives words old new out_old out_new status
+  no_command none told unchanged = record {
+    usage = λ no. (told, unchanged);
     later = λ place form is other. absurd (none place form is);
-    hudi_brought = λ place mode is. absurd (none place (one_target mode Delta Hudi) is);
-    delta_brought = λ place mode is. absurd (none place (one_target mode Hudi Delta) is);
-    delta_shown = λ place is. absurd (none place (Show Delta) is);
-    hudi_shown = λ place is. absurd (none place (Show Hudi) is);
-    hudi_checked = λ place is. absurd (none place (Check Delta Hudi) is);
-    delta_checked = λ place is. absurd (none place (Check Hudi Delta) is);
+    brought = λ place mode source target is can. absurd (none place (one_target mode source target) is);
+    shown = λ place source is. absurd (none place (Show source) is);
+    checked = λ place source target is can. absurd (none place (Check source target) is);
   }
 
   module _ (place : List ℕ) (form : Form) (is : IsCommand words place form) where
@@ -119,98 +111,39 @@ module _ {S O : Type 0} (store : Ghosts S) (sink : sinks.Ghosts O) (delta : sour
     same_place : (p : List ℕ) (other : Form) → IsCommand words p other → place ≡ p
     same_place p other spelled = let one : Some place ≡ Some p = sym is.0.0 ∙ spelled.0.0 in cc one
 
-    pub other_command : (IsServed form → ⊥) → Tells sink out_old out_new (refusal_line Later) Later status → Command store sink delta hudi to_delta to_hudi gives words old old out_old out_new status
-    other_command other told = record {
-      usage = λ no. absurd (no place form is);
-      later = λ p f spelled unserved. (told, refl);
-      hudi_brought = λ p mode spelled. absurd (other (inl (inl (mode, same p (one_target mode Delta Hudi) spelled))));
-      delta_brought = λ p mode spelled. absurd (other (inl (inr (mode, same p (one_target mode Hudi Delta) spelled))));
-      delta_shown = λ p spelled. absurd (other (inr (inl (inl (same p (Show Delta) spelled)))));
-      hudi_shown = λ p spelled. absurd (other (inr (inl (inr (same p (Show Hudi) spelled)))));
-      hudi_checked = λ p spelled. absurd (other (inr (inr (inl (same p (Check Delta Hudi) spelled)))));
-      delta_checked = λ p spelled. absurd (other (inr (inr (inr (same p (Check Hudi Delta) spelled)))));
-    }
+    pub other_command : (IsServed form → ⊥) → Tells sink out_old out_new (refusal_line Later) Later status → new ≡ old → Command store sink formats gives words old new out_old out_new status
+    other_command other told unchanged =
+        let unserved : (p : List ℕ) (f : Form) → IsCommand words p f → IsServed f → ⊥ = λ p f spelled served. other (subst (λ (f : Form). IsServed f) (sym (same p f spelled)) served) in
+        record {
+          usage = λ no. absurd (no place form is);
+          later = λ p f spelled no. (told, unchanged);
+          brought = λ p mode source target spelled can. absurd (unserved p (one_target mode source target) spelled (served_target mode source target can));
+          shown = λ p source spelled. absurd (unserved p (Show source) spelled tt);
+          checked = λ p source target spelled can. absurd (unserved p (Check source target) spelled can);
+        }
 
-    pub hudi_brought_command : (mode : Mode) → form ≡ one_target mode Delta Hudi → (new : S) (now : ℕ) → gives now → Brings store sink delta to_hudi (IsHudiAt place) mode now old new out_old out_new status → Command store sink delta hudi to_delta to_hudi gives words old new out_old out_new status
-    hudi_brought_command mode here new now given brings = record {
-      usage = λ no. absurd (no place form is);
-      later = λ p f spelled unserved. absurd (unserved (inl (inl (mode, sym (same p f spelled) ∙ here))));
-      hudi_brought = λ p other spelled.
-          let one : mode ≡ other = one_mode Delta Hudi mode other (sym here ∙ same p (one_target other Delta Hudi) spelled) in (
-            now,
-            given,
-            subst (λ (q : List ℕ). Brings store sink delta to_hudi (IsHudiAt q) other now old new out_old out_new status) (same_place p (one_target other Delta Hudi) spelled)
-                (subst (λ (m : Mode). Brings store sink delta to_hudi (IsHudiAt place) m now old new out_old out_new status) one brings),
-          );
-      delta_brought = λ p other spelled. absurd (other_pair mode other (sym here ∙ same p (one_target other Hudi Delta) spelled));
-      delta_shown = λ p spelled. absurd (not_shown mode Delta Hudi Delta (sym here ∙ same p (Show Delta) spelled));
-      hudi_shown = λ p spelled. absurd (not_shown mode Delta Hudi Hudi (sym here ∙ same p (Show Hudi) spelled));
-      hudi_checked = λ p spelled. absurd (not_checked mode Delta Hudi Delta Hudi (sym here ∙ same p (Check Delta Hudi) spelled));
-      delta_checked = λ p spelled. absurd (not_checked mode Delta Hudi Hudi Delta (sym here ∙ same p (Check Hudi Delta) spelled));
-    }
+    pub served_command : IsServed form → Does place form → Command store sink formats gives words old new out_old out_new status
+    served_command served does =
+        let at : (p : List ℕ) (f : Form) → IsCommand words p f → Does p f =
+        λ p f spelled. subst (λ (q : List ℕ). Does q f) (same_place p f spelled) (subst (λ (f : Form). Does place f) (same p f spelled) does) in
+        record {
+          usage = λ no. absurd (no place form is);
+          later = λ p f spelled unserved. absurd (unserved (subst (λ (f : Form). IsServed f) (same p f spelled) served));
+          brought = λ p mode source target spelled can. brought_by p mode source target (at p (one_target mode source target) spelled);
+          shown = λ p source spelled. at p (Show source) spelled;
+          checked = λ p source target spelled can. at p (Check source target) spelled;
+        }
 
-    pub delta_brought_command : (mode : Mode) → form ≡ one_target mode Hudi Delta → (new : S) (now : ℕ) → gives now → Brings store sink hudi to_delta (IsDeltaAt place) mode now old new out_old out_new status → Command store sink delta hudi to_delta to_hudi gives words old new out_old out_new status
-    delta_brought_command mode here new now given brings = record {
-      usage = λ no. absurd (no place form is);
-      later = λ p f spelled unserved. absurd (unserved (inl (inr (mode, sym (same p f spelled) ∙ here))));
-      hudi_brought = λ p other spelled. absurd (other_pair other mode (sym (same p (one_target other Delta Hudi) spelled) ∙ here));
-      delta_brought = λ p other spelled.
-          let one : mode ≡ other = one_mode Hudi Delta mode other (sym here ∙ same p (one_target other Hudi Delta) spelled) in (
-            now,
-            given,
-            subst (λ (q : List ℕ). Brings store sink hudi to_delta (IsDeltaAt q) other now old new out_old out_new status) (same_place p (one_target other Hudi Delta) spelled)
-                (subst (λ (m : Mode). Brings store sink hudi to_delta (IsDeltaAt place) m now old new out_old out_new status) one brings),
-          );
-      delta_shown = λ p spelled. absurd (not_shown mode Hudi Delta Delta (sym here ∙ same p (Show Delta) spelled));
-      hudi_shown = λ p spelled. absurd (not_shown mode Hudi Delta Hudi (sym here ∙ same p (Show Hudi) spelled));
-      hudi_checked = λ p spelled. absurd (not_checked mode Hudi Delta Delta Hudi (sym here ∙ same p (Check Delta Hudi) spelled));
-      delta_checked = λ p spelled. absurd (not_checked mode Hudi Delta Hudi Delta (sym here ∙ same p (Check Hudi Delta) spelled));
-    }
+    pub sync_command : (source target : Kind) (second : Option Kind) → form ≡ Sync source target second → IsServed form → IsBrought place modes.Sync source target → Command store sink formats gives words old new out_old out_new status
+    sync_command source target None here served brought = served_command served (subst (λ (f : Form). Does place f) (sym here) brought)
+    sync_command source target (Some second) here served brought = absurd (subst (λ (f : Form). IsServed f) here served)
 
-    pub delta_command : form ≡ Show Delta → (new : S) (source : DeltaSource) → Shows store sink (source_meaning delta source) old new out_old out_new status → Command store sink delta hudi to_delta to_hudi gives words old new out_old out_new status
-    delta_command here new source shows = record {
-      usage = λ no. absurd (no place form is);
-      later = λ p f spelled unserved. absurd (unserved (inr (inl (inl (sym (same p f spelled) ∙ here)))));
-      hudi_brought = λ p mode spelled. absurd (not_shown mode Delta Hudi Delta (sym (same p (one_target mode Delta Hudi) spelled) ∙ here));
-      delta_brought = λ p mode spelled. absurd (not_shown mode Hudi Delta Delta (sym (same p (one_target mode Hudi Delta) spelled) ∙ here));
-      delta_shown = λ p spelled. (source, shows);
-      hudi_shown = λ p spelled. let e : Show Delta ≡ Show Hudi = sym here ∙ same p (Show Hudi) spelled in absurd (cc e);
-      hudi_checked = λ p spelled. absurd (shown_not_checked Delta Delta Hudi (sym here ∙ same p (Check Delta Hudi) spelled));
-      delta_checked = λ p spelled. absurd (shown_not_checked Delta Hudi Delta (sym here ∙ same p (Check Hudi Delta) spelled));
-    }
+    pub full_command : (source target : Kind) (second : Option Kind) → form ≡ Full source target second → IsServed form → IsBrought place modes.Full source target → Command store sink formats gives words old new out_old out_new status
+    full_command source target None here served brought = served_command served (subst (λ (f : Form). Does place f) (sym here) brought)
+    full_command source target (Some second) here served brought = absurd (subst (λ (f : Form). IsServed f) here served)
 
-    pub hudi_command : form ≡ Show Hudi → (new : S) (source : HudiSource) → Shows store sink (source_meaning hudi source) old new out_old out_new status → Command store sink delta hudi to_delta to_hudi gives words old new out_old out_new status
-    hudi_command here new source shows = record {
-      usage = λ no. absurd (no place form is);
-      later = λ p f spelled unserved. absurd (unserved (inr (inl (inr (sym (same p f spelled) ∙ here)))));
-      hudi_brought = λ p mode spelled. absurd (not_shown mode Delta Hudi Hudi (sym (same p (one_target mode Delta Hudi) spelled) ∙ here));
-      delta_brought = λ p mode spelled. absurd (not_shown mode Hudi Delta Hudi (sym (same p (one_target mode Hudi Delta) spelled) ∙ here));
-      delta_shown = λ p spelled. let e : Show Hudi ≡ Show Delta = sym here ∙ same p (Show Delta) spelled in absurd (cc e);
-      hudi_shown = λ p spelled. (source, shows);
-      hudi_checked = λ p spelled. absurd (shown_not_checked Hudi Delta Hudi (sym here ∙ same p (Check Delta Hudi) spelled));
-      delta_checked = λ p spelled. absurd (shown_not_checked Hudi Hudi Delta (sym here ∙ same p (Check Hudi Delta) spelled));
-    }
+    pub show_command : (source : Kind) → form ≡ Show source → IsServed form → Prints store sink formats source old new out_old out_new status → Command store sink formats gives words old new out_old out_new status
+    show_command source here served prints = served_command served (subst (λ (f : Form). Does place f) (sym here) prints)
 
-    pub hudi_checked_command : form ≡ Check Delta Hudi → (new : S) → Compares store sink delta to_hudi (IsHudiAt place) old new out_old out_new status → Command store sink delta hudi to_delta to_hudi gives words old new out_old out_new status
-    hudi_checked_command here new compares = record {
-      usage = λ no. absurd (no place form is);
-      later = λ p f spelled unserved. absurd (unserved (inr (inr (inl (sym (same p f spelled) ∙ here)))));
-      hudi_brought = λ p mode spelled. absurd (not_checked mode Delta Hudi Delta Hudi (sym (same p (one_target mode Delta Hudi) spelled) ∙ here));
-      delta_brought = λ p mode spelled. absurd (not_checked mode Hudi Delta Delta Hudi (sym (same p (one_target mode Hudi Delta) spelled) ∙ here));
-      delta_shown = λ p spelled. absurd (shown_not_checked Delta Delta Hudi (sym (same p (Show Delta) spelled) ∙ here));
-      hudi_shown = λ p spelled. absurd (shown_not_checked Hudi Delta Hudi (sym (same p (Show Hudi) spelled) ∙ here));
-      hudi_checked = λ p spelled. subst (λ (q : List ℕ). Compares store sink delta to_hudi (IsHudiAt q) old new out_old out_new status) (same_place p (Check Delta Hudi) spelled) compares;
-      delta_checked = λ p spelled. let e : Check Delta Hudi ≡ Check Hudi Delta = sym here ∙ same p (Check Hudi Delta) spelled in absurd (cc e);
-    }
-
-    pub delta_checked_command : form ≡ Check Hudi Delta → (new : S) → Compares store sink hudi to_delta (IsDeltaAt place) old new out_old out_new status → Command store sink delta hudi to_delta to_hudi gives words old new out_old out_new status
-    delta_checked_command here new compares = record {
-      usage = λ no. absurd (no place form is);
-      later = λ p f spelled unserved. absurd (unserved (inr (inr (inr (sym (same p f spelled) ∙ here)))));
-      hudi_brought = λ p mode spelled. absurd (not_checked mode Delta Hudi Hudi Delta (sym (same p (one_target mode Delta Hudi) spelled) ∙ here));
-      delta_brought = λ p mode spelled. absurd (not_checked mode Hudi Delta Hudi Delta (sym (same p (one_target mode Hudi Delta) spelled) ∙ here));
-      delta_shown = λ p spelled. absurd (shown_not_checked Delta Hudi Delta (sym (same p (Show Delta) spelled) ∙ here));
-      hudi_shown = λ p spelled. absurd (shown_not_checked Hudi Hudi Delta (sym (same p (Show Hudi) spelled) ∙ here));
-      delta_checked = λ p spelled. subst (λ (q : List ℕ). Compares store sink hudi to_delta (IsDeltaAt q) old new out_old out_new status) (same_place p (Check Hudi Delta) spelled) compares;
-      hudi_checked = λ p spelled. let e : Check Hudi Delta ≡ Check Delta Hudi = sym here ∙ same p (Check Delta Hudi) spelled in absurd (cc e);
-    }
+    pub check_command : (source target : Kind) → form ≡ Check source target → IsServed form → Compares store sink formats place source target old new out_old out_new status → Command store sink formats gives words old new out_old out_new status
+    check_command source target here served compares = served_command served (subst (λ (f : Form). Does place f) (sym here) compares)

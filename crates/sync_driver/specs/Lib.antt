@@ -5,6 +5,7 @@ pub mod Applied
 pub mod Checked
 pub mod Commands
 pub mod Dues
+pub mod Formats
 pub mod Forms
 pub mod Lines
 pub mod Plans

@@ -5,6 +5,7 @@ mod apply;
 mod cause;
 mod checking;
 mod command;
+mod formats;
 mod line;
 mod plan;
 mod showing;
@@ -21,24 +22,3 @@ pub use showing::show;
 pub use status::{Side, Status};
 pub use sync::sync_one;
 pub use top::{refuse_words, run};
-
-#[cfg(test)]
-mod check_tests;
-#[cfg(test)]
-mod delta_target_tests;
-#[cfg(test)]
-mod fixtures;
-#[cfg(test)]
-mod hostile_tests;
-#[cfg(test)]
-mod hudi_target_tests;
-#[cfg(test)]
-mod incremental_tests;
-#[cfg(test)]
-mod show_hudi_tests;
-#[cfg(test)]
-mod show_tests;
-#[cfg(test)]
-mod stop_tests;
-#[cfg(test)]
-mod tests;

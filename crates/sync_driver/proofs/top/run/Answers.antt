@@ -1,74 +1,54 @@
-use Rattle.std.proofs.Common.{◌≡◌, ◌⊎◌, ⊎_elim, true, false}
-use Rattle.table_history.specs.declared.kind.Kind.TheVariants.{Delta, Hudi}
-use Rattle.sync_driver.specs.Answers.{one_target}
+use Rattle.std.proofs.Common.{◌≡◌, true, false, refl, subst}
+use Rattle.sync_driver.specs.Answers.{IsServed}
 use Rattle.sync_driver.specs.Forms.{word}
-use Rattle.sync_driver.specs.declared.plan.Mode.{Mode}
-use Rattle.sync_driver.specs.declared.words.Form.TheVariants.{Check, Show}
-use Rattle.sync_driver.proofs.Commands.{delta_brought_command, delta_checked_command, delta_command, hudi_brought_command, hudi_checked_command, hudi_command, no_command, other_command}
+use Rattle.sync_driver.specs.declared.words.Form.{Form}
+use Rattle.sync_driver.proofs.Commands.{check_command, full_command, full_to, no_command, other_command, show_command, sync_command, sync_to}
 use Rattle.sync_driver.proofs.Locations.{place_ends}
 use Rattle.sync_driver.proofs.top.run.Goals as goal
 
 pub returns-in_default : goal.returns-in_default
-returns-in_default g c = no_command g.S.Store g.O.Sink _ _ _ _ _ c.args.words.now c.args.store.now c.args.out.now c.refuse.new.out c.refuse.result c.in_default.ensures c.refuse.ensures
+returns-in_default g c = no_command g.S.Store g.O.Sink _ _ c.args.words.now c.args.store.now c.args.store.now c.args.out.now c.refuse.new.out c.refuse.result c.in_default.ensures c.refuse.ensures refl
 
-pub sync_to_hudi-requires-clause-location : goal.sync_to_hudi-requires-clause-location
-sync_to_hudi-requires-clause-location g c front is = place_ends (word c.args.words.now 0) c.in-Some.command.location.now c.in-Some.ensures.0.0 front is
+pub returns-then-not-is_served : goal.returns-then-not-is_served
+returns-then-not-is_served g c =
+    let no : c.is_served.result ≡ false = c.if-not-is_served.true in
+    other_command g.S.Store g.O.Sink _ _ c.args.words.now c.args.store.now c.args.store.now c.args.out.now c.refuse-then-not-is_served.new.out c.refuse-then-not-is_served.result c.in-Some.command.location.now c.in-Some.command.form c.in-Some.ensures
+    (λ served. let yes : c.is_served.result ≡ true = c.is_served.ensures.1 served in absurd (cc)) c.refuse-then-not-is_served.ensures refl
 
-pub sync_to_delta-requires-clause-location : goal.sync_to_delta-requires-clause-location
-sync_to_delta-requires-clause-location g c front is = place_ends (word c.args.words.now 0) c.in-Some.command.location.now c.in-Some.ensures.0.0 front is
+pub returns-in-Show : goal.returns-in-Show
+returns-in-Show g c =
+    show_command g.S.Store g.O.Sink _ _ c.args.words.now c.args.store.now c.print.new.store c.args.out.now c.print.new.out c.print.result c.in-Some.command.location.now c.in-Some.command.form c.in-Some.ensures
+    c.in-Show.source c.in-Show.is (c.is_served.ensures.0 c.if-not-is_served.false) c.print.ensures
 
-pub returns-in-Some-mode_between : goal.returns-in-Some-mode_between
-returns-in-Some-mode_between g c =
-    hudi_brought_command g.S.Store g.O.Sink _ _ _ _ _ c.args.words.now c.args.store.now c.args.out.now c.sync_to_hudi.new.out c.sync_to_hudi.result c.in-Some.command.location.now c.in-Some.command.form c.in-Some.ensures
-    c.in-Some-mode_between.mode c.in-Some-mode_between.ensures c.sync_to_hudi.new.store c.now_ms.result c.now_ms.ensures.given c.sync_to_hudi.ensures
+pub bring-requires-clause-target : goal.bring-requires-clause-target
+bring-requires-clause-target g c = sync_to c.in-Sync.source c.in-Sync.target _ (subst (λ (f : Form). IsServed f) c.in-Sync.is (c.is_served.ensures.0 c.if-not-is_served.false))
 
-pub returns-in-Some-mode_between-2 : goal.returns-in-Some-mode_between-2
-returns-in-Some-mode_between-2 g c =
-    delta_brought_command g.S.Store g.O.Sink _ _ _ _ _ c.args.words.now c.args.store.now c.args.out.now c.sync_to_delta.new.out c.sync_to_delta.result c.in-Some.command.location.now c.in-Some.command.form c.in-Some.ensures
-    c.in-Some-mode_between-2.mode c.in-Some-mode_between-2.ensures c.sync_to_delta.new.store c.now_ms-in-Some-mode_between-2.result c.now_ms-in-Some-mode_between-2.ensures.given c.sync_to_delta.ensures
+pub bring-requires-clause-location : goal.bring-requires-clause-location
+bring-requires-clause-location g c front is = place_ends (word c.args.words.now 0) c.in-Some.command.location.now c.in-Some.ensures.0.0 front is
 
-pub returns-then-shows : goal.returns-then-shows
-returns-then-shows g c =
-    delta_command g.S.Store g.O.Sink _ _ _ _ _ c.args.words.now c.args.store.now c.args.out.now c.show.new.out c.show.result c.in-Some.command.location.now c.in-Some.command.form c.in-Some.ensures
-    (c.shows.ensures.0 c.if-shows.true) c.show.new.store _ c.show.ensures
+pub returns-in-Sync : goal.returns-in-Sync
+returns-in-Sync g c =
+    sync_command g.S.Store g.O.Sink _ _ c.args.words.now c.args.store.now c.bring.new.store c.args.out.now c.bring.new.out c.bring.result c.in-Some.command.location.now c.in-Some.command.form c.in-Some.ensures
+    c.in-Sync.source c.in-Sync.target _ c.in-Sync.is (c.is_served.ensures.0 c.if-not-is_served.false) (c.now_ms.result, c.now_ms.ensures.given, c.bring.ensures)
 
-pub returns-then-shows-2 : goal.returns-then-shows-2
-returns-then-shows-2 g c =
-    hudi_command g.S.Store g.O.Sink _ _ _ _ _ c.args.words.now c.args.store.now c.args.out.now c.show-then-shows-2.new.out c.show-then-shows-2.result c.in-Some.command.location.now c.in-Some.command.form c.in-Some.ensures
-    (c.shows-2.ensures.0 c.if-shows-2.true) c.show-then-shows-2.new.store _ c.show-then-shows-2.ensures
+pub bring-requires-in-Full-clause-target : goal.bring-requires-in-Full-clause-target
+bring-requires-in-Full-clause-target g c = full_to c.in-Full.source c.in-Full.target _ (subst (λ (f : Form). IsServed f) c.in-Full.is (c.is_served.ensures.0 c.if-not-is_served.false))
 
-pub check_hudi-requires : goal.check_hudi-requires
-check_hudi-requires g c front is = place_ends (word c.args.words.now 0) c.in-Some.command.location.now c.in-Some.ensures.0.0 front is
+pub bring-requires-in-Full-clause-location : goal.bring-requires-in-Full-clause-location
+bring-requires-in-Full-clause-location g c front is = place_ends (word c.args.words.now 0) c.in-Some.command.location.now c.in-Some.ensures.0.0 front is
 
-pub check_delta-requires : goal.check_delta-requires
-check_delta-requires g c front is = place_ends (word c.args.words.now 0) c.in-Some.command.location.now c.in-Some.ensures.0.0 front is
+pub returns-in-Full : goal.returns-in-Full
+returns-in-Full g c =
+    full_command g.S.Store g.O.Sink _ _ c.args.words.now c.args.store.now c.bring-in-Full.new.store c.args.out.now c.bring-in-Full.new.out c.bring-in-Full.result c.in-Some.command.location.now c.in-Some.command.form c.in-Some.ensures
+    c.in-Full.source c.in-Full.target _ c.in-Full.is (c.is_served.ensures.0 c.if-not-is_served.false) (c.now_ms-in-Full.result, c.now_ms-in-Full.ensures.given, c.bring-in-Full.ensures)
 
-pub returns-then-compares : goal.returns-then-compares
-returns-then-compares g c =
-    hudi_checked_command g.S.Store g.O.Sink _ _ _ _ _ c.args.words.now c.args.store.now c.args.out.now c.check_hudi.new.out c.check_hudi.result c.in-Some.command.location.now c.in-Some.command.form c.in-Some.ensures
-    (c.compares.ensures.0 c.if-compares.true) c.check_hudi.new.store c.check_hudi.ensures
+pub compare-requires-clause-target : goal.compare-requires-clause-target
+compare-requires-clause-target g c = subst (λ (f : Form). IsServed f) c.in-Check.is (c.is_served.ensures.0 c.if-not-is_served.false)
 
-pub returns-then-compares-2 : goal.returns-then-compares-2
-returns-then-compares-2 g c =
-    delta_checked_command g.S.Store g.O.Sink _ _ _ _ _ c.args.words.now c.args.store.now c.args.out.now c.check_delta.new.out c.check_delta.result c.in-Some.command.location.now c.in-Some.command.form c.in-Some.ensures
-    (c.compares-2.ensures.0 c.if-compares-2.true) c.check_delta.new.store c.check_delta.ensures
+pub compare-requires-clause-location : goal.compare-requires-clause-location
+compare-requires-clause-location g c front is = place_ends (word c.args.words.now 0) c.in-Some.command.location.now c.in-Some.ensures.0.0 front is
 
-pub returns : goal.returns
-returns g c =
-    let delta : c.shows.result ≡ false = c.if-shows.false in
-    let hudi : c.shows-2.result ≡ false = c.if-shows-2.false in
-    let hudi_compared : c.compares.result ≡ false = c.if-compares.false in
-    let delta_compared : c.compares-2.result ≡ false = c.if-compares-2.false in
-    other_command g.S.Store g.O.Sink _ _ _ _ _ c.args.words.now c.args.store.now c.args.out.now c.refuse-2.new.out c.refuse-2.result c.in-Some.command.location.now c.in-Some.command.form c.in-Some.ensures
-    (⊎_elim
-    (λ (brought : ((mode : Mode) × (c.in-Some.command.form ≡ one_target mode Delta Hudi)) ⊎ ((mode : Mode) × (c.in-Some.command.form ≡ one_target mode Hudi Delta))). ⊎_elim
-    (λ (to : (mode : Mode) × (c.in-Some.command.form ≡ one_target mode Delta Hudi)). c.in_default-mode_between.ensures to.0 to.1)
-    (λ (to : (mode : Mode) × (c.in-Some.command.form ≡ one_target mode Hudi Delta)). c.in_default-mode_between-2.ensures to.0 to.1) brought)
-    (λ (told : ((c.in-Some.command.form ≡ Show Delta) ⊎ (c.in-Some.command.form ≡ Show Hudi)) ⊎ ((c.in-Some.command.form ≡ Check Delta Hudi) ⊎ (c.in-Some.command.form ≡ Check Hudi Delta))). ⊎_elim
-    (λ (shown : (c.in-Some.command.form ≡ Show Delta) ⊎ (c.in-Some.command.form ≡ Show Hudi)). ⊎_elim
-    (λ (is : c.in-Some.command.form ≡ Show Delta). let yes : c.shows.result ≡ true = c.shows.ensures.1 is in absurd (cc))
-    (λ (is : c.in-Some.command.form ≡ Show Hudi). let yes : c.shows-2.result ≡ true = c.shows-2.ensures.1 is in absurd (cc)) shown)
-    (λ (compared : (c.in-Some.command.form ≡ Check Delta Hudi) ⊎ (c.in-Some.command.form ≡ Check Hudi Delta)). ⊎_elim
-    (λ (is : c.in-Some.command.form ≡ Check Delta Hudi). let yes : c.compares.result ≡ true = c.compares.ensures.1 is in absurd (cc))
-    (λ (is : c.in-Some.command.form ≡ Check Hudi Delta). let yes : c.compares-2.result ≡ true = c.compares-2.ensures.1 is in absurd (cc)) compared) told))
-    c.refuse-2.ensures
+pub returns-in-Check : goal.returns-in-Check
+returns-in-Check g c =
+    check_command g.S.Store g.O.Sink _ _ c.args.words.now c.args.store.now c.compare.new.store c.args.out.now c.compare.new.out c.compare.result c.in-Some.command.location.now c.in-Some.command.form c.in-Some.ensures
+    c.in-Check.source c.in-Check.target c.in-Check.is (c.is_served.ensures.0 c.if-not-is_served.false) c.compare.ensures

@@ -1,10 +1,10 @@
 //! Tables in stores in memory, commands over them, and what they then hold.
 ghost use Rattle.std.specs.Prelude.{◌<◌, ◌^◌};
 
-use crate::{Mode, run, sync_one};
 use lake_store::{FixedClock, FuseStore, MemorySink, MemoryStore, Script, Store, Text};
 use source_hudi::HudiSource;
 use std::alloc::{AllocError, Global};
+use sync_driver::{Mode, run, sync_one};
 use table_history::{Kind, Table};
 use table_lines::{put_lines, rows_in_order};
 use target_core::{Mark, Seen, Target};

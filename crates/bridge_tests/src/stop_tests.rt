@@ -3,6 +3,7 @@ use crate::fixtures::{
     File, INSTANT_10, INSTANT_11, PROPERTIES, VERSION_0, VERSION_1, delta_standing, hudi_standing,
     put_files, store_of, told,
 };
+use crate::iceberg_fixtures::{AT_1, AT_2, IcebergTable, put_table};
 use lake_store::FuseStore;
 use std::alloc::{AllocError, Global};
 use std::test::Fail;
@@ -11,27 +12,49 @@ use table_history::Kind;
 /// What a sync answers where the store fails.
 const FAULT: &str = "9\nstatus 9: StoreFault\n";
 
-/// The target of a sync, from the other one of these formats.
+/// The target of a sync, and its source.
 #[derive(Clone, Copy)]
 enum To {
-    Delta,
-    Hudi,
+    DeltaFromHudi,
+    DeltaFromIceberg,
+    HudiFromDelta,
 }
 
 impl To {
     /// What a sync answers.
     fn synced(self, alloc: Global, store: &mut FuseStore) -> Result<String, AllocError> {
         match self {
-            To::Delta => told(alloc, store, "sync hudi delta"),
-            To::Hudi => told(alloc, store, "sync delta hudi"),
+            To::DeltaFromHudi => told(alloc, store, "sync hudi delta"),
+            To::DeltaFromIceberg => told(alloc, store, "sync iceberg delta"),
+            To::HudiFromDelta => told(alloc, store, "sync delta hudi"),
         }
     }
 
     /// What the target stands at.
     fn standing(self, alloc: Global, store: &mut FuseStore) -> Result<String, AllocError> {
         match self {
-            To::Delta => delta_standing(alloc, store, Kind::Hudi),
-            To::Hudi => hudi_standing(alloc, store, Kind::Delta),
+            To::DeltaFromHudi => delta_standing(alloc, store, Kind::Hudi),
+            To::DeltaFromIceberg => delta_standing(alloc, store, Kind::Iceberg),
+            To::HudiFromDelta => hudi_standing(alloc, store, Kind::Delta),
+        }
+    }
+}
+
+/// The source's files.
+#[derive(Clone, Copy)]
+enum Files<'a> {
+    None,
+    Texts(&'a [File<'a>]),
+    Iceberg(IcebergTable<'a>),
+}
+
+impl Files<'_> {
+    /// Puts them into the store.
+    fn put(self, alloc: Global, store: &mut FuseStore) -> Result<(), AllocError> {
+        match self {
+            Files::None => Ok(()),
+            Files::Texts(files) => put_files(store, files),
+            Files::Iceberg(table) => put_table(alloc, store, &table),
         }
     }
 }
@@ -40,8 +63,8 @@ impl To {
 /// are any.
 struct Step<'a> {
     to: To,
-    earlier: &'a [File<'a>],
-    later: &'a [File<'a>],
+    earlier: Files<'a>,
+    later: Files<'a>,
     /// What the target stands at before the sync and after it.
     before: &'a str,
     after: &'a str,
@@ -53,9 +76,9 @@ struct Step<'a> {
 
 const STEPS: &[Step<'static>] = &[
     Step {
-        to: To::Delta,
-        earlier: &[],
-        later: &[PROPERTIES, INSTANT_10],
+        to: To::DeltaFromHudi,
+        earlier: Files::None,
+        later: Files::Texts(&[PROPERTIES, INSTANT_10]),
         before: "absent",
         after: "delta at 20240105100000000: columns 1, partitions 0, files 1, records 5, bytes 100\n[\"p1.parquet\",5,100,[]]\n",
         answer: "0\ndelta: full, published 1, files 1, at 20240105100000000\n",
@@ -63,9 +86,9 @@ const STEPS: &[Step<'static>] = &[
         crashes: &[&[0, 0], &[2, 2], &[5, 2]],
     },
     Step {
-        to: To::Delta,
-        earlier: &[PROPERTIES, INSTANT_10],
-        later: &[INSTANT_11],
+        to: To::DeltaFromHudi,
+        earlier: Files::Texts(&[PROPERTIES, INSTANT_10]),
+        later: Files::Texts(&[INSTANT_11]),
         before: "delta at 20240105100000000: columns 1, partitions 0, files 1, records 5, bytes 100\n[\"p1.parquet\",5,100,[]]\n",
         after: "delta at 20240105110000000: columns 1, partitions 0, files 1, records 7, bytes 140\n[\"p2.parquet\",7,140,[]]\n",
         answer: "0\ndelta: incremental, published 1, files 1, at 20240105110000000\n",
@@ -73,9 +96,9 @@ const STEPS: &[Step<'static>] = &[
         crashes: &[&[0, 0], &[2, 2], &[5, 2]],
     },
     Step {
-        to: To::Hudi,
-        earlier: &[],
-        later: &[VERSION_0],
+        to: To::HudiFromDelta,
+        earlier: Files::None,
+        later: Files::Texts(&[VERSION_0]),
         before: "absent",
         after: "hudi at 0: columns 1, partitions 0, files 1, records 5, bytes 100\n[\"p1.parquet\",5,100,[]]\n",
         answer: "0\nhudi: full, published 1, files 1, at 0\n",
@@ -83,9 +106,9 @@ const STEPS: &[Step<'static>] = &[
         crashes: &[&[0, 0, 0, 0], &[2, 2, 2, 2], &[5, 0, 2, 1]],
     },
     Step {
-        to: To::Hudi,
-        earlier: &[VERSION_0],
-        later: &[VERSION_1],
+        to: To::HudiFromDelta,
+        earlier: Files::Texts(&[VERSION_0]),
+        later: Files::Texts(&[VERSION_1]),
         before: "hudi at 0: columns 1, partitions 0, files 1, records 5, bytes 100\n[\"p1.parquet\",5,100,[]]\n",
         after: "hudi at 1: columns 1, partitions 0, files 1, records 7, bytes 140\n[\"p2.parquet\",7,140,[]]\n",
         answer: "0\nhudi: incremental, published 1, files 1, at 1\n",
@@ -94,13 +117,26 @@ const STEPS: &[Step<'static>] = &[
     },
 ];
 
+/// A sync of the snapshots since the mark.
+const SNAPSHOTS: Step<'static> = Step {
+    to: To::DeltaFromIceberg,
+    earlier: Files::Iceberg(AT_1),
+    later: Files::Iceberg(AT_2),
+    before: "delta at 1: columns 1, partitions 0, files 1, records 1, bytes 10\n[\"p1.parquet\",1,10,[]]\n",
+    after: "delta at 2: columns 1, partitions 0, files 2, records 3, bytes 30\n[\"p1.parquet\",1,10,[]]\n[\"p2.parquet\",2,20,[]]\n",
+    answer: "0\ndelta: incremental, published 1, files 2, at 2\n",
+    repeated: "0\ndelta: incremental, published 0, files 2, at 2\n",
+    crashes: &[&[0, 0], &[2, 2], &[5, 2]],
+};
+
 /// A store at the step's beginning.
 fn begun(alloc: Global, step: &Step<'_>) -> Result<FuseStore, AllocError> {
-    let mut store = store_of(alloc, step.earlier)?;
-    if !step.earlier.is_empty() {
+    let mut store = store_of(alloc, &[])?;
+    step.earlier.put(alloc, &mut store)?;
+    if !matches!(step.earlier, Files::None) {
         step.to.synced(alloc, &mut store)?;
     }
-    put_files(&mut store, step.later)?;
+    step.later.put(alloc, &mut store)?;
     Ok(store)
 }
 
@@ -144,24 +180,54 @@ fn recovered(
     Ok((between, answer, after))
 }
 
+/// What is wrong where the step's sync is stopped at this call and repeated behind a crash, if
+/// anything is.
+fn wrong_behind(
+    alloc: Global,
+    step: &Step<'_>,
+    call: u64,
+    choices: &[u64],
+) -> Result<Option<String>, AllocError> {
+    let (between, answer, after) = recovered(alloc, step, call, choices)?;
+    let wanted = match between.as_str() {
+        between if between == step.before => step.answer,
+        between if between == step.after => step.repeated,
+        _ => "neither before nor after",
+    };
+    if answer.as_str() == wanted && after.as_str() == step.after {
+        return Ok(None);
+    }
+    Ok(Some(format!(in alloc; "{call}: {between}{answer}{after}")?))
+}
+
+/// The first of these things, over all calls of the step's sync and all of its crashes.
+fn first_wrong(alloc: Global, step: &Step<'_>) -> Result<Option<String>, AllocError> {
+    let calls = calls_in(alloc, step)?;
+    if calls <= 5 {
+        return Ok(Some(format!(in alloc; "{calls} calls")?));
+    }
+    for choices in step.crashes {
+        for call in 0..calls {
+            if let Some(wrong) = wrong_behind(alloc, step, call, choices)? {
+                return Ok(Some(wrong));
+            }
+        }
+    }
+    Ok(None)
+}
+
 #[test]
 fn a_stopped_sync_is_made_good_by_the_next(rt: HostRuntime) -> Result<(), Fail> {
     let alloc = rt.alloc();
     for step in STEPS {
-        let calls = calls_in(alloc, step)?;
-        assert!(rt; calls > 5, "{calls}");
-        for choices in step.crashes {
-            for call in 0..calls {
-                let (between, answer, after) = recovered(alloc, step, call, choices)?;
-                let answers = match between.as_str() {
-                    between if between == step.before => step.answer,
-                    between if between == step.after => step.repeated,
-                    _ => "neither before nor after",
-                };
-                assert_eq!(rt; answer.as_str(), answers, "{call}: {between}");
-                assert_eq!(rt; after.as_str(), step.after, "{call}");
-            }
-        }
+        assert_eq!(rt; first_wrong(alloc, step)?, None);
     }
+    Ok(())
+}
+
+#[test]
+fn a_stopped_sync_of_snapshots_is_made_good_by_the_next(rt: HostRuntime) -> Result<(), Fail> {
+    let alloc = rt.alloc();
+    assert_eq!(rt; first_wrong(alloc, &SNAPSHOTS)?, None);
     Ok(())
 }

@@ -1,8 +1,8 @@
 //! Delta tables that are shown, over stores in memory.
-use super::*;
 use lake_store::{FixedClock, FuseStore, MemorySink, MemoryStore, Script};
 use std::alloc::{AllocError, Global};
 use std::test::Fail;
+use sync_driver::run;
 
 const PROTOCOL: &str = "{\"protocol\":{\"minReaderVersion\":1,\"minWriterVersion\":2}}\n";
 

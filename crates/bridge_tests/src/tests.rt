@@ -1,8 +1,8 @@
 //! First syncs over stores in memory, and the answers to other words.
-use super::*;
 use lake_store::{Blob, FixedClock, FuseStore, MemorySink, MemoryStore, Script, Store};
 use std::alloc::{AllocError, Global};
 use std::test::Fail;
+use sync_driver::run;
 
 const VERSION_0: &str = "_delta_log/00000000000000000000.json";
 
@@ -150,6 +150,14 @@ fn other_answers_have_their_lines(rt: HostRuntime) -> Result<(), Fail> {
         ),
         (
             "/data/t show iceberg",
+            Some(ONE_FILE),
+            99,
+            99,
+            3,
+            "source: status 3: Absent\n",
+        ),
+        (
+            "/data/t sync delta iceberg",
             Some(ONE_FILE),
             99,
             99,

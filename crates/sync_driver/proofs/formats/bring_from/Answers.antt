@@ -1,0 +1,5 @@
+use Rattle.std.proofs.Common.{inr}
+use Rattle.sync_driver.proofs.formats.bring_from.Goals as goal
+
+pub returns-in-Ok : goal.returns-in-Ok
+returns-in-Ok g c = rw c.in-Delta.is (inr (c.in-Ok.target, c.in-Ok.ensures.id, c.sync_target.ensures))

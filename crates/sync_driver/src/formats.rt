@@ -1,0 +1,179 @@
+//! The commands by the formats that the words name.
+ghost use Rattle.std.specs.Prelude.{◌≡◌, ◌<◌, ◌^◌, ◌++◌, ◌∷◌, ℕ, List, []};
+ghost use Rattle.sync_driver.specs.Answers.{Brings, BringsTo, Compares, ComparesTo, Prints};
+ghost use Rattle.sync_driver.specs.Formats.{IsTarget};
+ghost use Rattle.sync_driver.specs.Sources.{source_meaning};
+
+use crate::checking::check;
+use crate::command::sync_target;
+use crate::plan::Mode;
+use crate::showing::show;
+use crate::status::Status;
+use lake_store::{Sink, Store};
+use source_core::Source;
+use source_delta::DeltaSource;
+use source_hudi::HudiSource;
+use source_iceberg::IcebergSource;
+use std::alloc::Global;
+use table_history::Kind;
+use target_core::Target;
+use target_delta::DeltaTarget;
+use target_hudi::HudiTarget;
+
+/// Prints the table of this format at its head.
+pub(crate) fn print<S: Store, O: Sink>(
+    alloc: Global,
+    source: Kind,
+    store: &mut S,
+    out: &mut O,
+) -> Status
+    ensures { Prints ⟦<S as Store>⟧ ⟦<O as Sink>⟧ (record {
+      delta = ⟦<DeltaSource as Source>⟧;
+      hudi = ⟦<HudiSource as Source>⟧;
+      iceberg = ⟦<IcebergSource as Source>⟧;
+      to_delta = ⟦<DeltaTarget as Target>⟧;
+      to_hudi = ⟦<HudiTarget as Target>⟧;
+    })
+        source store.old store.new out.old out.new result }
+{
+    match source {
+        Kind::Delta => show(alloc, &DeltaSource::new(), store, out),
+        Kind::Iceberg => show(alloc, &IcebergSource::new(), store, out),
+        Kind::Hudi => show(alloc, &HudiSource::new(), store, out),
+    }
+}
+
+/// Brings the target of this format at this location to the source's head.
+fn bring_from<F: Source, S: Store, O: Sink>(
+    alloc: Global,
+    source: &F,
+    target: Kind,
+    location: &str,
+    store: &mut S,
+    mode: Mode,
+    now_ms: u64,
+    out: &mut O,
+) -> Status
+    requires target { IsTarget target }
+    requires location { (front : List ℕ) → location.now ≡ front ++ 47 ∷ [] → ⊥ }
+    requires now { now_ms < 2 ^ 63 }
+    ensures { BringsTo ⟦<S as Store>⟧ ⟦<O as Sink>⟧ (record {
+      delta = ⟦<DeltaSource as Source>⟧;
+      hudi = ⟦<HudiSource as Source>⟧;
+      iceberg = ⟦<IcebergSource as Source>⟧;
+      to_delta = ⟦<DeltaTarget as Target>⟧;
+      to_hudi = ⟦<HudiTarget as Target>⟧;
+    })
+        location.now (source_meaning ⟦<F as Source>⟧ source.now) target mode now_ms store.old store.new out.old out.new result }
+{
+    match target {
+        Kind::Delta => match DeltaTarget::new(alloc, location) {
+            Ok(target) => sync_target(alloc, source, &target, store, mode, now_ms, out),
+            Err(_) => Status::Memory,
+        },
+        Kind::Hudi => match HudiTarget::new(alloc, location) {
+            Ok(target) => sync_target(alloc, source, &target, store, mode, now_ms, out),
+            Err(_) => Status::Memory,
+        },
+        Kind::Iceberg => unreachable!(),
+    }
+}
+
+/// Brings the target of this format at this location to the head of the source of that one.
+pub(crate) fn bring<S: Store, O: Sink>(
+    alloc: Global,
+    source: Kind,
+    target: Kind,
+    location: &str,
+    store: &mut S,
+    mode: Mode,
+    now_ms: u64,
+    out: &mut O,
+) -> Status
+    requires target { IsTarget target }
+    requires location { (front : List ℕ) → location.now ≡ front ++ 47 ∷ [] → ⊥ }
+    requires now { now_ms < 2 ^ 63 }
+    ensures { Brings ⟦<S as Store>⟧ ⟦<O as Sink>⟧ (record {
+      delta = ⟦<DeltaSource as Source>⟧;
+      hudi = ⟦<HudiSource as Source>⟧;
+      iceberg = ⟦<IcebergSource as Source>⟧;
+      to_delta = ⟦<DeltaTarget as Target>⟧;
+      to_hudi = ⟦<HudiTarget as Target>⟧;
+    })
+        location.now source target mode now_ms store.old store.new out.old out.new result }
+{
+    match source {
+        Kind::Delta => {
+            let source = DeltaSource::new();
+            bring_from(alloc, &source, target, location, store, mode, now_ms, out)
+        }
+        Kind::Iceberg => {
+            let source = IcebergSource::new();
+            bring_from(alloc, &source, target, location, store, mode, now_ms, out)
+        }
+        Kind::Hudi => {
+            let source = HudiSource::new();
+            bring_from(alloc, &source, target, location, store, mode, now_ms, out)
+        }
+    }
+}
+
+/// Compares the target of this format at this location with the source.
+fn compare_from<F: Source, S: Store, O: Sink>(
+    alloc: Global,
+    source: &F,
+    target: Kind,
+    location: &str,
+    store: &mut S,
+    out: &mut O,
+) -> Status
+    requires target { IsTarget target }
+    requires location { (front : List ℕ) → location.now ≡ front ++ 47 ∷ [] → ⊥ }
+    ensures { ComparesTo ⟦<S as Store>⟧ ⟦<O as Sink>⟧ (record {
+      delta = ⟦<DeltaSource as Source>⟧;
+      hudi = ⟦<HudiSource as Source>⟧;
+      iceberg = ⟦<IcebergSource as Source>⟧;
+      to_delta = ⟦<DeltaTarget as Target>⟧;
+      to_hudi = ⟦<HudiTarget as Target>⟧;
+    })
+        location.now (source_meaning ⟦<F as Source>⟧ source.now) target store.old store.new out.old out.new result }
+{
+    match target {
+        Kind::Delta => match DeltaTarget::new(alloc, location) {
+            Ok(target) => check(alloc, source, &target, store, out),
+            Err(_) => Status::Memory,
+        },
+        Kind::Hudi => match HudiTarget::new(alloc, location) {
+            Ok(target) => check(alloc, source, &target, store, out),
+            Err(_) => Status::Memory,
+        },
+        Kind::Iceberg => unreachable!(),
+    }
+}
+
+/// Compares the target of this format at this location with the source of that one.
+pub(crate) fn compare<S: Store, O: Sink>(
+    alloc: Global,
+    source: Kind,
+    target: Kind,
+    location: &str,
+    store: &mut S,
+    out: &mut O,
+) -> Status
+    requires target { IsTarget target }
+    requires location { (front : List ℕ) → location.now ≡ front ++ 47 ∷ [] → ⊥ }
+    ensures { Compares ⟦<S as Store>⟧ ⟦<O as Sink>⟧ (record {
+      delta = ⟦<DeltaSource as Source>⟧;
+      hudi = ⟦<HudiSource as Source>⟧;
+      iceberg = ⟦<IcebergSource as Source>⟧;
+      to_delta = ⟦<DeltaTarget as Target>⟧;
+      to_hudi = ⟦<HudiTarget as Target>⟧;
+    })
+        location.now source target store.old store.new out.old out.new result }
+{
+    match source {
+        Kind::Delta => compare_from(alloc, &DeltaSource::new(), target, location, store, out),
+        Kind::Iceberg => compare_from(alloc, &IcebergSource::new(), target, location, store, out),
+        Kind::Hudi => compare_from(alloc, &HudiSource::new(), target, location, store, out),
+    }
+}
