@@ -8,6 +8,3 @@ pub mod Removed
 pub mod Sound
 pub mod Touched
 pub mod Advance
-pub mod Texts
-pub mod NewVersion
-pub mod Behind

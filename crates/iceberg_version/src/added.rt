@@ -22,10 +22,7 @@ fn all_rows<'a>(alloc: Global, added: &'a [FileRow]) -> Result<Vec<&'a FileRow>,
 }
 
 /// The rows in byte order of their paths.
-pub(crate) fn sorted_rows<'a>(
-    alloc: Global,
-    added: &'a [FileRow],
-) -> Result<Vec<&'a FileRow>, AllocError>
+pub fn sorted_rows<'a>(alloc: Global, added: &'a [FileRow]) -> Result<Vec<&'a FileRow>, AllocError>
     requires { HasDistinctPaths added.now }
     ensures rows { IfOk result (λ rows. SameRows added.now (map (λ r. r.now) rows.items)) }
     ensures order { IfOk result (λ rows. IsInPathOrder (map (λ r. r.now) rows.items)) }
@@ -46,7 +43,7 @@ fn part_from<'a>(rows: &'a [&'a FileRow], start: usize) -> &'a [&'a FileRow]
 }
 
 /// The rows, cut into the parts that the new manifests are of, one behind the other.
-pub(crate) fn parts_of<'a>(
+pub fn parts_of<'a>(
     alloc: Global,
     rows: &'a [&'a FileRow],
 ) -> Result<Vec<&'a [&'a FileRow]>, AllocError>

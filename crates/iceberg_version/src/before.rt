@@ -12,18 +12,18 @@ use table_history::FileRow;
 
 /// The manifests of the list before with their live rows, and what a commit removes and adds.
 #[derive(Drop)]
-pub(crate) struct Before<'a> {
-    pub(crate) links: &'a Links,
-    pub(crate) manifests: &'a [KeptManifest],
-    pub(crate) removed: &'a [Text],
-    pub(crate) paths: Paths<'a>,
+pub struct Before<'a> {
+    pub links: &'a Links,
+    pub manifests: &'a [KeptManifest],
+    pub removed: &'a [Text],
+    pub paths: Paths<'a>,
     /// The rows that the commit adds, in the parts that the new manifests are of.
-    pub(crate) parts: &'a [&'a [&'a FileRow]],
+    pub parts: &'a [&'a [&'a FileRow]],
     ghost held: { HoldsPaths paths removed.now },
 }
 
 /// These manifests with their live rows, the paths that are removed, and the parts that are added.
-pub(crate) fn before_of<'a>(
+pub fn before_of<'a>(
     alloc: Global,
     links: &'a Links,
     manifests: &'a [KeptManifest],

@@ -16,7 +16,7 @@ use std::alloc::{AllocError, Global};
 
 /// What a manifest of the list of a new version is made of.
 #[derive(Clone, Copy)]
-pub(crate) enum Next {
+pub enum Next {
     /// The one at this place of the list before, as it is.
     Stays(usize),
     /// The one at this place of the list before, without the rows that are removed.
@@ -70,7 +70,7 @@ fn carry_all(
 
 /// The manifests of the list behind a commit that removes these paths, and adds rows in so many
 /// parts.
-pub(crate) fn next_manifests(
+pub fn next_manifests(
     alloc: Global,
     links: &Links,
     manifests: &[KeptManifest],

@@ -14,7 +14,7 @@ use std::alloc::{AllocError, Global};
 use table_history::Table;
 
 /// The metadata of a table of this id at this location before its first version.
-pub(crate) fn no_version(alloc: Global, id: Text, location: Text) -> Metadata
+pub fn no_version(alloc: Global, id: Text, location: Text) -> Metadata
     ensures { result ≡ no_metadata id location }
 {
     Metadata {

@@ -84,7 +84,7 @@ fn least_sequence(entries: &[Entry], version: u32) -> i64
 
 /// The row in its list of a version's new manifest of this number, which has these entries and
 /// these bytes.
-pub(crate) fn info_of(
+pub fn info_of(
     alloc: Global,
     front: &Text,
     version: u32,

@@ -18,22 +18,22 @@ use table_history::Schema;
 /// What the manifests of a new version share: its number, the current schema, and the fields of the
 /// partition spec with the names and kinds of their columns.
 #[derive(Drop)]
-pub(crate) struct Layout<'a> {
+pub struct Layout<'a> {
     /// What the names of the table's files begin with.
-    pub(crate) front: Text,
-    pub(crate) version: u32,
-    pub(crate) schema: &'a (i32, Schema, Ids),
-    pub(crate) fields: &'a [SpecField],
-    pub(crate) partition: &'a [Text],
-    pub(crate) columns: Vec<PartColumn>,
-    pub(crate) schema_text: Text,
-    pub(crate) fields_text: Text,
+    pub front: Text,
+    pub version: u32,
+    pub schema: &'a (i32, Schema, Ids),
+    pub fields: &'a [SpecField],
+    pub partition: &'a [Text],
+    pub columns: Vec<PartColumn>,
+    pub schema_text: Text,
+    pub fields_text: Text,
     ghost schema_is: { schema_text ≡ json_of_schema schema.now },
     ghost fields_are: { fields_text ≡ json_of_fields fields.now },
 }
 
 /// What the manifests of this version of a table at this location share.
-pub(crate) fn layout_of<'a>(
+pub fn layout_of<'a>(
     alloc: Global,
     location: &Text,
     version: u32,

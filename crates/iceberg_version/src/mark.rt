@@ -11,7 +11,7 @@ use target_core::Mark;
 
 /// The mark of a version: the position of the source's commit that it carries, and the id of the
 /// source's table where that is stated.
-pub(crate) fn mark_of(
+pub fn mark_of(
     alloc: Global,
     version: u32,
     position: &Text,

@@ -48,7 +48,7 @@ fn list_file(alloc: Global, location: &Text, version: u32) -> Result<Text, Alloc
 }
 
 /// The snapshot of a new version behind this metadata, where the current schema is of that id.
-pub(crate) fn snapshot_of(
+pub fn snapshot_of(
     alloc: Global,
     metadata: &Metadata,
     version: u32,
@@ -107,7 +107,7 @@ fn properties_of(
 }
 
 /// Holds the one spec of a table, of these fields.
-pub(crate) fn hold_spec(
+pub fn hold_spec(
     alloc: Global,
     metadata: &mut Metadata,
     fields: Items<SpecField>,
@@ -125,7 +125,7 @@ pub(crate) fn hold_spec(
 
 /// Holds a snapshot as the current one, and of all held ones the newest. For want of memory none may
 /// be held any more.
-pub(crate) fn hold_snapshot(
+pub fn hold_snapshot(
     alloc: Global,
     metadata: &mut Metadata,
     snapshot: Snapshot,
@@ -144,7 +144,7 @@ pub(crate) fn hold_snapshot(
 
 /// Gives a version its two properties, the mark and the name mapping of its current schema, which
 /// has that place among those that are held.
-pub(crate) fn hold_properties(
+pub fn hold_properties(
     alloc: Global,
     metadata: &mut Metadata,
     mark: &Mark,

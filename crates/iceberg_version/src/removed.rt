@@ -11,7 +11,7 @@ use lake_basics::Text;
 use std::alloc::{AllocError, Global};
 
 /// Paths that are looked up.
-pub(crate) type Paths<'a> = IndexSet<&'a str>;
+pub type Paths<'a> = IndexSet<&'a str>;
 
 /// The set of these paths.
 pub(crate) fn path_set<'a>(alloc: Global, paths: &'a [Text]) -> Result<Paths<'a>, AllocError>

@@ -59,7 +59,7 @@ fn deleted_entries(
 
 /// The entries of a manifest that is written anew: of its live rows those that stay as existing, and
 /// then the removed ones as deleted.
-pub(crate) fn rewritten_entries(
+pub fn rewritten_entries(
     alloc: Global,
     front: &Text,
     version: u32,
@@ -77,7 +77,7 @@ pub(crate) fn rewritten_entries(
 }
 
 /// The entries of rows that a version adds, in their order.
-pub(crate) fn added_entries(
+pub fn added_entries(
     alloc: Global,
     front: &Text,
     version: u32,

@@ -8,11 +8,7 @@ use file_links::{Held, Links};
 use std::alloc::{AllocError, Global};
 
 /// The rows of an owner, in their order.
-pub(crate) fn rows_of<'a>(
-    alloc: Global,
-    links: &'a Links,
-    owner: u32,
-) -> Result<Vec<&'a Held>, AllocError>
+pub fn rows_of<'a>(alloc: Global, links: &'a Links, owner: u32) -> Result<Vec<&'a Held>, AllocError>
     requires { IsSome (owned_rows links.now owner) }
     ensures { IfOk result (λ rows. map (λ row. row.now) rows.items
         ≡ held_rows links.now owner) }

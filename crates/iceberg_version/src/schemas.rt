@@ -170,7 +170,7 @@ fn add_schema(metadata: &mut Metadata, image: Schema, ids: Ids) -> Result<usize,
 
 /// Lets the metadata of a new version hold the Image of the table's schema, as the current one, and
 /// gives its place among those that are held. `Limit` where a new field id would pass the greatest.
-pub(crate) fn hold_schema(
+pub fn hold_schema(
     alloc: Global,
     metadata: &mut Metadata,
     schema: &Schema,

@@ -62,7 +62,7 @@ fn spec_field(
 }
 
 /// The fields of the spec of these partition columns, each of which is a top-level column.
-pub(crate) fn spec_fields(
+pub fn spec_fields(
     alloc: Global,
     schema: &(i32, Schema, Ids),
     partition: &[Text],

@@ -1,0 +1,17 @@
+pub mod AddedLemmas
+pub mod CountRowsLemmas
+pub mod MadeLemmas
+pub mod MetadataLemmas
+pub mod NewListLemmas
+pub mod NewVersionLemmas
+pub mod NextTextLemmas
+pub mod SoundLemmas
+pub mod TextLemmas
+pub mod TextsOfLemmas
+pub mod VersionLemmas
+pub mod WritableLemmas
+pub mod WritableListLemmas
+pub mod ListedLemmas
+pub mod WideLemmas
+pub mod KeptBehindLemmas
+pub mod NextVersionLemmas

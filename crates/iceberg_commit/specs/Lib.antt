@@ -1,0 +1,4 @@
+pub mod Texts
+pub mod NewVersion
+pub mod Behind
+pub mod NextVersion
