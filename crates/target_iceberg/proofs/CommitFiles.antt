@@ -17,12 +17,13 @@ use Rattle.lake_store.proofs.DiskLaws.{path_cases}
 use Rattle.table_history.specs.declared.table.Commit.{Commit}
 use Rattle.table_history.proofs.RowListLemmas.{Contains-head}
 use Rattle.iceberg_table.specs.Folder.{HasVersion, IsNewest, path_of, version_path}
-use Rattle.iceberg_version.specs.KeptEnd.{end_of}
+use Rattle.iceberg_version.specs.KeptEnd.{end_of, view_of}
 use Rattle.iceberg_version.specs.Manifests.{LiveManifest}
 use Rattle.iceberg_version.specs.Names.{list_name, manifest_name, staged_name}
 use Rattle.iceberg_version.specs.Writing.{front_in}
 use Rattle.iceberg_version.specs.declared.kept.IcebergKept.{IcebergKept}
 use Rattle.iceberg_version.specs.declared.kept.KeptManifest.{KeptManifest}
+use Rattle.iceberg_commit.specs.NextVersion.{IsNextVersion, OwnEachRow, VersionFiles, version_files}
 use Rattle.target_core.specs.Conditions.{CanPublish, Fits}
 use Rattle.target_core.specs.Folders.{after_crash}
 use Rattle.target_core.specs.Gained.{CarriesAll}
@@ -31,10 +32,9 @@ use Rattle.target_core.specs.Views.{Origin, View}
 use Rattle.target_iceberg.specs.CountLemmas.{commits_newest}
 use Rattle.target_iceberg.specs.Fitting.{Unfit, state_of}
 use Rattle.target_iceberg.specs.IcebergMeaning.{iceberg_meaning}
-use Rattle.target_iceberg.specs.Kept.{HoldsEnd, IsCounted, IsFirst, OwnEachRow, StandsFor, view_of}
+use Rattle.target_iceberg.specs.Kept.{HoldsEnd, IsCounted, IsFirst, StandsFor}
 use Rattle.target_iceberg.specs.Leftovers.{IsDecimal, IsLeftover, IsLeftoverName}
-use Rattle.target_iceberg.specs.NextVersion.{IsNextVersion, version_files}
-use Rattle.target_iceberg.specs.Publishing.{IsAside, IsDurable, IsNotAside, IsOther, IsPublished, VersionFiles}
+use Rattle.target_iceberg.specs.Publishing.{IsAside, IsDurable, IsNotAside, IsOther, IsPublished}
 use Rattle.target_iceberg.specs.Reached.{CanGoOn, IsReached, IsSettled, LeavesNames}
 use Rattle.target_iceberg.specs.Reading.{IsAbsent, Reads, commits_in}
 use Rattle.target_iceberg.specs.SameLemmas.{SameReached, files_back, goes_on_too, newest_too, ours_too, reached_back, reached_in}

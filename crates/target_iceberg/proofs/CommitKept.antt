@@ -14,15 +14,20 @@ use Rattle.iceberg_version.specs.KeptEnd.{end_of}
 use Rattle.iceberg_version.specs.Schemas.{AreNextSchemas, Schemas}
 use Rattle.iceberg_version.specs.Writing.{Passes, TableEnd, end_behind, stated_behind}
 use Rattle.iceberg_version.specs.declared.kept.IcebergKept.{IcebergKept}
+use Rattle.iceberg_commit.specs.NewVersion.{ChangesKinds}
+use Rattle.iceberg_commit.specs.NextVersion.{IsNextVersion, VersionFiles, image}
+use Rattle.iceberg_commit.proofs.NextVersionLemmas.{current_kept}
 use Rattle.target_core.specs.Conditions.{Fits}
 use Rattle.target_core.specs.Views.{IsSchemaAfter, Origin}
-use Rattle.target_iceberg.specs.FitLemmas.{fits_rest}
+use Rattle.target_iceberg.specs.FitLemmas.{fits_alike, fits_rest}
 use Rattle.target_iceberg.specs.Fitting.{HeldState, IdSchema, Unfit, held_behind, is_current, state_behind, state_of}
-use Rattle.target_iceberg.specs.IcebergMeaning.{image}
-use Rattle.target_iceberg.specs.NextVersion.{IsNextVersion}
-use Rattle.target_iceberg.specs.Publishing.{VersionFiles}
 use Rattle.target_iceberg.proofs.FollowLemmas.{pairs_length, pairs_of}
-use Rattle.target_iceberg.proofs.WrittenSchemas.{found_next}
+
+-- ---- partition columns
+
+-- A commit that fits leaves the kinds of the partition columns.
+pub kinds_stay : (kept : IcebergKept) (commit : Commit) → Fits (Unfit (state_of kept)) kept.table.partition (commit ∷ []) → ¬ ChangesKinds kept commit.change
+kinds_stay kept commit fits changes = fits_alike (state_of kept) kept.table.partition (commit ∷ []) fits (λ none. cc, inr (inl changes))
 
 -- ---- held schemas
 
@@ -58,10 +63,6 @@ module _ (m : Metadata) (stated : ColumnTrees) (next : Schemas) where
   pub held_next : AreNextSchemas m stated next → pairs_of next.held ≡ (if now then pairs_of m.schemas else more)
   held_next are = held_by now refl are
 
-columns_next : (m : Metadata) (stated : ColumnTrees) (next : Schemas) → AreNextSchemas m stated next → next.current.1 ≡ wide_columns stated
-columns_next m stated next (inl keeps) = keeps.current.columns
-columns_next m stated next (inr adds) = ap (λ (s : HeldSchema). s.1) adds.1.current
-
 -- ---- what is kept
 
 schema_by : (o : Option ColumnTrees) (before after : ColumnTrees) → wide_columns before ≡ before → IsSchemaAfter image o before after → after ≡ wide_columns (unwrap_or o before)
@@ -95,10 +96,7 @@ module _ (kept next : IcebergKept) (origin : Origin) (now : ℕ) (commit : Commi
   held_is = ap (λ (m : Metadata). pairs_of m.schemas) (v.metadata ∙ v.is.metadata) ∙ held_next kept.metadata stated schemas are_next
 
   current_is : option_map (λ s. s.1) (current_schema next.metadata) ≡ Some (wide_columns stated)
-  current_is =
-      ap (λ (m : Metadata). current_of (current_schema m)) (v.metadata ∙ v.is.metadata)
-      ∙ ap current_of (found_next kept.metadata stated schemas kept.schema_ids are_next)
-      ∙ ap (λ (t : ColumnTrees). Some t) (columns_next kept.metadata stated schemas are_next)
+  current_is = current_kept next kept.metadata stated schemas are_next (ap (λ (m : Metadata). m.schemas) (v.metadata ∙ v.is.metadata)) (ap (λ (m : Metadata). m.current_schema) (v.metadata ∙ v.is.metadata))
 
   state_is : state_of next ≡ state_behind (state_of kept) commit
   state_is = λ i. record { version = v.version i; partition = v.advanced.partition i; schema = schema_is i; held = held_is i; current = current_is i }

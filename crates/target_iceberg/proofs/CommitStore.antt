@@ -11,8 +11,10 @@ use Rattle.lake_store.proofs.RunLaws.{NowOnly, alone_by_reading, alone_of_fewer,
 use Rattle.table_history.specs.declared.limit.LimitKind.{LimitKind}
 use Rattle.table_history.specs.declared.table.Commit.{Commit}
 use Rattle.iceberg_table.specs.Folder.{metadata_folder}
-use Rattle.iceberg_version.specs.KeptEnd.{end_of}
+use Rattle.iceberg_version.specs.KeptEnd.{end_of, view_of}
 use Rattle.iceberg_version.specs.declared.kept.IcebergKept.{IcebergKept}
+use Rattle.iceberg_commit.specs.NextVersion.{IsNextVersion, VersionFiles}
+use Rattle.iceberg_commit.specs.NewVersion.{IsVersionRefusal}
 use Rattle.target_core.specs.Conditions.{CanPublish, Fits}
 use Rattle.target_core.specs.Folders.{MayLeaveIn, after_crash}
 use Rattle.target_core.specs.Gained.{CarriesAll}
@@ -24,10 +26,9 @@ use Rattle.target_core.specs.declared.target.TargetError.TheVariants.{Contested,
 use Rattle.target_core.proofs.OneStep.{publishes_none, publishes_one}
 use Rattle.target_iceberg.specs.Fitting.{Unfit, state_of}
 use Rattle.target_iceberg.specs.IcebergMeaning.{iceberg_meaning}
-use Rattle.target_iceberg.specs.Kept.{IsCounted, StandsFor, view_of}
+use Rattle.target_iceberg.specs.Kept.{IsCounted, StandsFor}
 use Rattle.target_iceberg.specs.KeptLemmas.{kept_counted}
-use Rattle.target_iceberg.specs.NextVersion.{IsNextVersion, IsVersionRefusal}
-use Rattle.target_iceberg.specs.Publishing.{IsNotAside, IsOther, IsPublished, PublishesVersion, VersionFiles}
+use Rattle.target_iceberg.specs.Publishing.{IsNotAside, IsOther, IsPublished, PublishesVersion}
 use Rattle.target_iceberg.specs.Reached.{IsReached, IsSettled}
 use Rattle.target_iceberg.specs.Reading.{commits_in}
 use Rattle.target_iceberg.specs.SettledLemmas.{crash_carries, crash_reads, crash_settled}

@@ -1,5 +1,5 @@
 -- The form of a version, part by part.
-use Rattle.std.proofs.Common.{◌≡◌, ◌≢◌, ◌≤◌, ◌<◌, ◌+◌, ◌-◌, ◌≤ℤ◌, ℕ, suc, ℤ, pos, Bool, true, false, List, [], ◌∷◌, ◌++◌, length, map, drop, get_or, Contains, Option, Some, None, Bor, refl, sym, ap, subst, ◌∙◌, ⊎_elim, add-one, drop-cons, arith}
+use Rattle.std.proofs.Common.{◌≡◌, ◌≢◌, ◌≤◌, ◌<◌, ◌+◌, ◌≤ℤ◌, ℕ, suc, ℤ, pos, Bool, true, false, List, [], ◌∷◌, ◌++◌, length, map, drop, get_or, Contains, Option, Some, None, Bor, refl, sym, ap, subst, ◌∙◌, ⊎_elim, add-one, drop-cons, arith}
 use Rattle.std.specs.declared.alloc.AllocError.{AllocError}
 use Rattle.std.specs.Prelude.{◌↔◌, Err, IfOk, Ok, Result, flat_map, is_some, if◌then◌else◌, IsTrue, MatchOption}
 use Rattle.std.specs.Cmp.Lexicographic.{pointwise}
@@ -13,7 +13,6 @@ use Rattle.table_history.proofs.RowListLemmas.{Contains-cases, Contains-head, Co
 use Rattle.iceberg_metadata.specs.Paths.{PathId, current_schema, default_fields, path_ids}
 use Rattle.iceberg_metadata.specs.Schemas.{HeldSchema}
 use Rattle.iceberg_metadata.specs.declared.metadata.Metadata.{Metadata}
-use Rattle.iceberg_metadata.specs.declared.metadata.Snapshot.{Snapshot}
 use Rattle.iceberg_metadata.specs.declared.metadata.SpecField.{SpecField}
 use Rattle.iceberg_version.specs.Schemas.{AreSpecFields, FIRST_PARTITION_ID, IsSpecField}
 use Rattle.iceberg_version.specs.Sound.{have_first_ids}

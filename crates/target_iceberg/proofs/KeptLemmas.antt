@@ -1,7 +1,7 @@
 -- What holds of all that is kept of an Iceberg target that was read.
-use Rattle.std.proofs.Common.{◌≡◌, ◌≤◌, ◌<◌, ◌^◌, ◌&&◌, ℕ, ℤ, Bool, true, false, cond, nat_le, nat_lt, List, [], ◌∷◌, ◌++◌, length, map, get_or, Contains, Option, Some, None, Result, Ok, Err, refl, sym, ap, subst, ◌∙◌, inl, inr, ⊎_elim, pos, arith}
-use Rattle.std.specs.Prelude.{◌||◌, All, is_some, slice_get, unwrap_or}
-use Rattle.std.specs.List.{list_all, list_any}
+use Rattle.std.proofs.Common.{◌≡◌, ◌≤◌, ◌<◌, ◌^◌, ◌&&◌, ℕ, ℤ, Bool, true, false, cond, nat_le, nat_lt, List, [], ◌∷◌, length, Contains, Option, Some, None, Ok, refl, sym, ap, subst, ◌∙◌, inl, inr, ⊎_elim, pos, arith}
+use Rattle.std.specs.Prelude.{◌||◌, is_some, unwrap_or}
+use Rattle.std.specs.List.{list_all}
 use Rattle.std.specs.Ordering.{int_eq}
 use Rattle.std.specs.Str.{bytes_eq}
 use Rattle.std.proofs.lemmas.Bool.Decides.{nat_tests}
@@ -11,7 +11,6 @@ use Rattle.std.proofs.lemmas.Option.{slice_get-get_or}
 use Rattle.lake_basics.specs.Outcome.{required}
 use Rattle.lake_basics.specs.declared.limits.TheConstants.{MAX_LIVE_FILES}
 use Rattle.table_history.specs.Row.{Row}
-use Rattle.table_history.specs.TypeEq.{columns_eq}
 use Rattle.table_history.specs.TypeEqLaws.{columns_eq-Decides}
 use Rattle.table_history.specs.TypeTree.{ColumnTrees}
 use Rattle.table_history.specs.declared.table.Table.{Table}
@@ -21,9 +20,7 @@ use Rattle.schema_map.specs.Image.{wide_columns}
 use Rattle.schema_map.proofs.IcebergSchema.{given_found}
 use Rattle.schema_map.proofs.IcebergSound.{iceberg_wide}
 use Rattle.file_links.specs.Rows.{Entry, OwnedRows, joined, rows_of as owned_by}
-use Rattle.file_links.specs.declared.slots.Held.{Held}
 use Rattle.iceberg_manifest.specs.ListWriting.{HasContent}
-use Rattle.iceberg_manifest.specs.Lists.{AreEach}
 use Rattle.iceberg_manifest.specs.declared.info.ManifestInfo.{ManifestInfo}
 use Rattle.iceberg_metadata.specs.Paths.{held_schema}
 use Rattle.iceberg_metadata.specs.Schemas.{HeldSchema}
@@ -32,14 +29,13 @@ use Rattle.iceberg_metadata.specs.declared.metadata.Metadata.{Metadata}
 use Rattle.iceberg_metadata.specs.declared.metadata.Snapshot.{Snapshot}
 use Rattle.iceberg_metadata.proofs.ListLemmas.{any_from, both_are}
 use Rattle.iceberg_metadata.proofs.StepLemmas.{bind_ok, required_some}
-use Rattle.iceberg_table.specs.Plan.{IsPlanOf}
 use Rattle.iceberg_table.specs.Snapshots.{HasColumnsOf, HasManifestRows}
 use Rattle.iceberg_table.specs.Tables.{IsTableOfSnapshots, rows_in, rows_of}
 use Rattle.iceberg_table.proofs.EachLaws.{each_back}
 use Rattle.iceberg_table.specs.declared.manifest.Manifest.{Manifest}
 use Rattle.iceberg_table.specs.declared.snapshot.SnapshotTable.{SnapshotTable}
 use Rattle.iceberg_version.specs.Sound.{AreRowsOf, are_of, has_content, is_born, is_of, is_own_image, is_sound_metadata, is_sound_owner}
-use Rattle.iceberg_version.proofs.SoundLemmas.{sound_to}
+use Rattle.iceberg_commit.proofs.SoundLemmas.{sound_to}
 use Rattle.iceberg_version.specs.declared.kept.KeptManifest.{KeptManifest}
 use Rattle.target_core.proofs.HeldRows.{are_held_by}
 use Rattle.target_core.specs.Held.{are_held}

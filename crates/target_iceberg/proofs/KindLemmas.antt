@@ -1,53 +1,23 @@
 -- Whether the kinds of partition columns change along commits.
-use Rattle.std.proofs.Common.{◌≡◌, ◌≢◌, ⊎_elim, inl, inr, ℕ, ◌<◌, List, [], ◌∷◌, Bool, true, false, cond, Option, Some, None, refl, sym, ap, ◌∙◌, arith}
+use Rattle.std.proofs.Common.{◌≡◌, ◌≢◌, ⊎_elim, inl, inr, ℕ, ◌<◌, List, [], ◌∷◌, Bool, true, Option, Some, None, refl, sym, ap, ◌∙◌, arith}
 use Rattle.std.proofs.Common.{Decides, rules}
 use lib.Pointwise.{pointwise}
-use Rattle.std.specs.Prelude.{IsTrue, unwrap_or, option_and_then}
+use Rattle.std.specs.Prelude.{IsTrue, unwrap_or}
 use Rattle.std.specs.Option.{option_eq}
-use Rattle.std.specs.Str.{bytes_eq}
 use Rattle.std.proofs.lemmas.Bool.{cases_Bool, false≢true}
 use Rattle.std.proofs.lemmas.Slice.Eq.{slice_eq-Decides}
 use denote.Enum.Bare.{same_false, same_true}
 use Rattle.partition_map.specs.contracts.kind.PartKind.{the_type}
 use Rattle.partition_map.specs.contracts.kind.PartKindPartialEq.TheImpl.{eq-value}
-use Rattle.partition_map.specs.Columns.{column_kind}
-use Rattle.partition_map.specs.Kind.{part_kind_of}
 use Rattle.partition_map.specs.declared.kind.PartKind.{PartKind}
-use Rattle.schema_map.specs.Image.{wide_columns, wide_type}
-use Rattle.table_history.specs.History.{column_type}
-use Rattle.table_history.specs.TypeTree as tree
-use Rattle.table_history.specs.TypeTree.{ColumnTrees, TypeTree, column, no_columns}
+use Rattle.schema_map.specs.Image.{wide_columns}
+use Rattle.table_history.specs.TypeTree.{ColumnTrees}
 use Rattle.table_history.specs.declared.table.Commit.{Commit}
+use Rattle.iceberg_version.proofs.BehindLemmas.{wide_kind}
 use Rattle.target_iceberg.specs.Fitting.{ChangesKinds, HeldState, kinds_of, state_behind}
 use Rattle.target_iceberg.specs.Following.{AreKindsOf}
 
 -- ---- Iceberg's types change no kind
-
-same_kind : (t : TypeTree) → part_kind_of (wide_type t) ≡ part_kind_of t
-same_kind tree.byte = refl
-same_kind tree.short = refl
-same_kind tree.boolean = refl
-same_kind tree.int = refl
-same_kind tree.long = refl
-same_kind tree.float = refl
-same_kind tree.double = refl
-same_kind (tree.decimal p s) = refl
-same_kind tree.text = refl
-same_kind tree.binary = refl
-same_kind tree.date = refl
-same_kind tree.timestamp = refl
-same_kind tree.timestamp_ntz = refl
-same_kind (tree.struct_of cs) = refl
-same_kind (tree.list_of t b) = refl
-same_kind (tree.map_of k v b) = refl
-
-kind_by : (here : Bool) (t wide : TypeTree) (o w : Option TypeTree) → part_kind_of wide ≡ part_kind_of t → option_and_then part_kind_of w ≡ option_and_then part_kind_of o → option_and_then part_kind_of (cond here (Some wide) w) ≡ option_and_then part_kind_of (cond here (Some t) o)
-kind_by true t wide o w one others = one
-kind_by false t wide o w one others = others
-
-wide_kind : (schema : ColumnTrees) (name : List ℕ) → column_kind (wide_columns schema) name ≡ column_kind schema name
-wide_kind no_columns name = refl
-wide_kind (column n t b cs) name = kind_by (bytes_eq n name) t (wide_type t) (column_type cs name) (column_type (wide_columns cs) name) (same_kind t) (wide_kind cs name)
 
 wide_kinds : (schema : ColumnTrees) (names : List (List ℕ)) → kinds_of (wide_columns schema) names ≡ kinds_of schema names
 wide_kinds schema [] = refl

@@ -1,5 +1,5 @@
 -- The live rows of manifests under owners, row by row and manifest by manifest.
-use Rattle.std.proofs.Common.{◌≡◌, ◌≢◌, ◌⊎◌, ◌+◌, ◌<◌, ◌≤◌, ◌^◌, ℕ, suc, Bool, true, false, List, [], ◌∷◌, ◌++◌, map, length, take, drop, get_or, nat_eq, Contains, Option, Some, None, refl, sym, ap, subst, ◌∙◌, inl, inr, ⊎_elim, append_assoc, append-nil, drop-cons, arith}
+use Rattle.std.proofs.Common.{◌≡◌, ◌≢◌, ◌⊎◌, ◌+◌, ◌<◌, ◌≤◌, ◌^◌, ℕ, false, List, [], ◌∷◌, ◌++◌, map, length, nat_eq, Contains, Option, Some, None, refl, sym, ap, subst, ◌∙◌, inl, inr, ⊎_elim, append_assoc, arith}
 use Rattle.std.specs.Prelude.{◌||◌, is_some, IsSome, option_map, slice_get}
 use Rattle.std.specs.List.{IsDistinct, list_any}
 use Rattle.std.specs.Str.{bytes_eq}
@@ -8,18 +8,18 @@ use Rattle.std.proofs.lemmas.Bool.Decides.{Decides-eqb}
 use Rattle.std.proofs.lemmas.Cmp.{nat_eq_equiv}
 use Rattle.std.proofs.lemmas.Grind.{flat_map-append}
 use Rattle.std.proofs.lemmas.List.{length-append, length-map, map-append}
-use Rattle.std.proofs.lemmas.List.Elements.{Contains-append_left, Contains-append_right, Contains-append_cases, Contains-push, Contains-push_cases}
+use Rattle.std.proofs.lemmas.List.Elements.{Contains-append_left, Contains-append_right, Contains-push, Contains-push_cases}
 use Rattle.std.proofs.lemmas.Map.Keys.{IsDistinct-push, IsDistinct-tail, IsDistinct-from_apart}
 use Rattle.file_links.specs.Rows.{joined, AddsOwner, Entry, HoldsPath, Inserts, OwnedRows, Owns, Reserves, rows_of as owned_by}
 use Rattle.file_links.specs.declared.slots.Held.{Held}
 use Rattle.table_history.specs.Row.{Row}
 use Rattle.table_history.specs.Rows.{HasDistinctPaths, HasPath, paths_of}
-use Rattle.table_history.proofs.RowListLemmas.{Contains-cases, Contains-head, Contains-none, Contains-one, Contains-tail}
+use Rattle.table_history.proofs.RowListLemmas.{Contains-cases, Contains-head, Contains-none, Contains-tail}
 use Rattle.iceberg_manifest.specs.Lists.{AreEach}
 use Rattle.iceberg_table.specs.Tables.{rows_in, rows_of}
 use Rattle.iceberg_table.proofs.EachLaws.{each_back, each_push}
 use Rattle.iceberg_table.proofs.RowLaws.{distinct_front, shared}
-use Rattle.target_iceberg.specs.Kept.{IsKeptOf, OwnEachRow, held_of}
+use Rattle.target_iceberg.specs.Kept.{IsKeptOf, held_of}
 use Rattle.target_iceberg.specs.InspectSteps.{AreLinked, FillsOwner, LinksManifest}
 use Rattle.iceberg_manifest.specs.declared.live.LiveRow.{LiveRow}
 use Rattle.iceberg_table.specs.declared.manifest.Manifest.{Manifest}

@@ -20,12 +20,13 @@ use Rattle.lake_store.proofs.DiskLaws.{clean-synced, contains-remove_here, conta
 use Rattle.lake_store.proofs.MomentLaws.{goes_on, weaker}
 use Rattle.lake_store.proofs.RunLaws.{IsRun, NowOnly, alone_by_run, alone_of_fewer, begins, keeps_crash, keeps_elsewhere, keeps_first, keeps_moved, keeps_stored, keeps_sync, publishes, syncs, writes}
 use Rattle.table_history.specs.declared.limit.LimitKind.TheVariants.{File}
+use Rattle.iceberg_commit.specs.NextVersion.{VersionFiles}
 use Rattle.target_core.specs.Outcome.{Uncontested, answer_of}
 use Rattle.target_core.specs.declared.target.TargetError.{TargetError}
 use Rattle.target_core.specs.declared.target.TargetError.TheVariants.{Contested, Memory}
 use Rattle.iceberg_table.specs.Folder.{metadata_folder, path_of, version_path}
 use Rattle.iceberg_version.specs.Names.{list_name, manifest_name, staged_name}
-use Rattle.target_iceberg.specs.Publishing.{AreApart, AreManifestPaths, HaveBytes, IsAside, IsDurable, IsForestalled, IsNoneOf, IsNotAside, IsOther, IsPublished, PublishesVersion, VersionFiles}
+use Rattle.target_iceberg.specs.Publishing.{AreApart, AreManifestPaths, HaveBytes, IsAside, IsDurable, IsForestalled, IsNoneOf, IsNotAside, IsOther, IsPublished, PublishesVersion}
 
 -- ---- the names
 

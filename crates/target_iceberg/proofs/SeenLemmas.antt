@@ -25,7 +25,7 @@ use Rattle.table_history.specs.declared.limit.LimitKind.TheVariants.{File, Names
 use Rattle.table_history.specs.declared.row.PartValue.{PartValue}
 use Rattle.table_history.specs.declared.row.PartValue.TheVariants as value
 use Rattle.table_history.specs.declared.table.Table.{Table}
-use Rattle.table_history.proofs.RowListLemmas.{Contains-cases, Contains-head, Contains-none, all_at}
+use Rattle.table_history.proofs.RowListLemmas.{Contains-cases, Contains-head, all_at}
 use Rattle.partition_map.specs.Kind.{IsOfKind, part_kind_of}
 use Rattle.partition_map.specs.declared.kind.PartKind.{PartKind}
 use Rattle.partition_map.specs.declared.kind.PartKind.TheVariants as kind
@@ -45,6 +45,7 @@ use Rattle.iceberg_table.specs.declared.error.IcebergError.{IcebergError}
 use Rattle.iceberg_table.specs.declared.error.IcebergError.TheVariants as error
 use Rattle.iceberg_table.specs.declared.snapshot.SnapshotTable.{SnapshotTable}
 use Rattle.iceberg_version.specs.declared.kept.IcebergKept.{IcebergKept}
+use Rattle.iceberg_version.specs.KeptEnd.{view_of}
 use Rattle.target_iceberg.specs.Leftovers.{IsLeftoverName}
 use Rattle.iceberg_version.specs.Writing.{mark_property}
 use Rattle.target_core.proofs.Marks.{one_mark}
@@ -52,17 +53,16 @@ use Rattle.target_core.specs.Conditions.{IsPublishable}
 use Rattle.target_core.specs.Mark.{IsMark, IsMarkText}
 use Rattle.target_core.specs.Refusals.{IsInspectRefusal, IsOfInspect}
 use Rattle.target_core.specs.SeenView.{IsSeen, IsSeenSound}
-use Rattle.target_core.specs.Views.{IsOfSource, Standing, View, standing_of}
+use Rattle.target_core.specs.Views.{Standing, standing_of}
 use Rattle.target_core.specs.declared.mark.Mark.{Mark}
 use Rattle.target_core.specs.declared.target.Seen.{Seen}
 use Rattle.target_core.specs.declared.target.Seen.TheVariants.{Absent, Ours, Foreign}
 use Rattle.target_core.specs.declared.target.TargetError.{TargetError}
 use Rattle.target_core.specs.declared.target.TargetError.TheVariants as target
-use Rattle.target_iceberg.specs.Form.{HasOwnForm}
-use Rattle.target_iceberg.specs.Inspecting.{HasForm, IsCrowded, IsFirstStray, IsForeign, IsNewestRead, IsOfThis, IsStray, TellsNumber, faulty_path}
+use Rattle.target_iceberg.specs.Inspecting.{HasForm, IsCrowded, IsFirstStray, IsForeign, IsNewestRead, IsOfThis, TellsNumber, faulty_path}
 use Rattle.target_iceberg.specs.InspectSteps.{IsFirstOf, IsKeptBy, IsOursBy, IsOwnMark, IsOwnVersion, IsSeenIn, told_of}
-use Rattle.target_iceberg.specs.Kept.{HoldsEnd, StandsFor, view_of}
-use Rattle.target_iceberg.specs.Reading.{HasMark, IsAbsent, IsCurrent, IsMarked, IsOurs, Reads, SaysCurrent, property}
+use Rattle.target_iceberg.specs.Kept.{HoldsEnd, StandsFor}
+use Rattle.target_iceberg.specs.Reading.{HasMark, IsAbsent, IsCurrent, IsOurs, Reads, SaysCurrent, property}
 
 -- ---- the mark
 

@@ -29,9 +29,10 @@ use Rattle.iceberg_metadata.specs.declared.metadata.Metadata.{Metadata}
 use Rattle.iceberg_table.specs.Files.{SaysMetadata}
 use Rattle.iceberg_table.specs.Folder.{HasVersion, IsNewest, metadata_folder, path_of}
 use Rattle.iceberg_table.specs.declared.manifest.Manifest.{Manifest}
-use Rattle.iceberg_version.specs.KeptEnd.{end_of, live_manifest, manifests_of}
+use Rattle.iceberg_version.specs.KeptEnd.{end_of, live_manifest, manifests_of, view_of}
 use Rattle.iceberg_version.specs.Manifests.{LiveManifest}
 use Rattle.iceberg_version.specs.Names.{list_name, manifest_name, staged_name}
+use Rattle.iceberg_commit.specs.NextVersion.{IsReadBack, OwnEachRow, image, version_files}
 use Rattle.target_iceberg.specs.Leftovers.{IsLeftover}
 use Rattle.iceberg_version.specs.Sound.{is_sound_owner}
 use Rattle.iceberg_version.specs.Writing.{IsWritten, NewVersion, TableEnd, mark_of, stated_behind}
@@ -43,14 +44,12 @@ use Rattle.target_core.specs.Views.{IsAdvanced, IsSchemaAfter, Origin, Standing,
 use Rattle.target_core.specs.declared.target.TargetError.TheVariants.{Unsupported}
 use Rattle.target_iceberg.specs.Fitting.{ChangesPartition, Unfit, kinds_of, state_of}
 use Rattle.target_iceberg.specs.Form.{HasOwnForm}
-use Rattle.target_iceberg.specs.IcebergMeaning.{iceberg_meaning, image}
-use Rattle.target_iceberg.specs.Kept.{HoldsEnd, IsCounted, IsKeptOf, OwnEachRow, StandsFor, view_of}
+use Rattle.target_iceberg.specs.IcebergMeaning.{iceberg_meaning}
+use Rattle.target_iceberg.specs.Kept.{HoldsEnd, IsCounted, IsKeptOf, StandsFor}
 use Rattle.target_iceberg.specs.Reached.{CanGoOn, IsReached, IsSettled}
 use Rattle.target_iceberg.specs.Reading.{IsCarried, IsMarked, IsOurs}
-use Rattle.target_iceberg.specs.NextVersion.{version_files}
 use Rattle.target_iceberg.specs.Publishing.{IsAside, IsPublished}
 use Rattle.target_iceberg.specs.Writes.{Writes}
-use Rattle.target_iceberg.specs.WrittenBack.{IsReadBack}
 use Rattle.target_iceberg.proofs.WrittenCarried.{carries}
 use Rattle.target_iceberg.proofs.WrittenFiles as before
 use Rattle.target_iceberg.proofs.WrittenCurrent as written

@@ -173,11 +173,6 @@ module _ (m : Metadata) (stated : ColumnTrees) (next : Schemas) (first_ids : hav
     found_added : held_schema next.held next.current.0 ≡ Some next.current
     found_added = ap (λ (l : List HeldSchema). held_schema l next.current.0) is.held ∙ schema_last m.schemas next.current other_ids
 
-  -- the current schema is held under its id
-  pub found_next : AreNextSchemas m stated next → held_schema next.held next.current.0 ≡ Some next.current
-  found_next (inl keeps) = found_kept keeps
-  found_next (inr adds) = found_added adds.1
-
 module _ (m : Metadata) (stated : ColumnTrees) (next : Schemas) (first_ids : have_first_ids m.schemas ≡ true) (field_ids : (id : ℤ) → Contains (held_ids m) id → id ≤ℤ m.last_column_id) where
   kept_next : KeepsSchemas m stated next → AreSoundNext stated next
   kept_next is = record {

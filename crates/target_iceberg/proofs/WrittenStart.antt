@@ -23,7 +23,7 @@ use Rattle.iceberg_table.specs.Plan.{names_of}
 use Rattle.iceberg_table.specs.Snapshots.{IsTableOfSnapshot}
 use Rattle.iceberg_table.specs.Tables.{rows_in, rows_of}
 use Rattle.iceberg_table.specs.declared.manifest.Manifest.{Manifest}
-use Rattle.iceberg_version.specs.KeptEnd.{end_of, live_manifest, manifests_of}
+use Rattle.iceberg_version.specs.KeptEnd.{end_of, live_manifest, manifests_of, view_of}
 use Rattle.iceberg_version.specs.Manifests.{LiveManifest}
 use Rattle.iceberg_version.specs.Sound.{have_first_ids}
 use Rattle.iceberg_version.specs.Writing.{TableEnd, no_version}
@@ -31,7 +31,7 @@ use Rattle.iceberg_version.specs.declared.kept.IcebergKept.{IcebergKept}
 use Rattle.iceberg_version.specs.declared.kept.KeptManifest.{KeptManifest}
 use Rattle.target_core.specs.Views.{IsUnpublished, View}
 use Rattle.target_iceberg.specs.Form.{HasOwnForm}
-use Rattle.target_iceberg.specs.Kept.{HoldsEnd, IsFirst, IsKeptOf, StandsFor, held_of, view_of}
+use Rattle.target_iceberg.specs.Kept.{HoldsEnd, IsFirst, IsKeptOf, StandsFor, held_of}
 use Rattle.target_iceberg.specs.Reached as reached
 use Rattle.target_iceberg.specs.Reached.{CanGoOn, HasOwnEntries, IsReached, LeavesNames}
 use Rattle.target_iceberg.specs.Reading.{IsAbsent, IsOurs, SaysCurrent}

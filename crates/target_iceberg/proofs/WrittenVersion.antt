@@ -41,12 +41,12 @@ use Rattle.iceberg_table.specs.declared.plan.Plan.{Plan}
 use Rattle.iceberg_version.specs.Names.{list_name}
 use Rattle.iceberg_version.specs.Schemas.{AreSpecFields, FIRST_PARTITION_ID, Schemas}
 use Rattle.iceberg_version.specs.Writing.{AreColumns, IsWritten, NewVersion, PassesAt, TableEnd, mark_of, snapshot_of, stated_behind}
+use Rattle.iceberg_commit.specs.NextVersion.{IsReadBack}
 use Rattle.target_core.specs.Views.{Origin, standing_at}
 use Rattle.target_iceberg.specs.Fitting.{kinds_of}
 use Rattle.target_iceberg.specs.Form.{HasOwnForm, field_names}
 use Rattle.target_iceberg.specs.Reading.{IsCurrent, IsMarked}
 use Rattle.target_iceberg.specs.Writes.{Writes}
-use Rattle.target_iceberg.specs.WrittenBack.{IsReadBack}
 use Rattle.target_iceberg.proofs.WrittenFiles.{version_cases, version_held}
 use Rattle.target_iceberg.proofs.WrittenMetadata.{IsSoundAt, end_sound, no_new_cycle}
 use Rattle.target_iceberg.proofs.WrittenNames.{list_path}

@@ -16,7 +16,7 @@ use Rattle.iceberg_metadata.specs.declared.metadata.Metadata.{Metadata}
 use Rattle.iceberg_metadata.specs.declared.metadata.SpecField.{SpecField}
 use Rattle.iceberg_table.specs.Files.{SaysMetadata}
 use Rattle.iceberg_table.specs.declared.manifest.Manifest.{Manifest}
-use Rattle.iceberg_version.specs.KeptEnd.{end_of, live_manifest, manifests_of}
+use Rattle.iceberg_version.specs.KeptEnd.{end_of, live_manifest, manifests_of, view_of}
 use Rattle.iceberg_version.specs.Manifests.{LiveManifest}
 use Rattle.iceberg_version.specs.Schemas.{AreNextSchemas, Schemas}
 use Rattle.iceberg_version.specs.Writing.{AreWritten, HasLongList, HasLongManifest, HasLongText, IsLayout, IsLong, IsWritten, NewVersion, Passes, PassesAt, TableEnd, metadata_of, stated_behind}
@@ -27,7 +27,7 @@ use Rattle.target_core.specs.Views.{IsUnpublished, Origin, SameView, View, absen
 use Rattle.target_core.specs.declared.mark.Mark.{Mark}
 use Rattle.target_core.specs.declared.target.TargetError.{TargetError}
 use Rattle.target_iceberg.specs.Fitting.{HeldState, Unfit, state_of}
-use Rattle.target_iceberg.specs.Kept.{HoldsEnd, IsFirst, IsKeptOf, StandsFor, held_of, view_of}
+use Rattle.target_iceberg.specs.Kept.{HoldsEnd, IsFirst, IsKeptOf, StandsFor, held_of}
 use Rattle.target_iceberg.specs.Reading.{IsOurs, Reads, SaysCurrent}
 use Rattle.target_iceberg.specs.OnceLemmas.{metadata_once, none_or_some, says_once}
 use Rattle.target_iceberg.specs.ViewLemmas.{absent_or_ours, one_view, ours_newest}

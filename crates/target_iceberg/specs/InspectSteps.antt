@@ -18,6 +18,7 @@ use Rattle.iceberg_table.specs.declared.error.IcebergError.{IcebergError}
 use Rattle.iceberg_table.specs.declared.error.IcebergError.TheVariants as error
 use Rattle.iceberg_table.specs.declared.manifest.Manifest.{Manifest}
 use Rattle.iceberg_table.specs.declared.snapshot.SnapshotTable.{SnapshotTable}
+use Rattle.iceberg_commit.specs.NextVersion.{OwnEachRow}
 use Rattle.target_iceberg.specs.Leftovers.{IsDecimal, IsLeftoverName}
 use Rattle.iceberg_version.specs.declared.kept.IcebergKept.{IcebergKept}
 use Rattle.iceberg_version.specs.declared.kept.KeptManifest.{KeptManifest}
@@ -27,7 +28,7 @@ use Rattle.target_core.specs.declared.target.Seen.TheVariants.{Absent, Ours, For
 use Rattle.target_core.specs.declared.target.TargetError.{TargetError}
 use Rattle.target_core.specs.declared.target.TargetError.TheVariants as target
 use Rattle.target_iceberg.specs.Form.{HasOwnForm}
-use Rattle.target_iceberg.specs.Kept.{IsKeptOf, OwnEachRow, held_of}
+use Rattle.target_iceberg.specs.Kept.{IsKeptOf, held_of}
 use Rattle.target_iceberg.specs.Reading.{HasMark}
 
 -- ---- names

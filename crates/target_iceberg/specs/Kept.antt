@@ -1,7 +1,6 @@
 -- What is kept of an Iceberg target, and when it is what the files hold.
-use Rattle.std.specs.Prelude.{◌≡◌, ◌⊎◌, ◌<◌, ℕ, ℤ, pos, negsuc, nat_eq, List, map, Contains, Some, option_map}
+use Rattle.std.specs.Prelude.{◌≡◌, ◌⊎◌, ◌<◌, ℕ, ℤ, pos, negsuc, List, map, Contains, Some}
 use Rattle.std.specs.Fmt.{decimal}
-use Rattle.std.specs.List.{IsDistinct}
 use Rattle.lake_store.specs.Disk.{Files}
 use Rattle.file_links.specs.Rows.{Entry, OwnedRows, Owns, rows_of}
 use Rattle.file_links.specs.declared.slots.Held.{Held}
@@ -12,16 +11,13 @@ use Rattle.iceberg_metadata.specs.declared.metadata.Metadata.{Metadata}
 use Rattle.iceberg_table.specs.Files.{SaysMetadata}
 use Rattle.iceberg_table.specs.Folder.{HasVersion, IsNewest}
 use Rattle.iceberg_table.specs.declared.manifest.Manifest.{Manifest}
-use Rattle.iceberg_version.specs.KeptEnd.{end_of}
+use Rattle.iceberg_version.specs.KeptEnd.{view_of}
 use Rattle.iceberg_version.specs.Writing.{no_version}
 use Rattle.iceberg_version.specs.declared.kept.IcebergKept.{IcebergKept}
 use Rattle.iceberg_version.specs.declared.kept.KeptManifest.{KeptManifest}
-use Rattle.target_core.specs.Views.{View, standing_of}
+use Rattle.iceberg_commit.specs.NextVersion.{OwnEachRow}
 use Rattle.target_core.specs.declared.mark.Mark.{Mark}
 use Rattle.target_iceberg.specs.Reading.{HasMark, IsAbsent, Reads, SaysCurrent}
-
-abbrev pub view_of : IcebergKept → View
-view_of kept = record { commits = kept.version; mark = option_map standing_of kept.mark; table = kept.table }
 
 -- ---- the newest version
 
@@ -45,11 +41,6 @@ pub record IsKeptOf (links : OwnedRows) (manifest : Manifest) (kept : KeptManife
   pub rows : List Entry
   pub owned : rows_of links kept.owner ≡ Some rows
   pub same : map (λ e. e.held) rows ≡ map held_of manifest.rows
-
--- Each kept manifest has an owner of its own, and no other owner has rows.
-pub record OwnEachRow (links : OwnedRows) (manifests : List KeptManifest) : Type 0 where
-  pub distinct : IsDistinct nat_eq (map (λ m. m.owner) manifests)
-  pub only : (owner : ℕ) (e : Entry) → Owns links owner e → (m : KeptManifest) × Contains manifests m × (m.owner ≡ owner)
 
 -- ---- all that is kept
 

@@ -12,12 +12,12 @@ use Rattle.iceberg_table.specs.Folder.{metadata_folder}
 use Rattle.iceberg_table.specs.Lists.{IsListed}
 use Rattle.iceberg_table.specs.OwnFolder.{lies_within, metadata_too}
 use Rattle.iceberg_table.proofs.EachLaws.{each_back}
-use Rattle.iceberg_version.specs.KeptEnd.{end_of, live_manifest}
+use Rattle.iceberg_version.specs.KeptEnd.{end_of, live_manifest, view_of}
 use Rattle.iceberg_version.specs.Writing.{TableEnd, no_version}
 use Rattle.iceberg_version.specs.declared.kept.IcebergKept.{IcebergKept}
 use Rattle.target_core.specs.Folders.{SameIn}
 use Rattle.target_core.specs.Views.{View, absent, standing_of}
-use Rattle.target_iceberg.specs.Kept.{HoldsEnd, IsCounted, IsFirst, StandsFor, view_of}
+use Rattle.target_iceberg.specs.Kept.{HoldsEnd, IsCounted, IsFirst, StandsFor}
 use Rattle.target_iceberg.specs.Reading.{Reads}
 use Rattle.target_iceberg.specs.OnceLemmas.{none_or_some}
 use Rattle.target_iceberg.specs.SameLemmas.{SameSnapshot, current_too, newest_too}

@@ -23,8 +23,6 @@ pub mod FaultLemmas
 pub mod InspectLemmas
 pub mod FitLemmas
 pub mod Publishing
-pub mod WrittenBack
-pub mod NextVersion
 pub mod Following
 pub mod Newest
 pub mod Shapes

@@ -6,13 +6,7 @@ use Rattle.lake_store.specs.Runs.{IsEachMoment, Keeps, KeepsImage, LeavesAlone}
 use Rattle.lake_store.specs.declared.store.Store.{Ghosts}
 use Rattle.iceberg_table.specs.Folder.{path_of, version_path}
 use Rattle.iceberg_version.specs.Names.{list_name, manifest_name, staged_name}
-
--- a new version: its number, and the bytes of its new manifests, of its list and of its metadata
-pub record VersionFiles : Type 0 where
-  pub version : ℕ
-  pub manifests : List (List ℕ)
-  pub list : List ℕ
-  pub metadata : List ℕ
+use Rattle.iceberg_commit.specs.NextVersion.{VersionFiles}
 
 -- ---- paths
 

@@ -1,5 +1,5 @@
 -- What an Iceberg target's files stand for, and what a version carries (Iceberg specification, "Table Metadata and Snapshots").
-use Rattle.std.specs.Prelude.{◌≡◌, ◌↔◌, ◌⊎◌, ◌<◌, ◌++◌, ℕ, zero, suc, pos, nat_le, List, [], fold, length, filter_map, find, take, drop, ◌-◌, ◌&&◌, max, Contains, Option, None, Some, IsSome, option_map, codes, if◌then◌else◌}
+use Rattle.std.specs.Prelude.{◌≡◌, ◌↔◌, ◌⊎◌, ◌<◌, ◌++◌, ℕ, zero, suc, pos, nat_le, List, fold, length, filter_map, find, take, drop, ◌-◌, ◌&&◌, max, Contains, Option, None, Some, IsSome, option_map, codes, if◌then◌else◌}
 use Rattle.std.specs.FinMap as map
 use Rattle.std.specs.Fmt.{decimal}
 use Rattle.std.specs.Str.{bytes_eq}

@@ -12,6 +12,7 @@ ghost use Rattle.iceberg_table.specs.Folder.{HasVersion, IsNewest, version_path 
 ghost use Rattle.iceberg_table.specs.Snapshots.{HasManifestRows};
 ghost use Rattle.iceberg_table.specs.Tables.{AreOfContents, IsTableOfSnapshots};
 ghost use Rattle.iceberg_table.specs.declared.error.IcebergError.TheVariants as iceberg;
+ghost use Rattle.iceberg_version.specs.KeptEnd.{view_of};
 ghost use Rattle.target_core.specs.Refusals.{IsInspectRefusal, IsOfInspect};
 ghost use Rattle.target_core.specs.SeenView.{IsSeen, IsSeenSound};
 ghost use Rattle.target_core.specs.declared.mark.Mark.{Mark};
@@ -20,7 +21,7 @@ ghost use Rattle.target_core.specs.declared.target.TargetError.TheVariants.{Cont
 ghost use Rattle.target_iceberg.specs.Form.{HasOwnForm};
 ghost use Rattle.target_iceberg.specs.Inspecting.{IsCrowded, IsForeign, IsNewestRead};
 ghost use Rattle.target_iceberg.specs.InspectSteps.{IsKeptBy, IsOursBy, IsOwnMark, IsOwnVersion, IsSeenIn, limit_of, told_fault, told_of};
-ghost use Rattle.target_iceberg.specs.Kept.{StandsFor, view_of};
+ghost use Rattle.target_iceberg.specs.Kept.{StandsFor};
 ghost use Rattle.target_iceberg.specs.Reading.{HasMark, Reads, property};
 
 use crate::form::has_own_form;

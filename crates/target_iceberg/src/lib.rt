@@ -2,6 +2,7 @@
 //! the calls that inspect it and publish commits.
 #![tactic(auto)]
 
+mod commit;
 mod fitting;
 mod form;
 mod inspect;
@@ -13,8 +14,3 @@ mod shape;
 mod target;
 
 pub use target::IcebergTarget;
-
-#[cfg(test)]
-mod fitting_tests;
-#[cfg(test)]
-mod inspect_tests;

@@ -1,15 +1,16 @@
-use Rattle.std.proofs.Common.{List, ℕ, Option, ap, refl, sym, subst, ◌∙◌}
+use Rattle.std.proofs.Common.{ℕ, Option, sym, subst, ◌∙◌}
 use Rattle.std.specs.Prelude.{IfErr, IfOk, MatchOption, Result}
 use Rattle.lake_store.specs.Disk.{Disk}
 use Rattle.lake_store.proofs.RunLaws.{reading_further}
 use Rattle.iceberg_table.specs.Folder.{HasVersion, IsNewest}
+use Rattle.iceberg_version.specs.KeptEnd.{view_of}
 use Rattle.target_core.specs.Refusals.{IsInspectRefusal}
 use Rattle.target_core.specs.SeenView.{IsSeen}
 use Rattle.target_core.specs.declared.target.Seen.{Seen}
 use Rattle.target_core.specs.declared.target.TargetError.{TargetError}
 use Rattle.iceberg_version.specs.declared.kept.IcebergKept.{IcebergKept}
-use Rattle.target_iceberg.specs.Inspecting.{IsCrowded, IsForeign, IsNewestRead}
-use Rattle.target_iceberg.specs.Kept.{StandsFor, view_of}
+use Rattle.target_iceberg.specs.Inspecting.{IsCrowded, IsForeign}
+use Rattle.target_iceberg.specs.Kept.{StandsFor}
 use Rattle.target_iceberg.specs.Reading.{Reads}
 use Rattle.iceberg_table.specs.Refusals.{HasManyNames}
 use Rattle.target_iceberg.proofs.SeenLemmas.{memory_refusal, names_crowded, names_foreign, told_refusal, told_seen, unpublished_here, unpublished_sound}

@@ -1,15 +1,16 @@
-use Rattle.std.proofs.Common.{List, ℕ, refl, sym, subst}
+use Rattle.std.proofs.Common.{refl, sym, subst}
 use Rattle.std.specs.Prelude.{IfErr, IfOk, Err}
 use Rattle.lake_store.proofs.RunLaws.{reading_begins}
 use Rattle.iceberg_table.specs.Folder.{version_path}
 use Rattle.iceberg_version.specs.declared.kept.IcebergKept.{IcebergKept}
 use Rattle.table_history.specs.declared.kind.Kind.{Kind}
+use Rattle.iceberg_version.specs.KeptEnd.{view_of}
 use Rattle.target_core.specs.Refusals.{IsInspectRefusal}
 use Rattle.target_core.specs.SeenView.{IsSeen, IsSeenSound}
 use Rattle.target_core.specs.declared.target.TargetError.TheVariants.{Memory}
 use Rattle.target_iceberg.specs.Inspecting.{IsCrowded, IsForeign}
 use Rattle.target_iceberg.specs.InspectSteps.{IsOwnVersion}
-use Rattle.target_iceberg.specs.Kept.{StandsFor, view_of}
+use Rattle.target_iceberg.specs.Kept.{StandsFor}
 use Rattle.target_iceberg.specs.Reading.{Reads}
 use Rattle.target_iceberg.proofs.SeenLemmas.{foreign_seen, foreign_sound, memory_cause, memory_contest, memory_few, memory_refusal, nothing_contested, nothing_failed, unmarked}
 use Rattle.target_iceberg.proofs.inspect.inspect_metadata.Goals as goal

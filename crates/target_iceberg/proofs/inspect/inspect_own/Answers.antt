@@ -1,20 +1,19 @@
-use Rattle.std.proofs.Common.{List, ℕ, sym, subst, ap, ◌∙◌}
+use Rattle.std.proofs.Common.{sym, subst, ap, ◌∙◌}
 use Rattle.std.specs.Prelude.{IfErr, IfOk, IsErrOf, Result, Err}
 use Rattle.std.specs.Option.{option_copied}
 use Rattle.lake_store.proofs.RunLaws.{reading_begins}
 use Rattle.iceberg_table.specs.Folder.{version_path}
 use Rattle.iceberg_table.specs.Refusals.{IsSnapshotRefusal}
 use Rattle.iceberg_table.specs.declared.error.IcebergError.{IcebergError}
-use Rattle.iceberg_table.specs.declared.error.IcebergError.TheVariants as iceberg
-use Rattle.iceberg_table.specs.declared.snapshot.SnapshotTable.{SnapshotTable}
 use Rattle.iceberg_version.specs.declared.kept.IcebergKept.{IcebergKept}
+use Rattle.iceberg_version.specs.KeptEnd.{view_of}
 use Rattle.target_core.specs.Refusals.{IsInspectRefusal}
-use Rattle.target_core.specs.SeenView.{IsSeen, IsSeenSound}
+use Rattle.target_core.specs.SeenView.{IsSeen}
 use Rattle.target_core.specs.declared.target.Seen.{Seen}
 use Rattle.target_core.specs.declared.target.TargetError.{TargetError}
 use Rattle.target_core.specs.declared.target.TargetError.TheVariants.{Contested, StoreFault}
 use Rattle.target_iceberg.specs.Inspecting.{IsCrowded, IsForeign}
-use Rattle.target_iceberg.specs.Kept.{StandsFor, view_of}
+use Rattle.target_iceberg.specs.Kept.{StandsFor}
 use Rattle.target_iceberg.specs.Reading.{Reads}
 use Rattle.target_iceberg.proofs.SeenLemmas.{all_ours_sound, cause_of, contest_of, foreign_seen, foreign_sound, memory_cause, memory_contest, memory_few, memory_refusal, nothing_contested, nothing_failed, seen_ours, snapshot_crowded, snapshot_foreign, told_refusal, told_seen, without_current}
 use Rattle.target_iceberg.proofs.KeptLemmas.{named_image}

@@ -1,15 +1,15 @@
-use Rattle.std.proofs.Common.{List, ℕ, Option, ap, refl, sym, subst, ◌∙◌}
-use Rattle.std.specs.Prelude.{IfErr, IfOk, MatchOption, Result}
+use Rattle.std.proofs.Common.{sym, subst}
+use Rattle.std.specs.Prelude.{IfErr, IfOk, Result}
 use Rattle.lake_store.specs.Disk.{Disk}
 use Rattle.lake_store.proofs.RunLaws.{reading_further}
-use Rattle.iceberg_table.specs.Folder.{HasVersion, IsNewest}
+use Rattle.iceberg_version.specs.KeptEnd.{view_of}
 use Rattle.target_core.specs.Refusals.{IsInspectRefusal}
 use Rattle.target_core.specs.SeenView.{IsSeen}
 use Rattle.target_core.specs.declared.target.Seen.{Seen}
 use Rattle.target_core.specs.declared.target.TargetError.{TargetError}
 use Rattle.iceberg_version.specs.declared.kept.IcebergKept.{IcebergKept}
 use Rattle.target_iceberg.specs.Inspecting.{IsCrowded, IsForeign, IsNewestRead}
-use Rattle.target_iceberg.specs.Kept.{StandsFor, view_of}
+use Rattle.target_iceberg.specs.Kept.{StandsFor}
 use Rattle.target_iceberg.specs.Reading.{Reads}
 use Rattle.iceberg_table.specs.Errors.{IsFileFault}
 use Rattle.iceberg_table.specs.Folder.{version_path}

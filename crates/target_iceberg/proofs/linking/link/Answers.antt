@@ -1,4 +1,4 @@
-use Rattle.std.proofs.Common.{◌≡◌, refl}
+use Rattle.std.proofs.Common.{refl}
 use Rattle.target_iceberg.proofs.LinkLemmas.{kept_by, was_held}
 use Rattle.target_iceberg.proofs.linking.link.Goals as goal
 

@@ -1,5 +1,4 @@
 use Rattle.std.proofs.Common.{◌≡◌, ◌≤◌, ◌++◌, ◌∷◌, [], List, length, ap, sym, subst, ◌∙◌, rules, arith}
-use Rattle.file_links.specs.Rows.{OwnedRows}
 use Rattle.table_history.specs.Rows.{HasDistinctPaths}
 use Rattle.iceberg_table.specs.Tables.{rows_of}
 use Rattle.target_iceberg.specs.InspectSteps.{AreLinked}

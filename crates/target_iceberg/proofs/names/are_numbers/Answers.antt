@@ -1,4 +1,4 @@
-use Rattle.std.proofs.Common.{◌≡◌, ◌+◌, ℕ, List, false, sym, subst}
+use Rattle.std.proofs.Common.{◌+◌, ℕ, List, subst}
 use Rattle.std.specs.Prelude.{◌↔◌, IsTrue}
 use Rattle.std.proofs.lemmas.Bool.{false≢true}
 use Rattle.target_iceberg.proofs.NameLemmas.{behind_place, hyphen_lacks, no_numbers, numbers_by}

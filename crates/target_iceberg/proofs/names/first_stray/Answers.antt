@@ -1,4 +1,4 @@
-use Rattle.std.proofs.Common.{ℕ, List, sym, subst, ◌∙◌}
+use Rattle.std.proofs.Common.{sym, subst, ◌∙◌}
 use Rattle.std.proofs.lemmas.Bool.{false≢true}
 use Rattle.target_iceberg.specs.Leftovers.{IsLeftoverName}
 use Rattle.target_iceberg.proofs.NameLemmas.{all_of, first_of, one_more}

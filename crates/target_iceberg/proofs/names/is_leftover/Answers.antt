@@ -1,4 +1,4 @@
-use Rattle.std.proofs.Common.{◌≡◌, true, false, sym, ◌∙◌}
+use Rattle.std.proofs.Common.{sym, ◌∙◌}
 use Rattle.std.proofs.lemmas.Bool.{false≢true}
 use Rattle.target_iceberg.specs.Leftovers.{IsLeftoverName}
 use Rattle.target_iceberg.proofs.NameLemmas.{list_name, manifest_left, staged_name}

@@ -6,10 +6,11 @@ use Rattle.std.proofs.lemmas.Result.{err_from_is_err_and}
 use Rattle.iceberg_table.specs.Folder.{metadata_folder, path_of, version_path}
 use Rattle.iceberg_version.specs.Names.{staged_name}
 use Rattle.lake_store.specs.Runs.{IsOutside}
+use Rattle.iceberg_commit.specs.NextVersion.{VersionFiles}
 use Rattle.target_core.specs.Outcome.{Uncontested}
 use Rattle.target_core.specs.declared.target.TargetError.TheVariants.{Contested}
 use Rattle.lake_store.proofs.RunLaws.{alone_of_fewer}
-use Rattle.target_iceberg.specs.Publishing.{AreManifestPaths, IsNotAside, IsOther, PublishesVersion, VersionFiles}
+use Rattle.target_iceberg.specs.Publishing.{AreManifestPaths, IsNotAside, IsOther, PublishesVersion}
 use Rattle.target_iceberg.proofs.PublishingLemmas.{alone_begun, apart_paths, aside₁, aside₂, aside₃, aside₄, contested_by, err_same, memory_never, metadata_not_aside, not_published, outside_other, not_ok, ok_contested, err_ok, published_as, untaken_by, written_aside}
 use Rattle.target_iceberg.proofs.publish.publish_version.Goals as goal
 

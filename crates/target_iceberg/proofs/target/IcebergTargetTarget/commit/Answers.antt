@@ -1,0 +1,16 @@
+use Rattle.target_iceberg.proofs.target.IcebergTargetTarget.commit.Goals as goal
+
+pub returns-clause-stands : goal.returns-clause-stands
+returns-clause-stands g c told stands settled = c.publish_commit.ensures.stands told c.args.self.now.id c.args.self.now.location c.args.self.now.plain stands settled
+
+pub returns-clause-publishes : goal.returns-clause-publishes
+returns-clause-publishes g c told stands settled = c.publish_commit.ensures.publishes told c.args.self.now.id c.args.self.now.location c.args.self.now.plain stands settled
+
+pub returns-clause-contested : goal.returns-clause-contested
+returns-clause-contested g c told stands settled is = c.publish_commit.ensures.contested told c.args.self.now.id c.args.self.now.location c.args.self.now.plain stands settled is
+
+pub returns-clause-kept : goal.returns-clause-kept
+returns-clause-kept g c told stands settled is = c.publish_commit.ensures.kept told c.args.self.now.id c.args.self.now.location c.args.self.now.plain stands settled is
+
+pub returns-clause-limited : goal.returns-clause-limited
+returns-clause-limited g c told stands settled which number is = c.publish_commit.ensures.limited told c.args.self.now.id c.args.self.now.location stands settled which number is
