@@ -95,7 +95,10 @@ fn a_delta_target_is_compared_with_its_source(rt: HostRuntime) -> Result<(), Fai
             "check hudi delta",
             "0\ndelta: same, files 1, at 20240105110000000\n",
         ),
-        ("check hudi iceberg", "13\nstatus 13: Later\n"),
+        (
+            "check hudi iceberg",
+            "11\niceberg: status 11: Behind none of 20240105110000000\n",
+        ),
     ] {
         assert_eq!(rt; told(alloc, &mut store, words)?.as_str(), line);
     }

@@ -10,6 +10,7 @@ use table_lines::{put_lines, rows_in_order};
 use target_core::{Mark, Seen, Target};
 use target_delta::DeltaTarget;
 use target_hudi::HudiTarget;
+use target_iceberg::IcebergTarget;
 
 /// 2024-01-05 12:00:00 UTC.
 pub(crate) const NOW_MS: u64 = 1_704_456_000_000;
@@ -194,6 +195,18 @@ pub(crate) fn hudi_standing(
     source: Kind,
 ) -> Result<String, AllocError> {
     match HudiTarget::new(alloc, "/data/t") {
+        Ok(target) => standing(alloc, &target, store, source),
+        Err(_) => Err(AllocError),
+    }
+}
+
+/// What the Iceberg target stands at for a source of this format.
+pub(crate) fn iceberg_standing(
+    alloc: Global,
+    store: &mut FuseStore,
+    source: Kind,
+) -> Result<String, AllocError> {
+    match IcebergTarget::new(alloc, "/data/t") {
         Ok(target) => standing(alloc, &target, store, source),
         Err(_) => Err(AllocError),
     }

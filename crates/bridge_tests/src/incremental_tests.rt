@@ -256,16 +256,23 @@ const COMMIT_12: File<'static> = (
 #[test]
 fn instants_are_taken_once_none_before_them_is_pending(rt: HostRuntime) -> Result<(), Fail> {
     let alloc = rt.alloc();
-    let mut store = store_of(alloc, &[PROPERTIES, COMMIT_10, PENDING_11, COMMIT_12])?;
-    assert_eq!(rt;
-        told(alloc, &mut store, "sync hudi delta")?.as_str(),
-        "0\nsource pending 20240105110000000\ndelta: full, published 1, files 1, at 20240105100000000\n"
-    );
-    put_files(&mut store, &[COMMIT_11])?;
-    assert_eq!(rt;
-        told(alloc, &mut store, "sync hudi delta")?.as_str(),
-        "0\ndelta: incremental, published 2, files 3, at 20240105120000000\n"
-    );
+    for (words, first, second) in [
+        (
+            "sync hudi delta",
+            "0\nsource pending 20240105110000000\ndelta: full, published 1, files 1, at 20240105100000000\n",
+            "0\ndelta: incremental, published 2, files 3, at 20240105120000000\n",
+        ),
+        (
+            "sync hudi iceberg",
+            "0\nsource pending 20240105110000000\niceberg: full, published 1, files 1, at 20240105100000000\n",
+            "0\niceberg: incremental, published 2, files 3, at 20240105120000000\n",
+        ),
+    ] {
+        let mut store = store_of(alloc, &[PROPERTIES, COMMIT_10, PENDING_11, COMMIT_12])?;
+        assert_eq!(rt; told(alloc, &mut store, words)?.as_str(), first);
+        put_files(&mut store, &[COMMIT_11])?;
+        assert_eq!(rt; told(alloc, &mut store, words)?.as_str(), second);
+    }
     Ok(())
 }
 

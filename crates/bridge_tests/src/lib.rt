@@ -16,6 +16,8 @@ mod iceberg_fixtures;
 #[cfg(test)]
 mod iceberg_source_tests;
 #[cfg(test)]
+mod iceberg_target_tests;
+#[cfg(test)]
 mod incremental_tests;
 #[cfg(test)]
 mod show_hudi_tests;

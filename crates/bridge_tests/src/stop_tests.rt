@@ -1,7 +1,7 @@
 //! Syncs that are stopped at each of their calls of the store, and repeated behind a crash.
 use crate::fixtures::{
     File, INSTANT_10, INSTANT_11, PROPERTIES, VERSION_0, VERSION_1, delta_standing, hudi_standing,
-    put_files, store_of, told,
+    iceberg_standing, put_files, store_of, told,
 };
 use crate::iceberg_fixtures::{AT_1, AT_2, IcebergTable, put_table};
 use lake_store::FuseStore;
@@ -18,6 +18,7 @@ enum To {
     DeltaFromHudi,
     DeltaFromIceberg,
     HudiFromDelta,
+    IcebergFromDelta,
 }
 
 impl To {
@@ -27,6 +28,7 @@ impl To {
             To::DeltaFromHudi => told(alloc, store, "sync hudi delta"),
             To::DeltaFromIceberg => told(alloc, store, "sync iceberg delta"),
             To::HudiFromDelta => told(alloc, store, "sync delta hudi"),
+            To::IcebergFromDelta => told(alloc, store, "sync delta iceberg"),
         }
     }
 
@@ -36,6 +38,7 @@ impl To {
             To::DeltaFromHudi => delta_standing(alloc, store, Kind::Hudi),
             To::DeltaFromIceberg => delta_standing(alloc, store, Kind::Iceberg),
             To::HudiFromDelta => hudi_standing(alloc, store, Kind::Delta),
+            To::IcebergFromDelta => iceberg_standing(alloc, store, Kind::Delta),
         }
     }
 }
@@ -114,6 +117,26 @@ const STEPS: &[Step<'static>] = &[
         answer: "0\nhudi: incremental, published 1, files 1, at 1\n",
         repeated: "0\nhudi: incremental, published 0, files 1, at 1\n",
         crashes: &[&[0, 0, 0, 0], &[2, 2, 2, 2], &[5, 0, 2, 1]],
+    },
+    Step {
+        to: To::IcebergFromDelta,
+        earlier: Files::None,
+        later: Files::Texts(&[VERSION_0]),
+        before: "absent",
+        after: "iceberg at 0: columns 1, partitions 0, files 1, records 5, bytes 100\n[\"p1.parquet\",5,100,[]]\n",
+        answer: "0\niceberg: full, published 1, files 1, at 0\n",
+        repeated: "0\niceberg: incremental, published 0, files 1, at 0\n",
+        crashes: &[&[0, 0, 0], &[2, 2, 2], &[5, 2, 0]],
+    },
+    Step {
+        to: To::IcebergFromDelta,
+        earlier: Files::Texts(&[VERSION_0]),
+        later: Files::Texts(&[VERSION_1]),
+        before: "iceberg at 0: columns 1, partitions 0, files 1, records 5, bytes 100\n[\"p1.parquet\",5,100,[]]\n",
+        after: "iceberg at 1: columns 1, partitions 0, files 1, records 7, bytes 140\n[\"p2.parquet\",7,140,[]]\n",
+        answer: "0\niceberg: incremental, published 1, files 1, at 1\n",
+        repeated: "0\niceberg: incremental, published 0, files 1, at 1\n",
+        crashes: &[&[0, 0, 0], &[2, 2, 2], &[5, 2, 0]],
     },
 ];
 

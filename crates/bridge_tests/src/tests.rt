@@ -161,8 +161,8 @@ fn other_answers_have_their_lines(rt: HostRuntime) -> Result<(), Fail> {
             Some(ONE_FILE),
             99,
             99,
-            13,
-            "status 13: Later\n",
+            0,
+            "iceberg: full, published 1, files 1, at 0\n",
         ),
         (
             "/data/t full iceberg delta hudi",

@@ -5,7 +5,7 @@ use Rattle.lake_store.specs.declared.store.Store.{Ghosts}
 use Rattle.lake_store.specs.declared.sink.Sink as sinks
 use Rattle.table_history.specs.declared.kind.Kind.{Kind}
 use Rattle.sync_driver.specs.Answers.{Brings, Command, Compares, IsServed, Prints, one_target}
-use Rattle.sync_driver.specs.Formats.{Formats, IsTarget}
+use Rattle.sync_driver.specs.Formats.{Formats}
 use Rattle.sync_driver.specs.Forms.{Words, IsCommand, IsNoCommand, Spells, verb_word}
 use Rattle.sync_driver.specs.Lines.{refusal_line}
 use Rattle.sync_driver.specs.Tellings.{Tells}
@@ -65,18 +65,9 @@ one_form words (Check f t) (Show g) is other = let e : 4 ≡ 3 = sym is.0.0 ∙ 
 one_form words (Check f t) (Check g s) is other = let a : Some f ≡ Some g = sym is.0.2 ∙ other.0.2 in let b : Some t ≡ Some s = sym is.1 ∙ other.1 in cc
 one_form words (Show f) (Show g) is other = let a : Some f ≡ Some g = sym is.2 ∙ other.2 in cc
 
--- a served sync has one target, which can be one
-pub sync_to : (source target : Kind) (second : Option Kind) → IsServed (Sync source target second) → IsTarget target
-sync_to source target None served = served
-sync_to source target (Some second) served = absurd served
-
-pub full_to : (source target : Kind) (second : Option Kind) → IsServed (Full source target second) → IsTarget target
-full_to source target None served = served
-full_to source target (Some second) served = absurd served
-
-served_target : (mode : Mode) (source target : Kind) → IsTarget target → IsServed (one_target mode source target)
-served_target modes.Sync source target is = is
-served_target modes.Full source target is = is
+served_target : (mode : Mode) (source target : Kind) → IsServed (one_target mode source target)
+served_target modes.Sync source target = tt
+served_target modes.Full source target = tt
 
 module _ {S O : Type 0} (store : Ghosts S) (sink : sinks.Ghosts O) (formats : Formats) (gives : ℕ → Type 0) (words : Words) (old new : S) (out_old out_new : O) (status : Status) where
   abbrev pub IsBrought : List ℕ → Mode → Kind → Kind → Type 0
@@ -99,9 +90,9 @@ module _ {S O : Type 0} (store : Ghosts S) (sink : sinks.Ghosts O) (formats : Fo
   no_command none told unchanged = record {
     usage = λ no. (told, unchanged);
     later = λ place form is other. absurd (none place form is);
-    brought = λ place mode source target is can. absurd (none place (one_target mode source target) is);
+    brought = λ place mode source target is. absurd (none place (one_target mode source target) is);
     shown = λ place source is. absurd (none place (Show source) is);
-    checked = λ place source target is can. absurd (none place (Check source target) is);
+    checked = λ place source target is. absurd (none place (Check source target) is);
   }
 
   module _ (place : List ℕ) (form : Form) (is : IsCommand words place form) where
@@ -117,9 +108,9 @@ module _ {S O : Type 0} (store : Ghosts S) (sink : sinks.Ghosts O) (formats : Fo
         record {
           usage = λ no. absurd (no place form is);
           later = λ p f spelled no. (told, unchanged);
-          brought = λ p mode source target spelled can. absurd (unserved p (one_target mode source target) spelled (served_target mode source target can));
+          brought = λ p mode source target spelled. absurd (unserved p (one_target mode source target) spelled (served_target mode source target));
           shown = λ p source spelled. absurd (unserved p (Show source) spelled tt);
-          checked = λ p source target spelled can. absurd (unserved p (Check source target) spelled can);
+          checked = λ p source target spelled. absurd (unserved p (Check source target) spelled tt);
         }
 
     pub served_command : IsServed form → Does place form → Command store sink formats gives words old new out_old out_new status
@@ -129,9 +120,9 @@ module _ {S O : Type 0} (store : Ghosts S) (sink : sinks.Ghosts O) (formats : Fo
         record {
           usage = λ no. absurd (no place form is);
           later = λ p f spelled unserved. absurd (unserved (subst (λ (f : Form). IsServed f) (same p f spelled) served));
-          brought = λ p mode source target spelled can. brought_by p mode source target (at p (one_target mode source target) spelled);
+          brought = λ p mode source target spelled. brought_by p mode source target (at p (one_target mode source target) spelled);
           shown = λ p source spelled. at p (Show source) spelled;
-          checked = λ p source target spelled can. at p (Check source target) spelled;
+          checked = λ p source target spelled. at p (Check source target) spelled;
         }
 
     pub sync_command : (source target : Kind) (second : Option Kind) → form ≡ Sync source target second → IsServed form → IsBrought place modes.Sync source target → Command store sink formats gives words old new out_old out_new status

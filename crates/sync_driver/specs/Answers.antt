@@ -5,7 +5,7 @@ use Rattle.lake_store.specs.declared.sink.Sink as sinks
 use Rattle.table_history.specs.declared.kind.Kind.{Kind}
 use Rattle.sync_driver.specs.Checked.{Checks}
 use Rattle.sync_driver.specs.Commands.{Syncs}
-use Rattle.sync_driver.specs.Formats.{Formats, FromSource, IsTarget, ToTarget}
+use Rattle.sync_driver.specs.Formats.{Formats, FromSource, ToTarget}
 use Rattle.sync_driver.specs.Forms.{Words, IsCommand, IsNoCommand}
 use Rattle.sync_driver.specs.Lines.{refusal_line}
 use Rattle.sync_driver.specs.Shown.{Shows}
@@ -23,12 +23,12 @@ abbrev pub one_target : Mode → Kind → Kind → Form
 one_target modes.Sync source target = Sync source target None
 one_target modes.Full source target = Full source target None
 
--- The form is served: any format is shown, and one target of a format that can be one is brought to the head of a source of another, or compared with it.
+-- The form is served: any format is shown, and one target is brought to the head of a source of another format, or compared with it.
 abbrev pub IsServed : Form → Type 0
 IsServed (Show source) = Unit {0}
-IsServed (Sync source target None) = IsTarget target
-IsServed (Full source target None) = IsTarget target
-IsServed (Check source target) = IsTarget target
+IsServed (Sync source target None) = Unit {0}
+IsServed (Full source target None) = Unit {0}
+IsServed (Check source target) = Unit {0}
 IsServed (Sync source first (Some second)) = ⊥
 IsServed (Full source first (Some second)) = ⊥
 
@@ -64,7 +64,7 @@ Prints store sink formats source old new out_old out_new status = FromSource for
 pub record Command {S O : Type 0} (store : Ghosts S) (sink : sinks.Ghosts O) (formats : Formats) (gives : ℕ → Type 0) (words : Words) (old new : S) (out_old out_new : O) (status : Status) : Type 0 where
   pub usage : IsNoCommand words → Tells sink out_old out_new (refusal_line Usage) Usage status × (new ≡ old)
   pub later : (place : List ℕ) (form : Form) → IsCommand words place form → (IsServed form → ⊥) → Tells sink out_old out_new (refusal_line Later) Later status × (new ≡ old)
-  pub brought : (place : List ℕ) (mode : Mode) (source target : Kind) → IsCommand words place (one_target mode source target) → IsTarget target
+  pub brought : (place : List ℕ) (mode : Mode) (source target : Kind) → IsCommand words place (one_target mode source target)
       → (now : ℕ) × gives now × Brings store sink formats place source target mode now old new out_old out_new status
   pub shown : (place : List ℕ) (source : Kind) → IsCommand words place (Show source) → Prints store sink formats source old new out_old out_new status
-  pub checked : (place : List ℕ) (source target : Kind) → IsCommand words place (Check source target) → IsTarget target → Compares store sink formats place source target old new out_old out_new status
+  pub checked : (place : List ℕ) (source target : Kind) → IsCommand words place (Check source target) → Compares store sink formats place source target old new out_old out_new status

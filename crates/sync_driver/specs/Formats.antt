@@ -1,4 +1,4 @@
--- The formats that a command may name, and which source and target are meant by one of them.
+-- The formats that a command may name, and which source and target are meant by each of them.
 use Rattle.std.specs.Prelude.{◌≡◌, ℕ, List}
 use Rattle.source_core.specs.declared.source.Source as sources
 use Rattle.source_delta.specs.declared.source.DeltaSource.{DeltaSource}
@@ -13,22 +13,20 @@ use Rattle.target_delta.specs.declared.target.DeltaTarget.{DeltaTarget}
 use Rattle.target_hudi.specs.TableName.{IsTableName}
 use Rattle.target_hudi.specs.declared.kept.HudiKept.{HudiKept}
 use Rattle.target_hudi.specs.declared.target.HudiTarget.{HudiTarget}
+use Rattle.iceberg_version.specs.declared.kept.IcebergKept.{IcebergKept}
+use Rattle.target_iceberg.specs.TableId as iceberg
+use Rattle.target_iceberg.specs.declared.target.IcebergTarget.{IcebergTarget}
 use Rattle.sync_driver.specs.Sources.{SourceMeaning, source_meaning}
 use Rattle.sync_driver.specs.Targets.{TargetFacts, target_facts}
 
--- what the files of each format mean to its source, and to its target where it has one
+-- what the files of each format mean to its source and to its target
 pub record Formats : Type 1 where
   pub delta : sources.Ghosts DeltaSource
   pub hudi : sources.Ghosts HudiSource
   pub iceberg : sources.Ghosts IcebergSource
   pub to_delta : targets.Ghosts DeltaTarget DeltaKept
   pub to_hudi : targets.Ghosts HudiTarget HudiKept
-
--- the format can be a target
-abbrev pub IsTarget : Kind → Type 0
-IsTarget Delta = Unit {0}
-IsTarget Hudi = Unit {0}
-IsTarget Iceberg = ⊥
+  pub to_iceberg : targets.Ghosts IcebergTarget IcebergKept
 
 -- this is so of a source of the format
 abbrev pub FromSource : Formats → Kind → (SourceMeaning → Type 0) → Type 0
@@ -40,4 +38,4 @@ FromSource formats Iceberg P = (source : IcebergSource) × P (source_meaning for
 abbrev pub ToTarget : Formats → List ℕ → Kind → (TargetFacts → Type 0) → Type 0
 ToTarget formats place Delta P = (target : DeltaTarget) × (target.id ≡ table_id place) × P (target_facts formats.to_delta target)
 ToTarget formats place Hudi P = (target : HudiTarget) × IsTableName place target.name × P (target_facts formats.to_hudi target)
-ToTarget formats place Iceberg P = ⊥
+ToTarget formats place Iceberg P = (target : IcebergTarget) × (target.id ≡ iceberg.table_id place) × (target.location ≡ place) × P (target_facts formats.to_iceberg target)

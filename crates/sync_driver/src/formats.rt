@@ -1,7 +1,6 @@
 //! The commands by the formats that the words name.
 ghost use Rattle.std.specs.Prelude.{◌≡◌, ◌<◌, ◌^◌, ◌++◌, ◌∷◌, ℕ, List, []};
 ghost use Rattle.sync_driver.specs.Answers.{Brings, BringsTo, Compares, ComparesTo, Prints};
-ghost use Rattle.sync_driver.specs.Formats.{IsTarget};
 ghost use Rattle.sync_driver.specs.Sources.{source_meaning};
 
 use crate::checking::check;
@@ -19,6 +18,7 @@ use table_history::Kind;
 use target_core::Target;
 use target_delta::DeltaTarget;
 use target_hudi::HudiTarget;
+use target_iceberg::IcebergTarget;
 
 /// Prints the table of this format at its head.
 pub(crate) fn print<S: Store, O: Sink>(
@@ -33,6 +33,7 @@ pub(crate) fn print<S: Store, O: Sink>(
       iceberg = ⟦<IcebergSource as Source>⟧;
       to_delta = ⟦<DeltaTarget as Target>⟧;
       to_hudi = ⟦<HudiTarget as Target>⟧;
+      to_iceberg = ⟦<IcebergTarget as Target>⟧;
     })
         source store.old store.new out.old out.new result }
 {
@@ -54,7 +55,6 @@ fn bring_from<F: Source, S: Store, O: Sink>(
     now_ms: u64,
     out: &mut O,
 ) -> Status
-    requires target { IsTarget target }
     requires location { (front : List ℕ) → location.now ≡ front ++ 47 ∷ [] → ⊥ }
     requires now { now_ms < 2 ^ 63 }
     ensures { BringsTo ⟦<S as Store>⟧ ⟦<O as Sink>⟧ (record {
@@ -63,6 +63,7 @@ fn bring_from<F: Source, S: Store, O: Sink>(
       iceberg = ⟦<IcebergSource as Source>⟧;
       to_delta = ⟦<DeltaTarget as Target>⟧;
       to_hudi = ⟦<HudiTarget as Target>⟧;
+      to_iceberg = ⟦<IcebergTarget as Target>⟧;
     })
         location.now (source_meaning ⟦<F as Source>⟧ source.now) target mode now_ms store.old store.new out.old out.new result }
 {
@@ -75,7 +76,10 @@ fn bring_from<F: Source, S: Store, O: Sink>(
             Ok(target) => sync_target(alloc, source, &target, store, mode, now_ms, out),
             Err(_) => Status::Memory,
         },
-        Kind::Iceberg => unreachable!(),
+        Kind::Iceberg => match IcebergTarget::new(alloc, location) {
+            Ok(target) => sync_target(alloc, source, &target, store, mode, now_ms, out),
+            Err(_) => Status::Memory,
+        },
     }
 }
 
@@ -90,7 +94,6 @@ pub(crate) fn bring<S: Store, O: Sink>(
     now_ms: u64,
     out: &mut O,
 ) -> Status
-    requires target { IsTarget target }
     requires location { (front : List ℕ) → location.now ≡ front ++ 47 ∷ [] → ⊥ }
     requires now { now_ms < 2 ^ 63 }
     ensures { Brings ⟦<S as Store>⟧ ⟦<O as Sink>⟧ (record {
@@ -99,6 +102,7 @@ pub(crate) fn bring<S: Store, O: Sink>(
       iceberg = ⟦<IcebergSource as Source>⟧;
       to_delta = ⟦<DeltaTarget as Target>⟧;
       to_hudi = ⟦<HudiTarget as Target>⟧;
+      to_iceberg = ⟦<IcebergTarget as Target>⟧;
     })
         location.now source target mode now_ms store.old store.new out.old out.new result }
 {
@@ -127,7 +131,6 @@ fn compare_from<F: Source, S: Store, O: Sink>(
     store: &mut S,
     out: &mut O,
 ) -> Status
-    requires target { IsTarget target }
     requires location { (front : List ℕ) → location.now ≡ front ++ 47 ∷ [] → ⊥ }
     ensures { ComparesTo ⟦<S as Store>⟧ ⟦<O as Sink>⟧ (record {
       delta = ⟦<DeltaSource as Source>⟧;
@@ -135,6 +138,7 @@ fn compare_from<F: Source, S: Store, O: Sink>(
       iceberg = ⟦<IcebergSource as Source>⟧;
       to_delta = ⟦<DeltaTarget as Target>⟧;
       to_hudi = ⟦<HudiTarget as Target>⟧;
+      to_iceberg = ⟦<IcebergTarget as Target>⟧;
     })
         location.now (source_meaning ⟦<F as Source>⟧ source.now) target store.old store.new out.old out.new result }
 {
@@ -147,7 +151,10 @@ fn compare_from<F: Source, S: Store, O: Sink>(
             Ok(target) => check(alloc, source, &target, store, out),
             Err(_) => Status::Memory,
         },
-        Kind::Iceberg => unreachable!(),
+        Kind::Iceberg => match IcebergTarget::new(alloc, location) {
+            Ok(target) => check(alloc, source, &target, store, out),
+            Err(_) => Status::Memory,
+        },
     }
 }
 
@@ -160,7 +167,6 @@ pub(crate) fn compare<S: Store, O: Sink>(
     store: &mut S,
     out: &mut O,
 ) -> Status
-    requires target { IsTarget target }
     requires location { (front : List ℕ) → location.now ≡ front ++ 47 ∷ [] → ⊥ }
     ensures { Compares ⟦<S as Store>⟧ ⟦<O as Sink>⟧ (record {
       delta = ⟦<DeltaSource as Source>⟧;
@@ -168,6 +174,7 @@ pub(crate) fn compare<S: Store, O: Sink>(
       iceberg = ⟦<IcebergSource as Source>⟧;
       to_delta = ⟦<DeltaTarget as Target>⟧;
       to_hudi = ⟦<HudiTarget as Target>⟧;
+      to_iceberg = ⟦<IcebergTarget as Target>⟧;
     })
         location.now source target store.old store.new out.old out.new result }
 {

@@ -1,7 +1,6 @@
 //! The top call.
 ghost use Rattle.std.specs.Prelude.{◌↔◌, IsTrue};
 ghost use Rattle.sync_driver.specs.Answers.{Command, IsServed};
-ghost use Rattle.sync_driver.specs.Formats.{IsTarget};
 ghost use Rattle.sync_driver.specs.Lines.{refusal_line};
 ghost use Rattle.sync_driver.specs.Tellings.{Tells};
 ghost use Rattle.sync_driver.specs.declared.status.Status.TheVariants.{Usage};
@@ -17,10 +16,10 @@ use source_delta::DeltaSource;
 use source_hudi::HudiSource;
 use source_iceberg::IcebergSource;
 use std::alloc::Global;
-use table_history::Kind;
 use target_core::Target;
 use target_delta::DeltaTarget;
 use target_hudi::HudiTarget;
+use target_iceberg::IcebergTarget;
 
 /// Answers words that are no form.
 pub fn refuse_words<O: Sink>(alloc: Global, out: &mut O) -> Status
@@ -29,26 +28,15 @@ pub fn refuse_words<O: Sink>(alloc: Global, out: &mut O) -> Status
     refuse(alloc, out, Status::Usage)
 }
 
-/// Whether a table of this format can be a target.
-fn is_target(kind: Kind) -> bool
-    ensures { IsTrue result ↔ IsTarget kind }
-{
-    match kind {
-        Kind::Delta => true,
-        Kind::Iceberg => false,
-        Kind::Hudi => true,
-    }
-}
-
 /// Whether this form is served.
 fn is_served(form: Form) -> bool
     ensures { IsTrue result ↔ IsServed form }
 {
     match form {
         Form::Show(_) => true,
-        Form::Sync(_, target, None) => is_target(target),
-        Form::Full(_, target, None) => is_target(target),
-        Form::Check(_, target) => is_target(target),
+        Form::Sync(_, _, None) => true,
+        Form::Full(_, _, None) => true,
+        Form::Check(_, _) => true,
         _ => false,
     }
 }
@@ -68,6 +56,7 @@ pub fn run<S: Store, C: Clock, O: Sink>(
       iceberg = ⟦<IcebergSource as Source>⟧;
       to_delta = ⟦<DeltaTarget as Target>⟧;
       to_hudi = ⟦<HudiTarget as Target>⟧;
+      to_iceberg = ⟦<IcebergTarget as Target>⟧;
     })
         (C.gives clock.old) words.now store.old store.new out.old out.new result }
 {

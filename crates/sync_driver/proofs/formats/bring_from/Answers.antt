@@ -3,3 +3,6 @@ use Rattle.sync_driver.proofs.formats.bring_from.Goals as goal
 
 pub returns-in-Ok : goal.returns-in-Ok
 returns-in-Ok g c = rw c.in-Delta.is (inr (c.in-Ok.target, c.in-Ok.ensures.id, c.sync_target.ensures))
+
+pub returns-in-Ok-new-2 : goal.returns-in-Ok-new-2
+returns-in-Ok-new-2 g c = rw c.in-Iceberg.is (inr (c.in-Ok-new-2.target, c.in-Ok-new-2.ensures.id, c.in-Ok-new-2.ensures.location, c.sync_target-in-Ok-new-2.ensures))

@@ -2,7 +2,7 @@ use Rattle.std.proofs.Common.{◌≡◌, true, false, refl, subst}
 use Rattle.sync_driver.specs.Answers.{IsServed}
 use Rattle.sync_driver.specs.Forms.{word}
 use Rattle.sync_driver.specs.declared.words.Form.{Form}
-use Rattle.sync_driver.proofs.Commands.{check_command, full_command, full_to, no_command, other_command, show_command, sync_command, sync_to}
+use Rattle.sync_driver.proofs.Commands.{check_command, full_command, no_command, other_command, show_command, sync_command}
 use Rattle.sync_driver.proofs.Locations.{place_ends}
 use Rattle.sync_driver.proofs.top.run.Goals as goal
 
@@ -20,9 +20,6 @@ returns-in-Show g c =
     show_command g.S.Store g.O.Sink _ _ c.args.words.now c.args.store.now c.print.new.store c.args.out.now c.print.new.out c.print.result c.in-Some.command.location.now c.in-Some.command.form c.in-Some.ensures
     c.in-Show.source c.in-Show.is (c.is_served.ensures.0 c.if-not-is_served.false) c.print.ensures
 
-pub bring-requires-clause-target : goal.bring-requires-clause-target
-bring-requires-clause-target g c = sync_to c.in-Sync.source c.in-Sync.target _ (subst (λ (f : Form). IsServed f) c.in-Sync.is (c.is_served.ensures.0 c.if-not-is_served.false))
-
 pub bring-requires-clause-location : goal.bring-requires-clause-location
 bring-requires-clause-location g c front is = place_ends (word c.args.words.now 0) c.in-Some.command.location.now c.in-Some.ensures.0.0 front is
 
@@ -30,9 +27,6 @@ pub returns-in-Sync : goal.returns-in-Sync
 returns-in-Sync g c =
     sync_command g.S.Store g.O.Sink _ _ c.args.words.now c.args.store.now c.bring.new.store c.args.out.now c.bring.new.out c.bring.result c.in-Some.command.location.now c.in-Some.command.form c.in-Some.ensures
     c.in-Sync.source c.in-Sync.target _ c.in-Sync.is (c.is_served.ensures.0 c.if-not-is_served.false) (c.now_ms.result, c.now_ms.ensures.given, c.bring.ensures)
-
-pub bring-requires-in-Full-clause-target : goal.bring-requires-in-Full-clause-target
-bring-requires-in-Full-clause-target g c = full_to c.in-Full.source c.in-Full.target _ (subst (λ (f : Form). IsServed f) c.in-Full.is (c.is_served.ensures.0 c.if-not-is_served.false))
 
 pub bring-requires-in-Full-clause-location : goal.bring-requires-in-Full-clause-location
 bring-requires-in-Full-clause-location g c front is = place_ends (word c.args.words.now 0) c.in-Some.command.location.now c.in-Some.ensures.0.0 front is
@@ -42,11 +36,8 @@ returns-in-Full g c =
     full_command g.S.Store g.O.Sink _ _ c.args.words.now c.args.store.now c.bring-in-Full.new.store c.args.out.now c.bring-in-Full.new.out c.bring-in-Full.result c.in-Some.command.location.now c.in-Some.command.form c.in-Some.ensures
     c.in-Full.source c.in-Full.target _ c.in-Full.is (c.is_served.ensures.0 c.if-not-is_served.false) (c.now_ms-in-Full.result, c.now_ms-in-Full.ensures.given, c.bring-in-Full.ensures)
 
-pub compare-requires-clause-target : goal.compare-requires-clause-target
-compare-requires-clause-target g c = subst (λ (f : Form). IsServed f) c.in-Check.is (c.is_served.ensures.0 c.if-not-is_served.false)
-
-pub compare-requires-clause-location : goal.compare-requires-clause-location
-compare-requires-clause-location g c front is = place_ends (word c.args.words.now 0) c.in-Some.command.location.now c.in-Some.ensures.0.0 front is
+pub compare-requires : goal.compare-requires
+compare-requires g c = record { location = λ front is. place_ends (word c.args.words.now 0) c.in-Some.command.location.now c.in-Some.ensures.0.0 front is; }
 
 pub returns-in-Check : goal.returns-in-Check
 returns-in-Check g c =
