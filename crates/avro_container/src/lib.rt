@@ -7,8 +7,6 @@ mod error;
 pub mod fault;
 mod header;
 mod meta;
-#[cfg(test)]
-mod tests;
 mod write;
 
 pub use container::{Container, Meta, Values, read_container};

@@ -15,6 +15,3 @@ mod write;
 
 pub use error::SchemaError;
 pub use schema::{Field, Schema, Shape};
-
-#[cfg(test)]
-mod tests;

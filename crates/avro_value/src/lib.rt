@@ -9,8 +9,6 @@ pub mod input;
 pub mod item;
 pub mod leaf;
 mod reader;
-#[cfg(test)]
-mod tests;
 mod value;
 mod writer;
 

@@ -18,6 +18,3 @@ pub use error::DeltaError;
 pub use name::{name_of_version, version_of_name};
 pub use reading::read_commit;
 pub use writing::commit_text;
-
-#[cfg(test)]
-mod tests;

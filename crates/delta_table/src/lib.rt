@@ -9,6 +9,3 @@ mod versions;
 pub use error::LogError;
 pub use log::{Log, read_log, read_version};
 pub use versions::{LOG_FOLDER, Versions, list_versions, version_path, versions_of};
-
-#[cfg(test)]
-mod tests;

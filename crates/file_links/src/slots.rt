@@ -357,6 +357,3 @@ fn bucket_of(buckets: &Chains, path: &[u8]) -> u32
     let others = buckets.chain_count() as u64 - 1;
     1 + (hash_of(path) % others) as u32
 }
-
-#[cfg(test)]
-mod tests;

@@ -10,6 +10,3 @@ mod recovery;
 
 pub use commit::publish_commit;
 pub use laws::timeline_laws;
-
-#[cfg(test)]
-mod tests;

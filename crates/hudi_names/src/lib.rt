@@ -6,6 +6,3 @@ mod time;
 
 pub use name::{Action, State, instant_of_name};
 pub use time::{read_time, time_text};
-
-#[cfg(test)]
-mod tests;

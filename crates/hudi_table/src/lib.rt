@@ -18,6 +18,3 @@ pub use reading::{
     read_timeline,
 };
 pub use timeline::{TIMELINE_FOLDER, Timeline, list_timeline, timeline_of};
-
-#[cfg(test)]
-mod tests;

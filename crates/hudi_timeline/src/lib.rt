@@ -19,8 +19,3 @@ pub use instant::{Instant, Stat, instant_text, read_instant};
 pub use next::next_instant;
 pub use properties::{Pairs, properties_text, read_properties};
 pub use table::{HudiTable, check_properties};
-
-#[cfg(test)]
-mod change_tests;
-#[cfg(test)]
-mod tests;

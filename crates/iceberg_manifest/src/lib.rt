@@ -30,14 +30,3 @@ pub use manifest_writing::manifest_bytes;
 pub use metadata_file::metadata_path;
 pub use partition::PartColumn;
 pub use reading::{entries_of, read_list, read_manifest};
-
-#[cfg(test)]
-mod entry_tests;
-#[cfg(test)]
-mod list_tests;
-#[cfg(test)]
-mod manifest_tests;
-#[cfg(test)]
-mod reading_tests;
-#[cfg(test)]
-mod tests;

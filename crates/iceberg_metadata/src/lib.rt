@@ -24,12 +24,3 @@ pub use metadata::{Metadata, Snapshot, Snapshots, Spec, SpecField};
 pub use name::version_of_name;
 pub use reading::read_metadata;
 pub use writing::metadata_text;
-
-#[cfg(test)]
-mod read_tests;
-#[cfg(test)]
-mod schema_tests;
-#[cfg(test)]
-mod tests;
-#[cfg(test)]
-mod writing_tests;

@@ -20,8 +20,3 @@ pub use manifest::Manifest;
 pub use plan::Plan;
 pub use snapshot::{SnapshotTable, read_snapshot};
 pub use version::{read_version, version_path};
-
-#[cfg(test)]
-mod files;
-#[cfg(test)]
-mod tests;

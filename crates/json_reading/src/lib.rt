@@ -14,6 +14,3 @@ pub use reading::{read_json, read_json_text, text_from, text_member, texts_from}
 pub use writing::{
     json_text, nullable_texts_object, text_or_null, text_value, texts_array, texts_object,
 };
-
-#[cfg(test)]
-mod tests;

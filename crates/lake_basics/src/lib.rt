@@ -12,6 +12,3 @@ pub use blob::Blob;
 pub use items::Items;
 pub use outcome::ReadError;
 pub use text::{Text, TextError};
-
-#[cfg(test)]
-mod tests;

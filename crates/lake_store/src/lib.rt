@@ -18,6 +18,3 @@ pub use names::Names;
 pub use publication::stage_and_publish;
 pub use sink::{MemorySink, Sink, SinkError};
 pub use store::{Store, StoreError};
-
-#[cfg(test)]
-mod tests;

@@ -21,6 +21,3 @@ pub use folder::{FolderStyle, last_components, path_carries, unescape, value_par
 pub use kind::{PartKind, part_kind};
 pub use texts::{from_delta_text, from_hive};
 pub use uri::{decode_uri_path, encode_uri_path};
-
-#[cfg(test)]
-mod tests;

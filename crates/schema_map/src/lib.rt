@@ -29,6 +29,3 @@ pub use iceberg_writing::iceberg_json;
 pub use ids::{ColumnPath, KnownIds, column_paths, to_iceberg};
 pub use limits::schema_limit;
 pub use mapping::name_mapping;
-
-#[cfg(test)]
-mod tests;

@@ -10,6 +10,3 @@ pub use error::SourceError;
 pub use head::{Head, position_of};
 pub use since::Since;
 pub use source::Source;
-
-#[cfg(test)]
-mod tests;

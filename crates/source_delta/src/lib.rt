@@ -7,6 +7,3 @@ mod source;
 mod told;
 
 pub use source::DeltaSource;
-
-#[cfg(test)]
-mod tests;

@@ -8,6 +8,3 @@ mod source;
 mod told;
 
 pub use source::HudiSource;
-
-#[cfg(test)]
-mod tests;

@@ -10,6 +10,3 @@ mod source;
 mod told;
 
 pub use source::IcebergSource;
-
-#[cfg(test)]
-mod tests;

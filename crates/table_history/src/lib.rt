@@ -21,6 +21,3 @@ pub use row::{FileRow, PartValue, Values};
 pub use rows::FileRows;
 pub use schema::{Column, ColumnType, Schema};
 pub use table::{Change, Commit, Table};
-
-#[cfg(test)]
-mod tests;

@@ -8,6 +8,3 @@ mod summary;
 
 pub use line::line_of_text;
 pub use put::{put_lines, rows_in_order};
-
-#[cfg(test)]
-mod tests;

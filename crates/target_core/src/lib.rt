@@ -11,6 +11,3 @@ pub use folder::metadata_folder;
 pub use in_order::follow;
 pub use mark::{Mark, mark_text, read_mark};
 pub use target::{Seen, Target, TargetError};
-
-#[cfg(test)]
-mod tests;

@@ -15,4 +15,3 @@ pub mod WritableLemmas
 pub mod CommitLemmas
 pub mod NewVersionLemmas
 pub mod StoreLemmas
-pub mod PlainLemmas

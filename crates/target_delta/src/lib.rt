@@ -17,10 +17,3 @@ mod written;
 
 pub use kept::DeltaKept;
 pub use target::DeltaTarget;
-
-#[cfg(test)]
-mod follow_tests;
-#[cfg(test)]
-mod inspect_tests;
-#[cfg(test)]
-mod tests;

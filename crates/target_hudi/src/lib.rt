@@ -19,10 +19,3 @@ mod written;
 pub use kept::HudiKept;
 pub use laws::timeline_laws;
 pub use target::HudiTarget;
-
-#[cfg(test)]
-mod fitting_tests;
-#[cfg(test)]
-mod inspect_tests;
-#[cfg(test)]
-mod tests;
