@@ -37,7 +37,7 @@ returns-in-Full g c =
     c.in-Full.source c.in-Full.target _ c.in-Full.is (c.is_served.ensures.0 c.if-not-is_served.false) (c.now_ms-in-Full.result, c.now_ms-in-Full.ensures.given, c.bring-in-Full.ensures)
 
 pub compare-requires : goal.compare-requires
-compare-requires g c = record { location = λ front is. place_ends (word c.args.words.now 0) c.in-Some.command.location.now c.in-Some.ensures.0.0 front is; }
+compare-requires g c = record { location = λ front is. place_ends (word c.args.words.now 0) c.in-Some.command.location.now c.in-Some.ensures.0.0 front is }
 
 pub returns-in-Check : goal.returns-in-Check
 returns-in-Check g c =
