@@ -1,10 +1,8 @@
-//! What inspecting an Iceberg target tells of tables in a store in memory, and which commits fit a
-//! target of the partition column `day` that has none yet.
+//! What inspecting an Iceberg target tells of tables in a store in memory.
 use crate::fixtures::store_of;
-use lake_basics::{Items, Text};
 use std::alloc::{AllocError, Global};
 use std::test::Fail;
-use table_history::{Change, Column, ColumnType, Commit, Kind, Schema};
+use table_history::Kind;
 use target_core::{Seen, Target, TargetError};
 use target_iceberg::IcebergTarget;
 
@@ -100,127 +98,5 @@ fn the_newest_version_is_judged_by_its_mark_and_its_form(rt: HostRuntime) -> Res
     }
     let damaged = [(VERSION_1, own.as_str().as_bytes()), (LIST_1, b"x")];
     assert_eq!(rt; told(alloc, &damaged, Kind::Hudi)?.as_str(), LIST_1);
-    Ok(())
-}
-
-fn type_of(alloc: Global, word: &str) -> Result<ColumnType, AllocError> {
-    match word {
-        "byte" => Ok(ColumnType::Byte),
-        "int" => Ok(ColumnType::Int),
-        "long" => Ok(ColumnType::Long),
-        "float" => Ok(ColumnType::Float),
-        "double" => Ok(ColumnType::Double),
-        "decimal(4, 2)" => Ok(ColumnType::Decimal {
-            precision: 4,
-            scale: 2,
-        }),
-        "decimal(6, 2)" => Ok(ColumnType::Decimal {
-            precision: 6,
-            scale: 2,
-        }),
-        "decimal(6, 3)" => Ok(ColumnType::Decimal {
-            precision: 6,
-            scale: 3,
-        }),
-        "struct" => Ok(ColumnType::Struct(Vec::new(alloc))),
-        "ints" => Ok(ColumnType::List {
-            element: Box::new(alloc, ColumnType::Int)?,
-            nullable: true,
-        }),
-        "longs" => Ok(ColumnType::List {
-            element: Box::new(alloc, ColumnType::Long)?,
-            nullable: true,
-        }),
-        _ => Ok(ColumnType::Text),
-    }
-}
-
-/// A commit that states the column `day`, of type text, and those of these names and types.
-fn commit_of(alloc: Global, columns: &[(&str, &str)]) -> Result<Commit, AllocError> {
-    let mut all = Vec::new(alloc);
-    all.push(Column {
-        name: Text::from_str(alloc, "day")?,
-        kind: ColumnType::Text,
-        nullable: true,
-    })?;
-    for (name, word) in columns {
-        all.push(Column {
-            name: Text::from_str(alloc, name)?,
-            kind: type_of(alloc, word)?,
-            nullable: true,
-        })?;
-    }
-    Ok(Commit {
-        position: Text::from_str(alloc, "1")?,
-        change: Change {
-            schema: Some(Schema::new(all)),
-            removed: Items::new(alloc),
-            added: Items::new(alloc),
-        },
-    })
-}
-
-/// What is told of commits that state these columns one behind the other.
-fn fit(alloc: Global, stated: &[&[(&str, &str)]]) -> Result<String, TargetError> {
-    let mut commits = Vec::new(alloc);
-    for columns in stated {
-        commits.push(commit_of(alloc, columns)?)?;
-    }
-    let target = IcebergTarget::new(alloc, "/w")?;
-    let partition = [Text::from_str(alloc, "day")?];
-    let kept = target.fresh(alloc, &partition)?;
-    match target.fits(alloc, &kept, &partition, commits.as_slice()) {
-        Ok(()) => Ok(format!(in alloc; "fits")?),
-        Err(TargetError::Unsupported { feature, path }) => {
-            Ok(format!(in alloc; "{feature:?} {}", path.as_str())?)
-        }
-        Err(error) => Err(error),
-    }
-}
-
-#[test]
-fn a_type_becomes_wider_and_nothing_else(rt: HostRuntime) -> Result<(), Fail> {
-    let alloc = rt.alloc();
-    let cases = [
-        ("int", "long", "fits"),
-        ("long", "int", "TypeChange a"),
-        ("byte", "int", "fits"),
-        ("float", "double", "fits"),
-        ("double", "float", "TypeChange a"),
-        ("decimal(4, 2)", "decimal(6, 2)", "fits"),
-        ("decimal(6, 2)", "decimal(4, 2)", "TypeChange a"),
-        ("decimal(4, 2)", "decimal(6, 3)", "TypeChange a"),
-        ("struct", "ints", "TypeChange a"),
-        ("ints", "longs", "fits"),
-        ("longs", "ints", "TypeChange a"),
-    ];
-    for (before, after, answer) in cases {
-        let stated: [&[(&str, &str)]; 2] = [&[("a", before)], &[("a", after)]];
-        assert_eq!(rt;
-            fit(alloc, &stated)?.as_str(),
-            answer,
-            "{before} to {after}"
-        );
-    }
-    Ok(())
-}
-
-#[test]
-fn the_newest_schema_with_the_path_decides(rt: HostRuntime) -> Result<(), Fail> {
-    let alloc = rt.alloc();
-    let cases: [(&[&[(&str, &str)]], &str); 3] = [
-        (&[&[("a", "int")], &[("a", "int"), ("b", "long")]], "fits"),
-        (
-            &[&[("a", "long")], &[], &[("b", "text"), ("a", "int")]],
-            "TypeChange a",
-        ),
-        (
-            &[&[("a", "int")], &[("a", "long")], &[], &[("a", "long")]],
-            "fits",
-        ),
-    ];
-    for (stated, answer) in cases {
-        assert_eq!(rt; fit(alloc, stated)?.as_str(), answer);
-    }
     Ok(())
 }
