@@ -1,28 +1,19 @@
 //! The program: reads one lake table's metadata and writes the others' beside it.
 #![tactic(auto)]
 
-mod clock;
-mod files;
-mod folder;
-mod sink;
-
-use crate::clock::SystemClock;
-use crate::folder::FolderStore;
-use crate::sink::StdSink;
 use lake_store::Sink;
+use lake_system::{Access, FolderStore, HeldFolder, StdSink, SystemClock, lock_folder};
 use std::alloc::{AllocError, Global};
 use std::env::{self, Env};
 use std::io::ErrorKind;
 use std::process::ExitCode;
-use std::rt::Runtime;
 use sync_driver::{Status, refuse_words, run};
 
 fn main(rt: HostRuntime) -> ExitCode {
     ExitCode::from(run_words(&rt).number())
 }
 
-// Over any runtime, so that a test can hand in words and files of its own.
-fn run_words<R: Runtime + AllocGlobal>(rt: &R) -> Status {
+fn run_words(rt: &HostRuntime) -> Status {
     let alloc = rt.alloc();
     let mut out = StdSink::new(rt);
     let words = match words_after_name(rt) {
@@ -32,14 +23,30 @@ fn run_words<R: Runtime + AllocGlobal>(rt: &R) -> Status {
     let Ok(folder) = place(alloc, &words) else {
         return Status::Memory;
     };
-    let mut store = FolderStore::new(rt, alloc, folder);
-    run(
-        alloc,
-        &words,
-        &mut store,
-        &mut SystemClock::new(rt),
-        &mut out,
-    )
+    run_over(rt, &words, folder, &mut out)
+}
+
+// Runs the words over the folder, locked for as long as they take. Where it can't be had, since another run holds it,
+// each call of the store fails.
+fn run_over(rt: &HostRuntime, words: &[String], folder: String, out: &mut impl Sink) -> Status {
+    let alloc = rt.alloc();
+    let mut clock = SystemClock::new(rt);
+    let access = access_of(words);
+    match lock_folder(rt, folder.as_str(), access) {
+        Ok(_lock) => {
+            let mut store = FolderStore::new(rt, alloc, folder, access);
+            run(alloc, words, &mut store, &mut clock, out)
+        }
+        Err(_) => run(alloc, words, &mut HeldFolder::new(), &mut clock, out),
+    }
+}
+
+// What the words do to the folder's files: `show` and `check` change none.
+fn access_of(words: &[String]) -> Access {
+    match words.get(1) {
+        Some(word) if word.as_str() == "sync" || word.as_str() == "full" => Access::Writes,
+        _ => Access::Reads,
+    }
 }
 
 // Why the words can't be handed on.

@@ -1,7 +1,7 @@
 -- Lengths of what is found in a folder.
 use Rattle.std.specs.Prelude.{ℕ, ◌<◌, ◌≤◌}
-use Rattle.lakebridge.specs.declared.files.Found.{Found}
-use Rattle.lakebridge.specs.declared.files.Found.TheVariants.{Absent, TooLong, Here}
+use Rattle.lake_system.specs.declared.files.Found.{Found}
+use Rattle.lake_system.specs.declared.files.Found.TheVariants.{Absent, TooLong, Here}
 
 -- what is there has at most so many parts, and what is too long has more
 abbrev pub IsWithin : {T : Type 0} → ℕ → (T → ℕ) → Found T → Type 0

@@ -1,6 +1,6 @@
 //! Reads and writes of the system's files, by the calls of std.
 ghost use Rattle.std.specs.Prelude.{◌≤◌, IfOk, IfSome, length, vec_len};
-ghost use Rattle.lakebridge.specs.Lengths.{IsWithin};
+ghost use Rattle.lake_system.specs.Lengths.{IsWithin};
 
 use lake_store::{Names, Text};
 use std::alloc::Global;
@@ -18,9 +18,24 @@ pub enum Found<T> {
     Here(T),
 }
 
-// Whether the error says that no file has this path: a part of the path is missing, or is no folder.
+// Whether the error says that no file has this path: a part of the path is missing, is no folder, leads round in a
+// loop of links, or is longer than the file system allows.
 fn says_absent(error: &io::Error) -> bool {
-    matches!(error.kind(), ErrorKind::NotFound | ErrorKind::NotADirectory)
+    matches!(
+        error.kind(),
+        ErrorKind::NotFound
+            | ErrorKind::NotADirectory
+            | ErrorKind::FilesystemLoop
+            | ErrorKind::InvalidFilename
+    )
+}
+
+// Whether the error says that this file system can't do it at all: `EINVAL`, `EOPNOTSUPP` or `ENOSYS`.
+fn says_unsupported(error: &io::Error) -> bool {
+    matches!(
+        error.kind(),
+        ErrorKind::Unsupported | ErrorKind::InvalidInput
+    )
 }
 
 // What the system says of the file, where there is one. A folder, a pipe or a device is none.
@@ -163,19 +178,31 @@ pub fn folder_of(path: &str) -> &str {
     }
 }
 
-/// Makes the file anew with these bytes, and its folders where they are missing. What another name of an
-/// old file reads stays, since that file isn't written over.
-pub fn write_new<R: Files>(rt: &R, path: &str, bytes: &[u8]) -> io::Result<()> {
-    remove_if_there(rt, path)?;
-    let mut file = match create_new(rt, path) {
-        Ok(file) => file,
+/// Makes the file anew with these bytes, which are on the disk then, and answers whether folders were made for it.
+/// What another name of an old file reads stays, since that file isn't written over; nor is what a link there leads to.
+pub fn write_new<R: Files>(rt: &R, path: &str, bytes: &[u8]) -> io::Result<bool> {
+    let (mut file, has_made_folders) = make_anew(rt, path)?;
+    // A file without bytes is there as soon as its folder is on the disk.
+    if !bytes.is_empty() {
+        file.write_all(bytes)?;
+        file.sync_all()?;
+    }
+    Ok(has_made_folders)
+}
+
+fn make_anew<R: Files>(rt: &R, path: &str) -> io::Result<(R::File, bool)> {
+    match create_new(rt, path) {
+        Ok(file) => Ok((file, false)),
+        Err(error) if error.kind() == ErrorKind::AlreadyExists => {
+            remove_if_there(rt, path)?;
+            Ok((create_new(rt, path)?, false))
+        }
         Err(error) if error.kind() == ErrorKind::NotFound => {
             fs::create_dir_all(rt, folder_of(path))?;
-            create_new(rt, path)?
+            Ok((create_new(rt, path)?, true))
         }
-        Err(error) => return Err(error),
-    };
-    file.write_all(bytes)
+        Err(error) => Err(error),
+    }
 }
 
 fn create_new<R: Files>(rt: &R, path: &str) -> io::Result<R::File> {
@@ -184,8 +211,8 @@ fn create_new<R: Files>(rt: &R, path: &str) -> io::Result<R::File> {
     options.open(rt, path)
 }
 
-/// Removes the file where there is one.
-pub fn remove_if_there<R: Files>(rt: &R, path: &str) -> io::Result<()> {
+// Removes the file where there is one.
+fn remove_if_there<R: Files>(rt: &R, path: &str) -> io::Result<()> {
     match fs::remove_file(rt, path) {
         Ok(()) => Ok(()),
         Err(error) if says_absent(&error) => Ok(()),
@@ -193,18 +220,22 @@ pub fn remove_if_there<R: Files>(rt: &R, path: &str) -> io::Result<()> {
     }
 }
 
-/// Has what stands at the path on the disk: a file's bytes, or a folder's names. An absent one needs nothing.
-pub fn sync_at<R: Files>(rt: &R, path: &str) -> io::Result<()> {
-    match open_at(rt, path)? {
-        Some(file) => file.sync_all(),
-        None => Ok(()),
+/// Has the folder's names on the disk. An absent folder needs nothing, nor does one of a file system that can't sync
+/// a folder.
+pub fn sync_folder<R: Files>(rt: &R, folder: &str) -> io::Result<()> {
+    let Some(opened) = open_at(rt, folder)? else {
+        return Ok(());
+    };
+    match opened.sync_all() {
+        Err(error) if !says_unsupported(&error) => Err(error),
+        _ => Ok(()),
     }
 }
 
 /// Removes the file, durably, where there is one.
 pub fn remove_durably<R: Files>(rt: &R, path: &str) -> io::Result<()> {
     remove_if_there(rt, path)?;
-    sync_at(rt, folder_of(path))
+    sync_folder(rt, folder_of(path))
 }
 
 /// Gives the file its new name, durably, and answers whether it could: no file that stands there is replaced.
@@ -212,28 +243,42 @@ pub fn move_to_free<R: Files>(rt: &R, from: &str, to: &str) -> io::Result<bool> 
     match fs::hard_link(rt, from, to) {
         Ok(()) => remove_link(rt, from, to),
         Err(error) if error.kind() == ErrorKind::AlreadyExists => Ok(false),
-        Err(error) if says_absent(&error) => Err(error),
-        Err(_) => rename_to_free(rt, from, to),
+        Err(error) if says_no_links(&error) => rename_to_free(rt, from, to),
+        Err(error) => Err(error),
     }
 }
 
-// The new name is on the disk before the old one goes.
+// The system's number of "operation not permitted" (`EPERM`), which `link` answers where the file system has no hard links.
+const NOT_PERMITTED: i32 = 1;
+
+// Whether the error says that this file can't have another name by a hard link.
+fn says_no_links(error: &io::Error) -> bool {
+    says_unsupported(error)
+        || error.kind() == ErrorKind::TooManyLinks
+        || error.raw_os_error() == Some(NOT_PERMITTED)
+}
+
+// In one folder both names change by one sync. Of two folders the new name is on the disk before the old one goes.
 fn remove_link<R: Files>(rt: &R, from: &str, to: &str) -> io::Result<bool> {
-    sync_at(rt, folder_of(to))?;
+    if folder_of(from) != folder_of(to) {
+        sync_folder(rt, folder_of(to))?;
+    }
     fs::remove_file(rt, from)?;
-    sync_at(rt, folder_of(from))?;
+    sync_folder(rt, folder_of(from))?;
     Ok(true)
 }
 
 // For a file system without hard links. A file that comes to the name in between would be replaced.
 fn rename_to_free<R: Files>(rt: &R, from: &str, to: &str) -> io::Result<bool> {
-    match fs::metadata(rt, to) {
+    match fs::symlink_metadata(rt, to) {
         Ok(_) => return Ok(false),
-        Err(error) if says_absent(&error) => {}
+        Err(error) if error.kind() == ErrorKind::NotFound => {}
         Err(error) => return Err(error),
     }
     fs::rename(rt, from, to)?;
-    sync_at(rt, folder_of(to))?;
-    sync_at(rt, folder_of(from))?;
+    sync_folder(rt, folder_of(to))?;
+    if folder_of(from) != folder_of(to) {
+        sync_folder(rt, folder_of(from))?;
+    }
     Ok(true)
 }

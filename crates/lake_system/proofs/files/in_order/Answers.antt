@@ -2,7 +2,7 @@ use Rattle.std.specs.Str.{bytes_eq}
 use Rattle.std.specs.Cmp.Lexicographic.{nat_list_cmp_total, texts_ties}
 use Rattle.std.proofs.lemmas.List.Filters.{dedup_is}
 use Rattle.std.proofs.lemmas.List.Kept.{IsStrictlySortedBy-dedup}
-use Rattle.lakebridge.proofs.files.in_order.Goals as goal
+use Rattle.lake_system.proofs.files.in_order.Goals as goal
 
 pub from_sorted-requires : goal.from_sorted-requires
 from_sorted-requires c =

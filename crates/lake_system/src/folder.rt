@@ -1,14 +1,20 @@
 //! A store over a folder of the system. It tells nothing of content: it is proved safe, and to count each fault.
-ghost use Rattle.std.specs.Prelude.{◌≡◌, ◌⊎◌, ◌≤◌, IfErr};
+ghost use Rattle.std.specs.Prelude.{◌≡◌, ◌⊎◌, ◌≤◌, length, IfErr, IfOk};
+ghost use Rattle.std.specs.Ordering.{nat_cmp};
+ghost use Rattle.std.specs.Cmp.Lexicographic.{slice_cmp};
+ghost use Rattle.std.specs.List.Sorted.{IsStrictlySortedBy};
 ghost use Rattle.lake_store.specs.Cause.{Rose};
+ghost use Rattle.lake_system.specs.Lengths.{IsWithin};
 
+use crate::access::Access;
 use crate::files;
 use crate::files::Found;
 use lake_store::{Blob, Names, Store, StoreError};
-use std::alloc::Global;
+use std::alloc::{AllocError, Global};
 use std::collections::BTreeSet;
 use std::io::{self, ErrorKind};
 use std::rt::Files;
+use table_history::limits::MAX_NAMES;
 
 /// The files below one folder.
 #[derive(Drop)]
@@ -16,20 +22,27 @@ pub struct FolderStore<R> {
     rt: R,
     alloc: Global,
     folder: String,
-    // the paths written since the last sync, each with the store's folder before it
-    dirty: Vec<String>,
+    // whether it is made durable what a list finds, since more is built on it
+    builds: bool,
+    // the folders that were listed, whose names are on the disk
+    listed: BTreeSet<String>,
+    // the folders whose names may not be on the disk
+    unsynced: BTreeSet<String>,
     faults: u64,
     contests: u64,
 }
 
 impl<R: Files + AllocGlobal + Clone + Drop> FolderStore<R> {
-    /// The files below the folder, which needn't be there yet.
-    pub fn new(rt: R, alloc: Global, folder: String) -> FolderStore<R> {
+    /// The files below the folder, which needn't be there yet. Where a run writes, each folder that it lists is on the
+    /// disk before anything is built on the names in it: a run that was cut off may have left one that isn't.
+    pub fn new(rt: R, alloc: Global, folder: String, access: Access) -> FolderStore<R> {
         FolderStore {
             rt,
             alloc,
             folder,
-            dirty: Vec::new(alloc),
+            builds: access == Access::Writes,
+            listed: BTreeSet::new(alloc),
+            unsynced: BTreeSet::new(alloc),
             faults: 0,
             contests: 0,
         }
@@ -56,33 +69,56 @@ impl<R: Files + AllocGlobal + Clone + Drop> FolderStore<R> {
         Ok(format!(in self.alloc; "{}/{path}", self.folder)?)
     }
 
-    // Has each dirty file on the disk, and the names of each folder from it up to the store's own.
-    fn sync_dirty(&self) -> io::Result<()> {
-        let mut folders = BTreeSet::new(self.alloc);
-        for path in &self.dirty {
-            files::sync_at(&self.rt, path.as_str())?;
-            self.add_folders(path.as_str(), &mut folders)?;
+    // The names of the files in the folder. At its first list they are made durable, where the run writes.
+    fn names_in(&mut self, alloc: Global, folder: &str) -> io::Result<Found<Names>>
+        ensures names { IfOk result (λ found. IsWithin MAX_NAMES (λ names. length names) found) }
+        ensures faults { self.new.faults ≡ self.old.faults }
+        ensures contests { self.new.contests ≡ self.old.contests }
+    {
+        if self.builds && !self.listed.contains(folder) {
+            files::sync_folder(&self.rt, folder)?;
+            self.listed.insert(folder.to_string(self.alloc)?)?;
         }
-        for folder in &folders {
-            files::sync_at(&self.rt, folder.as_str())?;
+        files::names_in(&self.rt, alloc, folder)
+    }
+
+    // Makes the file anew, and notes which folders have a name that may not be on the disk.
+    fn write_file(&mut self, path: &str, bytes: &[u8]) -> io::Result<()>
+        ensures faults { self.new.faults ≡ self.old.faults }
+        ensures contests { self.new.contests ≡ self.old.contests }
+    {
+        let folder = files::folder_of(path);
+        self.unsynced.insert(folder.to_string(self.alloc)?)?;
+        if files::write_new(&self.rt, path, bytes)? {
+            add_folders_above(self.alloc, folder, self.folder.len(), &mut self.unsynced)?;
+        }
+        Ok(())
+    }
+
+    fn sync_folders(&self) -> io::Result<()> {
+        for folder in &self.unsynced {
+            files::sync_folder(&self.rt, folder.as_str())?;
         }
         Ok(())
     }
 }
 
-impl<R> FolderStore<R> {
-    // Adds the folders that the path lies in, up to the store's own.
-    fn add_folders(&self, path: &str, folders: &mut BTreeSet<String>) -> io::Result<()> {
-        let mut folder = files::folder_of(path);
-        for _ in 0..path.len() {
-            if folder.len() < self.folder.len() || folders.contains(folder) {
-                break;
-            }
-            folders.insert(folder.to_string(self.alloc)?)?;
-            folder = files::folder_of(folder);
+// Adds the folders that this one lies in, as long as it has so many bytes: the last one holds the store's own folder.
+fn add_folders_above(
+    alloc: Global,
+    folder: &str,
+    least: usize,
+    folders: &mut BTreeSet<String>,
+) -> Result<(), AllocError> {
+    let mut folder = folder;
+    for _ in 0..folder.len() {
+        if folder.len() < least {
+            break;
         }
-        Ok(())
+        folder = files::folder_of(folder);
+        folders.insert(folder.to_string(alloc)?)?;
     }
+    Ok(())
 }
 
 impl<R: Files + AllocGlobal + Clone + Drop> Store for FolderStore<R> {
@@ -116,7 +152,7 @@ impl<R: Files + AllocGlobal + Clone + Drop> Store for FolderStore<R> {
 
     fn list(&mut self, alloc: Global, folder: &str) -> Result<Names, StoreError> {
         let path = self.full_path(folder)?;
-        match files::names_in(&self.rt, alloc, path.as_str()) {
+        match self.names_in(alloc, path.as_str()) {
             Ok(Found::Here(names)) => Ok(names),
             Ok(Found::Absent) => Ok(Names::new(alloc)),
             Ok(Found::TooLong { length }) => Err(StoreError::TooLong { length }),
@@ -151,17 +187,16 @@ impl<R: Files + AllocGlobal + Clone + Drop> Store for FolderStore<R> {
 
     fn write(&mut self, path: &str, bytes: &[u8]) -> Result<(), StoreError> {
         let path = self.full_path(path)?;
-        self.dirty.push(path.clone()?)?;
-        match files::write_new(&self.rt, path.as_str(), bytes) {
+        match self.write_file(path.as_str(), bytes) {
             Ok(()) => Ok(()),
             Err(error) => Err(self.refuse(error)),
         }
     }
 
     fn sync(&mut self) -> Result<(), StoreError> {
-        match self.sync_dirty() {
+        match self.sync_folders() {
             Ok(()) => {
-                self.dirty.clear();
+                self.unsynced.clear();
                 Ok(())
             }
             Err(error) => Err(self.refuse(error)),
