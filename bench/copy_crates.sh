@@ -6,15 +6,25 @@ here=$top/bench/$(basename "$(dirname "$0")")
 folder=$(mktemp -d)
 trap 'rm -rf "$folder"' EXIT
 
+# These crates and all that they stand on.
 copy_crates() {
     mkdir "$folder/crates"
     cp "$top/HANDLES" "$folder/"
+    touch "$folder/crates.txt"
     for crate in "$@"; do
-        mkdir "$folder/crates/$crate"
-        for part in src specs proofs; do
-            [ ! -d "$top/crates/$crate/$part" ] || cp -r "$top/crates/$crate/$part" "$folder/crates/$crate/"
-        done
-        grep "^$crate:" "$top/crates.txt" >>"$folder/crates.txt"
+        copy_crate "$crate"
+    done
+}
+
+copy_crate() {
+    ! grep -q "^$1:" "$folder/crates.txt" || return 0
+    grep "^$1:" "$top/crates.txt" >>"$folder/crates.txt"
+    mkdir "$folder/crates/$1"
+    for part in src specs proofs; do
+        [ ! -d "$top/crates/$1/$part" ] || cp -r "$top/crates/$1/$part" "$folder/crates/$1/"
+    done
+    for below in $(sed -n "s/^$1://p" "$top/crates.txt"); do
+        [ ! -d "$top/crates/$below" ] || copy_crate "$below"
     done
 }
 

@@ -3,10 +3,4 @@ pub mod Grammar
 pub mod Sound
 pub mod Judging
 pub mod Readable
-pub mod Writing
-pub mod Again
 pub mod VersionName
-pub mod Live
-pub mod TableBehind
-pub mod Change
-pub mod ChangeSteps

@@ -5,7 +5,7 @@ use lake_basics::{Items, Text};
 
 /// The one action of a line as it is spelled, its path still a URI.
 #[derive(Debug, Drop)]
-pub(crate) enum LineAction {
+pub enum LineAction {
     /// A blank line, or one whose members are all skipped.
     NoAction,
     Protocol(Protocol),

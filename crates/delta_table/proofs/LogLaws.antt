@@ -10,12 +10,12 @@ use Rattle.table_history.specs.TypeTree.{ColumnTrees}
 use Rattle.table_history.specs.declared.table.Change.{Change}
 use Rattle.table_history.specs.declared.table.Table.{Table}
 use Rattle.table_history.proofs.RowListLemmas.{Contains-none}
-use Rattle.delta_log.specs.Change.{IsChangeOf, IsOutsideGrammar, Shows, commit_features}
-use Rattle.delta_log.specs.Live.{PartColumns, ActsOn, AddsRow}
-use Rattle.delta_log.specs.TableBehind.{ArePartColumns, IsSchemaBehind, StatesSchema, partition_behind, schema_before, table_before}
+use Rattle.delta_change.specs.Change.{IsChangeOf, IsOutsideGrammar, Shows, commit_features}
+use Rattle.delta_live.specs.Live.{PartColumns, ActsOn, AddsRow, ArePartColumns}
+use Rattle.delta_change.specs.TableBehind.{IsSchemaBehind, StatesSchema, partition_behind, schema_before, table_before}
 use Rattle.delta_log.specs.declared.commit.MetaData.{MetaData}
-use Rattle.delta_log.proofs.KindLemmas.{same_columns}
-use Rattle.delta_log.proofs.TableLemmas.{before_rows, before_schema, kinds_stay, partition_before, partition_kept, stated_behind}
+use Rattle.delta_change.proofs.KindLemmas.{same_columns}
+use Rattle.delta_change.proofs.TableLemmas.{before_rows, before_schema, kinds_stay, partition_before, partition_kept, stated_behind}
 use Rattle.delta_log.specs.declared.commit.DeltaCommit.{DeltaCommit}
 use Rattle.delta_log.specs.declared.commit.FileAction.{FileAction}
 use Rattle.delta_table.specs.declared.log.Log.{Log}

@@ -5,10 +5,10 @@ use Rattle.lake_store.specs.Disk.{Files}
 use Rattle.table_history.specs.First.{NoneOf}
 use Rattle.table_history.specs.Row.{Row}
 use Rattle.table_history.specs.declared.table.Table.{Table}
-use Rattle.delta_log.specs.Change.{AreRowsBehind, CanFollow, IsOutsideGrammar, Shows, commit_features}
-use Rattle.delta_log.specs.Live.{PartColumns, ActsOn, AddsRow}
+use Rattle.delta_live.specs.Live.{AreRowsBehind, PartColumns, ActsOn, AddsRow, ArePartColumns}
+use Rattle.delta_change.specs.Change.{CanFollow, IsOutsideGrammar, Shows, commit_features}
 use Rattle.delta_log.specs.Readable.{IsReadableCommit}
-use Rattle.delta_log.specs.TableBehind.{ArePartColumns, IsSchemaBehind, partition_behind, rows_before}
+use Rattle.delta_change.specs.TableBehind.{IsSchemaBehind, partition_behind, rows_before}
 use Rattle.delta_log.specs.declared.commit.DeltaCommit.{DeltaCommit}
 use Rattle.delta_log.specs.declared.commit.FileAction.{FileAction}
 use Rattle.delta_log.specs.declared.commit.MetaData.{MetaData}

@@ -5,7 +5,7 @@ use Rattle.lake_store.specs.Disk.{Files, names_in}
 use Rattle.lake_store.specs.declared.store.StoreError.{StoreError}
 use Rattle.lake_store.specs.declared.store.StoreError.TheVariants as store
 use Rattle.table_history.specs.declared.table.Table.{Table}
-use Rattle.delta_log.specs.Change.{IsChangeRefusal}
+use Rattle.delta_change.specs.Change.{IsChangeRefusal}
 use Rattle.delta_log.specs.Readable.{IsFirstFault}
 use Rattle.delta_log.specs.declared.commit.DeltaCommit.{DeltaCommit}
 use Rattle.delta_log.specs.declared.error.DeltaError.{DeltaError}

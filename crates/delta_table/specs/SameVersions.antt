@@ -5,7 +5,7 @@ use Rattle.lake_store.specs.Disk.{Files}
 use Rattle.lake_store.specs.Runs.{IsIn}
 use Rattle.table_history.specs.Row.{Row}
 use Rattle.table_history.specs.declared.table.Table.{Table}
-use Rattle.delta_log.specs.Live.{PartColumns}
+use Rattle.delta_live.specs.Live.{PartColumns}
 use Rattle.delta_log.specs.declared.commit.DeltaCommit.{DeltaCommit}
 use Rattle.delta_log.specs.declared.error.DeltaError.{DeltaError}
 use Rattle.delta_table.specs.Log.{HasLiveRows, IsLiveBefore, IsLogBy, IsReadLog, IsTaken, SaysCommit}

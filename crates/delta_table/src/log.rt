@@ -3,7 +3,7 @@
 ghost use Rattle.std.specs.Prelude.{◌≡◌, ◌<◌, ◌≤◌, ◌+◌, ◌^◌, ◌⊎◌, ℕ, IfErr, IfOk, IsErrOf, OnOk, Some, None, unwrap_or};
 ghost use Rattle.lake_basics.specs.declared.limits.TheConstants.{MAX_COMMITS, MAX_DELTA_VERSION};
 ghost use Rattle.lake_store.specs.Runs.{FailsBy, IsUncontestedBy, OnlyReads};
-ghost use Rattle.delta_log.specs.Change.{IsChangeRefusal, IsTableOfLog};
+ghost use Rattle.delta_change.specs.Change.{IsChangeRefusal, IsTableOfLog};
 ghost use Rattle.delta_log.specs.Sound.{IsSound};
 ghost use Rattle.delta_table.specs.Log.{HasLiveRows, IsLogOf, IsTaken, SaysCommit, stated_at};
 ghost use Rattle.delta_table.specs.Refusals.{IsLogRefusal, IsStepRefusal, IsVersionRefusal, TellsOf, error_at};
@@ -11,7 +11,8 @@ ghost use Rattle.delta_table.specs.declared.error.LogError.TheVariants.{StoreFau
 
 use crate::error::{LogError, error_of_read};
 use crate::versions::version_path;
-use delta_log::{DeltaCommit, DeltaError, MetaData, Protocol, change_of, read_commit};
+use delta_change::change_of;
+use delta_log::{DeltaCommit, DeltaError, MetaData, Protocol, read_commit};
 use lake_basics::limits::MAX_COMMITS;
 use lake_store::Store;
 use std::alloc::Global;

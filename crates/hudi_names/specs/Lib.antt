@@ -1,2 +1,4 @@
+pub mod Errors
 pub mod Name
+pub mod Next
 pub mod Time

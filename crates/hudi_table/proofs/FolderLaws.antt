@@ -15,7 +15,7 @@ use Rattle.hudi_names.specs.declared.name.Action.{Action}
 use Rattle.hudi_names.specs.declared.name.Action.TheVariants as action
 use Rattle.hudi_names.specs.declared.name.State.{State}
 use Rattle.hudi_names.specs.declared.name.State.TheVariants as state
-use Rattle.hudi_timeline.proofs.AnyLemmas.{any_from, any_none}
+use Rattle.hudi_groups.proofs.AnyLemmas.{any_from, any_none}
 use Rattle.hudi_table.specs.Instants.{HasTime, completed_in, completed_name, completed_of, first_pending, has_name, head_of, instant_named, instant_with, instants_in, is_before, is_commit, is_done, is_missing, is_second, time_of, timeline_folder, timeline_of, up_to_head}
 use Rattle.hudi_table.specs.Folder.{AreInOrder, IsCompletedAt, IsEarlier, IsFirstPending, IsHead, IsPendingAt, IsReached, IsUpTo}
 use Rattle.hudi_table.specs.declared.instants.InstantName.{InstantName}

@@ -9,8 +9,8 @@ use Rattle.table_history.specs.declared.table.Table.{Table}
 use Rattle.table_history.proofs.RowListLemmas.{Contains-none}
 use Rattle.hudi_timeline.specs.Change.{IsChangeOf, LeadsThrough}
 use Rattle.hudi_timeline.specs.Live.{Completed, Timeline, completed}
-use Rattle.hudi_timeline.specs.declared.instant.Instant.{Instant}
-use Rattle.hudi_timeline.specs.declared.table.HudiTable.{HudiTable}
+use Rattle.hudi_instant.specs.declared.instant.Instant.{Instant}
+use Rattle.hudi_properties.specs.declared.table.HudiTable.{HudiTable}
 use Rattle.hudi_timeline.proofs.TimelineLaws.{timeline_kinds, timeline_rows}
 use Rattle.hudi_table.specs.Files.{SaysInstant}
 use Rattle.hudi_table.specs.Reading.{HasLiveRows, IsLatestOf, IsNextHere, IsReadingOf, SayTimeline, form_of, table_in}

@@ -13,7 +13,7 @@ use Rattle.std.proofs.lemmas.List.{get_or_default}
 use Rattle.std.proofs.lemmas.List.Elements.{All-from_recursion, Contains-get_or}
 use Rattle.std.proofs.lemmas.List.Sorted.{IsNonDecreasingBy-from_default}
 use Rattle.std.proofs.lemmas.Slice.Eq.{bytes_eq-Decides}
-use Rattle.hudi_timeline.proofs.AnyLemmas.{any_from, any_none}
+use Rattle.hudi_groups.proofs.AnyLemmas.{any_from, any_none}
 use Rattle.hudi_table.specs.Instants.{has_name}
 
 abbrev cmp : List ℕ → List ℕ → Ordering

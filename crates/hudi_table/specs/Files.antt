@@ -2,11 +2,11 @@
 use Rattle.std.specs.Prelude.{◌≡◌, ◌⊎◌, ℕ, false, List, codes, Err, Ok, Some}
 use Rattle.std.specs.FinMap as map
 use Rattle.lake_store.specs.Disk.{Files}
-use Rattle.hudi_timeline.specs.Instants.{json_instant}
-use Rattle.hudi_timeline.specs.Pairs.{properties_of}
-use Rattle.hudi_timeline.specs.TableProperties.{checked_table}
-use Rattle.hudi_timeline.specs.declared.error.HudiError.{HudiError}
-use Rattle.hudi_timeline.specs.declared.instant.Instant.{Instant}
+use Rattle.hudi_instant.specs.Instants.{json_instant}
+use Rattle.hudi_properties.specs.Pairs.{properties_of}
+use Rattle.hudi_properties.specs.TableProperties.{checked_table}
+use Rattle.hudi_names.specs.declared.error.HudiError.{HudiError}
+use Rattle.hudi_instant.specs.declared.instant.Instant.{Instant}
 use Rattle.hudi_table.specs.Instants.{path_of}
 use Rattle.hudi_table.specs.declared.instants.CompletedInstant.{CompletedInstant}
 use Rattle.hudi_table.specs.declared.properties.Properties.{Properties}

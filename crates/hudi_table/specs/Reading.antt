@@ -8,10 +8,10 @@ use Rattle.hudi_timeline.specs.Causes.{table_before}
 use Rattle.hudi_timeline.specs.Change.{IsChangeOf, LeadsThrough}
 use Rattle.hudi_timeline.specs.Live.{AreLive, Completed, Timeline, completed}
 use Rattle.hudi_timeline.specs.Schemas.{AreKindsOf}
-use Rattle.hudi_timeline.specs.declared.form.Form.{Form}
-use Rattle.hudi_timeline.specs.declared.form.Form.TheVariants as form
-use Rattle.hudi_timeline.specs.declared.instant.Instant.{Instant}
-use Rattle.hudi_timeline.specs.declared.table.HudiTable.{HudiTable}
+use Rattle.hudi_groups.specs.declared.form.Form.{Form}
+use Rattle.hudi_groups.specs.declared.form.Form.TheVariants as form
+use Rattle.hudi_instant.specs.declared.instant.Instant.{Instant}
+use Rattle.hudi_properties.specs.declared.table.HudiTable.{HudiTable}
 use Rattle.hudi_table.specs.Files.{SaysInstant}
 use Rattle.hudi_table.specs.declared.instants.CompletedInstant.{CompletedInstant}
 use Rattle.hudi_table.specs.declared.reading.InstantChange.{InstantChange}

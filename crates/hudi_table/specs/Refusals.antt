@@ -7,13 +7,13 @@ use Rattle.lake_store.specs.declared.store.StoreError.{StoreError}
 use Rattle.lake_store.specs.declared.store.StoreError.TheVariants as store
 use Rattle.table_history.specs.declared.table.Table.{Table}
 use Rattle.hudi_timeline.specs.Causes.{IsRefusalOf}
-use Rattle.hudi_timeline.specs.Errors.{malformed}
-use Rattle.hudi_timeline.specs.Instants.{json_instant}
+use Rattle.hudi_names.specs.Errors.{malformed}
+use Rattle.hudi_instant.specs.Instants.{json_instant}
 use Rattle.hudi_timeline.specs.Live.{completed}
-use Rattle.hudi_timeline.specs.declared.error.HudiError.{HudiError}
-use Rattle.hudi_timeline.specs.declared.error.HudiError.TheVariants as hudi
-use Rattle.hudi_timeline.specs.declared.instant.Instant.{Instant}
-use Rattle.hudi_timeline.specs.declared.table.HudiTable.{HudiTable}
+use Rattle.hudi_names.specs.declared.error.HudiError.{HudiError}
+use Rattle.hudi_names.specs.declared.error.HudiError.TheVariants as hudi
+use Rattle.hudi_instant.specs.declared.instant.Instant.{Instant}
+use Rattle.hudi_properties.specs.declared.table.HudiTable.{HudiTable}
 use Rattle.hudi_table.specs.Files.{HasFault, HoldsFile, SaysInstant}
 use Rattle.hudi_table.specs.Instants.{path_of, timeline_folder}
 use Rattle.hudi_table.specs.Reading.{IsReadingOf, form_of, table_in}

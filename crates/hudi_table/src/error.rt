@@ -4,7 +4,7 @@ ghost use Rattle.std.specs.Prelude.{◌≡◌};
 ghost use Rattle.hudi_table.specs.declared.error.TimelineError.TheVariants.{Memory};
 ghost use Rattle.hudi_table.specs.Refusals.{error_of_list, error_of_read};
 
-use hudi_timeline::HudiError;
+use hudi_names::HudiError;
 use lake_basics::Text;
 use lake_store::StoreError;
 use std::alloc::{AllocError, AllocFailed};

@@ -8,7 +8,7 @@ ghost use Rattle.hudi_table.specs.Refusals.{IsFileRefusal, TellsOf, error_at};
 ghost use Rattle.hudi_table.specs.declared.error.TimelineError.TheVariants.{Memory, StoreFault};
 
 use crate::error::{TimelineError, error_of_read};
-use hudi_timeline::HudiError;
+use hudi_names::HudiError;
 use lake_basics::{Blob, Text};
 use lake_store::Store;
 use std::alloc::{AllocError, Global};

@@ -2,7 +2,7 @@
 
 ghost use Rattle.std.specs.Prelude.{◌≡◌, ◌⊎◌, IfErr, IfOk, IsErrOf, Ok, codes, option_map};
 ghost use Rattle.lake_store.specs.Runs.{FailsBy, IsUncontestedBy, OnlyReads};
-ghost use Rattle.hudi_timeline.specs.TableProperties.{checked_table, property};
+ghost use Rattle.hudi_properties.specs.TableProperties.{checked_table, property};
 ghost use Rattle.hudi_table.specs.Files.{HasFault, ReadsAs, SaysProperties};
 ghost use Rattle.hudi_table.specs.Instants.{path_of};
 ghost use Rattle.hudi_table.specs.Refusals.{IsFileRefusal, IsPropertyFault, TellsOf};
@@ -10,7 +10,8 @@ ghost use Rattle.hudi_table.specs.declared.error.TimelineError.TheVariants.{Stor
 
 use crate::error::TimelineError;
 use crate::file::{read_file, refusal};
-use hudi_timeline::{HudiError, HudiTable, Pairs, check_properties, read_properties};
+use hudi_names::HudiError;
+use hudi_properties::{HudiTable, Pairs, check_properties, read_properties};
 use lake_basics::Text;
 use lake_store::Store;
 use std::alloc::Global;

@@ -14,21 +14,22 @@ use Rattle.table_history.specs.declared.table.Table.{Table}
 use Rattle.table_history.proofs.RowListLemmas.{Contains-none, Contains-cases}
 use Rattle.schema_map.specs.declared.fault.MapError.TheVariants as map_errors
 use Rattle.partition_map.specs.declared.kind.PartKind.{PartKind}
-use Rattle.hudi_timeline.specs.declared.error.HudiError.{HudiError}
-use Rattle.hudi_timeline.specs.declared.error.HudiError.TheVariants as errors
-use Rattle.hudi_timeline.specs.declared.instant.Stat.{Stat}
-use Rattle.hudi_timeline.specs.declared.table.HudiTable.{HudiTable}
+use Rattle.hudi_names.specs.declared.error.HudiError.{HudiError}
+use Rattle.hudi_names.specs.declared.error.HudiError.TheVariants as errors
+use Rattle.hudi_instant.specs.declared.instant.Stat.{Stat}
+use Rattle.hudi_properties.specs.declared.table.HudiTable.{HudiTable}
 use Rattle.hudi_timeline.specs.Causes.{HasStat, path_of, IsInForce, AreKinds, IsMalformed, Shows, change_features, IsRefusalOf}
-use Rattle.hudi_timeline.specs.Errors.{malformed, is_memory}
-use Rattle.hudi_timeline.specs.Files.{suffix_of, has_sound_path, has_sound_numbers, bare_row, is_external, has_other_id, is_other_file, name_fault}
+use Rattle.hudi_names.specs.Errors.{malformed, is_memory}
+use Rattle.hudi_groups.specs.Files.{suffix_of}
+use Rattle.hudi_files.specs.Stats.{has_sound_path, has_sound_numbers, bare_row, is_external, has_other_id, is_other_file, name_fault}
 use Rattle.hudi_timeline.specs.Live.{Completed}
 use Rattle.partition_map.specs.Columns.{column_kind, LacksKinds, HasOtherKind}
 use Rattle.hudi_timeline.specs.Schemas.{stated_schema, schema_after, AreKindsOf}
-use Rattle.hudi_timeline.specs.Steps.{OnlyFeature, IsTextRefusal, IsKindFault, IsFolderFault, IsFileFault}
-use Rattle.hudi_timeline.specs.Values.{style_of, value_parts, is_in_folder, are_in_folders, PartsStand, HaveValues, SpellsNoValues}
-use Rattle.hudi_timeline.proofs.AnyLemmas.{any_from, any_to}
-use Rattle.hudi_timeline.proofs.LiveLemmas.{bare, bare_path}
-use Rattle.hudi_timeline.proofs.StatLemmas.{each_all, each_from, each_fault, all_at, not_all, row_of_file}
+use Rattle.hudi_files.specs.FileFaults.{OnlyFeature, IsFolderFault, IsFileFault}
+use Rattle.hudi_timeline.specs.Steps.{IsTextRefusal, IsKindFault}
+use Rattle.hudi_files.specs.Values.{style_of, value_parts, is_in_folder, are_in_folders, PartsStand, HaveValues, SpellsNoValues}
+use Rattle.hudi_groups.proofs.AnyLemmas.{any_from, any_to}
+use Rattle.hudi_files.proofs.StatLemmas.{bare, bare_path, each_all, each_from, each_fault, all_at, not_all, row_of_file}
 
 none_some : {A : Type 0} (x : A) → None ≡ Some x → ⊥
 none_some x e = absurd cc

@@ -20,22 +20,22 @@ use Rattle.table_history.proofs.PathTests.{path_decided}
 use Rattle.table_history.proofs.RowListLemmas.{Contains-none, Contains-filter}
 use Rattle.table_history.proofs.TableLemmas.{diff_removed_distinct, diff_removed_there, diff_added_distinct, diff_added_new, diff_leads}
 use Rattle.partition_map.specs.declared.kind.PartKind.{PartKind}
-use Rattle.hudi_timeline.specs.declared.table.HudiTable.{HudiTable}
+use Rattle.hudi_properties.specs.declared.table.HudiTable.{HudiTable}
 use Rattle.hudi_timeline.specs.Causes.{table_before, rows_before}
 use Rattle.hudi_timeline.specs.Change.{IsTableOf, GoesOn}
-use Rattle.hudi_timeline.specs.GroupChange.{is_long, rows_after, IsGroupChange}
-use Rattle.hudi_timeline.specs.GroupSets.{newest_rows}
+use Rattle.hudi_timeline.specs.GroupChange.{is_long, IsGroupChange}
+use Rattle.hudi_groups.specs.GroupSets.{rows_after, newest_rows}
 use Rattle.hudi_timeline.specs.Live.{Completed, AreRowsOf}
 use Rattle.partition_map.specs.Columns.{column_kind, HasOtherKind}
 use Rattle.hudi_timeline.specs.Schemas.{schema_after, AreKindsOf}
-use Rattle.hudi_timeline.specs.Values.{style_of}
-use Rattle.hudi_timeline.proofs.AnyLemmas.{any_from}
+use Rattle.hudi_files.specs.Values.{style_of}
+use Rattle.hudi_groups.proofs.AnyLemmas.{any_from}
 use Rattle.hudi_timeline.proofs.CauseLemmas.{has_kind}
 use Rattle.hudi_timeline.proofs.CountLemmas.{fewer, AreFew, few_parts}
-use Rattle.hudi_timeline.proofs.GroupChangeLemmas.{new_there, touched}
+use Rattle.hudi_groups.proofs.GroupChangeLemmas.{new_there, touched}
 use Rattle.hudi_timeline.proofs.KindLemmas.{values_fit, values_still_fit, kinds_kept}
-use Rattle.hudi_timeline.proofs.LiveLemmas.{bare_path}
-use Rattle.hudi_timeline.proofs.StatLemmas.{bare_sound, stat_of_row}
+use Rattle.hudi_files.proofs.StatLemmas.{bare_path, bare_sound}
+use Rattle.hudi_timeline.proofs.LiveLemmas.{stat_of_row}
 
 none_some : {A : Type 0} (x : A) → None ≡ Some x → ⊥
 none_some x e = absurd cc

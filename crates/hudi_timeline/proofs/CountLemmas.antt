@@ -18,15 +18,16 @@ use Rattle.table_history.specs.declared.row.FileRow.{FileRow}
 use Rattle.table_history.specs.declared.table.Table.{Table}
 use Rattle.table_history.proofs.RowListLemmas.{Contains-none, Contains-head, Contains-tail, Contains-cases, bytes_itself}
 use Rattle.partition_map.specs.declared.kind.PartKind.{PartKind}
-use Rattle.hudi_timeline.specs.declared.table.HudiTable.{HudiTable}
+use Rattle.hudi_properties.specs.declared.table.HudiTable.{HudiTable}
 use Rattle.hudi_timeline.specs.Causes.{IsInForce, AreKinds, Passes, change_limits, rows_before}
-use Rattle.hudi_timeline.specs.Files.{suffix_of}
-use Rattle.hudi_timeline.specs.GroupChange.{is_long, limit_passed, row_limit, rows_after}
+use Rattle.hudi_groups.specs.Files.{suffix_of}
+use Rattle.hudi_timeline.specs.GroupChange.{is_long, limit_passed, row_limit}
+use Rattle.hudi_groups.specs.GroupSets.{rows_after}
 use Rattle.hudi_timeline.specs.Live.{Completed, AreRowsOf, IsLiveAfter}
-use Rattle.hudi_timeline.proofs.AnyLemmas.{any_from, any_to}
-use Rattle.hudi_timeline.proofs.GroupChangeLemmas.{at_path}
-use Rattle.hudi_timeline.proofs.LiveLemmas.{bare_path, live_after}
-use Rattle.hudi_timeline.proofs.StatLemmas.{row_of_stat, stat_of_row}
+use Rattle.hudi_groups.proofs.AnyLemmas.{any_from, any_to}
+use Rattle.hudi_groups.proofs.GroupChangeLemmas.{at_path}
+use Rattle.hudi_files.proofs.StatLemmas.{bare_path}
+use Rattle.hudi_timeline.proofs.LiveLemmas.{live_after, row_of_stat, stat_of_row}
 
 none_some : {A : Type 0} (x : A) → None ≡ Some x → ⊥
 none_some x e = absurd cc

@@ -15,7 +15,7 @@ use Rattle.partition_map.proofs.Laws.{hive_of_kind, kind_of_type}
 use Rattle.partition_map.specs.declared.folder.FolderStyle.{FolderStyle}
 use Rattle.partition_map.specs.Columns.{column_kind, HasOtherKind, is_same_kind}
 use Rattle.hudi_timeline.specs.Schemas.{AreKindsOf}
-use Rattle.hudi_timeline.specs.Values.{PartsStand}
+use Rattle.hudi_files.specs.Values.{PartsStand}
 
 none_some : {A : Type 0} (x : A) → None ≡ Some x → ⊥
 none_some x e = absurd cc

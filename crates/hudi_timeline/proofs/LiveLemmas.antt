@@ -1,52 +1,48 @@
 -- What one instant writes and replaces, and the live rows behind it.
-use Rattle.std.proofs.Common.{◌≡◌, ◌↔◌, ℕ, Bool, true, false, not, cond, ◌||◌, ◌&&◌, List, [], ◌∷◌, filter, reverse, Result, Ok, Err, Contains, refl, sym, ap, subst, ◌∙◌, inl, inr, ⊎_elim}
+use Rattle.std.proofs.Common.{◌≡◌, ◌↔◌, ℕ, Bool, true, false, not, ◌||◌, ◌&&◌, List, [], ◌∷◌, filter, reverse, Ok, Contains, refl, sym, ap, subst, ◌∙◌, inl, inr, ⊎_elim}
 use Rattle.std.specs.List.{list_any}
 use Rattle.std.specs.Str.{bytes_eq}
 use Rattle.std.proofs.lemmas.Bool.{cases_Bool, false≢true, eqb-true}
 use Rattle.std.proofs.lemmas.List.Elements.{Contains-append_left, Contains-append_right, Contains-append_cases}
 use Rattle.std.proofs.lemmas.List.Sorted.{IsPermutation-reverse, IsPermutation-sym, Contains-permutation}
 use Rattle.std.proofs.lemmas.Slice.Eq.{bytes_eq-Decides}
-use Rattle.lake_basics.specs.Outcome.{◌>>=◌, each}
+use Rattle.lake_basics.specs.Outcome.{each}
 use Rattle.table_history.specs.Path.{is_slash}
 use Rattle.table_history.specs.declared.row.FileRow.{FileRow}
 use Rattle.table_history.proofs.RowListLemmas.{Contains-none, Contains-head, Contains-tail, Contains-cases, Contains-filter, filter_contains}
 use Rattle.partition_map.specs.declared.kind.PartKind.{PartKind}
 use Rattle.partition_map.specs.declared.folder.FolderStyle.{FolderStyle}
-use Rattle.hudi_timeline.specs.Errors.{malformed}
-use Rattle.hudi_timeline.specs.declared.form.Form.{Form}
-use Rattle.hudi_timeline.specs.declared.instant.Stat.{Stat}
-use Rattle.hudi_timeline.specs.declared.table.HudiTable.{HudiTable}
-use Rattle.hudi_timeline.specs.Group.{joined}
-use Rattle.hudi_timeline.specs.Files.{suffix_of, without_end, group_name, has_sound_path, has_sound_numbers, bare_row}
-use Rattle.hudi_timeline.specs.Values.{style_of, HaveValues}
-use Rattle.hudi_timeline.specs.GroupSets.{is_row_of_group, names_group, newest_rows}
-use Rattle.hudi_timeline.specs.GroupChange.{is_touched, rows_after}
-use Rattle.hudi_timeline.specs.Live.{Completed, AreRowsOf, IsNewestOfGroup, Touches, IsLiveAfter}
-use Rattle.hudi_timeline.proofs.AnyLemmas.{any_from, any_to, any_none, or_true}
-use Rattle.hudi_timeline.proofs.GroupSetLemmas.{row_in_group, group_has_row}
-use Rattle.hudi_timeline.proofs.NewestLemmas.{newest_from, newest_to}
-use Rattle.hudi_timeline.proofs.ValueLemmas.{rows_same}
+use Rattle.hudi_groups.specs.declared.form.Form.{Form}
+use Rattle.hudi_instant.specs.declared.instant.Stat.{Stat}
+use Rattle.hudi_properties.specs.declared.table.HudiTable.{HudiTable}
+use Rattle.hudi_groups.specs.Group.{joined}
+use Rattle.hudi_groups.specs.Files.{suffix_of, without_end, group_name}
+use Rattle.hudi_files.specs.Stats.{bare_row}
+use Rattle.hudi_files.specs.Values.{style_of, HasValues, HaveValues}
+use Rattle.hudi_groups.specs.GroupSets.{is_row_of_group, names_group, newest_rows, is_touched, rows_after, IsNewestOfGroup}
+use Rattle.hudi_timeline.specs.Live.{Completed, AreRowsOf, Touches, IsLiveAfter}
+use Rattle.hudi_groups.proofs.AnyLemmas.{any_from, any_to, any_none, or_true}
+use Rattle.hudi_groups.proofs.GroupSetLemmas.{row_in_group, group_has_row}
+use Rattle.hudi_groups.proofs.NewestLemmas.{newest_from, newest_to}
+use Rattle.hudi_files.proofs.StatLemmas.{each_cons, each_all, each_from, bare_path, row_of_file, file_of_row}
+use Rattle.hudi_files.proofs.ValueLemmas.{rows_same}
 
 -- ---- the rows of an instant, against its stats
-pub each_cons : {A B E : Type 0} (f : A → Result B E) (x : A) (xs : List A) (ys : List B) → each f (x ∷ xs) ≡ Ok ys → (y : B) × (rest : List B) × (f x ≡ Ok y) × (each f xs ≡ Ok rest) × (ys ≡ y ∷ rest)
-each_cons {A} {B} {E} f x xs ys h = by (f x) (each f xs) refl refl h
-  where
-    by : (a : Result B E) (r : Result (List B) E) → f x ≡ a → each f xs ≡ r → (a >>= λ y. r >>= λ rest. Ok (y ∷ rest)) ≡ Ok ys
-        → (y : B) × (rest : List B) × (f x ≡ Ok y) × (each f xs ≡ Ok rest) × (ys ≡ y ∷ rest)
-    by (Ok y) (Ok rest) first others e = (y, rest, first, others, cc)
-    by (Ok y) (Err fault) first others e = absurd cc
-    by (Err fault) r first others e = absurd cc
+module _ (table : HudiTable) (kinds : List PartKind) (u : Completed) (rows : List FileRow) (are : AreRowsOf table kinds u rows) where
+  -- each stat has its row
+  pub row_of_stat : (s : Stat) → Contains u.instant.stats s → (row : FileRow) × Contains rows row × (row.path ≡ without_end (suffix_of u.form) s.path)
+  row_of_stat s there =
+      let file = each_all (bare_row (suffix_of u.form)) u.instant.stats are.0 are.1 s there in
+      let row = row_of_file (style_of table) table.partition kinds are.0 rows are.2 file.0 file.1 in
+      (row.0, row.1, row.2.path ∙ bare_path (suffix_of u.form) s file.0 file.2)
 
-abbrev pub bare : List ℕ → Stat → FileRow
-bare suffix s = record { path = without_end suffix s.path; values = []; count = s.writes; size = s.size }
-
-pub bare_path : (suffix : List ℕ) (s : Stat) (row : FileRow) → bare_row suffix s ≡ Ok row → row.path ≡ without_end suffix s.path
-bare_path suffix s row h = by (has_sound_path suffix s) (has_sound_numbers s) h
-  where
-    by : (a b : Bool) → cond a (cond b (Ok (bare suffix s)) (Err malformed)) (Err malformed) ≡ Ok row → row.path ≡ without_end suffix s.path
-    by true true e = let same : bare suffix s ≡ row = cc in sym (ap (λ (r : FileRow). r.path) same)
-    by true false e = absurd cc
-    by false b e = absurd cc
+  -- and each row its stat, whose folder spells the values
+  pub stat_of_row : (row : FileRow) → Contains rows row
+      → (s : Stat) × Contains u.instant.stats s × (file : FileRow) × (bare_row (suffix_of u.form) s ≡ Ok file) × HasValues (style_of table) table.partition kinds file row
+  stat_of_row row there =
+      let file = file_of_row (style_of table) table.partition kinds are.0 rows are.2 row there in
+      let s = each_from (bare_row (suffix_of u.form)) u.instant.stats are.0 are.1 file.0 file.1 in
+      (s.0, s.1, file.0, s.2, file.2)
 
 module _ (form : Form) (style : FolderStyle) (names : List (List ℕ)) (kinds : List PartKind) (q : List ℕ) where
   writes_to : (stats : List Stat) (files rows : List FileRow) → each (bare_row (suffix_of form)) stats ≡ Ok files → HaveValues style names kinds files rows → list_any (is_row_of_group form q) rows ≡ true

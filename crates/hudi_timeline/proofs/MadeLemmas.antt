@@ -9,17 +9,19 @@ use Rattle.table_history.specs.declared.row.FileRow.{FileRow}
 use Rattle.table_history.specs.declared.table.Change.{Change}
 use Rattle.table_history.specs.declared.table.Table.{Table}
 use Rattle.partition_map.specs.declared.kind.PartKind.{PartKind}
-use Rattle.hudi_timeline.specs.declared.error.HudiError.{HudiError}
-use Rattle.hudi_timeline.specs.declared.error.HudiError.TheVariants as errors
-use Rattle.hudi_timeline.specs.declared.table.HudiTable.{HudiTable}
+use Rattle.hudi_names.specs.declared.error.HudiError.{HudiError}
+use Rattle.hudi_names.specs.declared.error.HudiError.TheVariants as errors
+use Rattle.hudi_properties.specs.declared.table.HudiTable.{HudiTable}
 use Rattle.hudi_timeline.specs.Causes.{IsRefusalOf, rows_before}
 use Rattle.hudi_timeline.specs.Change.{IsChangeOf, GoesOn}
-use Rattle.hudi_timeline.specs.Files.{suffix_of, bare_row, name_fault}
-use Rattle.hudi_timeline.specs.GroupChange.{rows_after, IsGroupChange, PassesLimitAfter}
+use Rattle.hudi_groups.specs.Files.{suffix_of}
+use Rattle.hudi_files.specs.Stats.{bare_row, name_fault}
+use Rattle.hudi_groups.specs.GroupSets.{rows_after}
+use Rattle.hudi_timeline.specs.GroupChange.{IsGroupChange, PassesLimitAfter}
 use Rattle.hudi_timeline.specs.Live.{Completed, AreRowsOf}
 use Rattle.partition_map.specs.Columns.{HasOtherKind}
 use Rattle.hudi_timeline.specs.Schemas.{stated_schema, schema_after, AreKindsOf}
-use Rattle.hudi_timeline.specs.Values.{style_of, are_in_folders, HaveValues}
+use Rattle.hudi_files.specs.Values.{style_of, are_in_folders, HaveValues}
 use Rattle.hudi_timeline.proofs.CauseLemmas.{not_malformed, in_force, only_schema, are_kinds, only_kinds, no_feature}
 use Rattle.hudi_timeline.proofs.ChangeLemmas.{goes_on}
 use Rattle.hudi_timeline.proofs.CountLemmas.{number_first, number_none}

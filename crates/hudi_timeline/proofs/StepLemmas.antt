@@ -11,19 +11,21 @@ use Rattle.table_history.specs.declared.table.Change.{Change}
 use Rattle.table_history.specs.declared.table.Table.{Table}
 use Rattle.partition_map.specs.Columns.{column_kind, HasOtherKind}
 use Rattle.partition_map.specs.declared.kind.PartKind.{PartKind}
-use Rattle.hudi_timeline.specs.declared.error.HudiError.{HudiError}
-use Rattle.hudi_timeline.specs.declared.form.Form.{Form}
-use Rattle.hudi_timeline.specs.declared.instant.Instant.{Instant}
-use Rattle.hudi_timeline.specs.declared.instant.Stat.{Stat}
-use Rattle.hudi_timeline.specs.declared.table.HudiTable.{HudiTable}
+use Rattle.hudi_names.specs.declared.error.HudiError.{HudiError}
+use Rattle.hudi_groups.specs.declared.form.Form.{Form}
+use Rattle.hudi_instant.specs.declared.instant.Instant.{Instant}
+use Rattle.hudi_instant.specs.declared.instant.Stat.{Stat}
+use Rattle.hudi_properties.specs.declared.table.HudiTable.{HudiTable}
 use Rattle.hudi_timeline.specs.Causes.{IsRefusalOf, rows_before}
 use Rattle.hudi_timeline.specs.Change.{IsChangeOf, LeavesLive, GoesOn}
-use Rattle.hudi_timeline.specs.Files.{suffix_of, bare_row, name_fault}
+use Rattle.hudi_groups.specs.Files.{suffix_of}
+use Rattle.hudi_files.specs.Stats.{bare_row, name_fault}
 use Rattle.hudi_timeline.specs.GroupChange.{IsGroupChange, PassesLimitAfter}
 use Rattle.hudi_timeline.specs.Live.{Completed, completed}
 use Rattle.hudi_timeline.specs.Schemas.{stated_schema, schema_after, AreKindsOf}
-use Rattle.hudi_timeline.specs.Steps.{OnlyFeature, IsKindFault, IsFileFault}
-use Rattle.hudi_timeline.specs.Values.{style_of, are_in_folders, HaveValues}
+use Rattle.hudi_files.specs.FileFaults.{OnlyFeature, IsFileFault}
+use Rattle.hudi_timeline.specs.Steps.{IsKindFault}
+use Rattle.hudi_files.specs.Values.{style_of, are_in_folders, HaveValues}
 use Rattle.hudi_timeline.proofs.CauseLemmas.{kind_refusal, file_refusal}
 use Rattle.hudi_timeline.proofs.MadeLemmas.{limit_refusal, is_change, made_goes_on}
 use Rattle.hudi_timeline.proofs.TimelineLaws.{leaves_live}

@@ -10,7 +10,7 @@ use Rattle.table_history.specs.declared.table.Table.{Table}
 use Rattle.table_history.proofs.RowListLemmas.{Contains-none, Contains-head, Contains-tail, Contains-cases}
 use Rattle.table_history.proofs.TableLemmas.{diff_leads}
 use Rattle.partition_map.specs.declared.kind.PartKind.{PartKind}
-use Rattle.hudi_timeline.specs.declared.table.HudiTable.{HudiTable}
+use Rattle.hudi_properties.specs.declared.table.HudiTable.{HudiTable}
 use Rattle.hudi_timeline.specs.Causes.{AreKinds, table_before, rows_before}
 use Rattle.hudi_timeline.specs.Change.{IsChangeOf, LeavesLive, LeadsThrough}
 use Rattle.hudi_timeline.specs.Live.{Completed, Timeline, IsWrittenBy, Touches, HudiLive, AreLive, IsLiveAfter, IsLiveOver}

@@ -14,16 +14,17 @@ use Rattle.lake_basics.specs.declared.limits.TheConstants.{MAX_COLUMNS, MAX_PART
 use Rattle.table_history.specs.SchemaSize.{column_count, column_levels, max_type_levels}
 use Rattle.schema_map.specs.declared.fault.MapError.TheVariants as map_errors
 use Rattle.partition_map.specs.declared.kind.PartKind.{PartKind}
-use Rattle.hudi_timeline.specs.declared.error.HudiError.{HudiError}
-use Rattle.hudi_timeline.specs.declared.error.HudiError.TheVariants as errors
-use Rattle.hudi_timeline.specs.declared.instant.Stat.{Stat}
-use Rattle.hudi_timeline.specs.declared.table.HudiTable.{HudiTable}
-use Rattle.hudi_timeline.specs.Errors.{malformed}
-use Rattle.hudi_timeline.specs.Files.{suffix_of, without_end, bare_row, is_external, has_other_id, is_other_file}
+use Rattle.hudi_names.specs.declared.error.HudiError.{HudiError}
+use Rattle.hudi_names.specs.declared.error.HudiError.TheVariants as errors
+use Rattle.hudi_instant.specs.declared.instant.Stat.{Stat}
+use Rattle.hudi_properties.specs.declared.table.HudiTable.{HudiTable}
+use Rattle.hudi_names.specs.Errors.{malformed}
+use Rattle.hudi_groups.specs.Files.{suffix_of, without_end}
+use Rattle.hudi_files.specs.Stats.{bare_row, is_external, has_other_id, is_other_file}
 use Rattle.hudi_timeline.specs.Live.{Completed, IsLiveAfter}
 use Rattle.partition_map.specs.Columns.{LacksKinds, HasOtherKind}
 use Rattle.hudi_timeline.specs.Schemas.{stated_schema, schema_after, AreKindsOf}
-use Rattle.hudi_timeline.specs.Values.{style_of, value_parts, SpellsNoValues}
+use Rattle.hudi_files.specs.Values.{style_of, value_parts, SpellsNoValues}
 
 -- ---- what the instant holds
 

@@ -14,7 +14,7 @@ use Rattle.table_history.specs.declared.table.Table.{Table}
 use Rattle.lake_basics.specs.declared.limits.TheConstants.{MAX_PARTITION_COLUMNS, MAX_LIVE_FILES}
 use Rattle.table_history.specs.SchemaSize.{IsWithinLimits}
 use Rattle.partition_map.specs.declared.kind.PartKind.{PartKind}
-use Rattle.hudi_timeline.specs.declared.table.HudiTable.{HudiTable}
+use Rattle.hudi_properties.specs.declared.table.HudiTable.{HudiTable}
 use Rattle.hudi_timeline.specs.Causes.{IsMalformed, Shows, Passes, AreKinds, change_features, change_limits, table_before, rows_before}
 use Rattle.hudi_timeline.specs.Live.{Completed, Timeline, IsLiveAfter, AreLive}
 use Rattle.partition_map.specs.Columns.{column_kind}

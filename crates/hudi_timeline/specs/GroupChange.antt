@@ -1,5 +1,5 @@
 -- The change that the rows of an instant and its replaced file ids make of the rows before.
-use Rattle.std.specs.Prelude.{◌≡◌, ℕ, nat_lt, ◌++◌, ◌||◌, List, length, filter, reverse, not, Bool, Option, Some, None, if◌then◌else◌}
+use Rattle.std.specs.Prelude.{◌≡◌, ℕ, nat_lt, List, length, Bool, Option, Some, None, if◌then◌else◌}
 use Rattle.std.specs.List.{list_any}
 use Rattle.std.specs.Option.{option_or}
 use Rattle.table_history.specs.Row.{Row}
@@ -11,12 +11,11 @@ use Rattle.table_history.specs.declared.table.Change.{Change}
 use Rattle.table_history.specs.declared.limit.LimitKind.{LimitKind}
 use Rattle.table_history.specs.declared.limit.LimitKind.TheVariants as limit
 use Rattle.lake_basics.specs.declared.limits.TheConstants.{MAX_PARTITION_COLUMNS, MAX_PATH_BYTES, MAX_LIVE_FILES}
-use Rattle.hudi_timeline.specs.declared.error.HudiError.{HudiError}
-use Rattle.hudi_timeline.specs.declared.error.HudiError.TheVariants.{Memory, Malformed, Unsupported, Limit}
-use Rattle.hudi_timeline.specs.declared.form.Form.{Form}
-use Rattle.hudi_timeline.specs.declared.table.HudiTable.{HudiTable}
-use Rattle.hudi_timeline.specs.Files.{group_name}
-use Rattle.hudi_timeline.specs.GroupSets.{is_row_of_group, names_group, newest_rows}
+use Rattle.hudi_names.specs.declared.error.HudiError.{HudiError}
+use Rattle.hudi_names.specs.declared.error.HudiError.TheVariants.{Memory, Malformed, Unsupported, Limit}
+use Rattle.hudi_groups.specs.declared.form.Form.{Form}
+use Rattle.hudi_properties.specs.declared.table.HudiTable.{HudiTable}
+use Rattle.hudi_groups.specs.GroupSets.{rows_after}
 
 -- ---- limits
 
@@ -35,14 +34,6 @@ abbrev pub limit_passed : HudiTable → ColumnTrees → Bool → ℕ → Option 
 limit_passed table schema has_long live = option_or (schema_limit schema) (row_limit table has_long live)
 
 -- ---- the change
-
--- a group that is written or replaced
-abbrev pub is_touched : Form → List (List ℕ × List ℕ) → List Row → List ℕ → Bool
-is_touched form replaced rows q = list_any (is_row_of_group form q) rows || list_any (names_group q) replaced
-
--- the rows of other groups, and the newest row of each group that is written
-abbrev pub rows_after : Form → List (List ℕ × List ℕ) → List Row → List Row → List Row
-rows_after form replaced before rows = filter (λ r. not (is_touched form replaced rows (group_name form r.path))) before ++ reverse (newest_rows form rows)
 
 pub record IsGroupChange (form : Form) (table : HudiTable) (schema : ColumnTrees) (replaced : List (List ℕ × List ℕ)) (before rows : List Row) (change : Change) : Type 0 where
   pub diff : IsDiff before (rows_after form replaced before rows) change.removed change.added

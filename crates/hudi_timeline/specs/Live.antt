@@ -3,13 +3,15 @@ use Rattle.std.specs.Prelude.{◌≡◌, ◌↔◌, ◌⊎◌, ℕ, List, ◌∷
 use Rattle.lake_basics.specs.Outcome.{each}
 use Rattle.table_history.specs.Row.{Row}
 use Rattle.partition_map.specs.declared.kind.PartKind.{PartKind}
-use Rattle.hudi_timeline.specs.declared.form.Form.{Form}
-use Rattle.hudi_timeline.specs.declared.instant.Instant.{Instant}
-use Rattle.hudi_timeline.specs.declared.instant.Stat.{Stat}
-use Rattle.hudi_timeline.specs.declared.table.HudiTable.{HudiTable}
-use Rattle.hudi_timeline.specs.Group.{joined}
-use Rattle.hudi_timeline.specs.Files.{suffix_of, without_end, group_name, bare_row}
-use Rattle.hudi_timeline.specs.Values.{style_of, HaveValues}
+use Rattle.hudi_groups.specs.declared.form.Form.{Form}
+use Rattle.hudi_instant.specs.declared.instant.Instant.{Instant}
+use Rattle.hudi_instant.specs.declared.instant.Stat.{Stat}
+use Rattle.hudi_properties.specs.declared.table.HudiTable.{HudiTable}
+use Rattle.hudi_groups.specs.Group.{joined}
+use Rattle.hudi_groups.specs.Files.{suffix_of, without_end, group_name}
+use Rattle.hudi_groups.specs.GroupSets.{IsNewestOfGroup}
+use Rattle.hudi_files.specs.Stats.{bare_row}
+use Rattle.hudi_files.specs.Values.{style_of, HaveValues}
 
 -- a completed commit or replacecommit, and how its files are named
 pub record Completed : Type 0 where
@@ -28,13 +30,6 @@ Timeline = List Completed
 -- the rows of the instant's write stats, in their order
 abbrev pub AreRowsOf : HudiTable → List PartKind → Completed → List Row → Type 0
 AreRowsOf table kinds u rows = (files : List Row) × (each (bare_row (suffix_of u.form)) u.instant.stats ≡ Ok files) × HaveValues (style_of table) table.partition kinds files rows
-
--- a row of these, of which no later one is of its group
-pub record IsNewestOfGroup (form : Form) (rows : List Row) (row : Row) : Type 0 where
-  pub before : List Row
-  pub after : List Row
-  pub split : rows ≡ before ++ row ∷ after
-  pub last : (later : Row) → Contains after later → ¬ (group_name form row.path ≡ group_name form later.path)
 
 -- A write stat of the instant is this row, and it is the instant's last stat of the row's group.
 pub record IsWrittenBy (table : HudiTable) (kinds : List PartKind) (u : Completed) (row : Row) : Type 0 where

@@ -3,7 +3,7 @@ use Rattle.std.specs.Prelude.{◌≡◌, ℕ, List, [], ◌∷◌, map, Option, 
 use Rattle.lake_basics.specs.Outcome.{◌>>=◌}
 use Rattle.table_history.specs.TypeTree.{ColumnTrees}
 use Rattle.table_history.specs.declared.table.Table.{Table}
-use Rattle.schema_map.specs.Avro.{avro_schema_of}
+use Rattle.schema_avro.specs.Avro.{avro_schema_of}
 use Rattle.schema_map.specs.declared.fault.MapError.{MapError}
 use Rattle.partition_map.specs.Columns.{column_kind}
 use Rattle.partition_map.specs.declared.kind.PartKind.{PartKind}

@@ -7,16 +7,14 @@ ghost use Rattle.hudi_timeline.specs.Change.{IsChangeOf, LeavesLive, GoesOn};
 ghost use Rattle.hudi_timeline.specs.Live.{completed};
 
 mod between;
-mod groups;
-mod rows;
 mod schemas;
 
-use crate::error::HudiError;
-use crate::form::Form;
-use crate::instant::Instant;
-use crate::table::HudiTable;
 use between::group_change;
-use rows::{read_files, rows_of};
+use hudi_files::{read_files, rows_of};
+use hudi_groups::Form;
+use hudi_instant::Instant;
+use hudi_names::HudiError;
+use hudi_properties::HudiTable;
 use schemas::{partition_kinds, schema_after, stated_schema};
 use std::alloc::Global;
 use table_history::{Change, FileRows, Table};

@@ -13,7 +13,7 @@ use Rattle.lake_basics.specs.declared.limits.TheConstants.{MAX_PARTITION_COLUMNS
 use Rattle.partition_map.specs.Columns.{column_kind}
 use Rattle.partition_map.specs.declared.kind.PartKind.{PartKind}
 use Rattle.serde_json.specs.Written.{compact_text}
-use Rattle.schema_map.specs.NameMapping.{name_mapping_text}
+use Rattle.schema_iceberg.specs.NameMapping.{name_mapping_text}
 use Rattle.target_core.specs.Mark.{mark_data}
 use Rattle.table_history.specs.Path.{IsPath}
 use Rattle.table_history.specs.TypeTree.{ColumnTrees}

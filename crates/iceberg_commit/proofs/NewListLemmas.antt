@@ -12,7 +12,7 @@ use Rattle.lake_basics.specs.declared.limits.TheConstants.{MAX_LIVE_FILES, MAX_P
 use Rattle.file_links.specs.Rows.{Entry, Owns, rows_of}
 use Rattle.file_links.specs.declared.slots.Held.{Held}
 use Rattle.partition_map.specs.Columns.{column_kind}
-use Rattle.schema_map.specs.Ids.{column_paths}
+use Rattle.schema_map.specs.Paths.{column_paths}
 use Rattle.table_history.specs.History.{FitColumns, IsSoundTable}
 use Rattle.table_history.specs.Row.{Row}
 use Rattle.table_history.specs.Rows.{HasDistinctPaths, paths_of}

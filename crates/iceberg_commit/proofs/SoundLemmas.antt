@@ -18,9 +18,9 @@ use Rattle.table_history.specs.Path.{IsPath}
 use Rattle.table_history.specs.TypeEq.{columns_eq}
 use Rattle.table_history.specs.TypeEqLaws.{columns_eq-Decides}
 use Rattle.table_history.specs.TypeTree.{ColumnTrees}
-use Rattle.schema_map.specs.Iceberg.{iceberg_schema}
+use Rattle.schema_iceberg.specs.Iceberg.{iceberg_schema}
 use Rattle.schema_map.specs.declared.fault.MapError.{MapError}
-use Rattle.schema_map.proofs.IcebergSound.{read_again}
+use Rattle.schema_iceberg.proofs.IcebergSound.{read_again}
 use Rattle.iceberg_metadata.specs.Grammar.{snapshot_ids}
 use Rattle.iceberg_metadata.specs.Judging.{are_distinct, is_among_if_any, is_renamed}
 use Rattle.iceberg_metadata.specs.Location.{NamesPath, behind, front_of, is_path_behind, names_path}

@@ -2,7 +2,7 @@
 use Rattle.std.proofs.Common.{◌≡◌, ◌⊎◌, ℕ, ◌<◌, List, [], ◌∷◌, get_or, length, Contains, IsSome, Some, slice_get, sym, ap, subst, ◌∙◌}
 use Rattle.std.proofs.lemmas.Option.{slice_get_within}
 use Rattle.schema_map.specs.IcebergFits.{FitsIceberg}
-use Rattle.schema_map.specs.Ids.{known_id}
+use Rattle.schema_map.specs.Paths.{known_id}
 use Rattle.serde_json.specs.Written.{compact_text}
 use Rattle.table_history.specs.SchemaSize.{IsWithinLimits}
 use Rattle.table_history.specs.Sound.{IsSound}

@@ -5,7 +5,7 @@ use Rattle.lake_basics.specs.declared.limits.TheConstants.{MAX_AVRO_VALUES, MAX_
 use Rattle.partition_map.specs.Columns.{column_kind}
 use Rattle.partition_map.specs.declared.kind.PartKind.{PartKind}
 use Rattle.schema_map.specs.IcebergFits.{FitsIceberg}
-use Rattle.schema_map.specs.Ids.{known_id}
+use Rattle.schema_map.specs.Paths.{known_id}
 use Rattle.schema_map.specs.Image.{wide_columns}
 use Rattle.table_history.specs.SchemaSize.{IsWithinLimits}
 use Rattle.table_history.specs.Sound.{IsSound}

@@ -18,8 +18,10 @@ ghost use Rattle.target_core.specs.declared.target.TargetError.TheVariants.{Limi
 ghost use Rattle.table_history.specs.declared.limit.LimitKind.TheVariants.{File};
 
 use crate::new_list::NewList;
-use iceberg_manifest::{Entries, Entry, ManifestInfo, list_bytes, manifest_bytes};
-use iceberg_metadata::{Metadata, metadata_text};
+use iceberg_manifest::{Entries, Entry, ManifestInfo};
+use iceberg_manifest_writing::{list_bytes, manifest_bytes};
+use iceberg_metadata::Metadata;
+use iceberg_metadata_writing::metadata_text;
 use iceberg_version::{Before, Layout, Next, added_entries, info_of, rewritten_entries, rows_of};
 use lake_basics::Blob;
 use lake_basics::limits::MAX_FILE_BYTES;

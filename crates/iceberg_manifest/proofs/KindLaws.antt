@@ -16,7 +16,7 @@ use Rattle.iceberg_manifest.specs.Entry.{EntryData}
 use Rattle.iceberg_manifest.specs.EntryReading.{data_file, entries_in, entry_by, entry_plan, entry_record, fault_of, file_plan, judged, status_of}
 use Rattle.iceberg_manifest.specs.Fields.{place_of, record_fields, record_place, required_place}
 use Rattle.iceberg_manifest.specs.Kinds.{AreOfKinds}
-use Rattle.iceberg_manifest.specs.Live.{is_live}
+use Rattle.iceberg_manifest.specs.Entry.{is_live}
 use Rattle.iceberg_manifest.specs.Partition.{column_place, kind_of_values, part_at, part_in, part_value, parts_in, value_if_any, whole_part}
 use Rattle.iceberg_manifest.specs.Scans.{entries_of, entry_error}
 use Rattle.iceberg_manifest.specs.Values.{int_of, record_value, required_natural, required_record, required_text, required_whole, sequence_at, whole_if_any, whole_or_zero}

@@ -1,12 +1,2 @@
 pub mod ContainerLaws
-pub mod EachLaws
-pub mod FieldLemmas
-pub mod ListLemmas
-pub mod ListWrittenLemmas
-pub mod LocationLemmas
-pub mod ManifestWrittenLemmas
-pub mod PartNameLemmas
-pub mod LiveLaws
-pub mod MetadataPathLaws
-pub mod StepLemmas
 pub mod KindLaws

@@ -10,7 +10,7 @@ use Rattle.iceberg_manifest.specs.Entry.{EntryData}
 use Rattle.iceberg_manifest.specs.Fields.{Reading, record_fields, place_of, required_place, record_place}
 use Rattle.iceberg_manifest.specs.Values.{whole_if_any, required_whole, whole_or_zero, sequence_at, int_of, required_natural, required_text, record_value, required_record}
 use Rattle.iceberg_manifest.specs.Partition.{column_place, parts_in}
-use Rattle.iceberg_manifest.specs.Live.{is_live}
+use Rattle.iceberg_manifest.specs.Entry.{is_live}
 use Rattle.iceberg_manifest.specs.declared.error.Flaw.{Flaw}
 use Rattle.iceberg_manifest.specs.declared.error.Flaw.TheVariants.{Malformed}
 use Rattle.iceberg_manifest.specs.declared.error.EntryFault.{EntryFault}

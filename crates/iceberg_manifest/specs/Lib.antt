@@ -12,7 +12,4 @@ pub mod Containers
 pub mod Scans
 pub mod Lists
 pub mod Location
-pub mod Live
-pub mod LiveRows
-pub mod MetadataPaths
 pub mod Kinds

@@ -6,7 +6,7 @@ use table_history::Values;
 
 /// The file of an entry.
 #[derive(Debug, Drop)]
-pub(crate) struct DataFile {
+pub struct DataFile {
     pub content: i32,
     pub is_parquet: bool,
     pub path: Text,
@@ -17,7 +17,7 @@ pub(crate) struct DataFile {
 
 /// An entry with its file's content, and whether the file is Parquet.
 #[derive(Debug, Drop)]
-pub(crate) struct EntryRecord {
+pub struct EntryRecord {
     pub content: i32,
     pub is_parquet: bool,
     pub entry: Entry,

@@ -50,25 +50,24 @@ impl<T: Drop> From<AllocFailed<T>> for ManifestError {
 
 /// What is wrong with an entry or a row.
 #[derive(Clone, Copy, Debug, Drop, PartialEq, Eq)]
-pub(crate) enum Fault {
+pub enum Fault {
     Malformed,
     OutsideTable,
     LongPath,
 }
 
-pub(crate) const MALFORMED: ReadError<Fault> = ReadError::Fault(Fault::Malformed);
-
 /// What is wrong with Avro values that should be entries or rows of a list.
 #[derive(Clone, Copy, Debug, Drop, PartialEq, Eq)]
-pub(crate) enum Flaw {
+pub enum Flaw {
     Malformed,
 }
 
-pub(crate) const FLAW: ReadError<Flaw> = ReadError::Fault(Flaw::Malformed);
+/// Avro values that are no entries or rows of a list.
+pub const FLAW: ReadError<Flaw> = ReadError::Fault(Flaw::Malformed);
 
 /// What is wrong with an entry.
 #[derive(Clone, Copy, Debug, Drop, PartialEq, Eq)]
-pub(crate) enum EntryFault {
+pub enum EntryFault {
     Malformed,
     RowDeletes,
     FileFormat,

@@ -9,7 +9,7 @@ use Rattle.std.proofs.lemmas.Bool.{false≢true}
 use Rattle.std.proofs.lemmas.Bool.Decides.{Decides-int_eq}
 use Rattle.std.proofs.lemmas.Slice.Eq.{bytes_eq-Decides, slice_eq-Decides}
 use Rattle.table_history.proofs.RowListLemmas.{Contains-none, Contains-head, Contains-tail, Contains-cases}
-use Rattle.schema_map.specs.Ids.{Path, known_id}
+use Rattle.schema_map.specs.Paths.{Path, known_id}
 use Rattle.iceberg_metadata.specs.Judging.{is_path, is_id, is_first, is_renamed}
 use Rattle.iceberg_metadata.specs.Paths.{PathId, path_of, IsRenamed}
 use Rattle.iceberg_metadata.proofs.ListLemmas.{all_from, all_false, both_true, not_both, not_true}

@@ -9,7 +9,7 @@ use Rattle.serde_json.specs.Find.{get}
 use Rattle.lake_basics.specs.Outcome.{◌>>=◌, required, each}
 use Rattle.lake_basics.specs.declared.limits.TheConstants.{MAX_PARTITION_COLUMNS}
 use Rattle.json_reading.specs.Json.{json, items}
-use Rattle.schema_map.specs.Ids.{Path, known_id}
+use Rattle.schema_map.specs.Paths.{Path, known_id}
 use Rattle.table_history.specs.declared.limit.LimitKind.{LimitKind}
 use Rattle.table_history.specs.declared.limit.LimitKind.TheVariants as limit
 use Rattle.iceberg_metadata.specs.declared.error.MetadataError.{MetadataError}

@@ -1,5 +1,3 @@
-pub mod Ancestry
-pub mod ById
 pub mod Errors
 pub mod Grammar
 pub mod IdSets
@@ -7,11 +5,8 @@ pub mod Judging
 pub mod Location
 pub mod Members
 pub mod Outlines
-pub mod PathMaps
 pub mod Paths
 pub mod Reading
-pub mod SchemaLists
-pub mod SourceColumns
 pub mod Schemas
 pub mod VersionName
 pub mod Writing

@@ -8,9 +8,9 @@ use Rattle.json_reading.specs.Json.{int_member, text_member, items}
 use Rattle.avro_schema.specs.Names.{are_distinct}
 use Rattle.partition_map.specs.Columns.{column_kind}
 use Rattle.partition_map.specs.declared.kind.PartKind.{PartKind}
-use Rattle.schema_map.specs.Ids.{Path}
-use Rattle.schema_map.specs.Iceberg.{iceberg_schema}
-use Rattle.schema_map.specs.IcebergWriting.{iceberg_field_data, iceberg_schema_data}
+use Rattle.schema_map.specs.Paths.{Path}
+use Rattle.schema_iceberg.specs.Iceberg.{iceberg_schema}
+use Rattle.schema_iceberg.specs.IcebergWriting.{iceberg_field_data, iceberg_schema_data}
 use Rattle.schema_map.specs.declared.fault.MapError.{MapError}
 use Rattle.table_history.specs.TypeTree.{ColumnTrees}
 use Rattle.iceberg_metadata.specs.declared.error.MetadataError.{MetadataError}

@@ -5,10 +5,10 @@ use Rattle.std.specs.Ordering.{int_eq}
 use Rattle.lake_basics.specs.declared.limits.TheConstants.{MAX_PARTITION_COLUMNS}
 use Rattle.partition_map.specs.Columns.{column_kind}
 use Rattle.partition_map.specs.declared.kind.PartKind.{PartKind}
-use Rattle.schema_map.specs.Ids.{Path, column_paths}
+use Rattle.schema_map.specs.Paths.{Path, column_paths}
 use Rattle.table_history.specs.TypeTree.{ColumnTrees}
 use Rattle.iceberg_metadata.specs.Schemas.{HeldSchema, HeldUnread}
-use Rattle.iceberg_metadata.specs.declared.schemas.Unread.{Unread}
+use Rattle.iceberg_metadata.specs.declared.unread.Unread.{Unread}
 use Rattle.iceberg_metadata.specs.declared.metadata.Metadata.{Metadata}
 use Rattle.iceberg_metadata.specs.declared.metadata.Spec.{Spec}
 use Rattle.iceberg_metadata.specs.declared.metadata.SpecField.{SpecField}

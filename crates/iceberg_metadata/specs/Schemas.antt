@@ -4,7 +4,7 @@ use Rattle.serde_json.specs.Data.{Data}
 use Rattle.lake_basics.specs.Outcome.{◌>>=◌, with_fault}
 use Rattle.json_reading.specs.Json.{items}
 use Rattle.table_history.specs.TypeTree.{ColumnTrees}
-use Rattle.schema_map.specs.Iceberg.{iceberg_schema}
+use Rattle.schema_iceberg.specs.Iceberg.{iceberg_schema}
 use Rattle.table_history.specs.declared.limit.LimitKind.{LimitKind}
 use Rattle.table_history.specs.declared.limit.LimitKind.TheVariants.{Columns, Depth}
 use Rattle.schema_map.specs.declared.fault.MapError.{MapError}
@@ -12,7 +12,7 @@ use Rattle.schema_map.specs.declared.fault.MapError.TheVariants as map_errors
 use Rattle.iceberg_metadata.specs.declared.error.MetadataError.{MetadataError}
 use Rattle.iceberg_metadata.specs.declared.error.MetadataError.TheVariants.{Memory, FormatVersion, Malformed, SchemaType, Transform, Renamed, PartitionType, Limit}
 use Rattle.iceberg_metadata.specs.declared.outline.Outline.{Outline}
-use Rattle.iceberg_metadata.specs.declared.schemas.Unread.{Unread}
+use Rattle.iceberg_metadata.specs.declared.unread.Unread.{Unread}
 use Rattle.iceberg_metadata.specs.Members.{int_in, list_in}
 use Rattle.iceberg_metadata.specs.Outlines.{schema_outline, field_kinds}
 

@@ -9,8 +9,8 @@ use Rattle.serde_json.specs.Find.{of_integer}
 use Rattle.serde_json.specs.View.{items_of}
 use Rattle.serde_json.specs.Written.{compact_text}
 use Rattle.json_reading.specs.Json.{members_with}
-use Rattle.schema_map.specs.Iceberg.{iceberg_schema}
-use Rattle.schema_map.specs.IcebergWriting.{iceberg_value}
+use Rattle.schema_iceberg.specs.Iceberg.{iceberg_schema}
+use Rattle.schema_iceberg.specs.IcebergWriting.{iceberg_value}
 use Rattle.table_history.specs.First.{NoneOf}
 use Rattle.iceberg_metadata.specs.Grammar.{IsConsistent}
 use Rattle.iceberg_metadata.specs.Reading.{Shows, causes}

@@ -51,4 +51,5 @@ impl<T: Drop> From<AllocFailed<T>> for MetadataError {
     }
 }
 
-pub(crate) const MALFORMED: MetadataError = MetadataError::Malformed;
+/// The text isn't in the grammar of table metadata.
+pub const MALFORMED: MetadataError = MetadataError::Malformed;

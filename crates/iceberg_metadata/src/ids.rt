@@ -8,7 +8,7 @@ use std::alloc::{AllocError, Global};
 use std::collections::BTreeSet;
 
 /// The set of these ids. None where two are one.
-pub(crate) fn id_set(alloc: Global, ids: &[i64]) -> Result<Option<BTreeSet<i64>>, AllocError>
+pub fn id_set(alloc: Global, ids: &[i64]) -> Result<Option<BTreeSet<i64>>, AllocError>
     ensures { IfOk result (λ found. MatchOption found (are_distinct ids.now ≡ false)
         (λ set. (are_distinct ids.now ≡ true) × HoldsIds set ids.now)) }
 {

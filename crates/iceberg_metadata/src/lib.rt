@@ -1,26 +1,21 @@
-//! The metadata of an Iceberg table (Apache Iceberg specification, format version 2, "Table Metadata
-//! and Snapshots"): the names of its versions, its text read and written, and the ancestors of a snapshot.
+//! What the metadata of an Iceberg table is (Apache Iceberg specification, format version 2, "Table
+//! Metadata and Snapshots"): its types, the names of its versions, and what the grammar of its text says.
 #![tactic(auto)]
 
-mod ancestors;
-mod columns;
-mod consistent;
 mod error;
+mod held;
 mod ids;
-mod members;
+mod kind;
 mod metadata;
 mod name;
 mod outline;
-mod partition;
-mod paths;
-mod reading;
-mod schemas;
-mod writing;
+mod unread;
 
-pub use ancestors::ancestry;
-pub use columns::{SourceColumn, default_columns, held_schema};
-pub use error::MetadataError;
+pub use error::{MALFORMED, MetadataError};
+pub use held::{default_fields, held_schema};
+pub use ids::id_set;
+pub use kind::kind_of;
 pub use metadata::{Metadata, Snapshot, Snapshots, Spec, SpecField};
 pub use name::version_of_name;
-pub use reading::read_metadata;
-pub use writing::metadata_text;
+pub use outline::Outline;
+pub use unread::Unread;

@@ -6,7 +6,7 @@ use Rattle.table_history.proofs.RowListLemmas.{Contains-cases, Contains-head, Co
 use Rattle.table_history.specs.declared.row.FileRow.{FileRow}
 use Rattle.iceberg_manifest.specs.ListWriting.{HasContent}
 use Rattle.iceberg_manifest.specs.Lists.{AreEach}
-use Rattle.iceberg_manifest.specs.declared.live.LiveRow.{LiveRow}
+use Rattle.iceberg_live.specs.declared.live.LiveRow.{LiveRow}
 use Rattle.iceberg_manifest.specs.declared.partition.PartColumn.{PartColumn}
 use Rattle.iceberg_table.specs.Kinds.{FitLive, FitRows, FitsColumns}
 use Rattle.iceberg_table.specs.Manifests.{entry_count}

@@ -6,10 +6,11 @@ use Rattle.table_history.proofs.RowListLemmas.{all_at}
 use Rattle.iceberg_manifest.specs.Entry.{EntryData}
 use Rattle.iceberg_manifest.specs.Kinds.{AreOfKinds}
 use Rattle.iceberg_manifest.specs.Lists.{AreEach}
-use Rattle.iceberg_manifest.specs.Live.{IsRowOf, is_live}
-use Rattle.iceberg_manifest.specs.LiveRows.{AreLiveRows}
+use Rattle.iceberg_live.specs.Live.{IsRowOf}
+use Rattle.iceberg_manifest.specs.Entry.{is_live}
+use Rattle.iceberg_live.specs.LiveRows.{AreLiveRows}
 use Rattle.iceberg_manifest.specs.declared.info.ManifestInfo.{ManifestInfo}
-use Rattle.iceberg_manifest.specs.declared.live.LiveRow.{LiveRow}
+use Rattle.iceberg_live.specs.declared.live.LiveRow.{LiveRow}
 use Rattle.iceberg_manifest.specs.declared.partition.PartColumn.{PartColumn}
 use Rattle.iceberg_manifest.proofs.KindLaws.{entries_kinds}
 use Rattle.iceberg_table.specs.Kinds.{FitLive, FitsColumns}

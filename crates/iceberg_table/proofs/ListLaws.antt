@@ -9,7 +9,7 @@ use Rattle.avro_value.specs.declared.api.TheConstants.{MAX_VALUES}
 use Rattle.iceberg_manifest.specs.Containers.{IsRefusedBy}
 use Rattle.iceberg_manifest.specs.Lists.{AreEach}
 use Rattle.iceberg_manifest.specs.Location.{front_of}
-use Rattle.iceberg_manifest.specs.MetadataPaths.{IsMetadataPath}
+use Rattle.iceberg_live.specs.MetadataPaths.{IsMetadataPath}
 use Rattle.iceberg_manifest.specs.Scans.{infos_of}
 use Rattle.iceberg_manifest.specs.declared.error.ManifestError.{ManifestError}
 use Rattle.iceberg_manifest.specs.declared.error.ManifestError.TheVariants as manifest

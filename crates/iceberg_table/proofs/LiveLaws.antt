@@ -9,13 +9,14 @@ use Rattle.table_history.specs.Row.{Row}
 use Rattle.table_history.proofs.RowListLemmas.{Contains-cases, Contains-filter, Contains-head, Contains-none, Contains-tail}
 use Rattle.iceberg_manifest.specs.Entry.{EntryData}
 use Rattle.iceberg_manifest.specs.Location.{front_of}
-use Rattle.iceberg_manifest.specs.Live.{IsRowOf, is_live}
+use Rattle.iceberg_live.specs.Live.{IsRowOf}
+use Rattle.iceberg_manifest.specs.Entry.{is_live}
 use Rattle.iceberg_manifest.specs.declared.info.ManifestInfo.{ManifestInfo}
-use Rattle.iceberg_manifest.specs.declared.live.LiveRow.{LiveRow}
+use Rattle.iceberg_live.specs.declared.live.LiveRow.{LiveRow}
 use Rattle.iceberg_manifest.specs.declared.partition.PartColumn.{PartColumn}
-use Rattle.iceberg_metadata.specs.SourceColumns.{columns_of}
+use Rattle.iceberg_columns.specs.SourceColumns.{columns_of}
 use Rattle.iceberg_metadata.specs.Schemas.{HeldSchema}
-use Rattle.iceberg_metadata.specs.declared.columns.SourceColumn.{SourceColumn}
+use Rattle.iceberg_columns.specs.declared.columns.SourceColumn.{SourceColumn}
 use Rattle.iceberg_metadata.specs.declared.error.MetadataError.{MetadataError}
 use Rattle.iceberg_metadata.specs.declared.metadata.Metadata.{Metadata}
 use Rattle.iceberg_metadata.specs.declared.metadata.Snapshot.{Snapshot}

@@ -7,14 +7,14 @@ use Rattle.lake_store.specs.Disk.{Files}
 use Rattle.avro_value.specs.declared.api.TheConstants.{MAX_VALUES}
 use Rattle.iceberg_manifest.specs.Containers.{IsRefusedBy}
 use Rattle.iceberg_manifest.specs.Entry.{EntryData}
-use Rattle.iceberg_manifest.specs.LiveRows.{AreLiveRows}
+use Rattle.iceberg_live.specs.LiveRows.{AreLiveRows}
 use Rattle.iceberg_manifest.specs.Scans.{entries_of}
 use Rattle.iceberg_manifest.specs.declared.error.ManifestError.{ManifestError}
 use Rattle.iceberg_manifest.specs.declared.error.ManifestError.TheVariants as manifest
-use Rattle.iceberg_manifest.specs.declared.live.LiveRow.{LiveRow}
+use Rattle.iceberg_live.specs.declared.live.LiveRow.{LiveRow}
 use Rattle.iceberg_manifest.specs.declared.partition.PartColumn.{PartColumn}
 use Rattle.table_history.specs.First.{IsFirst, NoneOf}
-use Rattle.iceberg_metadata.specs.Ancestry.{FormsCycle}
+use Rattle.iceberg_ancestry.specs.Ancestry.{FormsCycle}
 use Rattle.iceberg_metadata.specs.Reading.{HasCause, IsRead, causes}
 use Rattle.iceberg_metadata.specs.declared.metadata.Metadata.{Metadata}
 use Rattle.iceberg_metadata.specs.declared.error.MetadataError.{MetadataError}

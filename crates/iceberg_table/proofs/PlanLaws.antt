@@ -13,18 +13,18 @@ use Rattle.lake_basics.specs.Outcome.{◌>>=◌, each, required}
 use Rattle.lake_basics.specs.declared.limits.TheConstants.{MAX_PARTITION_COLUMNS}
 use Rattle.partition_map.specs.Columns.{column_kind}
 use Rattle.partition_map.specs.declared.kind.PartKind.{PartKind}
-use Rattle.schema_map.specs.Ids.{Path}
+use Rattle.schema_map.specs.Paths.{Path}
 use Rattle.schema_map.specs.IcebergFits.{FitsIceberg}
-use Rattle.schema_map.proofs.IcebergSound.{given_fits}
+use Rattle.schema_iceberg.proofs.IcebergSound.{given_fits}
 use Rattle.table_history.specs.Sound.{IsSound}
 use Rattle.table_history.specs.SchemaSize.{IsWithinLimits}
 use Rattle.table_history.specs.TypeTree.{ColumnTrees}
 use Rattle.table_history.proofs.RowListLemmas.{Contains-cases, Contains-head, Contains-none, Contains-tail, all_at}
 use Rattle.iceberg_metadata.specs.Paths.{HasOtherPartition, IsRenamed, PathId, all_path_ids, current_kinds, default_fields, held_schema, held_unread, kinds_of, path_ids, path_of, sources}
 use Rattle.iceberg_metadata.specs.Schemas.{HeldSchema}
-use Rattle.iceberg_metadata.specs.SourceColumns.{column_of, columns_of, top_column}
+use Rattle.iceberg_columns.specs.SourceColumns.{column_of, columns_of, top_column}
 use Rattle.iceberg_metadata.specs.Writing.{CanBeHeld, IsWritable}
-use Rattle.iceberg_metadata.specs.declared.columns.SourceColumn.{SourceColumn}
+use Rattle.iceberg_columns.specs.declared.columns.SourceColumn.{SourceColumn}
 use Rattle.iceberg_metadata.specs.declared.error.MetadataError.{MetadataError}
 use Rattle.iceberg_metadata.specs.declared.error.MetadataError.TheVariants.{PartitionType}
 use Rattle.iceberg_metadata.specs.declared.metadata.Metadata.{Metadata}

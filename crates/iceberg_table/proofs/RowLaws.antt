@@ -20,7 +20,7 @@ use Rattle.table_history.specs.declared.table.Table.{Table}
 use Rattle.table_history.proofs.Laws.{one_row_fits}
 use Rattle.table_history.proofs.RowListLemmas.{Contains-head, Contains-none, Contains-one, Contains-paths, all_at}
 use Rattle.table_history.proofs.TableLemmas.{Contains-paths_cases}
-use Rattle.iceberg_manifest.specs.declared.live.LiveRow.{LiveRow}
+use Rattle.iceberg_live.specs.declared.live.LiveRow.{LiveRow}
 use Rattle.iceberg_table.specs.Tables.{IsTableOfRows, rows_in, rows_of}
 use Rattle.iceberg_table.specs.declared.manifest.Manifest.{Manifest}
 

@@ -20,7 +20,7 @@ use Rattle.table_history.proofs.RowListLemmas.{Contains-cases, Contains-head, Co
 use Rattle.table_history.proofs.Laws.{same_rows_length}
 use Rattle.iceberg_manifest.specs.Kinds.{AreOfKinds}
 use Rattle.iceberg_manifest.specs.Lists.{AreEach}
-use Rattle.iceberg_metadata.specs.declared.columns.SourceColumn.{SourceColumn}
+use Rattle.iceberg_columns.specs.declared.columns.SourceColumn.{SourceColumn}
 use Rattle.iceberg_metadata.specs.declared.metadata.Metadata.{Metadata}
 use Rattle.iceberg_metadata.specs.declared.metadata.Snapshot.{Snapshot}
 use Rattle.iceberg_table.specs.Errors.{IsRefusal}

@@ -4,7 +4,7 @@ use Rattle.std.specs.FinMap as map
 use Rattle.lake_basics.specs.declared.limits.TheConstants.{MAX_FILE_BYTES}
 use Rattle.lake_store.specs.Disk.{Files}
 use Rattle.table_history.specs.First.{NoneOf}
-use Rattle.iceberg_metadata.specs.Ancestry.{FormsCycle}
+use Rattle.iceberg_ancestry.specs.Ancestry.{FormsCycle}
 use Rattle.iceberg_metadata.specs.Reading.{HasCause, IsRead, causes}
 use Rattle.iceberg_metadata.specs.declared.metadata.Metadata.{Metadata}
 use Rattle.iceberg_table.specs.Folder.{version_path}

@@ -3,7 +3,7 @@ use Rattle.std.specs.Prelude.{List, Contains}
 use Rattle.table_history.specs.Path.{IsPath}
 use Rattle.table_history.specs.Row.{Row}
 use Rattle.iceberg_manifest.specs.Kinds.{AreOfKinds}
-use Rattle.iceberg_manifest.specs.declared.live.LiveRow.{LiveRow}
+use Rattle.iceberg_live.specs.declared.live.LiveRow.{LiveRow}
 use Rattle.iceberg_manifest.specs.declared.partition.PartColumn.{PartColumn}
 
 -- The row has a path, and values for the columns.

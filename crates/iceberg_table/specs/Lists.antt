@@ -7,7 +7,7 @@ use Rattle.table_history.specs.declared.feature.Feature.TheVariants as feature
 use Rattle.iceberg_manifest.specs.Containers.{StandsFor, IsRefusedBy}
 use Rattle.iceberg_manifest.specs.ListWriting.{HasContent}
 use Rattle.iceberg_manifest.specs.Lists.{AreEach}
-use Rattle.iceberg_manifest.specs.MetadataPaths.{IsMetadataPath}
+use Rattle.iceberg_live.specs.MetadataPaths.{IsMetadataPath}
 use Rattle.iceberg_manifest.specs.Scans.{infos_of}
 use Rattle.iceberg_manifest.specs.declared.error.ManifestError.{ManifestError}
 use Rattle.iceberg_manifest.specs.declared.info.ManifestInfo.{ManifestInfo}

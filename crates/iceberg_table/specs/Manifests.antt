@@ -8,10 +8,10 @@ use Rattle.table_history.specs.Rows.{HasDistinctPaths}
 use Rattle.table_history.specs.declared.limit.LimitKind.TheVariants.{Actions}
 use Rattle.iceberg_manifest.specs.Containers.{StandsFor, IsRefusedBy}
 use Rattle.iceberg_manifest.specs.Entry.{EntryData}
-use Rattle.iceberg_manifest.specs.LiveRows.{AreLiveRows, IsFirstFault}
+use Rattle.iceberg_live.specs.LiveRows.{AreLiveRows, IsFirstFault}
 use Rattle.iceberg_manifest.specs.Scans.{entries_of}
 use Rattle.iceberg_manifest.specs.declared.error.ManifestError.{ManifestError}
-use Rattle.iceberg_manifest.specs.declared.live.LiveRow.{LiveRow}
+use Rattle.iceberg_live.specs.declared.live.LiveRow.{LiveRow}
 use Rattle.iceberg_manifest.specs.declared.partition.PartColumn.{PartColumn}
 use Rattle.iceberg_table.specs.Errors.{IsFileFault, IsTold, manifest_fault}
 use Rattle.iceberg_table.specs.Files.{HoldsFile}

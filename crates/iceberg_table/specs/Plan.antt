@@ -9,13 +9,13 @@ use Rattle.table_history.specs.declared.feature.Feature.TheVariants as feature
 use Rattle.partition_map.specs.Columns.{column_kind}
 use Rattle.table_history.specs.SchemaSize.{IsWithinLimits}
 use Rattle.table_history.specs.Sound.{IsSound}
-use Rattle.iceberg_manifest.specs.MetadataPaths.{IsMetadataPath, HasPathFault}
+use Rattle.iceberg_live.specs.MetadataPaths.{IsMetadataPath, HasPathFault}
 use Rattle.iceberg_manifest.specs.declared.error.ManifestError.{ManifestError}
 use Rattle.iceberg_manifest.specs.declared.partition.PartColumn.{PartColumn}
 use Rattle.iceberg_metadata.specs.Paths.{held_schema}
 use Rattle.iceberg_metadata.specs.Schemas.{HeldSchema}
-use Rattle.iceberg_metadata.specs.SourceColumns.{columns_of}
-use Rattle.iceberg_metadata.specs.declared.columns.SourceColumn.{SourceColumn}
+use Rattle.iceberg_columns.specs.SourceColumns.{columns_of}
+use Rattle.iceberg_columns.specs.declared.columns.SourceColumn.{SourceColumn}
 use Rattle.iceberg_metadata.specs.declared.error.MetadataError.{MetadataError}
 use Rattle.iceberg_metadata.specs.declared.metadata.Metadata.{Metadata}
 use Rattle.iceberg_metadata.specs.declared.metadata.Snapshot.{Snapshot}

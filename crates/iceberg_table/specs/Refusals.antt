@@ -5,7 +5,7 @@ use Rattle.lake_basics.specs.declared.outcome.ReadError.TheVariants as read
 use Rattle.lake_store.specs.Disk.{Files, names_in}
 use Rattle.table_history.specs.First.{IsFirst, NoneOf}
 use Rattle.iceberg_manifest.specs.Lists.{AreEach}
-use Rattle.iceberg_metadata.specs.Ancestry.{FormsCycle}
+use Rattle.iceberg_ancestry.specs.Ancestry.{FormsCycle}
 use Rattle.iceberg_metadata.specs.Reading.{HasCause, IsRead, causes}
 use Rattle.iceberg_metadata.specs.declared.error.MetadataError.{MetadataError}
 use Rattle.iceberg_metadata.specs.declared.metadata.Metadata.{Metadata}

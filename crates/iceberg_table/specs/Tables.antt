@@ -15,7 +15,7 @@ use Rattle.table_history.specs.declared.feature.Feature.TheVariants as feature
 use Rattle.table_history.specs.declared.limit.LimitKind.TheVariants.{LiveFiles}
 use Rattle.table_history.specs.declared.table.Table.{Table}
 use Rattle.iceberg_manifest.specs.ListWriting.{HasContent}
-use Rattle.iceberg_manifest.specs.declared.live.LiveRow.{LiveRow}
+use Rattle.iceberg_live.specs.declared.live.LiveRow.{LiveRow}
 use Rattle.iceberg_table.specs.declared.error.Fault.{Fault}
 use Rattle.iceberg_table.specs.declared.error.Fault.TheVariants as fault
 use Rattle.iceberg_table.specs.declared.manifest.Manifest.{Manifest}

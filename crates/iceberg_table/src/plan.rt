@@ -2,14 +2,16 @@
 
 ghost use Rattle.std.specs.Prelude.{◌≡◌, Ok, Err, IfErr, IfOk};
 ghost use Rattle.lake_basics.specs.declared.outcome.ReadError.TheVariants as read;
-ghost use Rattle.iceberg_manifest.specs.MetadataPaths.{IsMetadataPath};
-ghost use Rattle.iceberg_metadata.specs.SourceColumns.{columns_of};
+ghost use Rattle.iceberg_live.specs.MetadataPaths.{IsMetadataPath};
+ghost use Rattle.iceberg_columns.specs.SourceColumns.{columns_of};
 ghost use Rattle.iceberg_table.specs.Errors.{IsFault};
 ghost use Rattle.iceberg_table.specs.Plan.{IsPlanFault, IsPlanOf, ShowsColumns, ShowsPath, names_of, part_columns, snapshot_schema};
 
 use crate::error::{Fault, manifest_fault, metadata_fault, unsupported};
-use iceberg_manifest::{PartColumn, metadata_path};
-use iceberg_metadata::{Metadata, Snapshot, SourceColumn, default_columns, held_schema};
+use iceberg_columns::{SourceColumn, default_columns};
+use iceberg_live::metadata_path;
+use iceberg_manifest::PartColumn;
+use iceberg_metadata::{Metadata, Snapshot, held_schema};
 use lake_basics::{Items, ReadError, Text};
 use schema_map::Ids;
 use std::alloc::{AllocError, Global};

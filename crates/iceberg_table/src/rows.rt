@@ -10,7 +10,7 @@ ghost use Rattle.iceberg_table.specs.declared.error.IcebergError.TheVariants.{St
 
 use crate::error::{Fault, IcebergError, unsupported};
 use crate::file::refusal;
-use iceberg_manifest::LiveRow;
+use iceberg_live::LiveRow;
 use lake_basics::{Items, ReadError, Text};
 use std::alloc::{AllocError, Global};
 use table_history::{Change, Feature, FileRow, FileRows, Schema, Table};

@@ -3,7 +3,7 @@
 ghost use Rattle.std.specs.Prelude.{◌≡◌, IfErr, IfOk, IsErrOf, OnOk};
 ghost use Rattle.lake_store.specs.Runs.{FailsBy, IsUncontestedBy, OnlyReads};
 ghost use Rattle.table_history.specs.First.{NoneOf};
-ghost use Rattle.iceberg_metadata.specs.Ancestry.{FormsCycle};
+ghost use Rattle.iceberg_ancestry.specs.Ancestry.{FormsCycle};
 ghost use Rattle.iceberg_metadata.specs.Reading.{HasCause, IsRead, causes};
 ghost use Rattle.iceberg_metadata.specs.Writing.{IsWritable};
 ghost use Rattle.iceberg_table.specs.Errors.{IsFault, IsFileFault, IsRefusal};
@@ -14,7 +14,9 @@ ghost use Rattle.iceberg_table.specs.declared.error.IcebergError.TheVariants.{St
 
 use crate::error::{Fault, IcebergError, metadata_fault};
 use crate::file::{read_file, refusal};
-use iceberg_metadata::{Metadata, ancestry, read_metadata};
+use iceberg_ancestry::ancestry;
+use iceberg_metadata::Metadata;
+use iceberg_metadata_reading::read_metadata;
 use lake_basics::{ReadError, Text};
 use lake_store::Store;
 use std::alloc::{AllocError, Global};

@@ -7,7 +7,7 @@ use Rattle.std.proofs.lemmas.List.Elements.{Contains-append_cases, Contains-appe
 use Rattle.std.proofs.lemmas.List.Sums.{count_by-le-length, length-filter}
 use Rattle.table_history.proofs.RowListLemmas.{Contains-none, Contains-one}
 use Rattle.iceberg_manifest.specs.Entry.{EntryData}
-use Rattle.iceberg_manifest.specs.Live.{is_live}
+use Rattle.iceberg_manifest.specs.Entry.{is_live}
 use Rattle.iceberg_version.specs.Manifests.{IsLeast, IsLeastOf, if_any, live_sequences, of_status, sequence_in}
 
 pub few_of_status : (status i : ℕ) (entries : List EntryData) → length (of_status status (take i entries)) ≤ length entries

@@ -5,8 +5,9 @@ use Rattle.serde_json.specs.View.{items_of}
 use Rattle.serde_json.specs.Written.{has_float, items_have_float}
 use Rattle.table_history.specs.TypeTree as tree
 use Rattle.table_history.specs.TypeTree.{TypeTree, ColumnTrees, no_columns, column}
-use Rattle.schema_map.specs.IcebergWriting.{first_id, iceberg_data, iceberg_fields, iceberg_value, ids_behind}
-use Rattle.schema_map.proofs.Flat.{both_flat, flat_id}
+use Rattle.schema_iceberg.specs.IcebergWriting.{first_id, iceberg_data, iceberg_fields, iceberg_value, ids_behind}
+use Rattle.schema_map.proofs.Entries.{both_flat}
+use Rattle.schema_iceberg.proofs.FlatMapping.{flat_id}
 use Rattle.iceberg_metadata.specs.Writing.{spec_field_data}
 use Rattle.iceberg_metadata.specs.declared.metadata.SpecField.{SpecField}
 

@@ -10,13 +10,14 @@ use Rattle.std.proofs.lemmas.Int.{fold-int_max_bounds, ints}
 use Rattle.std.proofs.lemmas.List.{append-nil, length-append}
 use Rattle.std.proofs.lemmas.List.Elements.{All-contains, Contains-append_cases, Contains-append_left, Contains-append_right}
 use Rattle.schema_map.specs.IcebergFits.{FitsIceberg}
-use Rattle.schema_map.specs.Ids.{Path, column_paths, ids_for, known_id}
+use Rattle.schema_map.specs.Paths.{Path, column_paths, known_id}
+use Rattle.iceberg_field_ids.specs.Ids.{ids_for}
 use Rattle.schema_map.specs.Image.{wide_columns}
-use Rattle.schema_map.specs.Iceberg.{iceberg_schema}
-use Rattle.schema_map.proofs.IcebergGiven.{column_paths_wide}
-use Rattle.schema_map.proofs.IcebergSound.{given_fits}
-use Rattle.schema_map.proofs.IcebergWritten.{iceberg_reads_back}
-use Rattle.schema_map.proofs.IdsGiven.{are_given}
+use Rattle.schema_iceberg.specs.Iceberg.{iceberg_schema}
+use Rattle.iceberg_field_ids.proofs.IcebergGiven.{column_paths_wide}
+use Rattle.schema_iceberg.proofs.IcebergSound.{given_fits}
+use Rattle.schema_iceberg.proofs.IcebergWritten.{iceberg_reads_back}
+use Rattle.iceberg_field_ids.proofs.IdsGiven.{are_given}
 use Rattle.schema_map.proofs.ImageTwice.{image_twice}
 use Rattle.table_history.specs.Sound.{IsSound}
 use Rattle.table_history.specs.TypeTree.{ColumnTrees}

@@ -16,8 +16,10 @@ use Rattle.table_history.specs.declared.limit.LimitKind.TheVariants.{Versions}
 use Rattle.table_history.specs.Sound.{is_named, have_own_names, IsSoundType, AreSound, IsSound}
 use Rattle.table_history.proofs.RowListLemmas.{Contains-cases, Contains-head, Contains-none, Contains-tail}
 use Rattle.lake_basics.specs.Outcome.{◌>>=◌}
-use Rattle.schema_map.specs.Ids.{Path, below, inner_paths, column_paths, known_id, next_id, id_step, ids_for}
-use Rattle.schema_map.specs.OwnIds.{IsAmong, AreDistinct}
+use Rattle.schema_map.specs.Paths.{Path, below, inner_paths, column_paths, known_id}
+use Rattle.iceberg_field_ids.specs.Ids.{next_id, id_step, ids_for}
+use Rattle.schema_map.specs.Among.{IsAmong}
+use Rattle.iceberg_field_ids.specs.OwnIds.{AreDistinct}
 use Rattle.schema_map.specs.declared.fault.MapError.TheVariants.{Limit}
 use Rattle.schema_map.proofs.Bound.{bound}
 

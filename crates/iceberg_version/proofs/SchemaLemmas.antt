@@ -10,7 +10,8 @@ use Rattle.table_history.specs.TypeEqLaws.{columns_eq-Decides}
 use Rattle.table_history.specs.TypeTree.{ColumnTrees}
 use Rattle.std.specs.Int.{int_max}
 use Rattle.schema_map.specs.IcebergFits.{FitsIceberg}
-use Rattle.schema_map.specs.Ids.{column_paths, ids_for}
+use Rattle.schema_map.specs.Paths.{column_paths}
+use Rattle.iceberg_field_ids.specs.Ids.{ids_for}
 use Rattle.schema_map.specs.Image.{wide_columns}
 use Rattle.iceberg_metadata.specs.Paths.{current_schema, held_schema}
 use Rattle.iceberg_metadata.specs.Schemas.{HeldSchema}

@@ -10,7 +10,7 @@ use Rattle.std.proofs.lemmas.Bool.Decides.{Decides-int_eq}
 use Rattle.std.proofs.lemmas.Map.Keys.{IsDistinct-cons, IsDistinct-head, IsDistinct-tail}
 use Rattle.std.proofs.lemmas.Slice.Eq.{bytes_eq-Decides, slice_eq-Decides}
 use Rattle.partition_map.specs.Columns.{column_kind}
-use Rattle.schema_map.specs.Ids.{Path, known_id}
+use Rattle.schema_map.specs.Paths.{Path, known_id}
 use Rattle.table_history.proofs.RowListLemmas.{Contains-cases, Contains-head, Contains-none, Contains-tail, all_at}
 use Rattle.iceberg_metadata.specs.Paths.{IsRenamed, PathId, path_ids, path_of, source_kind, sources, top_kind}
 use Rattle.iceberg_metadata.specs.Schemas.{HeldSchema}

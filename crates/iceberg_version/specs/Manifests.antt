@@ -7,7 +7,7 @@ use Rattle.table_history.specs.Row.{Row}
 use Rattle.table_history.specs.Rows.{IsInPathOrder, SameRows}
 use Rattle.table_history.specs.declared.table.Change.{Change}
 use Rattle.iceberg_manifest.specs.Entry.{EntryData}
-use Rattle.iceberg_manifest.specs.Live.{is_live}
+use Rattle.iceberg_manifest.specs.Entry.{is_live}
 use Rattle.iceberg_manifest.specs.declared.info.ManifestInfo.{ManifestInfo}
 use Rattle.file_links.specs.declared.slots.Held.{Held}
 use Rattle.iceberg_table.specs.Folder.{path_of}

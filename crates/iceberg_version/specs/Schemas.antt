@@ -2,7 +2,8 @@
 use Rattle.std.specs.Prelude.{◌≡◌, ◌⊎◌, ℕ, ◌+◌, ℤ, pos, List, [], ◌∷◌, ◌++◌, length, fold, Some, Ok, codes}
 use Rattle.std.specs.Int.{int_max}
 use Rattle.std.specs.List.{flat_map}
-use Rattle.schema_map.specs.Ids.{column_paths, PassesGreatest, ids_for, known_id}
+use Rattle.schema_map.specs.Paths.{column_paths, known_id}
+use Rattle.iceberg_field_ids.specs.Ids.{PassesGreatest, ids_for}
 use Rattle.schema_map.specs.Image.{wide_columns}
 use Rattle.table_history.specs.TypeTree.{ColumnTrees}
 use Rattle.iceberg_metadata.specs.Paths.{PathId, current_schema, path_ids}

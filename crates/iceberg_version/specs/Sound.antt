@@ -9,7 +9,7 @@ use Rattle.table_history.specs.Row.{Row}
 use Rattle.table_history.specs.TypeEq.{columns_eq}
 use Rattle.table_history.specs.TypeTree.{ColumnTrees}
 use Rattle.schema_map.specs.Image.{wide_columns}
-use Rattle.schema_map.specs.Iceberg.{iceberg_schema}
+use Rattle.schema_iceberg.specs.Iceberg.{iceberg_schema}
 use Rattle.schema_map.specs.declared.fault.MapError.{MapError}
 use Rattle.file_links.specs.Rows.{Entry, OwnedRows, Owns, rows_of}
 use Rattle.iceberg_manifest.specs.declared.info.ManifestInfo.{ManifestInfo}

@@ -7,9 +7,10 @@ use Rattle.serde_json.specs.Written.{compact_text}
 use Rattle.lake_basics.specs.declared.limits.TheConstants.{MAX_AVRO_VALUES, MAX_FILE_BYTES, MAX_ICEBERG_VERSION}
 use Rattle.avro_container.specs.Writing.{IsWritten as IsContainerWritten}
 use Rattle.partition_map.specs.Columns.{column_kind}
-use Rattle.schema_map.specs.Ids.{PassesGreatest, column_paths}
+use Rattle.iceberg_field_ids.specs.Ids.{PassesGreatest}
+use Rattle.schema_map.specs.Paths.{column_paths}
 use Rattle.schema_map.specs.Image.{wide_columns}
-use Rattle.schema_map.specs.NameMapping.{name_mapping_text}
+use Rattle.schema_iceberg.specs.NameMapping.{name_mapping_text}
 use Rattle.table_history.specs.Row.{Row}
 use Rattle.table_history.specs.TypeTree.{ColumnTrees}
 use Rattle.table_history.specs.declared.limit.LimitKind.{LimitKind}

@@ -1,7 +1,7 @@
 //! The rows of new manifests in their list.
 
 ghost use Rattle.std.specs.Prelude.{◌≡◌, ◌≤◌, ◌∷◌, ◌++◌, [], ℤ, IfOk, List, Some, length};
-ghost use Rattle.iceberg_manifest.specs.Live.{is_live};
+ghost use Rattle.iceberg_manifest.specs.Entry.{is_live};
 ghost use Rattle.lake_basics.specs.declared.limits.TheConstants.{MAX_LIVE_FILES};
 ghost use Rattle.iceberg_version.specs.Manifests.{IsInfoOf, IsLeast, IsLeastOf, files_of as count_of_files, if_any, live_sequences, records_of as count_of_records, sequence_in as sequence_of};
 

@@ -5,7 +5,7 @@ ghost use Rattle.std.specs.Cmp.Lexicographic.{pointwise};
 ghost use Rattle.std.specs.Str.{bytes_eq};
 ghost use Rattle.lake_basics.specs.declared.limits.TheConstants.{MAX_PARTITION_COLUMNS};
 ghost use Rattle.iceberg_metadata.specs.Paths.{path_ids as held_pairs};
-ghost use Rattle.schema_map.specs.Ids.{known_id};
+ghost use Rattle.schema_map.specs.Paths.{known_id};
 ghost use Rattle.iceberg_version.specs.Schemas.{AreSpecFields, FIRST_PARTITION_ID as FIRST_ID, IsSpecField};
 
 use crate::schemas::path_ids;

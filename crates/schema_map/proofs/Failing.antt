@@ -9,7 +9,7 @@ use Rattle.schema_map.specs.declared.fault.Fault.TheVariants.{BadSchema}
 use Rattle.schema_map.specs.declared.fault.MapError.{MapError}
 use Rattle.lake_basics.specs.Outcome.{◌>>=◌, required, each}
 use Rattle.schema_map.specs.Errors.{in_column, error_in}
-use Rattle.schema_map.specs.OwnIds.{IsAmong}
+use Rattle.schema_map.specs.Among.{IsAmong}
 use mathlib.Core.Logic.{inl, inr}
 
 -- The first step failed, or the second did behind it.

@@ -1,7 +1,7 @@
 -- What the JSON spellings of a schema share.
 use Rattle.std.specs.Prelude.{ℕ, List, [], Option, Some, None, unwrap_or, Result, Ok, Err, if◌then◌else◌, codes}
 use Rattle.std.specs.Str.{bytes_eq}
-use Rattle.serde_json.specs.Data.{Data, Items}
+use Rattle.serde_json.specs.Data.{Data, string, object, Items, no_members, member}
 use Rattle.lake_basics.specs.Outcome.{◌>>=◌, required}
 use Rattle.json_reading.specs.Json.{text_member, list_member}
 use Rattle.table_history.specs.TypeTree.{TypeTree, decimal, ColumnTrees}
@@ -31,3 +31,7 @@ schema_fields d = do
 -- columns with names of their own, and not too many
 abbrev pub schema_of : ColumnTrees → Result ColumnTrees MapError
 schema_of columns = in_column [] (columns_with_own_names columns) >>= schema_of_few_columns
+
+-- the JSON that is written for a struct of these fields
+abbrev pub struct_data : Data → Data
+struct_data fields = object (member (codes "fields") fields (member (codes "type") (string (codes "struct")) no_members))

@@ -7,27 +7,22 @@ use lake_basics::{ReadError, Text};
 use std::alloc::{AllocError, AllocFailed};
 use table_history::LimitKind;
 
-/// What is wrong with the JSON of a type.
+/// What is wrong with the JSON of a type, before the column that has it is named.
 #[derive(Clone, Copy, Debug, PartialEq, Eq)]
-pub(crate) enum Fault {
+pub enum Fault {
     BadSchema,
     SchemaType,
     Depth,
 }
 
-/// What is wrong with an Avro type: it is none of a column.
-#[derive(Clone, Copy, Debug, PartialEq, Eq)]
-pub(crate) enum TypeFault {
-    NoRow,
-}
+/// Not in the grammar.
+pub const BAD_SCHEMA: ReadError<Fault> = ReadError::Fault(Fault::BadSchema);
 
-pub(crate) const NO_ROW: ReadError<TypeFault> = ReadError::Fault(TypeFault::NoRow);
+/// A type without a row in the table of types.
+pub const SCHEMA_TYPE: ReadError<Fault> = ReadError::Fault(Fault::SchemaType);
 
-pub(crate) const BAD_SCHEMA: ReadError<Fault> = ReadError::Fault(Fault::BadSchema);
-
-pub(crate) const SCHEMA_TYPE: ReadError<Fault> = ReadError::Fault(Fault::SchemaType);
-
-pub(crate) const DEPTH: ReadError<Fault> = ReadError::Fault(Fault::Depth);
+/// Too many levels.
+pub const DEPTH: ReadError<Fault> = ReadError::Fault(Fault::Depth);
 
 /// Why a schema was not read or written. A type or a name at fault is told by the top-level column
 /// that has it.

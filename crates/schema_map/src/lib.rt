@@ -1,31 +1,19 @@
-//! One schema in the spellings of three table formats: Delta's schema text, Iceberg's schema with its
-//! field ids, and the Avro schema that Hudi keeps.
+//! What the spellings of a schema in Delta, Avro and Iceberg share: why one isn't read or written, decimal
+//! types, limits, names, column paths, and the Image of a schema in a format.
 #![tactic(auto)]
 
-mod avro;
-mod avro_names;
-mod avro_writing;
 mod decimal;
-mod delta;
-mod delta_writing;
 mod fault;
-mod iceberg;
-mod iceberg_writing;
-mod ids;
 mod limits;
-mod mapping;
 mod member;
 mod names;
+mod paths;
 mod shared;
-mod word;
 
-pub use avro::{from_avro, read_avro};
-pub use avro_writing::to_avro;
-pub use delta::from_delta;
-pub use delta_writing::to_delta;
-pub use fault::MapError;
-pub use iceberg::{Ids, from_iceberg};
-pub use iceberg_writing::iceberg_json;
-pub use ids::{ColumnPath, KnownIds, column_paths, to_iceberg};
-pub use limits::schema_limit;
-pub use mapping::name_mapping;
+pub use decimal::{decimal_in_range, decimal_of};
+pub use fault::{BAD_SCHEMA, DEPTH, Fault, MapError, SCHEMA_TYPE};
+pub use limits::{MAX_TYPE_LEVELS, schema_limit};
+pub use member::{required_bool, required_int, required_list, required_member, required_text};
+pub use names::have_own_names;
+pub use paths::{ColumnPath, Ids, column_paths};
+pub use shared::{error_in, json_of, name_of, schema_fields, schema_of, struct_json};

@@ -9,7 +9,7 @@ use lake_basics::limits::{MAX_COLUMNS, MAX_SCHEMA_LEVELS};
 use table_history::{Column, ColumnType, LimitKind, Schema};
 
 /// The most levels of a column's type: the schema is a level of its own.
-pub(crate) const MAX_TYPE_LEVELS: u64 = MAX_SCHEMA_LEVELS - 1;
+pub const MAX_TYPE_LEVELS: u64 = MAX_SCHEMA_LEVELS - 1;
 
 /// What is left of the room behind the columns inside a type.
 #[cycle(count)]

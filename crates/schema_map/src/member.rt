@@ -12,41 +12,39 @@ use json_reading::{bool_of, int_of, list_of, text_of};
 use lake_basics::ReadError;
 use serde_json::Value;
 
-pub(crate) fn required_text<'a>(value: &'a Value, name: &str) -> Result<&'a str, ReadError<Fault>>
+/// The member of this name, which must be a text. `BadSchema` comes where it isn't.
+pub fn required_text<'a>(value: &'a Value, name: &str) -> Result<&'a str, ReadError<Fault>>
     ensures { Gives (λ s. s.now) result
         (required BadSchema (text_member name.now (view value.now))) }
 {
     text_of(value, name).ok_or(BAD_SCHEMA)
 }
 
-pub(crate) fn required_bool(value: &Value, name: &str) -> Result<bool, ReadError<Fault>>
+/// The member of this name, which must be true or false. `BadSchema` comes where it isn't.
+pub fn required_bool(value: &Value, name: &str) -> Result<bool, ReadError<Fault>>
     ensures { Gives (λ b. b) result
         (required BadSchema (bool_member name.now (view value.now))) }
 {
     bool_of(value, name).ok_or(BAD_SCHEMA)
 }
 
-/// The member, which must be a whole number of 32 bits.
-pub(crate) fn required_int(value: &Value, name: &str) -> Result<i32, ReadError<Fault>>
+/// The member of this name, which must be a whole number of 32 bits. `BadSchema` comes where it isn't.
+pub fn required_int(value: &Value, name: &str) -> Result<i32, ReadError<Fault>>
     ensures { Gives (λ n. n) result (required BadSchema (int_member name.now (view value.now))) }
 {
     int_of(value, name).ok_or(BAD_SCHEMA)
 }
 
-pub(crate) fn required_list<'a>(
-    value: &'a Value,
-    name: &str,
-) -> Result<&'a Vec<Value>, ReadError<Fault>>
+/// The member of this name, which must be a list. `BadSchema` comes where it isn't.
+pub fn required_list<'a>(value: &'a Value, name: &str) -> Result<&'a Vec<Value>, ReadError<Fault>>
     ensures { Gives (λ v. items_view v.now.items) result
         (required BadSchema (list_member name.now (view value.now))) }
 {
     list_of(value, name).ok_or(BAD_SCHEMA)
 }
 
-pub(crate) fn required_member<'a>(
-    value: &'a Value,
-    name: &str,
-) -> Result<&'a Value, ReadError<Fault>>
+/// The member of this name, of any kind. `BadSchema` comes where it isn't there.
+pub fn required_member<'a>(value: &'a Value, name: &str) -> Result<&'a Value, ReadError<Fault>>
     ensures { Gives (λ v. view v.now) result (required BadSchema (get name.now (view value.now))) }
 {
     value.get(name).ok_or(BAD_SCHEMA)

@@ -9,7 +9,7 @@ use std::collections::BTreeSet;
 use table_history::Column;
 
 /// Whether no two of these columns have one name.
-pub(crate) fn have_own_names(alloc: Global, columns: &[Column]) -> Result<bool, AllocError>
+pub fn have_own_names(alloc: Global, columns: &[Column]) -> Result<bool, AllocError>
     ensures { IfOk result (λ own. own ≡ have_own_names (columns_view columns.now)) }
 {
     let mut seen = BTreeSet::new(alloc);

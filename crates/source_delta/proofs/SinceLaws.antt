@@ -14,7 +14,7 @@ use Rattle.table_history.specs.declared.table.Change.{Change}
 use Rattle.table_history.specs.declared.table.Commit.{Commit}
 use Rattle.table_history.specs.declared.table.Table.{Table}
 use Rattle.table_history.proofs.Laws.{same_rows_after}
-use Rattle.delta_log.specs.Change.{IsTableOfLog}
+use Rattle.delta_change.specs.Change.{IsTableOfLog}
 use Rattle.delta_table.specs.Log.{SaysCommit}
 use Rattle.delta_table.specs.Versions.{AreVersions, HasVersion, log_folder}
 use Rattle.delta_table.specs.declared.versions.Versions.{Versions}

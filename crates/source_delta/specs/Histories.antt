@@ -6,7 +6,7 @@ use Rattle.table_history.specs.First.{NoneOf}
 use Rattle.table_history.specs.History.{History}
 use Rattle.table_history.specs.declared.limit.LimitKind.{LimitKind}
 use Rattle.table_history.specs.declared.table.Table.{Table}
-use Rattle.delta_log.specs.Change.{HasLargeSchema, IsOutsideGrammar, Shows, commit_features}
+use Rattle.delta_change.specs.Change.{HasLargeSchema, IsOutsideGrammar, Shows, commit_features}
 use Rattle.delta_log.specs.declared.commit.DeltaCommit.{DeltaCommit}
 use Rattle.delta_table.specs.Log.{IsStep, SaysCommit}
 use Rattle.delta_table.specs.Versions.{AreVersions, HasVersion}

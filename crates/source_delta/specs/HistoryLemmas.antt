@@ -13,11 +13,11 @@ use Rattle.table_history.specs.TypeTree.{ColumnTrees}
 use Rattle.table_history.specs.declared.table.Commit.{Commit}
 use Rattle.table_history.specs.declared.table.Table.{Table}
 use Rattle.table_history.proofs.Laws.{change_of_same_rows}
-use Rattle.delta_log.specs.Change.{CanFollow}
-use Rattle.delta_log.specs.TableBehind.{IsSchemaBehind, StatesSchema}
+use Rattle.delta_change.specs.Change.{CanFollow}
+use Rattle.delta_change.specs.TableBehind.{IsSchemaBehind, StatesSchema}
 use Rattle.delta_log.specs.declared.commit.DeltaCommit.{DeltaCommit}
 use Rattle.delta_log.specs.declared.commit.MetaData.{MetaData}
-use Rattle.delta_log.proofs.TableLemmas.{after_rows, partition_kept}
+use Rattle.delta_change.proofs.TableLemmas.{after_rows, partition_kept}
 use Rattle.delta_table.specs.Log.{IsReadLog, IsStep, SaysCommit}
 use Rattle.delta_table.specs.SameVersions.{has_too, own_versions, says_too, versions_sym}
 use Rattle.delta_table.specs.Versions.{HasVersion, log_folder}

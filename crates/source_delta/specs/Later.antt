@@ -4,7 +4,7 @@ use Rattle.lake_store.specs.Disk.{Files}
 use Rattle.table_history.specs.Tables.{CanApply, IsAfter}
 use Rattle.table_history.specs.declared.table.Commit.{Commit}
 use Rattle.table_history.specs.declared.table.Table.{Table}
-use Rattle.delta_log.specs.Change.{IsTableOfLog}
+use Rattle.delta_change.specs.Change.{IsTableOfLog}
 use Rattle.source_delta.specs.Since.{IsCommitOf}
 use Rattle.source_delta.specs.declared.since.Later.{Later}
 

@@ -11,13 +11,13 @@ use Rattle.table_history.specs.declared.row.PartValue.{PartValue}
 use Rattle.table_history.specs.declared.table.Table.{Table}
 use Rattle.table_history.proofs.RowListLemmas.{Contains-head, Contains-tail}
 use Rattle.partition_map.specs.Columns.{HasOtherKind, LacksKinds, column_kind}
-use Rattle.delta_log.specs.Change.{ChangesPartition, HasOtherPartition, HasOtherValue, IsOutsideGrammar, Shows, commit_features}
-use Rattle.delta_log.specs.Live.{IsRowBehind, PartColumns}
-use Rattle.delta_log.specs.TableBehind.{ArePartColumns, IsSchemaBehind, Spells, StatesSchema, partition_before, partition_behind, rows_before, schema_before}
+use Rattle.delta_change.specs.Change.{ChangesPartition, HasOtherPartition, HasOtherValue, IsOutsideGrammar, Shows, commit_features}
+use Rattle.delta_live.specs.Live.{IsRowBehind, PartColumns, ArePartColumns}
+use Rattle.delta_change.specs.TableBehind.{IsSchemaBehind, Spells, StatesSchema, partition_before, partition_behind, rows_before, schema_before}
 use Rattle.delta_log.specs.declared.commit.DeltaCommit.{DeltaCommit}
 use Rattle.delta_log.specs.declared.commit.MetaData.{MetaData}
-use Rattle.delta_log.proofs.KindLemmas.{same_columns}
-use Rattle.delta_log.proofs.TableLemmas.{partition_kept}
+use Rattle.delta_change.proofs.KindLemmas.{same_columns}
+use Rattle.delta_change.proofs.TableLemmas.{partition_kept}
 use Rattle.delta_table.specs.Log.{IsStep}
 use Rattle.source_core.specs.Histories.{IsLike, SameTable}
 use Rattle.source_delta.specs.Histories.{IsReadableOver}

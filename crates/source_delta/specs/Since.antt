@@ -7,7 +7,7 @@ use Rattle.table_history.specs.Tables.{IsAfter}
 use Rattle.table_history.specs.declared.limit.LimitKind.TheVariants as limit
 use Rattle.table_history.specs.declared.table.Commit.{Commit}
 use Rattle.table_history.specs.declared.table.Table.{Table}
-use Rattle.delta_log.specs.Change.{CanFollow, IsChangeOf, IsChangeRefusal}
+use Rattle.delta_change.specs.Change.{CanFollow, IsChangeOf, IsChangeRefusal}
 use Rattle.delta_log.specs.declared.commit.DeltaCommit.{DeltaCommit}
 use Rattle.delta_log.specs.declared.error.DeltaError.{DeltaError}
 use Rattle.delta_table.specs.Log.{SaysCommit}

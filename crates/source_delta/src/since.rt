@@ -5,7 +5,7 @@ ghost use Rattle.lake_basics.specs.declared.limits.TheConstants.{MAX_ACTIONS, MA
 ghost use Rattle.lake_store.specs.Disk.{names_in};
 ghost use Rattle.table_history.specs.declared.table.Table.{Table};
 ghost use Rattle.lake_store.specs.Runs.{FailsBy, IsUncontestedBy, OnlyReads};
-ghost use Rattle.delta_log.specs.Change.{GoesOn};
+ghost use Rattle.delta_change.specs.Change.{GoesOn};
 ghost use Rattle.delta_log.specs.Sound.{IsSound};
 ghost use Rattle.delta_table.specs.Log.{SaysCommit};
 ghost use Rattle.delta_table.specs.Versions.{log_folder};
@@ -20,7 +20,8 @@ ghost use Rattle.source_delta.specs.Later.{GoesOnBy, IsOneMore};
 
 use crate::position::{position, version_spelled};
 use crate::told::{commit_error, limit, list_error, source_error};
-use delta_log::{DeltaCommit, change_of};
+use delta_change::change_of;
+use delta_log::DeltaCommit;
 use delta_table::{Versions, list_versions, read_version};
 use lake_basics::limits::{MAX_ACTIONS, MAX_COMMITS};
 use lake_basics::{Items, Text};

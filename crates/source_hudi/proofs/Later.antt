@@ -11,7 +11,7 @@ use Rattle.std.proofs.lemmas.Bool.{cases_Bool, false≢true}
 use Rattle.std.proofs.lemmas.Cmp.{nat_list_cmp_total}
 use Rattle.std.proofs.lemmas.Slice.Eq.{bytes_eq-Decides}
 use Rattle.lake_store.specs.Disk.{Files, names_in}
-use Rattle.hudi_timeline.proofs.AnyLemmas.{any_from, any_to}
+use Rattle.hudi_groups.proofs.AnyLemmas.{any_from, any_to}
 use Rattle.hudi_table.specs.Folder.{AreInOrder, IsEarlier, IsReached, IsUpTo}
 use Rattle.hudi_table.specs.Instants.{HasTime, timeline_folder, timeline_of, up_to_head}
 use Rattle.hudi_table.specs.declared.instants.CompletedInstant.{CompletedInstant}

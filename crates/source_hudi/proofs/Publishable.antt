@@ -3,7 +3,7 @@ use Rattle.std.proofs.Common.{◌≡◌, sym}
 use Rattle.table_history.specs.declared.table.Table.{Table}
 use Rattle.hudi_table.proofs.TypedLemmas.{typed_column}
 use Rattle.hudi_timeline.specs.Change.{IsTableOf}
-use Rattle.hudi_timeline.specs.declared.table.HudiTable.{HudiTable}
+use Rattle.hudi_properties.specs.declared.table.HudiTable.{HudiTable}
 use Rattle.hudi_timeline.proofs.KindLemmas.{kind_exactly}
 use Rattle.target_core.specs.Conditions.{IsPublishable}
 

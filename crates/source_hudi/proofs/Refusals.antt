@@ -2,7 +2,7 @@
 use Rattle.std.proofs.Common.{◌≡◌, ◌⊎◌, inl, inr, ℕ, List, [], ◌∷◌, Option, Some, None, codes, refl, sym, subst, ⊎_elim}
 use Rattle.std.specs.Prelude.{MatchOption}
 use Rattle.lake_store.specs.Disk.{Files}
-use Rattle.hudi_timeline.specs.declared.table.HudiTable.{HudiTable}
+use Rattle.hudi_properties.specs.declared.table.HudiTable.{HudiTable}
 use Rattle.hudi_table.specs.Files.{SaysProperties}
 use Rattle.hudi_table.specs.Folder.{IsFirstPending, IsHead, IsPendingAt, IsReached}
 use Rattle.hudi_table.specs.Instants.{path_of, timeline_folder}

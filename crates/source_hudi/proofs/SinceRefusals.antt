@@ -4,8 +4,8 @@ use Rattle.lake_basics.specs.declared.limits.TheConstants.{MAX_ACTIONS, MAX_COMM
 use Rattle.lake_store.specs.Disk.{Files, names_in}
 use Rattle.table_history.specs.declared.feature.Feature.TheVariants.{PartitionChange}
 use Rattle.table_history.specs.declared.table.Table.{Table}
-use Rattle.hudi_timeline.specs.declared.instant.Instant.{Instant}
-use Rattle.hudi_timeline.specs.declared.table.HudiTable.{HudiTable}
+use Rattle.hudi_instant.specs.declared.instant.Instant.{Instant}
+use Rattle.hudi_properties.specs.declared.table.HudiTable.{HudiTable}
 use Rattle.hudi_table.specs.Files.{SaysInstant, SaysProperties}
 use Rattle.hudi_table.specs.Folder.{IsHead, IsReached}
 use Rattle.hudi_table.specs.Instants.{path_of, timeline_folder}

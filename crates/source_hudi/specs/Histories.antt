@@ -8,9 +8,9 @@ use Rattle.table_history.specs.declared.table.Table.{Table}
 use Rattle.partition_map.specs.declared.kind.PartKind.{PartKind}
 use Rattle.hudi_timeline.specs.Causes.{AreKinds, IsInForce, IsMalformed, Shows, change_features, rows_before}
 use Rattle.hudi_timeline.specs.Live.{Completed, IsLiveAfter, completed}
-use Rattle.hudi_timeline.specs.declared.form.Form.TheVariants.{Base}
-use Rattle.hudi_timeline.specs.declared.instant.Instant.{Instant}
-use Rattle.hudi_timeline.specs.declared.table.HudiTable.{HudiTable}
+use Rattle.hudi_groups.specs.declared.form.Form.TheVariants.{Base}
+use Rattle.hudi_instant.specs.declared.instant.Instant.{Instant}
+use Rattle.hudi_properties.specs.declared.table.HudiTable.{HudiTable}
 use Rattle.hudi_table.specs.Files.{SaysInstant, SaysProperties}
 use Rattle.hudi_table.specs.declared.instants.CompletedInstant.{CompletedInstant}
 use Rattle.hudi_table.specs.declared.properties.Properties.{Properties}

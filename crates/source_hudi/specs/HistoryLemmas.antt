@@ -18,7 +18,7 @@ use Rattle.table_history.specs.declared.table.Table.{Table}
 use Rattle.table_history.proofs.RowListLemmas.{Contains-cases, Contains-filter, Contains-head, Contains-none, Contains-tail, all_at}
 use Rattle.hudi_timeline.specs.Change.{LeadsThrough}
 use Rattle.hudi_timeline.specs.Live.{Timeline, completed}
-use Rattle.hudi_timeline.specs.declared.form.Form.TheVariants.{Base}
+use Rattle.hudi_groups.specs.declared.form.Form.TheVariants.{Base}
 use Rattle.hudi_table.specs.Files.{SaysProperties}
 use Rattle.hudi_table.specs.Folder.{AreInOrder, IsHead, IsReached, IsUpTo}
 use Rattle.hudi_table.specs.Instants.{timeline_folder}

@@ -19,7 +19,7 @@ use Rattle.hudi_timeline.specs.Causes.{AreKinds, IsInForce, Shows, change_featur
 use Rattle.hudi_timeline.specs.Change.{IsChangeOf}
 use Rattle.hudi_timeline.specs.Live.{Completed, IsLiveAfter}
 use Rattle.hudi_timeline.specs.Schemas.{schema_after, stated_schema}
-use Rattle.hudi_timeline.specs.declared.table.HudiTable.{HudiTable}
+use Rattle.hudi_properties.specs.declared.table.HudiTable.{HudiTable}
 use Rattle.hudi_timeline.proofs.ChangeLemmas.{schema_is}
 use Rattle.source_core.specs.Histories.{IsLike, SameTable}
 use Rattle.source_hudi.specs.Histories.{IsMadeBy, IsReadable}

@@ -8,9 +8,9 @@ use Rattle.table_history.specs.declared.table.Table.{Table}
 use Rattle.hudi_names.specs.declared.name.Action.{Action}
 use Rattle.hudi_names.specs.declared.name.State.{State}
 use Rattle.hudi_timeline.specs.Live.{Timeline}
-use Rattle.hudi_timeline.specs.declared.error.HudiError.{HudiError}
-use Rattle.hudi_timeline.specs.declared.instant.Instant.{Instant}
-use Rattle.hudi_timeline.specs.declared.table.HudiTable.{HudiTable}
+use Rattle.hudi_names.specs.declared.error.HudiError.{HudiError}
+use Rattle.hudi_instant.specs.declared.instant.Instant.{Instant}
+use Rattle.hudi_properties.specs.declared.table.HudiTable.{HudiTable}
 use Rattle.hudi_table.specs.Files.{HoldsFile, SaysInstant, SaysProperties}
 use Rattle.hudi_table.specs.Folder.{HasInstant, IsCompletedAt, IsFirstPending, IsHead, IsInFolder, IsPendingAt, IsReached, LacksCompleted}
 use Rattle.hudi_table.specs.Instants.{path_of, timeline_folder, timeline_of, up_to_head}

@@ -7,9 +7,9 @@ use Rattle.table_history.specs.declared.feature.Feature.TheVariants.{NeedsArchiv
 use Rattle.table_history.specs.declared.kind.Kind.TheVariants.{Hudi}
 use Rattle.table_history.specs.declared.limit.LimitKind.TheVariants as limit
 use Rattle.hudi_names.specs.declared.name.Action.{Action}
-use Rattle.hudi_timeline.specs.declared.error.HudiError.{HudiError}
-use Rattle.hudi_timeline.specs.declared.error.HudiError.TheVariants as hudi
-use Rattle.hudi_timeline.specs.declared.table.HudiTable.{HudiTable}
+use Rattle.hudi_names.specs.declared.error.HudiError.{HudiError}
+use Rattle.hudi_names.specs.declared.error.HudiError.TheVariants as hudi
+use Rattle.hudi_properties.specs.declared.table.HudiTable.{HudiTable}
 use Rattle.hudi_table.specs.Files.{SaysProperties}
 use Rattle.hudi_table.specs.Folder.{IsHead, IsReached}
 use Rattle.hudi_table.specs.Instants.{path_of, timeline_folder}

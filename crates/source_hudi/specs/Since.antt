@@ -12,9 +12,9 @@ use Rattle.table_history.specs.declared.table.Table.{Table}
 use Rattle.hudi_names.specs.declared.name.Action.{Action}
 use Rattle.hudi_timeline.specs.Change.{GoesOn, IsChangeOf}
 use Rattle.hudi_timeline.specs.Live.{completed}
-use Rattle.hudi_timeline.specs.declared.form.Form.TheVariants as form
-use Rattle.hudi_timeline.specs.declared.instant.Instant.{Instant}
-use Rattle.hudi_timeline.specs.declared.table.HudiTable.{HudiTable}
+use Rattle.hudi_groups.specs.declared.form.Form.TheVariants as form
+use Rattle.hudi_instant.specs.declared.instant.Instant.{Instant}
+use Rattle.hudi_properties.specs.declared.table.HudiTable.{HudiTable}
 use Rattle.hudi_table.specs.Files.{SaysInstant, SaysProperties}
 use Rattle.hudi_table.specs.Folder.{IsEarlier, IsHead, IsReached, IsUpTo}
 use Rattle.hudi_table.specs.Instants.{path_of, time_of}

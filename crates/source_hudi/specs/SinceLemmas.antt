@@ -13,9 +13,9 @@ use Rattle.table_history.specs.declared.table.Commit.{Commit}
 use Rattle.table_history.specs.declared.table.Table.{Table}
 use Rattle.table_history.proofs.RowListLemmas.{Contains-cases, Contains-filter, Contains-head, Contains-none, Contains-tail, all_at, filter_contains}
 use Rattle.hudi_names.specs.declared.name.Action.{Action}
-use Rattle.hudi_timeline.specs.Pairs.{properties_of}
-use Rattle.hudi_timeline.specs.TableProperties.{property}
-use Rattle.hudi_timeline.specs.declared.table.HudiTable.{HudiTable}
+use Rattle.hudi_properties.specs.Pairs.{properties_of}
+use Rattle.hudi_properties.specs.TableProperties.{property}
+use Rattle.hudi_properties.specs.declared.table.HudiTable.{HudiTable}
 use Rattle.hudi_table.specs.Files.{SaysProperties}
 use Rattle.hudi_table.specs.Folder.{AreInOrder, IsCompletedAt, IsHead, IsReached, IsUpTo}
 use Rattle.hudi_table.specs.Instants.{HasTime, timeline_folder}

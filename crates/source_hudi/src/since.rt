@@ -12,7 +12,7 @@ ghost use Rattle.table_history.specs.declared.table.Table.{Table};
 ghost use Rattle.target_core.specs.Conditions.{IsPublishable};
 ghost use Rattle.hudi_timeline.specs.Change.{GoesOn, IsChangeOf};
 ghost use Rattle.hudi_timeline.specs.Live.{completed};
-ghost use Rattle.hudi_timeline.specs.declared.form.Form.TheVariants.{Base};
+ghost use Rattle.hudi_groups.specs.declared.form.Form.TheVariants.{Base};
 ghost use Rattle.hudi_table.specs.Files.{SaysInstant};
 ghost use Rattle.hudi_table.specs.Folder.{IsHead, IsReached};
 ghost use Rattle.hudi_table.specs.Instants.{timeline_folder, timeline_of};
@@ -24,10 +24,11 @@ ghost use Rattle.source_hudi.specs.Since.{AreCommitsOf, AreCommitsUpTo, AreTaken
 
 use crate::instants::{count_up_to, first_unread_after, unread};
 use crate::told::{limit, partition_change, source_error};
+use hudi_instant::Instant;
+use hudi_properties::HudiTable;
 use hudi_table::{
     CompletedInstant, Naming, Timeline, instant_change, read_instant_file, read_table_properties,
 };
-use hudi_timeline::{HudiTable, Instant};
 use lake_basics::limits::{MAX_ACTIONS, MAX_COMMITS};
 use lake_basics::{Items, Text};
 use lake_store::Store;

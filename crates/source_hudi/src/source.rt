@@ -5,7 +5,7 @@ ghost use Rattle.lake_basics.specs.declared.limits.TheConstants.{MAX_NAMES};
 ghost use Rattle.lake_store.specs.Disk.{names_in};
 ghost use Rattle.lake_store.specs.Runs.{FailsBy, IsUncontestedBy, OnlyReads};
 ghost use Rattle.target_core.specs.Conditions.{IsPublishable};
-ghost use Rattle.hudi_timeline.specs.TableProperties.{property};
+ghost use Rattle.hudi_properties.specs.TableProperties.{property};
 ghost use Rattle.hudi_table.specs.Folder.{IsHead};
 ghost use Rattle.hudi_table.specs.Instants.{head_of, timeline_folder, timeline_of};
 ghost use Rattle.source_core.specs.Answers.{IsHeadRefusal, IsReadRefusal};
@@ -17,11 +17,11 @@ use crate::archive::first_archived;
 use crate::instants::{first_unread, unread, up_to};
 use crate::since::since;
 use crate::told::source_error;
+use hudi_properties::HudiTable;
 use hudi_table::{
     CompletedInstant, Naming, Properties, Timeline, list_timeline, read_table_properties,
     read_timeline,
 };
-use hudi_timeline::HudiTable;
 use lake_basics::Text;
 use lake_store::Store;
 use source_core::{Head, Since, Source, SourceError};

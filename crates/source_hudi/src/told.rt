@@ -10,8 +10,8 @@ ghost use Rattle.source_core.specs.Answers.{IsReadRefusal};
 ghost use Rattle.source_core.specs.declared.error.SourceError.TheVariants.{Limit, Memory, StoreFault, Unsupported};
 ghost use Rattle.source_hudi.specs.Reading.{Tells, TellsFile};
 
+use hudi_names::HudiError;
 use hudi_table::{TimelineError, timeline_path};
-use hudi_timeline::HudiError;
 use lake_basics::Text;
 use source_core::SourceError;
 use std::alloc::Global;

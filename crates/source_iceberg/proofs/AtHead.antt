@@ -6,7 +6,7 @@ use Rattle.std.proofs.lemmas.Option.{none-some}
 use Rattle.lake_basics.specs.declared.limits.TheConstants.{MAX_NAMES}
 use Rattle.lake_store.specs.Disk.{Files, names_in}
 use Rattle.table_history.specs.declared.table.Table.{Table}
-use Rattle.iceberg_metadata.specs.Ancestry.{held_at}
+use Rattle.iceberg_ancestry.specs.Ancestry.{held_at}
 use Rattle.iceberg_metadata.specs.Schemas.{schema_ids}
 use Rattle.iceberg_metadata.specs.declared.metadata.Metadata.{Metadata}
 use Rattle.iceberg_metadata.specs.declared.metadata.Snapshot.{Snapshot}

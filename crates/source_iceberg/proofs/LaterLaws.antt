@@ -8,7 +8,7 @@ use Rattle.std.proofs.lemmas.List.{reverse-append}
 use Rattle.std.proofs.lemmas.List.Elements.{Contains-append_cases, Contains-append_right}
 use Rattle.table_history.proofs.RowListLemmas.{Contains-cases, Contains-head, Contains-none, Contains-tail}
 use Rattle.iceberg_metadata.specs.declared.metadata.Snapshot.{Snapshot}
-use Rattle.iceberg_metadata.specs.Ancestry.{IsAncestry}
+use Rattle.iceberg_ancestry.specs.Ancestry.{IsAncestry}
 use Rattle.iceberg_metadata.specs.declared.metadata.Metadata.{Metadata}
 use Rattle.source_iceberg.specs.Later.{AreAhead, HasNone, IsFoundBehind, IsNotBehind}
 use Rattle.source_iceberg.specs.SinceLemmas.{ancestors_once}

@@ -7,7 +7,7 @@ use Rattle.lake_basics.specs.declared.outcome.ReadError.TheVariants as read
 use Rattle.lake_store.specs.Disk.{Files}
 use Rattle.table_history.specs.First.{IsFirst, NoneOf}
 use Rattle.table_history.specs.declared.limit.LimitKind.{LimitKind}
-use Rattle.iceberg_metadata.specs.Ancestry.{FormsCycle, LeadsTo, held_at}
+use Rattle.iceberg_ancestry.specs.Ancestry.{FormsCycle, LeadsTo, held_at}
 use Rattle.iceberg_metadata.specs.Grammar.{IsMetadataText}
 use Rattle.iceberg_metadata.specs.Reading.{HasCause, causes}
 use Rattle.iceberg_metadata.specs.Schemas.{SchemaReading}

@@ -12,7 +12,7 @@ use Rattle.std.proofs.lemmas.Bool.{cases_Bool, false≢true}
 use Rattle.std.proofs.lemmas.Slice.Eq.{bytes_eq-Decides, slice_eq-Decides}
 use Rattle.lake_basics.specs.declared.limits.TheConstants.{MAX_ACTIONS, MAX_COMMITS, MAX_LIVE_FILES, MAX_PARTITION_COLUMNS}
 use Rattle.lake_store.specs.Disk.{Files}
-use Rattle.iceberg_metadata.specs.Ancestry.{IsAncestry}
+use Rattle.iceberg_ancestry.specs.Ancestry.{IsAncestry}
 use Rattle.iceberg_table.specs.Errors.{IsRefusal}
 use Rattle.iceberg_table.specs.Refusals.{IsSnapshotRefusal}
 use Rattle.iceberg_table.specs.Snapshots.{HasColumnsOf, IsReadAs}

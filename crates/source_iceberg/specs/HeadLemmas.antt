@@ -8,8 +8,8 @@ use Rattle.std.proofs.lemmas.Option.{none-some}
 use Rattle.lake_store.specs.Disk.{Files}
 use Rattle.table_history.specs.First.{NoneOf}
 use Rattle.table_history.proofs.RowListLemmas.{Contains-cases, Contains-none}
-use Rattle.iceberg_metadata.specs.Ancestry.{held, held_at}
-use Rattle.iceberg_metadata.specs.ById.{has_id}
+use Rattle.iceberg_ancestry.specs.Ancestry.{held, held_at}
+use Rattle.iceberg_ancestry.specs.ById.{has_id}
 use Rattle.iceberg_metadata.specs.Grammar.{IsConsistent, IsMetadataText}
 use Rattle.iceberg_metadata.specs.Judging.{contents}
 use Rattle.iceberg_metadata.specs.Reading.{HasCause, causes}

@@ -5,7 +5,7 @@ use Rattle.lake_basics.specs.declared.limits.TheConstants.{MAX_NAMES}
 use Rattle.lake_store.specs.Disk.{Files, names_in}
 use Rattle.table_history.specs.First.{NoneOf}
 use Rattle.table_history.specs.declared.table.Table.{Table}
-use Rattle.iceberg_metadata.specs.Ancestry.{held_at}
+use Rattle.iceberg_ancestry.specs.Ancestry.{held_at}
 use Rattle.iceberg_metadata.specs.Grammar.{IsMetadataText}
 use Rattle.iceberg_metadata.specs.Reading.{HasCause}
 use Rattle.iceberg_metadata.specs.Schemas.{SchemaReading}

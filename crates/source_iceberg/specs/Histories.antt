@@ -4,7 +4,7 @@ use Rattle.std.specs.Fmt.{signed_decimal}
 use Rattle.lake_store.specs.Disk.{Files}
 use Rattle.table_history.specs.History.{History}
 use Rattle.table_history.specs.declared.table.Table.{Table}
-use Rattle.iceberg_metadata.specs.Ancestry.{IsAncestry}
+use Rattle.iceberg_ancestry.specs.Ancestry.{IsAncestry}
 use Rattle.iceberg_metadata.specs.declared.metadata.Metadata.{Metadata}
 use Rattle.iceberg_metadata.specs.declared.metadata.Snapshot.{Snapshot}
 use Rattle.iceberg_table.specs.Snapshots.{IsReadAs, IsTableOfSnapshot}

@@ -8,9 +8,9 @@ use Rattle.table_history.specs.TypeTree.{ColumnTrees}
 use Rattle.table_history.specs.declared.table.Commit.{Commit}
 use Rattle.table_history.specs.declared.table.Table.{Table}
 use Rattle.table_history.proofs.Laws.{change_of_same_rows}
-use Rattle.iceberg_metadata.specs.Ancestry.{IsAncestry, held_at}
+use Rattle.iceberg_ancestry.specs.Ancestry.{IsAncestry, held_at}
 use Rattle.iceberg_metadata.specs.Schemas.{HeldSchema}
-use Rattle.iceberg_metadata.specs.declared.columns.SourceColumn.{SourceColumn}
+use Rattle.iceberg_columns.specs.declared.columns.SourceColumn.{SourceColumn}
 use Rattle.iceberg_metadata.specs.declared.metadata.Metadata.{Metadata}
 use Rattle.iceberg_metadata.specs.declared.metadata.Snapshot.{Snapshot}
 use Rattle.iceberg_table.specs.Plan.{names_of, snapshot_schema}

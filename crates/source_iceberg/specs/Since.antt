@@ -9,11 +9,11 @@ use Rattle.table_history.specs.declared.limit.LimitKind.TheVariants as limit
 use Rattle.table_history.specs.declared.table.Commit.{Commit}
 use Rattle.table_history.specs.declared.table.Table.{Table}
 use Rattle.partition_map.specs.Columns.{HasOtherKind}
-use Rattle.iceberg_metadata.specs.Ancestry.{IsAncestry}
+use Rattle.iceberg_ancestry.specs.Ancestry.{IsAncestry}
 use Rattle.iceberg_metadata.specs.Paths.{current_schema}
 use Rattle.iceberg_metadata.specs.Schemas.{HeldSchema}
-use Rattle.iceberg_metadata.specs.SourceColumns.{columns_of}
-use Rattle.iceberg_metadata.specs.declared.columns.SourceColumn.{SourceColumn}
+use Rattle.iceberg_columns.specs.SourceColumns.{columns_of}
+use Rattle.iceberg_columns.specs.declared.columns.SourceColumn.{SourceColumn}
 use Rattle.iceberg_metadata.specs.declared.metadata.Metadata.{Metadata}
 use Rattle.iceberg_metadata.specs.declared.metadata.Snapshot.{Snapshot}
 use Rattle.iceberg_table.specs.Folder.{version_path}

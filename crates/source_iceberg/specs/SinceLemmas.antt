@@ -6,7 +6,7 @@ use Rattle.std.proofs.lemmas.List.{reverse-append}
 use Rattle.lake_store.specs.Disk.{Files}
 use Rattle.table_history.specs.declared.table.Commit.{Commit}
 use Rattle.table_history.specs.declared.table.Table.{Table}
-use Rattle.iceberg_metadata.specs.Ancestry.{IsAncestry, LeadsTo, held_at}
+use Rattle.iceberg_ancestry.specs.Ancestry.{IsAncestry, LeadsTo, held_at}
 use Rattle.iceberg_metadata.specs.declared.metadata.Metadata.{Metadata}
 use Rattle.iceberg_metadata.specs.declared.metadata.Snapshot.{Snapshot}
 use Rattle.source_core.specs.Since.{EndAt}

@@ -3,17 +3,16 @@
 ghost use Rattle.std.specs.Prelude.{◌≡◌, ◌≢◌, List, IfErr, IfOk, MatchOption, Ok};
 ghost use Rattle.std.specs.Bool.{Decides};
 ghost use Rattle.iceberg_metadata.specs.Schemas.{HeldSchema};
-ghost use Rattle.iceberg_metadata.specs.SourceColumns.{columns_of};
-ghost use Rattle.iceberg_metadata.specs.declared.columns.SourceColumn.{SourceColumn};
+ghost use Rattle.iceberg_columns.specs.SourceColumns.{columns_of};
+ghost use Rattle.iceberg_columns.specs.declared.columns.SourceColumn.{SourceColumn};
 ghost use Rattle.iceberg_table.specs.Folder.{version_path};
 ghost use Rattle.iceberg_table.specs.Plan.{names_of, snapshot_schema};
 ghost use Rattle.source_core.specs.Answers.{IsReadRefusal};
 ghost use Rattle.source_core.specs.declared.error.SourceError.TheVariants.{Memory, StoreFault};
 ghost use Rattle.source_iceberg.specs.Since.{ChangesPartition, HasOtherColumns, NamesOtherColumns, SnapshotChanges, TellsChange};
 
-use iceberg_metadata::{
-    Metadata, MetadataError, Snapshot, SourceColumn, default_columns, held_schema,
-};
+use iceberg_columns::{SourceColumn, default_columns};
+use iceberg_metadata::{Metadata, MetadataError, Snapshot, held_schema};
 use lake_basics::{Items, Text};
 use partition_map::has_other_kind;
 use schema_map::Ids;

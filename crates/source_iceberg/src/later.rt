@@ -6,7 +6,8 @@ ghost use Rattle.std.specs.Fmt.{signed_decimal};
 ghost use Rattle.source_core.specs.declared.error.SourceError.TheVariants.{Memory};
 ghost use Rattle.source_iceberg.specs.Later.{AreAhead, HasNone, IsFoundBehind, IsNotBehind};
 
-use iceberg_metadata::{Metadata, Snapshot, Snapshots, ancestry};
+use iceberg_ancestry::ancestry;
+use iceberg_metadata::{Metadata, Snapshot, Snapshots};
 use lake_basics::{Items, Text};
 use source_core::{SourceError, position_of};
 use std::alloc::{AllocError, Global};

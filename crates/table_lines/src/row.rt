@@ -47,7 +47,7 @@ fn json_of_row(alloc: Global, row: &FileRow) -> Result<Value, AllocError>
 
 /// The line of a live file: its path, number of records, size in bytes and partition values, as
 /// compact JSON.
-pub(crate) fn row_line(alloc: Global, row: &FileRow) -> Result<Vec<u8>, AllocError>
+pub fn row_line(alloc: Global, row: &FileRow) -> Result<Vec<u8>, AllocError>
     ensures { IfOk result (λ bytes. bytes.items ≡ row_line row.now) }
 {
     let json = json_of_row(alloc, row)?;

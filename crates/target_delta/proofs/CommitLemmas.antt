@@ -16,8 +16,9 @@ use Rattle.table_history.specs.declared.limit.LimitKind.{LimitKind}
 use Rattle.table_history.specs.declared.table.Commit.{Commit}
 use Rattle.table_history.specs.declared.table.Table.{Table}
 use Rattle.partition_map.specs.Columns.{HasOtherKind}
-use Rattle.delta_log.specs.TableBehind.{ArePartColumns, rows_before}
-use Rattle.delta_log.specs.Writing.{SameFile}
+use Rattle.delta_live.specs.Live.{ArePartColumns}
+use Rattle.delta_change.specs.TableBehind.{rows_before}
+use Rattle.delta_text.specs.Writing.{SameFile}
 use Rattle.delta_log.specs.declared.commit.DeltaCommit.{DeltaCommit}
 use Rattle.delta_log.specs.declared.commit.FileAction.{FileAction}
 use Rattle.delta_log.specs.declared.commit.FileAction.TheVariants as file

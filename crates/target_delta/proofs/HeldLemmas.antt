@@ -1,6 +1,6 @@
 -- The rows of a log's table are such as are kept.
 use Rattle.std.proofs.Common.{◌≡◌, true}
-use Rattle.delta_log.specs.Change.{IsTableOfLog}
+use Rattle.delta_change.specs.Change.{IsTableOfLog}
 use Rattle.table_history.specs.declared.table.Table.{Table}
 use Rattle.target_core.specs.Held.{are_held}
 use Rattle.target_core.proofs.HeldRows.{are_held_by}

@@ -15,8 +15,8 @@ use Rattle.table_history.specs.declared.row.PartValue.{PartValue}
 use Rattle.table_history.specs.declared.table.Commit.{Commit}
 use Rattle.table_history.specs.declared.table.Table.{Table}
 use Rattle.table_history.proofs.RowListLemmas.{Contains-paths}
-use Rattle.schema_map.specs.Delta.{delta_schema_of}
-use Rattle.schema_map.specs.DeltaWriting.{delta_text}
+use Rattle.schema_delta.specs.Delta.{delta_schema_of}
+use Rattle.schema_delta.specs.DeltaWriting.{delta_text}
 use Rattle.delta_log.specs.declared.commit.DeltaCommit.{DeltaCommit}
 use Rattle.target_core.specs.Conditions.{CanPublish, Fits, IsPublishable}
 use Rattle.target_core.specs.Mark.{IsMarkText, mark_data}

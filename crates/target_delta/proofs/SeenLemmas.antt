@@ -15,7 +15,7 @@ use Rattle.partition_map.specs.Kind.{IsOfKind, part_kind_of}
 use Rattle.partition_map.specs.declared.kind.PartKind.{PartKind}
 use Rattle.partition_map.specs.declared.kind.PartKind.TheVariants as kind
 use Rattle.partition_map.proofs.Laws.{kind_of_type}
-use Rattle.delta_log.specs.Change.{IsTableOfLog}
+use Rattle.delta_change.specs.Change.{IsTableOfLog}
 use Rattle.delta_log.specs.declared.commit.DeltaCommit.{DeltaCommit}
 use Rattle.delta_log.specs.declared.commit.MetaData.{MetaData}
 use Rattle.delta_table.specs.Log.{HasLiveRows, IsLog, IsLogOf, IsNewestProtocol, SaysCommit}

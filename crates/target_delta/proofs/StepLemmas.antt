@@ -1,9 +1,9 @@
 -- The commit that is written for a change, read again, is taken over the table before it and makes the table after the change.
 use Rattle.std.proofs.Common.{◌≡◌, ◌⊎◌, inl, inr, ⊎_elim, ℕ, ◌<◌, ◌==◌, Bool, true, false, cond, get_or, List, [], ◌∷◌, ◌++◌, Contains, Option, Some, None, refl, sym, ap, subst, ◌∙◌, arith}
-use Rattle.std.specs.Prelude.{◌↔◌, Ok, Err, codes}
+use Rattle.std.specs.Prelude.{◌↔◌, Ok, codes}
 use Rattle.std.proofs.lemmas.List.Elements.{Contains-append_cases, Contains-append_left, Contains-append_right}
 use Rattle.serde_json.specs.Written.{compact_text}
-use Rattle.table_history.specs.History.{FitColumns, column_type}
+use Rattle.table_history.specs.History.{FitColumns}
 use Rattle.table_history.specs.Row.{Row}
 use Rattle.table_history.specs.Rows.{HasPath}
 use Rattle.table_history.specs.Tables.{IsRowAfter}
@@ -13,14 +13,14 @@ use Rattle.table_history.specs.declared.table.Table.{Table}
 use Rattle.table_history.proofs.RowListLemmas.{Contains-none, Contains-head, Contains-tail, Contains-cases}
 use Rattle.partition_map.specs.Columns.{HasOtherKind, LacksKinds, column_kind}
 use Rattle.partition_map.specs.declared.kind.PartKind.{PartKind}
-use Rattle.schema_map.specs.Delta.{delta_schema_of}
-use Rattle.schema_map.specs.DeltaWriting.{delta_text}
-use Rattle.schema_map.specs.declared.fault.MapError.{MapError}
-use Rattle.delta_log.specs.Change.{AreRowsBehind, ChangesPartition, HasOtherPartition, HasOtherReader, HasOtherValue, IsOutsideGrammar, MapsColumns, NeedsOtherFeature, SpellsNoValue, known_features}
+use Rattle.schema_delta.specs.Delta.{delta_schema_of}
+use Rattle.schema_delta.specs.DeltaWriting.{delta_text}
+use Rattle.delta_live.specs.Live.{AreRowsBehind, SpellsNoValue, ActsOn, AddsRow, AreValues, PartColumns, text_of, ArePartColumns}
+use Rattle.delta_change.specs.Change.{ChangesPartition, HasOtherPartition, HasOtherReader, HasOtherValue, IsOutsideGrammar, MapsColumns, NeedsOtherFeature, known_features}
+use Rattle.delta_change.proofs.SchemaTextLemmas.{spelled_good, spelled_type, spelled_field}
 use Rattle.delta_log.specs.Commit.{file_path, file_paths}
-use Rattle.delta_log.specs.Live.{ActsOn, AddsRow, AreValues, PartColumns, text_of}
-use Rattle.delta_log.specs.TableBehind.{ArePartColumns, IsSchemaBehind, partition_behind, rows_before}
-use Rattle.delta_log.specs.Writing.{SameCommit, SameFile, SameMeta}
+use Rattle.delta_change.specs.TableBehind.{IsSchemaBehind, partition_behind, rows_before}
+use Rattle.delta_text.specs.Writing.{SameCommit, SameFile, SameMeta}
 use Rattle.delta_log.specs.declared.commit.DeltaCommit.{DeltaCommit}
 use Rattle.delta_log.specs.declared.commit.FileAction.{FileAction}
 use Rattle.delta_log.specs.declared.commit.FileAction.TheVariants as file
@@ -262,8 +262,8 @@ module _ (end : LogEnd) (origin : Origin) (commit : Commit) (written d : DeltaCo
   pub meta_partition : (m : MetaData) → d.meta ≡ Some m → m.partition ≡ next.partition
   meta_partition m is = ap (λ (n : MetaData). n.partition) (one_meta m is) ∙ sym again.partition ∙ sym before.partition
 
-  no_err : (m : MetaData) (e : MapError) → d.meta ≡ Some m → delta_schema_of m.schema ≡ Err e → ⊥
-  no_err m e is err = let both : Err e ≡ Ok next.schema = sym err ∙ ap (λ (n : MetaData). delta_schema_of n.schema) (one_meta m is) ∙ spelled in absurd (cc)
+  spells_it : (m : MetaData) → d.meta ≡ Some m → delta_schema_of m.schema ≡ Ok next.schema
+  spells_it m is = ap (λ (n : MetaData). delta_schema_of n.schema) (one_meta m is) ∙ spelled
 
   pub in_grammar : IsOutsideGrammar d base → ⊥
   in_grammar (inl lacks) =
@@ -272,12 +272,11 @@ module _ (end : LogEnd) (origin : Origin) (commit : Commit) (written d : DeltaCo
       (λ (none : d.protocol ≡ None). due_first (have_ntz (schema_behind end commit.change)) ((λ i. protocol_due (sym first.0 i) (sym first.1 i) (have_ntz (schema_behind end commit.change))) ∙ sym protocol_is ∙ none))
       (λ (none : d.meta ≡ None). let both : Some again.again ≡ None = sym again.is ∙ none in absurd (cc))
       lacks.1
-  in_grammar (inr (inl bad)) = no_err bad.0 _ bad.1 bad.2
+  in_grammar (inr (inl bad)) = spelled_good bad.0.schema next.schema (spells_it bad.0 bad.1) bad.2
   in_grammar (inr (inr stray)) =
-      let name : Contains next.partition stray.2 = subst (λ (p : List (List ℕ)). Contains p stray.2) (meta_partition stray.0 stray.3) stray.5 in
-      let kind = before.publishable.partition_kinds stray.2 name in
-      let schema : stray.1 ≡ next.schema = one_schema stray.0 stray.1 stray.3 stray.4 in
-      let both : Some kind.0 ≡ None = sym kind.2 ∙ ap (λ (s : ColumnTrees). column_type s stray.2) (sym schema) ∙ stray.6 in
+      let name : Contains next.partition stray.1 = subst (λ (p : List (List ℕ)). Contains p stray.1) (meta_partition stray.0 stray.2) stray.3 in
+      let kind = before.publishable.partition_kinds stray.1 name in
+      let both : Some kind.0 ≡ None = sym kind.2 ∙ spelled_field stray.0.schema next.schema (spells_it stray.0 stray.2) stray.1 stray.4 in
       absurd (cc)
 
   -- ---- the features
@@ -332,7 +331,7 @@ module _ (end : LogEnd) (origin : Origin) (commit : Commit) (written d : DeltaCo
   pub step : IsStep d base next
   step = record {
     grammar = in_grammar;
-    supported = (no_other_reader, (no_other_feature, (no_mapping, ((λ type. no_err type.0 _ type.2 type.3), (no_other_partition, (no_change, (no_other_value found.0 found.1, tt)))))));
+    supported = (no_other_reader, (no_other_feature, (no_mapping, ((λ type. spelled_type type.0.schema next.schema (spells_it type.0 type.2) type.1 type.3), (no_other_partition, (no_change, (no_other_value found.0 found.1, tt)))))));
     schema = schema_is;
     partition = sym partition_is;
     columns = found.0;

@@ -22,9 +22,8 @@ use Rattle.partition_map.specs.declared.kind.PartKind.TheVariants as kind
 use Rattle.partition_map.proofs.Laws.{kind_of_type}
 use Rattle.partition_map.proofs.StandsLemmas.{delta_same}
 use Rattle.delta_log.specs.Commit.{file_path, file_paths}
-use Rattle.delta_log.specs.Live.{AddsRow, AreValues, PartColumns, text_of}
-use Rattle.delta_log.specs.TableBehind.{ArePartColumns}
-use Rattle.delta_log.specs.Writing.{SameFile, SameFiles, SameMeta}
+use Rattle.delta_live.specs.Live.{AddsRow, AreValues, PartColumns, text_of, ArePartColumns}
+use Rattle.delta_text.specs.Writing.{SameFile, SameFiles, SameMeta}
 use Rattle.delta_log.specs.declared.commit.FileAction.{FileAction}
 use Rattle.delta_log.specs.declared.commit.FileAction.TheVariants as file
 use Rattle.delta_log.specs.declared.commit.MetaData.{MetaData}

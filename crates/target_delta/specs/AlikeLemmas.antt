@@ -6,8 +6,9 @@ use Rattle.table_history.specs.declared.feature.Feature.{Feature}
 use Rattle.table_history.specs.declared.feature.Feature.TheVariants.{ReaderVersion, ReaderFeature, ColumnMapping, SchemaType, PartitionType, PartitionChange, PartitionValue}
 use Rattle.table_history.specs.declared.table.Table.{Table}
 use Rattle.partition_map.specs.Columns.{HasOtherKind, LacksKinds}
-use Rattle.delta_log.specs.Change.{ChangesPartition, IsOutsideGrammar, Shows, commit_features}
-use Rattle.delta_log.specs.TableBehind.{ArePartColumns, IsSchemaBehind}
+use Rattle.delta_change.specs.Change.{ChangesPartition, IsOutsideGrammar, Shows, commit_features}
+use Rattle.delta_live.specs.Live.{ArePartColumns}
+use Rattle.delta_change.specs.TableBehind.{IsSchemaBehind}
 use Rattle.delta_log.specs.declared.commit.DeltaCommit.{DeltaCommit}
 use Rattle.delta_log.specs.declared.commit.MetaData.{MetaData}
 use Rattle.target_delta.specs.LogLemmas.{SameTables, same_partitions, same_schemas, tables_sym}

@@ -10,7 +10,7 @@ use Rattle.lake_store.specs.Disk.{Files}
 use Rattle.lake_store.proofs.DiskLaws.{same_path}
 use Rattle.table_history.specs.declared.kind.Kind.{Kind}
 use Rattle.table_history.specs.declared.table.Table.{Table}
-use Rattle.delta_log.specs.Change.{IsChangeRefusal, Shows, commit_features}
+use Rattle.delta_change.specs.Change.{IsChangeRefusal, Shows, commit_features}
 use Rattle.delta_log.specs.Readable.{IsReadableCommit}
 use Rattle.delta_log.specs.declared.commit.DeltaCommit.{DeltaCommit}
 use Rattle.delta_log.specs.declared.error.DeltaError.{DeltaError}

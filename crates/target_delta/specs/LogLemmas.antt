@@ -8,8 +8,8 @@ use Rattle.table_history.specs.Row.{Row}
 use Rattle.table_history.specs.Rows.{SameRows}
 use Rattle.table_history.specs.TypeTree.{ColumnTrees}
 use Rattle.table_history.specs.declared.table.Table.{Table}
-use Rattle.delta_log.specs.Live.{ActsOn, IsRowBehind, PartColumns}
-use Rattle.delta_log.specs.TableBehind.{ArePartColumns, IsSchemaBehind, partition_behind, rows_before, schema_before}
+use Rattle.delta_live.specs.Live.{ActsOn, IsRowBehind, PartColumns, ArePartColumns}
+use Rattle.delta_change.specs.TableBehind.{IsSchemaBehind, partition_behind, rows_before, schema_before}
 use Rattle.delta_log.specs.declared.commit.DeltaCommit.{DeltaCommit}
 use Rattle.delta_log.specs.declared.commit.MetaData.{MetaData}
 use Rattle.delta_table.specs.Log.{IsLog, IsNewestPart, IsStep, SaysCommit}

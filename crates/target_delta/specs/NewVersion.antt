@@ -11,10 +11,10 @@ use Rattle.table_history.specs.declared.limit.LimitKind.{LimitKind}
 use Rattle.table_history.specs.declared.limit.LimitKind.TheVariants.{File}
 use Rattle.table_history.specs.declared.table.Change.{Change}
 use Rattle.table_history.specs.declared.table.Commit.{Commit}
-use Rattle.schema_map.specs.Delta.{delta_schema_of}
-use Rattle.schema_map.specs.DeltaWriting.{delta_text}
+use Rattle.schema_delta.specs.Delta.{delta_schema_of}
+use Rattle.schema_delta.specs.DeltaWriting.{delta_text}
 use Rattle.delta_log.specs.Readable.{IsReadableCommit}
-use Rattle.delta_log.specs.Writing.{SameCommit, commit_text}
+use Rattle.delta_text.specs.Writing.{SameCommit, commit_text}
 use Rattle.delta_log.specs.declared.commit.DeltaCommit.{DeltaCommit}
 use Rattle.delta_table.specs.Versions.{HoldsVersion, IsVersionPath}
 use Rattle.target_core.specs.Mark.{IsMarkText, mark_data}

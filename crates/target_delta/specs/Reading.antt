@@ -12,8 +12,8 @@ use Rattle.lake_store.specs.Disk.{Files, IsName, names_in}
 use Rattle.table_history.specs.Row.{Row}
 use Rattle.table_history.specs.TypeTree.{ColumnTrees}
 use Rattle.table_history.specs.declared.table.Change.{Change}
-use Rattle.delta_log.specs.Live.{AddsRow, PartColumns}
-use Rattle.delta_log.specs.TableBehind.{ArePartColumns, Spells}
+use Rattle.delta_live.specs.Live.{AddsRow, PartColumns, ArePartColumns}
+use Rattle.delta_change.specs.TableBehind.{Spells}
 use Rattle.delta_log.specs.declared.commit.DeltaCommit.{DeltaCommit}
 use Rattle.delta_log.specs.declared.commit.FileAction.{FileAction}
 use Rattle.delta_log.specs.declared.commit.FileAction.TheVariants as file

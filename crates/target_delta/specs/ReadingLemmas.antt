@@ -11,13 +11,13 @@ use Rattle.lake_store.specs.Runs.{IsIn}
 use Rattle.table_history.specs.Row.{Row}
 use Rattle.table_history.specs.TypeTree.{ColumnTrees}
 use Rattle.table_history.specs.declared.table.Change.{Change}
-use Rattle.delta_log.specs.Live.{AddsRow, PartColumns}
-use Rattle.delta_log.specs.TableBehind.{ArePartColumns, Spells}
+use Rattle.delta_live.specs.Live.{AddsRow, PartColumns, ArePartColumns}
+use Rattle.delta_change.specs.TableBehind.{Spells}
 use Rattle.delta_log.specs.declared.commit.DeltaCommit.{DeltaCommit}
 use Rattle.delta_log.specs.declared.commit.FileAction.{FileAction}
 use Rattle.delta_log.specs.declared.commit.FileAction.TheVariants as file
 use Rattle.delta_log.specs.declared.commit.MetaData.{MetaData}
-use Rattle.schema_map.specs.Delta.{delta_schema_of}
+use Rattle.schema_delta.specs.Delta.{delta_schema_of}
 use Rattle.delta_table.specs.Log.{IsLog, SaysCommit}
 use Rattle.delta_table.specs.Versions.{HasVersion, IsVersionPath, log_folder}
 use Rattle.delta_table.proofs.LogLaws.{live_rows}

@@ -15,9 +15,9 @@ use Rattle.table_history.specs.declared.row.PartValue.{PartValue}
 use Rattle.table_history.specs.declared.table.Change.{Change}
 use Rattle.table_history.specs.declared.table.Commit.{Commit}
 use Rattle.partition_map.specs.DeltaText.{HasNoDeltaText, IsDeltaText}
-use Rattle.schema_map.specs.DeltaWriting.{delta_text}
+use Rattle.schema_delta.specs.DeltaWriting.{delta_text}
 use Rattle.delta_log.specs.Commit.{file_paths}
-use Rattle.delta_log.specs.Writing.{commit_text}
+use Rattle.delta_text.specs.Writing.{commit_text}
 use Rattle.delta_log.specs.declared.commit.DeltaCommit.{DeltaCommit}
 use Rattle.delta_log.specs.declared.commit.FileAction.{FileAction}
 use Rattle.delta_log.specs.declared.commit.FileAction.TheVariants as file

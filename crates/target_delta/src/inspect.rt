@@ -7,7 +7,7 @@ ghost use Rattle.std.specs.List.{list_all, list_any};
 ghost use Rattle.std.specs.Str.{bytes_eq};
 ghost use Rattle.lake_basics.specs.declared.limits.TheConstants.{MAX_COMMITS, MAX_DELTA_VERSION};
 ghost use Rattle.lake_store.specs.Runs.{FailsBy, IsUncontestedBy, OnlyReads};
-ghost use Rattle.delta_log.specs.Change.{IsTableOfLog};
+ghost use Rattle.delta_change.specs.Change.{IsTableOfLog};
 ghost use Rattle.delta_log.specs.VersionName.{IsVersionName};
 ghost use Rattle.delta_table.specs.Refusals.{TellsOf};
 ghost use Rattle.delta_table.specs.Versions.{HasVersion, IsNamed};

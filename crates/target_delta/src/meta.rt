@@ -6,14 +6,14 @@ ghost use Rattle.std.specs.Option.{option_copied};
 ghost use Rattle.serde_json.specs.Written.{compact_text};
 ghost use Rattle.table_history.specs.SchemaSize.{IsWithinLimits};
 ghost use Rattle.table_history.specs.Sound.{IsSound};
-ghost use Rattle.schema_map.specs.Delta.{delta_schema_of};
-ghost use Rattle.schema_map.specs.DeltaWriting.{delta_text};
+ghost use Rattle.schema_delta.specs.Delta.{delta_schema_of};
+ghost use Rattle.schema_delta.specs.DeltaWriting.{delta_text};
 ghost use Rattle.target_core.specs.Mark.{IsMarkText, mark_data};
 ghost use Rattle.target_delta.specs.Reading.{mark_setting};
 
 use delta_log::MetaData;
 use lake_basics::{Items, Text};
-use schema_map::to_delta;
+use schema_delta::to_delta;
 use std::alloc::{AllocError, Global};
 use table_history::{Kind, Schema};
 use target_core::{Mark, mark_text};

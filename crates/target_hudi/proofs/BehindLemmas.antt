@@ -12,8 +12,8 @@ use Rattle.hudi_names.specs.Name.{instant_of}
 use Rattle.hudi_names.specs.Time.{IsSomeTime}
 use Rattle.hudi_names.specs.declared.name.State.{State}
 use Rattle.hudi_names.specs.declared.name.State.TheVariants as state
-use Rattle.hudi_timeline.specs.Instants.{json_instant}
-use Rattle.hudi_timeline.specs.declared.instant.Instant.{Instant}
+use Rattle.hudi_instant.specs.Instants.{json_instant}
+use Rattle.hudi_instant.specs.declared.instant.Instant.{Instant}
 use Rattle.hudi_table.specs.Files.{ReadsAs, SaysInstant, SaysProperties}
 use Rattle.hudi_table.specs.Reading.{IsNextHere, IsReadingOf, table_in}
 use Rattle.hudi_table.specs.declared.instants.CompletedInstant.{CompletedInstant}

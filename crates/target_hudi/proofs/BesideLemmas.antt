@@ -10,8 +10,8 @@ use Rattle.table_history.proofs.RowListLemmas.{Contains-head, Contains-none, Con
 use Rattle.hudi_names.specs.Time.{IsSomeTime}
 use Rattle.hudi_names.specs.declared.name.State.TheVariants as state
 use Rattle.hudi_timeline.specs.Live.{Timeline}
-use Rattle.hudi_timeline.specs.declared.instant.Instant.{Instant}
-use Rattle.hudi_timeline.specs.declared.table.HudiTable.{HudiTable}
+use Rattle.hudi_instant.specs.declared.instant.Instant.{Instant}
+use Rattle.hudi_properties.specs.declared.table.HudiTable.{HudiTable}
 use Rattle.hudi_table.specs.Files.{SaysInstant, SaysProperties}
 use Rattle.hudi_table.specs.Reading.{IsReadingOf, SayTimeline}
 use Rattle.hudi_table.specs.declared.instants.CompletedInstant.{CompletedInstant}

@@ -9,7 +9,7 @@ use Rattle.std.proofs.lemmas.List.Splits.{slice_split_at, slice_split_none}
 use Rattle.std.proofs.lemmas.List.Sums.{suffix_len_is}
 use Rattle.table_history.proofs.RowListLemmas.{Contains-head, Contains-tail}
 use Rattle.schema_map.specs.Image.{is_avro_name, is_letter, is_name_byte}
-use Rattle.hudi_timeline.specs.TableProperties.{is_name, is_space, names_in, without_spaces}
+use Rattle.hudi_properties.specs.TableProperties.{is_name, is_space, names_in, without_spaces}
 
 either_true : (a b : Bool) → a ≡ true → (a || b) ≡ true
 either_true a b is = ap (λ t. t || b) is

@@ -23,7 +23,7 @@ use Rattle.partition_map.specs.Folder.{CarriesValues}
 use Rattle.lake_basics.specs.declared.limits.TheConstants.{MAX_PUBLISHED_COMMITS}
 use Rattle.lake_basics.specs.Outcome.{GivesUnlessMemory}
 use Rattle.table_history.specs.declared.limit.LimitKind.{LimitKind}
-use Rattle.schema_map.specs.AvroWriting.{avro_schema_text}
+use Rattle.schema_avro.specs.AvroWriting.{avro_schema_text}
 use Rattle.schema_map.specs.Errors.{is_memory}
 use Rattle.schema_map.specs.declared.fault.MapError.{MapError}
 use Rattle.schema_map.specs.declared.fault.MapError.TheVariants.{BadSchema}

@@ -6,8 +6,8 @@ use Rattle.table_history.specs.declared.kind.Kind.{Kind}
 use Rattle.table_history.specs.declared.table.Table.{Table}
 use Rattle.hudi_names.specs.declared.name.State.{State}
 use Rattle.hudi_names.specs.declared.name.State.TheVariants as state
-use Rattle.hudi_timeline.specs.declared.error.HudiError.{HudiError}
-use Rattle.hudi_timeline.specs.declared.table.HudiTable.{HudiTable}
+use Rattle.hudi_names.specs.declared.error.HudiError.{HudiError}
+use Rattle.hudi_properties.specs.declared.table.HudiTable.{HudiTable}
 use Rattle.hudi_table.specs.Reading.{IsNextHere, IsReadingOf, table_in}
 use Rattle.hudi_table.specs.Refusals.{IsUnfit, IsUnreadable}
 use Rattle.hudi_table.specs.declared.instants.CompletedInstant.{CompletedInstant}

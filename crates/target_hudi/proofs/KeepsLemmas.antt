@@ -13,7 +13,7 @@ use Rattle.table_history.specs.declared.limit.LimitKind.{LimitKind}
 use Rattle.table_history.specs.declared.table.Commit.{Commit}
 use Rattle.table_history.specs.declared.table.Table.{Table}
 use Rattle.table_history.proofs.RowListLemmas.{Contains-head, Contains-none}
-use Rattle.schema_map.specs.AvroWriting.{avro_schema_text}
+use Rattle.schema_avro.specs.AvroWriting.{avro_schema_text}
 use Rattle.schema_map.specs.Image.{has_avro_names, have_avro_names, have_text_keys, is_avro_name, wide_columns}
 use Rattle.schema_map.specs.declared.fault.MapError.{MapError}
 use Rattle.schema_map.specs.declared.fault.MapError.TheVariants as map_errors

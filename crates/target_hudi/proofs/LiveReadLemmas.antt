@@ -13,15 +13,15 @@ use Rattle.table_history.specs.Tables.{IsRowAfter}
 use Rattle.table_history.specs.declared.table.Change.{Change}
 use Rattle.table_history.proofs.RowListLemmas.{Contains-head, row_at-found, row_at-none}
 use Rattle.partition_map.specs.declared.kind.PartKind.{PartKind}
-use Rattle.hudi_timeline.specs.Files.{suffix_of, without_end}
-use Rattle.hudi_timeline.specs.Group.{file_name_of, folder_of, joined}
+use Rattle.hudi_groups.specs.Files.{suffix_of, without_end}
+use Rattle.hudi_groups.specs.Group.{file_name_of, folder_of, joined}
 use Rattle.hudi_timeline.specs.Live.{AreRowsOf, Completed, IsLiveAfter, IsWrittenBy, Replaces, Touches, Writes, completed}
-use Rattle.hudi_timeline.specs.Values.{HaveValues, style_of}
-use Rattle.hudi_timeline.specs.declared.form.Form.TheVariants.{External}
-use Rattle.hudi_timeline.specs.declared.instant.Instant.{Instant}
-use Rattle.hudi_timeline.specs.declared.instant.Stat.{Stat}
-use Rattle.hudi_timeline.specs.declared.table.HudiTable.{HudiTable}
-use Rattle.hudi_timeline.proofs.ValueLemmas.{rows_same}
+use Rattle.hudi_files.specs.Values.{HaveValues, style_of}
+use Rattle.hudi_groups.specs.declared.form.Form.TheVariants.{External}
+use Rattle.hudi_instant.specs.declared.instant.Instant.{Instant}
+use Rattle.hudi_instant.specs.declared.instant.Stat.{Stat}
+use Rattle.hudi_properties.specs.declared.table.HudiTable.{HudiTable}
+use Rattle.hudi_files.proofs.ValueLemmas.{rows_same}
 use Rattle.target_core.specs.Changes.{IsGone}
 use Rattle.target_hudi.specs.Reading.{HasStatRow}
 use Rattle.target_hudi.specs.Writing.{replaced_of, stat_of}

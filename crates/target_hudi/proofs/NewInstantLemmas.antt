@@ -26,14 +26,14 @@ use Rattle.table_history.specs.declared.limit.LimitKind.{LimitKind}
 use Rattle.table_history.specs.declared.table.Commit.{Commit}
 use Rattle.table_history.specs.declared.table.Table.{Table}
 use Rattle.table_history.proofs.RowListLemmas.{Contains-cases, Contains-head, Contains-none, Contains-paths, Contains-tail}
-use Rattle.schema_map.specs.AvroWriting.{avro_schema_text, avro_text, columns_unless, key_fault, name_fault}
+use Rattle.schema_avro.specs.AvroWriting.{avro_schema_text, avro_text, columns_unless, key_fault, name_fault}
 use Rattle.schema_map.specs.Image.{wide_columns}
 use Rattle.schema_map.specs.declared.fault.MapError.{MapError}
 use Rattle.schema_map.specs.declared.fault.MapError.TheVariants as map_errors
 use Rattle.lake_basics.specs.Outcome.{◌>>=◌}
-use Rattle.hudi_timeline.specs.InstantText.{IsWritable, instant_text}
-use Rattle.hudi_timeline.specs.Instants.{json_instant}
-use Rattle.hudi_timeline.specs.declared.instant.Instant.{Instant}
+use Rattle.hudi_instant.specs.InstantText.{IsWritable, instant_text}
+use Rattle.hudi_instant.specs.Instants.{json_instant}
+use Rattle.hudi_instant.specs.declared.instant.Instant.{Instant}
 use Rattle.target_core.specs.Conditions.{CanPublish, Fits, IsPublishable}
 use Rattle.target_core.specs.Held.{are_held}
 use Rattle.target_core.specs.Mark.{IsMarkText, mark_data}

@@ -13,9 +13,9 @@ use Rattle.std.proofs.lemmas.List.{get_or-map, length-map}
 use Rattle.std.proofs.lemmas.List.Sorted.{Contains-permutation, IsPermutation-map, IsPermutation-sym, ranks_by}
 use Rattle.std.proofs.lemmas.Map.Keys.{IsDistinct-IsPermutation, apart_from_distinct, sorted_from_all_adjacent}
 use Rattle.std.proofs.lemmas.Slice.Eq.{bytes_eq-Decides}
-use Rattle.hudi_timeline.specs.Group.{joined}
-use Rattle.hudi_timeline.specs.InstantText.{replaced_cmp, stat_cmp}
-use Rattle.hudi_timeline.specs.declared.instant.Stat.{Stat}
+use Rattle.hudi_groups.specs.Group.{joined}
+use Rattle.hudi_instant.specs.InstantText.{replaced_cmp, stat_cmp}
+use Rattle.hudi_instant.specs.declared.instant.Stat.{Stat}
 
 pub stat_total : IsTotalOrder stat_cmp
 stat_total = then_total (on_total (λ (s : Stat). s.partition_path) nat_list_cmp_total) (on_total (λ (s : Stat). s.path) nat_list_cmp_total)

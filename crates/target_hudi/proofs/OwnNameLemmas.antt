@@ -23,7 +23,7 @@ use Rattle.hudi_names.specs.declared.name.Action.TheVariants.{ReplaceCommit, Unk
 use Rattle.hudi_names.specs.declared.name.State.{State}
 use Rattle.hudi_names.specs.declared.name.State.TheVariants as state
 use Rattle.hudi_names.proofs.NameLemmas.{named_exactly}
-use Rattle.hudi_timeline.proofs.AnyLemmas.{any_from, any_to}
+use Rattle.hudi_groups.proofs.AnyLemmas.{any_from, any_to}
 use Rattle.hudi_table.specs.Instants as table
 use Rattle.hudi_table.specs.Instants.{has_name, instant_named, instant_with, instants_in, is_missing, time_of}
 use Rattle.hudi_table.specs.declared.instants.InstantName.{InstantName}

@@ -4,8 +4,8 @@ use Rattle.std.specs.Prelude.{codes}
 use Rattle.std.specs.List.{join_with_byte}
 use Rattle.std.proofs.Math.Seq.{take-length}
 use Rattle.std.proofs.lemmas.List.{append_assoc, take_more}
-use Rattle.hudi_timeline.specs.Pairs.{in_order, properties_of}
-use Rattle.hudi_timeline.specs.TableProperties.{checked_table, table_of}
+use Rattle.hudi_properties.specs.Pairs.{in_order, properties_of}
+use Rattle.hudi_properties.specs.TableProperties.{checked_table, table_of}
 use Rattle.target_hudi.specs.TableName.{IsNewTable, new_pairs, partition_pairs}
 use Rattle.target_hudi.proofs.ColumnNames.{names_back}
 

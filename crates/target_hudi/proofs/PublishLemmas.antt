@@ -11,8 +11,8 @@ use Rattle.table_history.specs.declared.table.Commit.{Commit}
 use Rattle.table_history.specs.declared.table.Table.{Table}
 use Rattle.table_history.proofs.RowListLemmas.{Contains-head, Contains-none}
 use Rattle.schema_map.specs.Image.{wide_columns}
-use Rattle.hudi_timeline.proofs.GroupChangeLemmas.{distinct_none}
-use Rattle.hudi_timeline.specs.declared.table.HudiTable.{HudiTable}
+use Rattle.hudi_groups.proofs.GroupChangeLemmas.{distinct_none}
+use Rattle.hudi_properties.specs.declared.table.HudiTable.{HudiTable}
 use Rattle.hudi_table.specs.Files.{ReadsAs, SaysProperties}
 use Rattle.hudi_table.specs.Folder.{IsEarlier}
 use Rattle.hudi_table.specs.Reading.{IsReadingOf, table_in}

@@ -8,7 +8,7 @@ use Rattle.std.proofs.lemmas.Int.{ints}
 use Rattle.lake_basics.specs.declared.limits.TheConstants.{MAX_COMMITS}
 use Rattle.hudi_names.specs.Time.{IsSomeTime, IsTime}
 use Rattle.hudi_names.proofs.TimeLemmas.{digits_small, number-lt}
-use Rattle.hudi_timeline.specs.Next.{IsNext}
+use Rattle.hudi_names.specs.Next.{IsNext}
 use Rattle.target_hudi.specs.Rank.{time_rank}
 
 -- the next time is later than the newest

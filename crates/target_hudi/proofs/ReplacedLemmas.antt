@@ -12,8 +12,8 @@ use Rattle.table_history.specs.Path.{IsPath, IsSegment, is_slash}
 use Rattle.table_history.specs.Row.{Row}
 use Rattle.table_history.specs.Rows.{HasPath, row_at}
 use Rattle.table_history.proofs.RowListLemmas.{Contains-cases, Contains-filter, Contains-head, Contains-none, Contains-tail, filter_contains, row_at-found, row_at-none}
-use Rattle.hudi_timeline.specs.Group.{file_name_of, folder_of, joined}
-use Rattle.hudi_timeline.proofs.GroupLemmas.{joined_whole}
+use Rattle.hudi_groups.specs.Group.{file_name_of, folder_of, joined}
+use Rattle.hudi_groups.proofs.GroupLemmas.{joined_whole}
 use Rattle.table_history.specs.declared.table.Change.{Change}
 use Rattle.target_core.specs.Changes.{IsGone}
 use Rattle.target_hudi.specs.Writing.{LeavesAdded, LosesRemoved, replaced_of}

@@ -7,13 +7,13 @@ use Rattle.table_history.specs.Sound.{IsSound}
 use Rattle.table_history.specs.TypeTree.{ColumnTrees}
 use Rattle.table_history.specs.declared.limit.LimitKind.{LimitKind}
 use Rattle.table_history.specs.declared.table.Table.{Table}
-use Rattle.schema_map.specs.Avro.{avro_schema_of, limited_avro_schema_of, unless_limit}
-use Rattle.schema_map.specs.AvroWriting.{avro_schema_text, avro_text}
+use Rattle.schema_avro.specs.Avro.{avro_schema_of, limited_avro_schema_of, unless_limit}
+use Rattle.schema_avro.specs.AvroWriting.{avro_schema_text, avro_text}
 use Rattle.schema_map.specs.Image.{wide_columns}
 use Rattle.schema_map.specs.Limits.{schema_limit}
 use Rattle.schema_map.specs.declared.fault.MapError.{MapError}
-use Rattle.schema_map.proofs.AvroRead.{limited_found}
-use Rattle.schema_map.proofs.AvroRefused.{avro_said}
+use Rattle.schema_avro.proofs.AvroRead.{limited_found}
+use Rattle.schema_avro.proofs.AvroRefused.{avro_said}
 use Rattle.hudi_timeline.specs.Schemas.{schema_after, stated_schema}
 use Rattle.target_hudi.specs.Fitting.{Held}
 use Rattle.target_hudi.specs.Steps.{IsBase}

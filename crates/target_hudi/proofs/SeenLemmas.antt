@@ -15,13 +15,13 @@ use Rattle.table_history.specs.declared.table.Table.{Table}
 use Rattle.table_history.proofs.RowListLemmas.{Contains-head, Contains-one}
 use Rattle.hudi_names.specs.Time.{IsSomeTime}
 use Rattle.hudi_timeline.specs.Change.{IsTableOf}
-use Rattle.hudi_timeline.specs.Pairs.{in_order, is_filled, pair_at, pair_of, properties_of, required_at}
-use Rattle.hudi_timeline.specs.Lines.{logical_lines}
-use Rattle.hudi_timeline.specs.TableProperties.{first_feature, table_of, unless_shown}
-use Rattle.hudi_timeline.specs.declared.error.HudiError.{HudiError}
-use Rattle.hudi_timeline.specs.declared.error.HudiError.TheVariants as hudi
-use Rattle.hudi_timeline.specs.declared.instant.Instant.{Instant}
-use Rattle.hudi_timeline.specs.declared.table.HudiTable.{HudiTable}
+use Rattle.hudi_properties.specs.Pairs.{in_order, is_filled, pair_at, pair_of, properties_of, required_at}
+use Rattle.hudi_properties.specs.Lines.{logical_lines}
+use Rattle.hudi_properties.specs.TableProperties.{first_feature, table_of, unless_shown}
+use Rattle.hudi_names.specs.declared.error.HudiError.{HudiError}
+use Rattle.hudi_names.specs.declared.error.HudiError.TheVariants as hudi
+use Rattle.hudi_instant.specs.declared.instant.Instant.{Instant}
+use Rattle.hudi_properties.specs.declared.table.HudiTable.{HudiTable}
 use Rattle.hudi_table.specs.Files.{HasFault}
 use Rattle.hudi_table.specs.Instants.{IsOfNames, completed_of, instants_in, is_commit, is_done, is_second, path_of}
 use Rattle.hudi_table.specs.Reading.{IsNextHere, IsReadingOf, table_in}

@@ -14,14 +14,14 @@ use Rattle.std.proofs.lemmas.Map.Keys.{IsDistinct-cons, IsDistinct-head, IsDisti
 use Rattle.std.proofs.lemmas.Slice.Eq.{bytes_eq-Decides}
 use Rattle.std.proofs.lemmas.List.Elements.{All-cons, All-contains, All-nil}
 use Rattle.hudi_names.specs.Time.{IsDigits}
-use Rattle.hudi_timeline.specs.InstantText.{IsSoundStat}
+use Rattle.hudi_instant.specs.InstantText.{IsSoundStat}
 use Rattle.table_history.specs.Path.{IsPath, IsPathOfAnyLength}
 use Rattle.target_hudi.proofs.PathLemmas.{external_more, path_more}
 use Rattle.table_history.specs.Row.{Row}
 use Rattle.table_history.specs.Rows.{HasDistinctPaths, paths_of}
 use Rattle.table_history.proofs.RowListLemmas.{Contains-cases, Contains-head, Contains-none, Contains-tail}
-use Rattle.hudi_timeline.specs.Group.{file_name_of, folder_of}
-use Rattle.hudi_timeline.specs.declared.instant.Stat.{Stat}
+use Rattle.hudi_groups.specs.Group.{file_name_of, folder_of}
+use Rattle.hudi_instant.specs.declared.instant.Stat.{Stat}
 use Rattle.target_hudi.specs.Writing.{stat_of}
 use Rattle.target_hudi.proofs.OrderLemmas.{untied}
 

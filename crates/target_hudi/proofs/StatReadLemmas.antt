@@ -19,14 +19,15 @@ use Rattle.table_history.proofs.PathTests.{path_decided}
 use Rattle.table_history.proofs.RowListLemmas.{Contains-cases, Contains-head, Contains-none, Contains-tail, all_at, bytes_itself, row_at-itself}
 use Rattle.partition_map.specs.declared.folder.FolderStyle.{FolderStyle}
 use Rattle.partition_map.specs.declared.kind.PartKind.{PartKind}
-use Rattle.hudi_timeline.specs.Files.{bare_row, group_name, has_other_id, has_sound_numbers, has_sound_path, is_external, is_other_file, name_fault, suffix_of, without_end}
-use Rattle.hudi_timeline.specs.Group.{file_name_of, folder_of}
-use Rattle.hudi_timeline.specs.InstantText.{stat_cmp}
-use Rattle.hudi_timeline.specs.Live.{IsNewestOfGroup}
-use Rattle.hudi_timeline.specs.Values.{HasValues, HaveValues, are_in_folders, is_in_folder}
-use Rattle.hudi_timeline.specs.declared.form.Form.TheVariants.{External}
-use Rattle.hudi_timeline.specs.declared.instant.Stat.{Stat}
-use Rattle.hudi_timeline.proofs.GroupChangeLemmas.{at_path, distinct_none}
+use Rattle.hudi_files.specs.Stats.{bare_row, has_other_id, has_sound_numbers, has_sound_path, is_external, is_other_file, name_fault}
+use Rattle.hudi_groups.specs.Files.{group_name, suffix_of, without_end}
+use Rattle.hudi_groups.specs.Group.{file_name_of, folder_of}
+use Rattle.hudi_instant.specs.InstantText.{stat_cmp}
+use Rattle.hudi_groups.specs.GroupSets.{IsNewestOfGroup}
+use Rattle.hudi_files.specs.Values.{HasValues, HaveValues, are_in_folders, is_in_folder}
+use Rattle.hudi_groups.specs.declared.form.Form.TheVariants.{External}
+use Rattle.hudi_instant.specs.declared.instant.Stat.{Stat}
+use Rattle.hudi_groups.proofs.GroupChangeLemmas.{at_path, distinct_none}
 use Rattle.target_hudi.specs.Writing.{stat_of}
 use Rattle.target_hudi.proofs.CarriedLemmas.{bare_of}
 use Rattle.target_hudi.proofs.OrderLemmas.{stat_total}

@@ -25,24 +25,26 @@ use Rattle.partition_map.specs.Folder.{hive_folders}
 use Rattle.partition_map.specs.declared.folder.FolderStyle.{FolderStyle}
 use Rattle.partition_map.specs.declared.kind.PartKind.{PartKind}
 use Rattle.schema_map.specs.Image.{wide_columns}
-use Rattle.schema_map.proofs.AvroRead.{within_no_limit}
-use Rattle.schema_map.proofs.IcebergWritten.{wide_limits}
+use Rattle.schema_avro.proofs.AvroRead.{within_no_limit}
+use Rattle.schema_map.proofs.Wide.{wide_limits}
 use Rattle.hudi_timeline.specs.Causes.{rows_before, table_before}
 use Rattle.hudi_timeline.specs.Change.{IsChangeOf}
-use Rattle.hudi_timeline.specs.Files.{bare_row, name_fault, without_end}
-use Rattle.hudi_timeline.specs.GroupChange.{IsGroupChange, is_long, limit_passed, row_limit, rows_after}
-use Rattle.hudi_timeline.specs.InstantText.{IsSound, IsSoundStat, stat_cmp}
+use Rattle.hudi_files.specs.Stats.{bare_row, name_fault}
+use Rattle.hudi_groups.specs.Files.{without_end}
+use Rattle.hudi_timeline.specs.GroupChange.{IsGroupChange, is_long, limit_passed, row_limit}
+use Rattle.hudi_groups.specs.GroupSets.{rows_after}
+use Rattle.hudi_instant.specs.InstantText.{IsSound, IsSoundStat, stat_cmp}
 use Rattle.hudi_timeline.specs.Live.{AreRowsOf, Completed, IsWrittenBy, completed}
 use Rattle.hudi_timeline.specs.Schemas.{AreKindsOf}
-use Rattle.hudi_timeline.specs.Values.{HasValues, HaveValues, are_in_folders, style_of}
-use Rattle.hudi_timeline.specs.declared.form.Form.TheVariants.{External}
-use Rattle.hudi_timeline.specs.declared.instant.Instant.{Instant}
-use Rattle.hudi_timeline.specs.declared.instant.Stat.{Stat}
-use Rattle.hudi_timeline.specs.declared.table.HudiTable.{HudiTable}
-use Rattle.hudi_timeline.proofs.AnyLemmas.{any_none}
+use Rattle.hudi_files.specs.Values.{HasValues, HaveValues, are_in_folders, style_of}
+use Rattle.hudi_groups.specs.declared.form.Form.TheVariants.{External}
+use Rattle.hudi_instant.specs.declared.instant.Instant.{Instant}
+use Rattle.hudi_instant.specs.declared.instant.Stat.{Stat}
+use Rattle.hudi_properties.specs.declared.table.HudiTable.{HudiTable}
+use Rattle.hudi_groups.proofs.AnyLemmas.{any_none}
 use Rattle.hudi_timeline.proofs.ChangeLemmas.{before_rows, schema_is}
 use Rattle.hudi_timeline.proofs.CountLemmas.{fewer}
-use Rattle.hudi_timeline.proofs.GroupChangeLemmas.{rows_after_distinct}
+use Rattle.hudi_groups.proofs.GroupChangeLemmas.{rows_after_distinct}
 use Rattle.hudi_timeline.proofs.LiveLemmas.{live_after}
 use Rattle.hudi_timeline.proofs.MadeLemmas.{is_change}
 use Rattle.target_core.specs.Conditions.{CanPublish, Fits, IsPublishable}

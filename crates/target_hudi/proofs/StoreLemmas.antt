@@ -27,8 +27,8 @@ use Rattle.table_history.proofs.RowListLemmas.{Contains-none}
 use Rattle.hudi_names.specs.Time.{IsSomeTime}
 use Rattle.hudi_names.specs.declared.name.State.TheVariants as state
 use Rattle.hudi_table.specs.declared.instants.CompletedInstant.{CompletedInstant}
-use Rattle.hudi_timeline.proofs.AnyLemmas.{any_from, any_to}
-use Rattle.hudi_timeline.specs.Written.{properties_text}
+use Rattle.hudi_groups.proofs.AnyLemmas.{any_from, any_to}
+use Rattle.hudi_properties.specs.Written.{properties_text}
 use Rattle.hudi_commit.specs.Names.{IsLeftover, IsOf, IsThere, Stage, StaysOrGoes, claim_path, claims_folder, completed_name, completed_path, pending_path, properties_path, staged_properties_path, timeline_folder, timeline_path}
 use Rattle.hudi_commit.specs.Orderly.{IsOrderly}
 use Rattle.hudi_commit.specs.Runs.{HasNotGrown, IsBeforeOrAfter, IsCommitted, IsKept, IsOneStep, IsOther, IsReady, IsTakenBy, LacksOrIs, NotGiven}

@@ -27,7 +27,7 @@ use Rattle.hudi_names.specs.declared.name.Action.{Action}
 use Rattle.hudi_names.specs.declared.name.Action.TheVariants as action
 use Rattle.hudi_names.specs.declared.name.State.{State}
 use Rattle.hudi_names.specs.declared.name.State.TheVariants as state
-use Rattle.hudi_timeline.proofs.AnyLemmas.{any_none}
+use Rattle.hudi_groups.proofs.AnyLemmas.{any_none}
 use Rattle.hudi_table.specs.Folder.{AreInOrder, IsEarlier, IsUpTo}
 use Rattle.hudi_table.specs.Instants.{has_name, is_commit, is_replacecommit, time_of}
 use Rattle.hudi_table.specs.declared.instants.CompletedInstant.{CompletedInstant}

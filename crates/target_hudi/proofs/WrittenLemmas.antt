@@ -9,8 +9,8 @@ use Rattle.table_history.specs.Rows.{HasPath}
 use Rattle.table_history.specs.TypeTree.{ColumnTrees}
 use Rattle.table_history.specs.declared.table.Change.{Change}
 use Rattle.table_history.specs.declared.table.Commit.{Commit}
-use Rattle.hudi_timeline.specs.InstantText.{IsSoundStat, IsWritable, replaced_cmp, stat_cmp}
-use Rattle.hudi_timeline.specs.declared.instant.Stat.{Stat}
+use Rattle.hudi_instant.specs.InstantText.{IsSoundStat, IsWritable, replaced_cmp, stat_cmp}
+use Rattle.hudi_instant.specs.declared.instant.Stat.{Stat}
 use Rattle.target_core.specs.Mark.{mark_data}
 use Rattle.target_core.specs.Views.{Origin}
 use Rattle.target_hudi.specs.Writing.{IsStatedText, IsWrittenOver, LeavesAdded, LosesRemoved, mark_of, replaced_of, stat_of}

@@ -15,13 +15,13 @@ use Rattle.partition_map.specs.Columns.{HasOtherKind}
 use Rattle.schema_map.specs.declared.fault.MapError.{MapError}
 use Rattle.hudi_timeline.specs.Causes.{IsInForce, IsRefusalOf, Shows, change_features, table_before}
 use Rattle.hudi_timeline.specs.Change.{IsChangeOf, LeadsThrough}
-use Rattle.hudi_timeline.specs.Instants.{json_instant}
+use Rattle.hudi_instant.specs.Instants.{json_instant}
 use Rattle.hudi_timeline.specs.Live.{Completed, Timeline, completed}
 use Rattle.hudi_timeline.specs.Schemas.{schema_after, stated_schema}
-use Rattle.hudi_timeline.specs.declared.error.HudiError.{HudiError}
-use Rattle.hudi_timeline.specs.declared.error.HudiError.TheVariants as errors
-use Rattle.hudi_timeline.specs.declared.instant.Instant.{Instant}
-use Rattle.hudi_timeline.specs.declared.table.HudiTable.{HudiTable}
+use Rattle.hudi_names.specs.declared.error.HudiError.{HudiError}
+use Rattle.hudi_names.specs.declared.error.HudiError.TheVariants as errors
+use Rattle.hudi_instant.specs.declared.instant.Instant.{Instant}
+use Rattle.hudi_properties.specs.declared.table.HudiTable.{HudiTable}
 use Rattle.hudi_table.specs.Files.{SaysInstant}
 use Rattle.hudi_table.specs.Reading.{IsLatestOf, IsReadingOf, SayTimeline, form_of, table_in}
 use Rattle.hudi_table.specs.Refusals.{IsUnfit, IsUnreadable}

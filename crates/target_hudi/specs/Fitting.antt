@@ -10,7 +10,7 @@ use Rattle.lake_basics.specs.declared.limits.TheConstants.{MAX_PUBLISHED_COMMITS
 use Rattle.partition_map.specs.Columns.{column_kind}
 use Rattle.partition_map.specs.Folder.{CarriesValues}
 use Rattle.partition_map.specs.declared.kind.PartKind.{PartKind}
-use Rattle.schema_map.specs.AvroWriting.{avro_schema_text}
+use Rattle.schema_avro.specs.AvroWriting.{avro_schema_text}
 use Rattle.schema_map.specs.declared.fault.MapError.TheVariants as map_errors
 use Rattle.target_core.specs.declared.target.TargetError.{TargetError}
 use Rattle.target_core.specs.declared.target.TargetError.TheVariants.{Limit, Memory, Unsupported}

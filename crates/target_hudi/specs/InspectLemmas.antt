@@ -10,9 +10,9 @@ use Rattle.std.proofs.lemmas.Cmp.{nat_list_cmp_total}
 use Rattle.lake_store.specs.Disk.{Files}
 use Rattle.lake_store.proofs.DiskLaws.{same_path}
 use Rattle.table_history.specs.declared.kind.Kind.{Kind}
-use Rattle.hudi_timeline.specs.TableProperties.{checked_table}
-use Rattle.hudi_timeline.specs.declared.error.HudiError.{HudiError}
-use Rattle.hudi_timeline.specs.declared.table.HudiTable.{HudiTable}
+use Rattle.hudi_properties.specs.TableProperties.{checked_table}
+use Rattle.hudi_names.specs.declared.error.HudiError.{HudiError}
+use Rattle.hudi_properties.specs.declared.table.HudiTable.{HudiTable}
 use Rattle.hudi_table.specs.Files.{HasFault, ReadsAs}
 use Rattle.hudi_table.specs.Instants.{path_of}
 use Rattle.hudi_table.specs.Reading.{IsLatestOf, IsReadingOf}

@@ -10,8 +10,8 @@ use Rattle.table_history.specs.declared.limit.LimitKind.TheVariants as limit
 use Rattle.hudi_names.specs.Time.{IsSomeTime}
 use Rattle.hudi_names.specs.declared.name.Action.TheVariants.{ReplaceCommit}
 use Rattle.hudi_timeline.specs.Change.{IsTableOf}
-use Rattle.hudi_timeline.specs.declared.error.HudiError.{HudiError}
-use Rattle.hudi_timeline.specs.declared.error.HudiError.TheVariants as hudi
+use Rattle.hudi_names.specs.declared.error.HudiError.{HudiError}
+use Rattle.hudi_names.specs.declared.error.HudiError.TheVariants as hudi
 use Rattle.hudi_table.specs.Files.{SaysProperties}
 use Rattle.hudi_table.specs.Instants.{path_of}
 use Rattle.hudi_table.specs.Reading.{IsNextHere, IsReadingOf, table_in}

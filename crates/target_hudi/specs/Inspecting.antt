@@ -11,8 +11,8 @@ use Rattle.table_history.specs.declared.kind.Kind.TheVariants.{Hudi}
 use Rattle.table_history.specs.declared.limit.LimitKind.{LimitKind}
 use Rattle.table_history.specs.declared.limit.LimitKind.TheVariants.{Commits, File, Names}
 use Rattle.hudi_names.specs.Time.{IsSomeTime}
-use Rattle.hudi_timeline.specs.declared.error.HudiError.{HudiError}
-use Rattle.hudi_timeline.specs.declared.error.HudiError.TheVariants as errors
+use Rattle.hudi_names.specs.declared.error.HudiError.{HudiError}
+use Rattle.hudi_names.specs.declared.error.HudiError.TheVariants as errors
 use Rattle.hudi_table.specs.Files.{HasFault, HoldsFile, ReadsAs, SaysProperties}
 use Rattle.hudi_table.specs.Instants.{path_of}
 use Rattle.hudi_table.specs.Reading.{IsNextHere, IsReadingOf, table_in}

@@ -24,7 +24,7 @@ use Rattle.hudi_names.specs.declared.name.Action.TheVariants as action
 use Rattle.hudi_names.specs.declared.name.State.{State}
 use Rattle.hudi_names.specs.declared.name.State.TheVariants as state
 use Rattle.hudi_names.proofs.NameLemmas.{named_exactly}
-use Rattle.hudi_timeline.proofs.AnyLemmas.{any_from}
+use Rattle.hudi_groups.proofs.AnyLemmas.{any_from}
 use Rattle.hudi_table.specs.Instants.{completed_of, has_name, instant_named, instant_with, instants_in, is_commit, is_done, is_replacecommit, is_second, path_of, time_of}
 use Rattle.hudi_table.specs.declared.instants.CompletedInstant.{CompletedInstant}
 use Rattle.hudi_table.specs.declared.instants.InstantName.{InstantName}

@@ -16,11 +16,11 @@ use Rattle.table_history.specs.declared.limit.LimitKind.{LimitKind}
 use Rattle.table_history.specs.declared.limit.LimitKind.TheVariants.{File, Versions}
 use Rattle.table_history.specs.declared.table.Commit.{Commit}
 use Rattle.hudi_names.specs.Time.{IsPast9999, IsSomeTime}
-use Rattle.hudi_timeline.specs.InstantText.{IsSound, instant_text}
-use Rattle.hudi_timeline.specs.Instants.{json_instant}
-use Rattle.hudi_timeline.specs.Next.{IsNext}
-use Rattle.hudi_timeline.specs.Written.{properties_text}
-use Rattle.hudi_timeline.specs.declared.instant.Instant.{Instant}
+use Rattle.hudi_instant.specs.InstantText.{IsSound, instant_text}
+use Rattle.hudi_instant.specs.Instants.{json_instant}
+use Rattle.hudi_names.specs.Next.{IsNext}
+use Rattle.hudi_properties.specs.Written.{properties_text}
+use Rattle.hudi_instant.specs.declared.instant.Instant.{Instant}
 use Rattle.target_core.specs.Mark.{IsMarkText, mark_data}
 use Rattle.target_core.specs.Views.{Origin}
 use Rattle.target_core.specs.declared.target.TargetError.{TargetError}

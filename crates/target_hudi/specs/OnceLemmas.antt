@@ -9,13 +9,13 @@ use Rattle.table_history.specs.declared.table.Table.{Table}
 use Rattle.partition_map.specs.declared.kind.PartKind.{PartKind}
 use Rattle.hudi_timeline.specs.Causes.{table_before}
 use Rattle.hudi_timeline.specs.Change.{LeadsThrough}
-use Rattle.hudi_timeline.specs.Instants.{json_instant}
+use Rattle.hudi_instant.specs.Instants.{json_instant}
 use Rattle.hudi_timeline.specs.Live.{HudiLive, Timeline, completed}
-use Rattle.hudi_timeline.specs.Pairs.{properties_of}
+use Rattle.hudi_properties.specs.Pairs.{properties_of}
 use Rattle.hudi_timeline.specs.Schemas.{AreKindsOf}
-use Rattle.hudi_timeline.specs.TableProperties.{checked_table}
-use Rattle.hudi_timeline.specs.declared.instant.Instant.{Instant}
-use Rattle.hudi_timeline.specs.declared.table.HudiTable.{HudiTable}
+use Rattle.hudi_properties.specs.TableProperties.{checked_table}
+use Rattle.hudi_instant.specs.declared.instant.Instant.{Instant}
+use Rattle.hudi_properties.specs.declared.table.HudiTable.{HudiTable}
 use Rattle.hudi_timeline.proofs.CauseLemmas.{kinds_same}
 use Rattle.hudi_table.specs.Files.{SaysInstant, SaysProperties}
 use Rattle.hudi_table.specs.Reading.{HasLiveRows, IsLatestOf, SayTimeline, form_of}

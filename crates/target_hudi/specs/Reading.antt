@@ -10,8 +10,8 @@ use Rattle.hudi_names.specs.Time.{IsSomeTime}
 use Rattle.hudi_names.specs.declared.name.State.{State}
 use Rattle.hudi_timeline.specs.Live.{AreRowsOf, Completed, completed}
 use Rattle.hudi_timeline.specs.Schemas.{AreKindsOf}
-use Rattle.hudi_timeline.specs.declared.instant.Instant.{Instant}
-use Rattle.hudi_timeline.specs.declared.table.HudiTable.{HudiTable}
+use Rattle.hudi_instant.specs.declared.instant.Instant.{Instant}
+use Rattle.hudi_properties.specs.declared.table.HudiTable.{HudiTable}
 use Rattle.hudi_table.specs.Files.{HoldsFile, ReadsAs, SaysInstant, SaysProperties}
 use Rattle.hudi_table.specs.Instants.{path_of, timeline_of}
 use Rattle.hudi_table.specs.Reading.{IsReadingOf, form_of}

@@ -12,8 +12,8 @@ use Rattle.hudi_names.specs.Time.{IsDigits, IsSomeTime}
 use Rattle.hudi_names.specs.declared.name.State.{State}
 use Rattle.hudi_names.specs.declared.name.State.TheVariants as state
 use Rattle.hudi_timeline.specs.Live.{Timeline}
-use Rattle.hudi_timeline.specs.declared.instant.Instant.{Instant}
-use Rattle.hudi_timeline.specs.declared.table.HudiTable.{HudiTable}
+use Rattle.hudi_instant.specs.declared.instant.Instant.{Instant}
+use Rattle.hudi_properties.specs.declared.table.HudiTable.{HudiTable}
 use Rattle.hudi_table.specs.Files.{SaysInstant, SaysProperties}
 use Rattle.hudi_table.specs.Reading.{IsLatestOf, SayTimeline}
 use Rattle.hudi_table.specs.declared.instants.CompletedInstant.{CompletedInstant}

@@ -12,9 +12,9 @@ use Rattle.hudi_timeline.specs.Causes.{table_before}
 use Rattle.hudi_timeline.specs.Change.{IsChangeOf}
 use Rattle.hudi_timeline.specs.Live.{completed}
 use Rattle.hudi_timeline.specs.Schemas.{AreKindsOf}
-use Rattle.hudi_timeline.specs.declared.form.Form.TheVariants.{External}
-use Rattle.hudi_timeline.specs.declared.instant.Instant.{Instant}
-use Rattle.hudi_timeline.specs.declared.table.HudiTable.{HudiTable}
+use Rattle.hudi_groups.specs.declared.form.Form.TheVariants.{External}
+use Rattle.hudi_instant.specs.declared.instant.Instant.{Instant}
+use Rattle.hudi_properties.specs.declared.table.HudiTable.{HudiTable}
 use Rattle.schema_map.specs.Image.{wide_columns}
 use Rattle.target_core.specs.Changes.{IsGone}
 use Rattle.target_hudi.specs.Fitting.{Held}

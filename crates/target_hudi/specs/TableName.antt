@@ -2,7 +2,7 @@
 use Rattle.std.specs.Prelude.{◌≡◌, ◌⊎◌, ℕ, true, List, [], ◌∷◌, ◌++◌, Contains, codes}
 use Rattle.std.specs.List.{join_with_byte}
 use Rattle.schema_map.specs.Image.{is_avro_name}
-use Rattle.hudi_timeline.specs.declared.table.HudiTable.{HudiTable}
+use Rattle.hudi_properties.specs.declared.table.HudiTable.{HudiTable}
 use Rattle.hudi_table.specs.Files.{ReadsAs}
 
 -- The name is what stands behind the location's last `/`, or all of it where there is none.

@@ -8,8 +8,8 @@ use Rattle.table_history.specs.declared.table.Change.{Change}
 use Rattle.partition_map.specs.declared.kind.PartKind.{PartKind}
 use Rattle.hudi_timeline.specs.Live.{completed}
 use Rattle.hudi_timeline.specs.Schemas.{AreKindsOf}
-use Rattle.hudi_timeline.specs.declared.instant.Instant.{Instant}
-use Rattle.hudi_timeline.specs.declared.table.HudiTable.{HudiTable}
+use Rattle.hudi_instant.specs.declared.instant.Instant.{Instant}
+use Rattle.hudi_properties.specs.declared.table.HudiTable.{HudiTable}
 use Rattle.hudi_table.specs.Files.{SaysInstant}
 use Rattle.hudi_table.specs.Reading.{IsLatestOf, form_of}
 use Rattle.hudi_table.specs.declared.instants.CompletedInstant.{CompletedInstant}

@@ -19,16 +19,16 @@ use Rattle.partition_map.specs.Kind.{part_kind_of}
 use Rattle.partition_map.specs.declared.kind.PartKind.{PartKind}
 use Rattle.partition_map.specs.declared.kind.PartKind.TheVariants as kinds
 use Rattle.partition_map.proofs.Laws.{kind_of_type}
-use Rattle.schema_map.specs.Avro.{avro_schema_of}
-use Rattle.schema_map.specs.AvroSpelling.{AreAvroColumns, IsAvroType}
-use Rattle.schema_map.specs.AvroWriting.{avro_data, avro_fields, avro_field_data, avro_schema_text, avro_text, items_data, key_fault, name_fault, nullable_data, record_data, values_data}
+use Rattle.schema_avro.specs.Avro.{avro_schema_of}
+use Rattle.schema_avro.specs.AvroSpelling.{AreAvroColumns, IsAvroType}
+use Rattle.schema_avro.specs.AvroWriting.{avro_data, avro_fields, avro_field_data, avro_schema_text, avro_text, items_data, key_fault, name_fault, nullable_data, record_data, values_data}
 use Rattle.schema_map.specs.Errors.{is_memory}
 use Rattle.schema_map.specs.Image.{has_avro_names, has_text_keys, have_avro_names, have_text_keys, is_avro_name, is_text, wide_columns, wide_type}
 use Rattle.schema_map.specs.declared.fault.MapError.{MapError}
 use Rattle.schema_map.specs.declared.fault.MapError.TheVariants.{SchemaType, AvroName}
-use Rattle.schema_map.proofs.AvroRead.{avro_text_found}
-use Rattle.schema_map.proofs.AvroRefused.{avro_defined, avro_undefined}
-use Rattle.schema_map.proofs.IcebergWritten.{own_wide, wide_limits}
+use Rattle.schema_avro.proofs.AvroRead.{avro_text_found}
+use Rattle.schema_avro.proofs.AvroRefused.{avro_defined, avro_undefined}
+use Rattle.schema_map.proofs.Wide.{own_wide, wide_limits}
 use Rattle.schema_map.proofs.ImageTwice.{columns_twice}
 use Rattle.target_core.specs.Conditions.{HasKind, IsPublishable}
 use Rattle.target_hudi.specs.HudiMeaning.{image}

@@ -5,9 +5,9 @@ use Rattle.lake_store.specs.Disk.{Files}
 use Rattle.hudi_commit.specs.Names.{IsOf, IsThere, Stage, StaysOrGoes, claim_path, completed_path, pending_path, properties_path, staged_properties_path}
 use Rattle.table_history.specs.declared.table.Commit.{Commit}
 use Rattle.hudi_names.specs.Time.{IsSomeTime}
-use Rattle.hudi_timeline.specs.InstantText.{instant_text}
-use Rattle.hudi_timeline.specs.Written.{properties_text}
-use Rattle.hudi_timeline.specs.declared.instant.Instant.{Instant}
+use Rattle.hudi_instant.specs.InstantText.{instant_text}
+use Rattle.hudi_properties.specs.Written.{properties_text}
+use Rattle.hudi_instant.specs.declared.instant.Instant.{Instant}
 use Rattle.target_core.specs.Views.{Origin}
 use Rattle.target_hudi.specs.Kept.{end_of}
 use Rattle.target_hudi.specs.TableName.{new_pairs}

@@ -15,17 +15,17 @@ use Rattle.table_history.specs.declared.limit.LimitKind.{LimitKind}
 use Rattle.table_history.specs.declared.limit.LimitKind.TheVariants.{File, Names, Versions}
 use Rattle.table_history.specs.declared.table.Change.{Change}
 use Rattle.table_history.specs.declared.table.Commit.{Commit}
-use Rattle.schema_map.specs.Avro.{limited_avro_schema_of}
-use Rattle.schema_map.specs.AvroWriting.{avro_schema_text}
+use Rattle.schema_avro.specs.Avro.{limited_avro_schema_of}
+use Rattle.schema_avro.specs.AvroWriting.{avro_schema_text}
 use Rattle.schema_map.specs.Image.{wide_columns}
 use Rattle.schema_map.specs.declared.fault.MapError.{MapError}
 use Rattle.hudi_names.specs.Time.{IsPast9999, IsTime}
-use Rattle.hudi_timeline.specs.Group.{file_name_of, folder_of}
-use Rattle.hudi_timeline.specs.InstantText.{instant_text, replaced_cmp, stat_cmp}
-use Rattle.hudi_timeline.specs.Next.{IsNext}
-use Rattle.hudi_timeline.specs.Written.{properties_text}
-use Rattle.hudi_timeline.specs.declared.instant.Instant.{Instant}
-use Rattle.hudi_timeline.specs.declared.instant.Stat.{Stat}
+use Rattle.hudi_groups.specs.Group.{file_name_of, folder_of}
+use Rattle.hudi_instant.specs.InstantText.{instant_text, replaced_cmp, stat_cmp}
+use Rattle.hudi_names.specs.Next.{IsNext}
+use Rattle.hudi_properties.specs.Written.{properties_text}
+use Rattle.hudi_instant.specs.declared.instant.Instant.{Instant}
+use Rattle.hudi_instant.specs.declared.instant.Stat.{Stat}
 use Rattle.hudi_commit.specs.Names.{claims_folder}
 use Rattle.target_core.specs.Changes.{IsGone}
 use Rattle.target_core.specs.Mark.{mark_data}

@@ -2,10 +2,10 @@
 
 ghost use Rattle.std.specs.Prelude.{◌≡◌, ◌∷◌, ◌++◌, [], IfOk, codes};
 ghost use Rattle.std.specs.List.{join_with_byte};
-ghost use Rattle.hudi_timeline.specs.Written.{properties_text};
+ghost use Rattle.hudi_properties.specs.Written.{properties_text};
 ghost use Rattle.target_hudi.specs.TableName.{IsNewTable, new_pairs, partition_pairs};
 
-use hudi_timeline::{Pairs, properties_text};
+use hudi_properties::{Pairs, properties_text};
 use lake_basics::{Blob, Items, Text};
 use std::alloc::{AllocError, Global};
 

@@ -6,8 +6,8 @@ ghost use Rattle.std.specs.List.Sorted.{IsSorted, IsStrictlySortedBy};
 ghost use Rattle.std.specs.Str.{bytes_eq};
 ghost use Rattle.table_history.specs.Path.{IsPath};
 ghost use Rattle.table_history.specs.Rows.{HasPath};
-ghost use Rattle.hudi_timeline.specs.Group.{joined};
-ghost use Rattle.hudi_timeline.specs.InstantText.{replaced_cmp};
+ghost use Rattle.hudi_groups.specs.Group.{joined};
+ghost use Rattle.hudi_instant.specs.InstantText.{replaced_cmp};
 ghost use Rattle.target_hudi.specs.Writing.{replaced_of};
 
 use crate::stats::split_path;

@@ -8,12 +8,12 @@ ghost use Rattle.table_history.specs.Path.{IsPath};
 ghost use Rattle.table_history.specs.Row.{Row};
 ghost use Rattle.table_history.specs.Rows.{HasDistinctPaths};
 ghost use Rattle.hudi_names.specs.Time.{IsDigits};
-ghost use Rattle.hudi_timeline.specs.Group.{file_name_of, folder_of};
-ghost use Rattle.hudi_timeline.specs.InstantText.{IsSoundStat, stat_cmp};
-ghost use Rattle.hudi_timeline.specs.declared.instant.Stat.{Stat};
+ghost use Rattle.hudi_groups.specs.Group.{file_name_of, folder_of};
+ghost use Rattle.hudi_instant.specs.InstantText.{IsSoundStat, stat_cmp};
+ghost use Rattle.hudi_instant.specs.declared.instant.Stat.{Stat};
 ghost use Rattle.target_hudi.specs.Writing.{stat_of};
 
-use hudi_timeline::Stat;
+use hudi_instant::Stat;
 use lake_basics::Text;
 use std::alloc::{AllocError, Global};
 use std::cmp::Ordering;

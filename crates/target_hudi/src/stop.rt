@@ -5,8 +5,8 @@ ghost use Rattle.target_core.specs.declared.target.TargetError.TheVariants.{Memo
 ghost use Rattle.target_hudi.specs.InspectSteps.{limit_of, stop_at, stop_of};
 ghost use Rattle.target_hudi.specs.declared.stop.Stop.TheVariants.{Refused};
 
+use hudi_names::HudiError;
 use hudi_table::TimelineError;
-use hudi_timeline::HudiError;
 use lake_basics::Text;
 use std::alloc::AllocError;
 use table_history::{Kind, LimitKind};

@@ -14,7 +14,8 @@ use Rattle.iceberg_metadata.specs.Judging.{are_distinct, is_among}
 use Rattle.iceberg_metadata.specs.Paths.{held_schema}
 use Rattle.iceberg_metadata.specs.Schemas.{HeldSchema}
 use Rattle.iceberg_version.specs.Sound.{have_first_ids, is_own_image, is_under}
-use Rattle.schema_map.specs.Ids.{PassesGreatest, Path, column_paths, known_id, new_count}
+use Rattle.iceberg_field_ids.specs.Ids.{PassesGreatest, new_count}
+use Rattle.schema_map.specs.Paths.{Path, column_paths, known_id}
 use Rattle.schema_map.specs.Image.{wide_columns}
 use Rattle.schema_map.proofs.ImageTwice.{columns_twice}
 use Rattle.table_history.specs.TypeEqLaws.{columns_eq-Decides}

@@ -5,7 +5,7 @@ use Rattle.std.specs.Prelude.{◌↔◌, Err, IfOk, Ok, Result, flat_map, is_som
 use Rattle.std.specs.Cmp.Lexicographic.{pointwise}
 use Rattle.std.specs.List.{AllByRecursion, zip}
 use Rattle.std.specs.Str.{bytes_eq}
-use Rattle.schema_map.specs.Ids.{Path, known_id}
+use Rattle.schema_map.specs.Paths.{Path, known_id}
 use Rattle.std.proofs.lemmas.Bool.{false≢true}
 use Rattle.std.proofs.lemmas.List.{drop-drop, drop_all, get_or-map}
 use Rattle.std.proofs.lemmas.List.Elements.{Contains-append_cases, Contains-append_left, Contains-append_right}

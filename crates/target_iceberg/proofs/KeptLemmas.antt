@@ -17,8 +17,8 @@ use Rattle.table_history.specs.declared.table.Table.{Table}
 use Rattle.table_history.proofs.Laws.{same_rows_length}
 use Rattle.table_history.proofs.RowListLemmas.{Contains-cases, Contains-head, Contains-none, Contains-tail, bytes_itself}
 use Rattle.schema_map.specs.Image.{wide_columns}
-use Rattle.schema_map.proofs.IcebergSchema.{given_found}
-use Rattle.schema_map.proofs.IcebergSound.{iceberg_wide}
+use Rattle.schema_iceberg.proofs.IcebergSchema.{given_found}
+use Rattle.schema_iceberg.proofs.IcebergSound.{iceberg_wide}
 use Rattle.file_links.specs.Rows.{Entry, OwnedRows, joined, rows_of as owned_by}
 use Rattle.iceberg_manifest.specs.ListWriting.{HasContent}
 use Rattle.iceberg_manifest.specs.declared.info.ManifestInfo.{ManifestInfo}

@@ -21,7 +21,7 @@ use Rattle.iceberg_table.proofs.EachLaws.{each_back, each_push}
 use Rattle.iceberg_table.proofs.RowLaws.{distinct_front, shared}
 use Rattle.target_iceberg.specs.Kept.{IsKeptOf, held_of}
 use Rattle.target_iceberg.specs.InspectSteps.{AreLinked, FillsOwner, LinksManifest}
-use Rattle.iceberg_manifest.specs.declared.live.LiveRow.{LiveRow}
+use Rattle.iceberg_live.specs.declared.live.LiveRow.{LiveRow}
 use Rattle.iceberg_table.specs.declared.manifest.Manifest.{Manifest}
 use Rattle.iceberg_version.specs.Sound.{OwnEachPath}
 use Rattle.iceberg_version.specs.declared.kept.KeptManifest.{KeptManifest}

@@ -13,7 +13,7 @@ use Rattle.std.proofs.lemmas.List.{drop_more, take-append-drop, take_more}
 use Rattle.std.proofs.lemmas.List.Elements.{Contains-append_cases, Contains-get_or}
 use Rattle.std.proofs.lemmas.Slice.Eq.{bytes_eq-Decides, slice_eq-Decides}
 use Rattle.indexmap.specs.IndexMap.{IndexMap, UpdatesBy}
-use Rattle.schema_map.specs.Ids.{Path, below, column_paths, inner_paths}
+use Rattle.schema_map.specs.Paths.{Path, below, column_paths, inner_paths}
 use Rattle.table_history.specs.TypeTree.{ColumnTrees, TypeTree, column, no_columns}
 use Rattle.table_history.proofs.RowListLemmas.{Contains-cases, Contains-none}
 use Rattle.target_iceberg.specs.Fitting.{IdSchema, type_in}

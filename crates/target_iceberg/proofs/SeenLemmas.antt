@@ -30,7 +30,7 @@ use Rattle.partition_map.specs.Kind.{IsOfKind, part_kind_of}
 use Rattle.partition_map.specs.declared.kind.PartKind.{PartKind}
 use Rattle.partition_map.specs.declared.kind.PartKind.TheVariants as kind
 use Rattle.partition_map.proofs.Laws.{kind_of_type}
-use Rattle.iceberg_metadata.specs.Ancestry.{held_at}
+use Rattle.iceberg_ancestry.specs.Ancestry.{held_at}
 use Rattle.iceberg_metadata.specs.Writing.{SameMetadata}
 use Rattle.iceberg_metadata.specs.declared.metadata.Metadata.{Metadata}
 use Rattle.iceberg_metadata.specs.declared.metadata.Snapshot.{Snapshot}

@@ -5,9 +5,9 @@ use Rattle.std.proofs.lemmas.Bool.{cases_Bool, cond-false, cond-true, false≢tr
 use Rattle.std.proofs.lemmas.Int.{ints}
 use Rattle.std.proofs.lemmas.List.{append-nil}
 use Rattle.std.proofs.lemmas.List.Elements.{Contains-append_cases, Contains-append_left, Contains-append_right}
-use Rattle.schema_map.specs.Ids.{Path, column_paths}
+use Rattle.schema_map.specs.Paths.{Path, column_paths}
 use Rattle.schema_map.specs.Image.{wide_columns}
-use Rattle.schema_map.proofs.IcebergGiven.{column_paths_wide}
+use Rattle.iceberg_field_ids.proofs.IcebergGiven.{column_paths_wide}
 use Rattle.table_history.specs.TypeTree as tree
 use Rattle.table_history.specs.TypeTree.{ColumnTrees, TypeTree}
 use Rattle.table_history.proofs.RowListLemmas.{Contains-cases, Contains-head, Contains-none}

@@ -13,7 +13,7 @@ use Rattle.table_history.specs.declared.table.Commit.{Commit}
 use Rattle.table_history.proofs.RowListLemmas.{Contains-cases, Contains-head, Contains-none, Contains-tail}
 use Rattle.iceberg_manifest.specs.Entry.{EntryData}
 use Rattle.iceberg_manifest.specs.Lists.{AreEach}
-use Rattle.iceberg_manifest.specs.LiveRows.{AreLiveRows}
+use Rattle.iceberg_live.specs.LiveRows.{AreLiveRows}
 use Rattle.iceberg_manifest.specs.declared.info.ManifestInfo.{ManifestInfo}
 use Rattle.iceberg_manifest.specs.declared.partition.PartColumn.{PartColumn}
 use Rattle.iceberg_metadata.specs.declared.metadata.Metadata.{Metadata}

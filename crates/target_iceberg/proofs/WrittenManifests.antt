@@ -13,11 +13,12 @@ use Rattle.table_history.proofs.RowListLemmas.{Contains-filter, Contains-none}
 use Rattle.file_links.specs.declared.slots.Held.{Held}
 use Rattle.iceberg_manifest.specs.Entry.{EntryData}
 use Rattle.iceberg_manifest.specs.Lists.{AreEach}
-use Rattle.iceberg_manifest.specs.Live.{IsInherited, IsRowOf, is_live}
-use Rattle.iceberg_manifest.specs.LiveRows.{AreLiveRows}
+use Rattle.iceberg_live.specs.Live.{IsInherited, IsRowOf}
+use Rattle.iceberg_manifest.specs.Entry.{is_live}
+use Rattle.iceberg_live.specs.LiveRows.{AreLiveRows}
 use Rattle.iceberg_manifest.specs.Location.{front_of}
 use Rattle.iceberg_manifest.specs.declared.info.ManifestInfo.{ManifestInfo}
-use Rattle.iceberg_manifest.specs.declared.live.LiveRow.{LiveRow}
+use Rattle.iceberg_live.specs.declared.live.LiveRow.{LiveRow}
 use Rattle.iceberg_manifest.specs.declared.partition.PartColumn.{PartColumn}
 use Rattle.iceberg_metadata.specs.declared.metadata.Metadata.{Metadata}
 use Rattle.iceberg_table.specs.Files.{HoldsFile}

@@ -11,7 +11,7 @@ use Rattle.std.proofs.lemmas.List.Elements.{Contains-append_cases}
 use Rattle.std.proofs.lemmas.Map.Keys.{IsDistinct-head, IsDistinct-tail}
 use Rattle.lake_store.specs.Disk.{Files}
 use Rattle.table_history.proofs.RowListLemmas.{Contains-cases, Contains-head, Contains-none, Contains-one, Contains-tail, all_at}
-use Rattle.iceberg_metadata.specs.Ancestry.{FormsCycle, LeadsTo, held, held_at}
+use Rattle.iceberg_ancestry.specs.Ancestry.{FormsCycle, LeadsTo, held, held_at}
 use Rattle.iceberg_metadata.specs.Writing.{SameMetadata}
 use Rattle.iceberg_metadata.specs.declared.metadata.Metadata.{Metadata}
 use Rattle.iceberg_metadata.specs.declared.metadata.Snapshot.{Snapshot}

@@ -14,7 +14,7 @@ use Rattle.serde_json.specs.Written.{compact_text}
 use Rattle.table_history.specs.TypeTree.{ColumnTrees}
 use Rattle.table_history.specs.declared.table.Commit.{Commit}
 use Rattle.table_history.proofs.RowListLemmas.{Contains-cases, Contains-head, Contains-none, all_at}
-use Rattle.iceberg_metadata.specs.Ancestry.{held_at}
+use Rattle.iceberg_ancestry.specs.Ancestry.{held_at}
 use Rattle.iceberg_metadata.specs.Paths.{current_schema, default_fields, fields_of, held_schema, held_spec}
 use Rattle.iceberg_metadata.specs.Schemas.{HeldSchema}
 use Rattle.iceberg_metadata.specs.Writing.{SameMetadata}

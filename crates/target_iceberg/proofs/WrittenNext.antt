@@ -13,11 +13,12 @@ use Rattle.file_links.specs.declared.slots.Held.{Held}
 use Rattle.iceberg_manifest.specs.Entry.{EntryData}
 use Rattle.iceberg_manifest.specs.ListReading.{infos_in, list_plan, list_row, list_rows}
 use Rattle.iceberg_manifest.specs.Lists.{AreEach}
-use Rattle.iceberg_manifest.specs.Live.{IsRowOf, is_live}
+use Rattle.iceberg_live.specs.Live.{IsRowOf}
+use Rattle.iceberg_manifest.specs.Entry.{is_live}
 use Rattle.iceberg_manifest.specs.Location.{front_of}
 use Rattle.iceberg_manifest.specs.Scans.{flaw_error}
 use Rattle.iceberg_manifest.specs.declared.info.ManifestInfo.{ManifestInfo}
-use Rattle.iceberg_manifest.specs.declared.live.LiveRow.{LiveRow}
+use Rattle.iceberg_live.specs.declared.live.LiveRow.{LiveRow}
 use Rattle.iceberg_metadata.proofs.StepLemmas.{bind_ok, ok_is}
 use Rattle.iceberg_table.specs.Lists.{AreRows}
 use Rattle.iceberg_version.specs.Manifests.{AreListed, AreParts, LiveManifest, NextManifest, added_entry, added_manifest, born_at, carried, deleted_entry, existing_entry, has_rows, is_lost, left, new, rewritten_entries, stays}

@@ -5,7 +5,7 @@ use Rattle.lake_store.specs.Disk.{Files}
 use Rattle.table_history.specs.Row.{Row}
 use Rattle.table_history.specs.declared.table.Commit.{Commit}
 use Rattle.table_history.proofs.RowListLemmas.{Contains-none}
-use Rattle.iceberg_manifest.specs.MetadataPaths.{IsMetadataPath}
+use Rattle.iceberg_live.specs.MetadataPaths.{IsMetadataPath}
 use Rattle.iceberg_manifest.specs.declared.info.ManifestInfo.{ManifestInfo}
 use Rattle.iceberg_metadata.specs.Grammar.{IsMetadataText}
 use Rattle.iceberg_metadata.specs.declared.metadata.Metadata.{Metadata}

@@ -15,7 +15,7 @@ use Rattle.std.proofs.lemmas.Slice.Eq.{bytes_eq-Decides, slice_eq-Decides}
 use Rattle.lake_basics.specs.Outcome.{each}
 use Rattle.partition_map.specs.Columns.{column_kind}
 use Rattle.partition_map.specs.declared.kind.PartKind.{PartKind}
-use Rattle.schema_map.specs.Ids.{Path, known_id}
+use Rattle.schema_map.specs.Paths.{Path, known_id}
 use Rattle.schema_map.specs.Image.{wide_columns}
 use Rattle.table_history.specs.TypeTree.{ColumnTrees}
 use Rattle.table_history.proofs.RowListLemmas.{Contains-cases, Contains-head, Contains-none, Contains-tail}
@@ -23,8 +23,8 @@ use Rattle.iceberg_manifest.specs.declared.partition.PartColumn.{PartColumn}
 use Rattle.iceberg_metadata.specs.Judging.{are_distinct, is_among}
 use Rattle.iceberg_metadata.specs.Paths.{IsRenamed, PathId, held_schema, path_ids, path_of}
 use Rattle.iceberg_metadata.specs.Schemas.{HeldSchema}
-use Rattle.iceberg_metadata.specs.SourceColumns.{column_of}
-use Rattle.iceberg_metadata.specs.declared.columns.SourceColumn.{SourceColumn}
+use Rattle.iceberg_columns.specs.SourceColumns.{column_of}
+use Rattle.iceberg_columns.specs.declared.columns.SourceColumn.{SourceColumn}
 use Rattle.iceberg_metadata.specs.declared.metadata.Metadata.{Metadata}
 use Rattle.iceberg_metadata.specs.declared.metadata.SpecField.{SpecField}
 use Rattle.iceberg_table.specs.Plan.{names_of, part_columns}

@@ -12,8 +12,8 @@ use Rattle.table_history.specs.TypeEqLaws.{columns_eq-Decides}
 use Rattle.table_history.specs.declared.table.Table.{Table}
 use Rattle.table_history.proofs.RowListLemmas.{Contains-head, Contains-none}
 use Rattle.iceberg_manifest.specs.Lists.{AreEach}
-use Rattle.iceberg_manifest.specs.declared.live.LiveRow.{LiveRow}
-use Rattle.iceberg_metadata.specs.Ancestry.{held_at}
+use Rattle.iceberg_live.specs.declared.live.LiveRow.{LiveRow}
+use Rattle.iceberg_ancestry.specs.Ancestry.{held_at}
 use Rattle.iceberg_metadata.specs.Writing.{SameMetadata}
 use Rattle.iceberg_metadata.specs.declared.metadata.Metadata.{Metadata}
 use Rattle.iceberg_metadata.specs.declared.metadata.Snapshot.{Snapshot}

@@ -21,18 +21,18 @@ use Rattle.table_history.specs.declared.limit.LimitKind.TheVariants.{File, Versi
 use Rattle.table_history.specs.declared.table.Commit.{Commit}
 use Rattle.iceberg_manifest.specs.Location.{front_of}
 use Rattle.iceberg_manifest.specs.declared.partition.PartColumn.{PartColumn}
-use Rattle.iceberg_metadata.specs.Ancestry.{FormsCycle}
+use Rattle.iceberg_ancestry.specs.Ancestry.{FormsCycle}
 use Rattle.iceberg_metadata.specs.Judging.{metadata_of}
 use Rattle.iceberg_metadata.specs.Paths.{IsRenamed, all_path_ids, default_fields, held_schema, path_ids, path_of as path_at}
 use Rattle.iceberg_metadata.specs.Schemas.{HeldSchema, HeldUnread}
-use Rattle.iceberg_metadata.specs.SourceColumns.{column_of, columns_of, top_column}
+use Rattle.iceberg_columns.specs.SourceColumns.{column_of, columns_of, top_column}
 use Rattle.iceberg_metadata.specs.Writing.{metadata_text}
-use Rattle.iceberg_metadata.specs.declared.columns.SourceColumn.{SourceColumn}
+use Rattle.iceberg_columns.specs.declared.columns.SourceColumn.{SourceColumn}
 use Rattle.iceberg_metadata.specs.declared.metadata.Metadata.{Metadata}
 use Rattle.iceberg_metadata.specs.declared.metadata.Snapshot.{Snapshot}
 use Rattle.iceberg_metadata.specs.declared.metadata.SpecField.{SpecField}
 use Rattle.iceberg_metadata.specs.declared.error.MetadataError.TheVariants.{PartitionType}
-use Rattle.iceberg_metadata.proofs.ReadLemmas.{read_found, read_supported}
+use Rattle.iceberg_metadata_reading.proofs.ReadLemmas.{read_found, read_supported}
 use Rattle.iceberg_metadata.proofs.StepLemmas.{bind_ok, ok_is, required_some}
 use Rattle.iceberg_table.specs.Files.{SaysMetadata}
 use Rattle.iceberg_table.specs.Folder.{HasVersion, IsNewest, path_of}

@@ -11,23 +11,24 @@ use Rattle.table_history.specs.Rows.{HasDistinctPaths}
 use Rattle.table_history.proofs.RowListLemmas.{Contains-head}
 use Rattle.iceberg_manifest.specs.Entry.{EntryData}
 use Rattle.iceberg_manifest.specs.Lists.{AreEach}
-use Rattle.iceberg_manifest.specs.Live.{IsInherited, IsRowOf, is_live}
-use Rattle.iceberg_manifest.specs.LiveRows.{AreLiveRows, HasFault, IsFirstFault, LacksNumber}
+use Rattle.iceberg_live.specs.Live.{IsInherited, IsRowOf}
+use Rattle.iceberg_manifest.specs.Entry.{is_live}
+use Rattle.iceberg_live.specs.LiveRows.{AreLiveRows, HasFault, IsFirstFault, LacksNumber}
 use Rattle.iceberg_manifest.specs.Location.{front_of}
-use Rattle.iceberg_manifest.specs.MetadataPaths.{HasPathFault, IsMetadataPath}
+use Rattle.iceberg_live.specs.MetadataPaths.{HasPathFault, IsMetadataPath}
 use Rattle.iceberg_manifest.specs.Scans.{entries_of, infos_of}
 use Rattle.iceberg_manifest.specs.declared.error.ManifestError.{ManifestError}
 use Rattle.iceberg_manifest.specs.declared.error.ManifestError.TheVariants as manifest
 use Rattle.iceberg_manifest.specs.declared.info.ManifestInfo.{ManifestInfo}
-use Rattle.iceberg_manifest.specs.declared.live.LiveRow.{LiveRow}
+use Rattle.iceberg_live.specs.declared.live.LiveRow.{LiveRow}
 use Rattle.iceberg_manifest.specs.declared.partition.PartColumn.{PartColumn}
-use Rattle.iceberg_metadata.specs.Ancestry.{FormsCycle}
+use Rattle.iceberg_ancestry.specs.Ancestry.{FormsCycle}
 use Rattle.iceberg_metadata.specs.Reading.{HasCause, causes}
 use Rattle.iceberg_metadata.specs.Schemas.{HeldSchema}
-use Rattle.iceberg_metadata.specs.SourceColumns.{columns_of}
+use Rattle.iceberg_columns.specs.SourceColumns.{columns_of}
 use Rattle.iceberg_metadata.specs.declared.metadata.Metadata.{Metadata}
 use Rattle.iceberg_metadata.specs.declared.metadata.Snapshot.{Snapshot}
-use Rattle.iceberg_metadata.proofs.ReadLemmas.{first_not_none}
+use Rattle.iceberg_metadata_reading.proofs.ReadLemmas.{first_not_none}
 use Rattle.iceberg_table.specs.Errors.{IsFileFault, IsTold}
 use Rattle.iceberg_table.specs.Files.{HoldsFile, SaysMetadata}
 use Rattle.iceberg_table.specs.Folder.{version_path}

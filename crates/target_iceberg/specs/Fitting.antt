@@ -8,7 +8,7 @@ use Rattle.iceberg_metadata.specs.Paths.{current_schema}
 use Rattle.iceberg_version.specs.declared.kept.IcebergKept.{IcebergKept}
 use Rattle.partition_map.specs.Columns.{column_kind}
 use Rattle.partition_map.specs.declared.kind.PartKind.{PartKind}
-use Rattle.schema_map.specs.Ids.{Path, column_paths}
+use Rattle.schema_map.specs.Paths.{Path, column_paths}
 use Rattle.schema_map.specs.Image.{wide_columns}
 use Rattle.table_history.specs.TypeEq.{columns_eq, type_eq}
 use Rattle.table_history.specs.TypeTree as tree

@@ -9,7 +9,7 @@ use Rattle.table_history.specs.declared.kind.Kind.TheVariants.{Iceberg}
 use Rattle.table_history.specs.declared.limit.LimitKind.{LimitKind}
 use Rattle.table_history.specs.declared.limit.LimitKind.TheVariants as limit
 use Rattle.iceberg_manifest.specs.Lists.{AreEach}
-use Rattle.iceberg_manifest.specs.declared.live.LiveRow.{LiveRow}
+use Rattle.iceberg_live.specs.declared.live.LiveRow.{LiveRow}
 use Rattle.iceberg_metadata.specs.declared.metadata.Metadata.{Metadata}
 use Rattle.iceberg_table.specs.Folder.{path_of}
 use Rattle.iceberg_table.specs.declared.error.Fault.{Fault}

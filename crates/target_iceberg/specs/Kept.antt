@@ -5,7 +5,7 @@ use Rattle.lake_store.specs.Disk.{Files}
 use Rattle.file_links.specs.Rows.{Entry, OwnedRows, Owns, rows_of}
 use Rattle.file_links.specs.declared.slots.Held.{Held}
 use Rattle.iceberg_manifest.specs.Lists.{AreEach}
-use Rattle.iceberg_manifest.specs.declared.live.LiveRow.{LiveRow}
+use Rattle.iceberg_live.specs.declared.live.LiveRow.{LiveRow}
 use Rattle.iceberg_metadata.specs.Writing.{SameMetadata}
 use Rattle.iceberg_metadata.specs.declared.metadata.Metadata.{Metadata}
 use Rattle.iceberg_table.specs.Files.{SaysMetadata}

@@ -4,7 +4,7 @@ use Rattle.std.specs.Cmp.Lexicographic.{pointwise}
 use Rattle.std.specs.Str.{bytes_eq}
 use Rattle.std.specs.declared.alloc.Global.{Global}
 use Rattle.indexmap.specs.IndexMap.{IndexMap, get_by}
-use Rattle.schema_map.specs.Ids.{Path}
+use Rattle.schema_map.specs.Paths.{Path}
 use Rattle.table_history.specs.TypeTree.{TypeTree}
 use Rattle.target_iceberg.specs.Fitting.{IdSchema, type_at}
 use Rattle.target_iceberg.specs.Shapes.{shape_of, widens}

@@ -14,16 +14,16 @@ use Rattle.table_history.proofs.RowListLemmas.{Contains-head, Contains-tail}
 use Rattle.iceberg_manifest.specs.Containers.{IsRefusedBy, Scan, StandsFor}
 use Rattle.iceberg_manifest.specs.Entry.{EntryData}
 use Rattle.iceberg_manifest.specs.Lists.{AreEach}
-use Rattle.iceberg_manifest.specs.Live.{rows_in}
-use Rattle.iceberg_manifest.specs.LiveRows.{AreLiveRows}
+use Rattle.iceberg_live.specs.Live.{rows_in}
+use Rattle.iceberg_live.specs.LiveRows.{AreLiveRows}
 use Rattle.iceberg_manifest.specs.Location.{front_of}
 use Rattle.iceberg_manifest.specs.Scans.{entries_of, infos_of}
 use Rattle.iceberg_manifest.specs.declared.error.ManifestError.{ManifestError}
 use Rattle.iceberg_manifest.specs.declared.info.ManifestInfo.{ManifestInfo}
-use Rattle.iceberg_manifest.specs.declared.live.LiveRow.{LiveRow}
+use Rattle.iceberg_live.specs.declared.live.LiveRow.{LiveRow}
 use Rattle.iceberg_manifest.specs.declared.partition.PartColumn.{PartColumn}
-use Rattle.iceberg_manifest.proofs.LiveLaws.{rows_given}
-use Rattle.iceberg_metadata.specs.Ancestry.{held, held_at}
+use Rattle.iceberg_live.proofs.LiveLaws.{rows_given}
+use Rattle.iceberg_ancestry.specs.Ancestry.{held, held_at}
 use Rattle.iceberg_metadata.specs.Grammar.{IsMetadataText}
 use Rattle.iceberg_metadata.specs.Judging.{contents}
 use Rattle.iceberg_metadata.specs.Reading.{IsRead}

@@ -4,7 +4,7 @@ use Rattle.lake_basics.specs.declared.limits.TheConstants.{MAX_MANIFEST_ENTRIES}
 use Rattle.lake_store.specs.Disk.{Disk, Files, IsDirty}
 use Rattle.lake_store.specs.Runs.{IsIn}
 use Rattle.iceberg_manifest.specs.Entry.{EntryData}
-use Rattle.iceberg_manifest.specs.MetadataPaths.{IsMetadataPath}
+use Rattle.iceberg_live.specs.MetadataPaths.{IsMetadataPath}
 use Rattle.iceberg_manifest.specs.declared.info.ManifestInfo.{ManifestInfo}
 use Rattle.iceberg_metadata.specs.Grammar.{IsMetadataText}
 use Rattle.iceberg_metadata.specs.Schemas.{SchemaReading}

@@ -9,7 +9,7 @@ use Rattle.table_history.specs.declared.row.PartValue.{PartValue}
 use Rattle.table_history.specs.declared.table.Table.{Table}
 use Rattle.partition_map.specs.Kind.{part_kind_of}
 use Rattle.schema_map.specs.Image.{wide_columns, wide_type}
-use Rattle.schema_map.proofs.IcebergWritten.{own_wide, wide_limits}
+use Rattle.schema_map.proofs.Wide.{own_wide, wide_limits}
 use Rattle.iceberg_commit.specs.NextVersion.{image}
 use Rattle.iceberg_commit.proofs.WideLemmas.{kind_kept, of_same, values_fit, wide_column}
 use Rattle.target_core.specs.Conditions.{HasKind, IsPublishable}

@@ -13,11 +13,12 @@ ghost use Rattle.target_iceberg.specs.Following.{AreKindsOf, AreHeldBy, IsChange
 ghost use Rattle.target_iceberg.specs.Newest.{shape_at};
 
 use crate::newest::{NewestShapes, keep_schema, newest_shapes, type_change};
+use iceberg_field_ids::{KnownIds, to_iceberg};
 use iceberg_version::IcebergKept;
 use lake_basics::limits::MAX_PUBLISHED_COMMITS;
 use lake_basics::{Items, Text};
 use partition_map::{PartKind, column_kinds};
-use schema_map::{Ids, KnownIds, MapError, column_paths, to_iceberg};
+use schema_map::{Ids, MapError, column_paths};
 use std::alloc::{AllocError, Global};
 use table_history::{Commit, Feature, LimitKind, Schema};
 use target_core::TargetError;

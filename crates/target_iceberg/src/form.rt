@@ -5,7 +5,7 @@ ghost use Rattle.std.specs.Option.{option_copied};
 ghost use Rattle.std.specs.Cmp.Lexicographic.{pointwise};
 ghost use Rattle.std.specs.List.{AllByRecursion, list_all, zip};
 ghost use Rattle.std.specs.Str.{bytes_eq};
-ghost use Rattle.schema_map.specs.Ids.{known_id};
+ghost use Rattle.schema_map.specs.Paths.{known_id};
 ghost use Rattle.iceberg_metadata.specs.Judging.{are_distinct};
 ghost use Rattle.iceberg_metadata.specs.Paths.{default_fields as fields_in, held_spec as spec_in};
 ghost use Rattle.iceberg_version.specs.Schemas.{FIRST_PARTITION_ID as FIRST_ID, IsSpecField};

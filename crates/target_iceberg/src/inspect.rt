@@ -6,7 +6,7 @@ ghost use Rattle.std.specs.Option.{option_copied};
 ghost use Rattle.lake_store.specs.Runs.{FailsBy, IsUncontestedBy, OnlyReads};
 ghost use Rattle.table_history.specs.declared.kind.Kind.{Kind};
 ghost use Rattle.schema_map.specs.Image.{wide_columns};
-ghost use Rattle.iceberg_metadata.specs.Ancestry.{held, held_at};
+ghost use Rattle.iceberg_ancestry.specs.Ancestry.{held, held_at};
 ghost use Rattle.iceberg_metadata.specs.Writing.{IsWritable};
 ghost use Rattle.iceberg_table.specs.Folder.{HasVersion, IsNewest, version_path as path_of_version};
 ghost use Rattle.iceberg_table.specs.Snapshots.{HasManifestRows};

@@ -8,7 +8,7 @@ ghost use Rattle.target_iceberg.specs.InspectSteps.{AreLinked, FillsOwner, Links
 ghost use Rattle.target_iceberg.specs.Kept.{held_of as held_row};
 
 use file_links::{Held, Links};
-use iceberg_manifest::{LiveRow, Rows};
+use iceberg_live::{LiveRow, Rows};
 use iceberg_table::Manifest;
 use iceberg_version::KeptManifest;
 use lake_basics::Items;

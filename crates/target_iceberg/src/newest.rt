@@ -3,7 +3,7 @@
 ghost use Rattle.std.specs.Prelude.{◌≡◌, ◌≢◌, ◌∷◌, [], IfOk, MatchOption, None, OnOk, if◌then◌else◌, map, option_copied, pos};
 ghost use Rattle.std.specs.Cmp.Lexicographic.{pointwise};
 ghost use Rattle.std.specs.Str.{bytes_eq};
-ghost use Rattle.schema_map.specs.Ids.{Path, column_paths};
+ghost use Rattle.schema_map.specs.Paths.{Path, column_paths};
 ghost use Rattle.target_iceberg.specs.Newest.{IsTop, is_changed, is_older, later, shape_at, with_schema, with_schemas};
 
 use crate::shape::{Shape, column_shapes};

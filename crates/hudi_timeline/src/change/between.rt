@@ -6,10 +6,9 @@ ghost use Rattle.table_history.specs.Rows.{HasDistinctPaths, SameRows};
 ghost use Rattle.table_history.specs.Tables.{IsDiff};
 ghost use Rattle.hudi_timeline.specs.GroupChange.{is_long, limit_passed, row_limit, IsGroupChange, PassesLimitAfter};
 
-use super::groups::{rows_of_groups, touched};
-use crate::error::HudiError;
-use crate::form::Form;
-use crate::table::HudiTable;
+use hudi_groups::{Form, rows_of_groups, touched};
+use hudi_names::HudiError;
+use hudi_properties::HudiTable;
 use lake_basics::limits::{MAX_LIVE_FILES, MAX_PARTITION_COLUMNS, MAX_PATH_BYTES};
 use lake_basics::{Items, Text};
 use schema_map::schema_limit;

@@ -10,13 +10,14 @@ ghost use Rattle.table_history.specs.declared.feature.Feature.TheVariants.{NoSch
 ghost use Rattle.table_history.specs.declared.table.Table.{Table};
 ghost use Rattle.partition_map.specs.Columns.{HasOtherKind};
 ghost use Rattle.hudi_timeline.specs.Schemas.{stated_schema, spelled_schema, schema_after, AreKindsOf};
-ghost use Rattle.hudi_timeline.specs.Steps.{IsTextRefusal, OnlyFeature, IsKindFault};
+ghost use Rattle.hudi_timeline.specs.Steps.{IsTextRefusal, IsKindFault};
+ghost use Rattle.hudi_files.specs.FileFaults.{OnlyFeature};
 
-use super::rows::MALFORMED;
-use crate::error::HudiError;
+use hudi_names::{HudiError, MALFORMED};
 use lake_basics::Text;
 use partition_map::{PartKind, are_distinct, column_kinds, has_other_kind};
-use schema_map::{MapError, read_avro};
+use schema_avro::read_avro;
+use schema_map::MapError;
 use std::alloc::{AllocError, Global};
 use table_history::{Feature, Schema, Table};
 

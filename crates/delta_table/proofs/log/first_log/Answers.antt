@@ -1,7 +1,7 @@
 use Rattle.std.proofs.Common.{◌≡◌, ◌∙◌, ℕ, List, None, Option, ap, subst, sym}
 use Rattle.table_history.specs.Tables.{IsAfter, empty_table}
 use Rattle.table_history.specs.declared.table.Table.{Table}
-use Rattle.delta_log.specs.TableBehind.{partition_behind, table_before}
+use Rattle.delta_change.specs.TableBehind.{partition_behind, table_before}
 use Rattle.delta_log.specs.declared.commit.MetaData.{MetaData}
 use Rattle.delta_table.proofs.LogLaws.{none_some, step_made}
 use Rattle.delta_table.proofs.log.first_log.Goals as goal

@@ -1,5 +1,5 @@
 use Rattle.std.proofs.Common.{Some, subst}
-use Rattle.delta_log.specs.Change.{IsTableOfLog}
+use Rattle.delta_change.specs.Change.{IsTableOfLog}
 use Rattle.delta_table.proofs.LogLaws.{some_once, step_made}
 use Rattle.delta_table.proofs.log.next_log.Goals as goal
 

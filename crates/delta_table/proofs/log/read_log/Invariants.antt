@@ -1,5 +1,5 @@
 use Rattle.std.proofs.Common.{◌≤◌, ◌+◌}
-use Rattle.delta_log.specs.Change.{IsTableOfLog}
+use Rattle.delta_change.specs.Change.{IsTableOfLog}
 use Rattle.lake_store.specs.Runs.{FailsBy, IsUncontestedBy, OnlyReads}
 use Rattle.delta_table.specs.Log.{IsLogOf}
 use Rattle.delta_table.proofs.log.read_log.Given as goal

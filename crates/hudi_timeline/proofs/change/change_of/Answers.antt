@@ -2,8 +2,9 @@ use Rattle.std.proofs.Common.{length, sym, ap, subst, ◌∙◌}
 use Rattle.std.specs.Option.{option_copied}
 use Rattle.std.proofs.lemmas.Result.{err_from_is_err_and}
 use Rattle.lake_basics.specs.Outcome.{each, FailsUnlessMemory}
-use Rattle.hudi_timeline.specs.Errors.{is_memory}
-use Rattle.hudi_timeline.specs.Files.{bare_row, suffix_of}
+use Rattle.hudi_names.specs.Errors.{is_memory}
+use Rattle.hudi_files.specs.Stats.{bare_row}
+use Rattle.hudi_groups.specs.Files.{suffix_of}
 use Rattle.hudi_timeline.specs.Live.{completed}
 use Rattle.hudi_timeline.proofs.CauseLemmas.{stat_refusal, text_refusal, no_schema}
 use Rattle.hudi_timeline.proofs.StepLemmas.{kinds_refused, kinds_counted, rows_refused, change_refused, found, live, goes_on}

@@ -7,7 +7,7 @@ use Rattle.lake_store.proofs.RunLaws as runs
 use Rattle.table_history.proofs.RowListLemmas.{Contains-none}
 use Rattle.iceberg_manifest.specs.ListWriting.{HasContent}
 use Rattle.iceberg_manifest.specs.Lists.{AreEach}
-use Rattle.iceberg_manifest.specs.declared.live.LiveRow.{LiveRow}
+use Rattle.iceberg_live.specs.declared.live.LiveRow.{LiveRow}
 use Rattle.iceberg_table.specs.Errors.{IsRefusal, IsTold}
 use Rattle.iceberg_table.specs.Kinds.{FitRows}
 use Rattle.iceberg_table.specs.Manifests.{AreManifestsRefused, IsManifestOf, IsManifestRefusal, entry_count}

@@ -6,7 +6,7 @@ use Rattle.lake_basics.specs.declared.outcome.ReadError.{ReadError}
 use Rattle.table_history.specs.Rows.{HasDistinctPaths, HasPath}
 use Rattle.table_history.specs.declared.row.FileRow.{FileRow}
 use Rattle.table_history.specs.declared.table.Table.{Table}
-use Rattle.iceberg_manifest.specs.declared.live.LiveRow.{LiveRow}
+use Rattle.iceberg_live.specs.declared.live.LiveRow.{LiveRow}
 use Rattle.iceberg_table.specs.Errors.{IsFault}
 use Rattle.iceberg_table.specs.Tables.{IsShared, IsTableOfRows, rows_in}
 use Rattle.iceberg_table.specs.declared.error.Fault.{Fault}

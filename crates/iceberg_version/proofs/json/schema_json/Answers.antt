@@ -2,7 +2,7 @@ use Rattle.std.proofs.Common.{◌≡◌, ap, false, of_z, rules, to_z, w32, ◌�
 use Rattle.std.proofs.lemmas.Int.{to_z-of_z}
 use Rattle.serde_json.specs.View.{view}
 use Rattle.serde_json.specs.Written.{compact_text, has_float}
-use Rattle.schema_map.specs.IcebergWriting.{iceberg_value}
+use Rattle.schema_iceberg.specs.IcebergWriting.{iceberg_value}
 use Rattle.iceberg_version.proofs.FlatLemmas.{flat_schema, text_is}
 use Rattle.iceberg_version.proofs.json.schema_json.Goals as goal
 

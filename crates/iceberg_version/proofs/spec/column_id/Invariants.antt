@@ -1,5 +1,5 @@
 use Rattle.std.proofs.Common.{◌≡◌, ◌∷◌, [], drop}
-use Rattle.schema_map.specs.Ids.{known_id}
+use Rattle.schema_map.specs.Paths.{known_id}
 use Rattle.iceberg_version.proofs.spec.column_id.Given as goal
 
 abbrev pub invariant-loop-pair : goal.invariant-loop-pair

@@ -1,6 +1,6 @@
 use Rattle.std.proofs.Common.{rules}
 use Rattle.std.proofs.lemmas.List.Sorted.{answers_always}
-use Rattle.delta_log.proofs.OrderedLemmas.{text_below, text_below-order, texts_rise}
+use Rattle.delta_live.proofs.OrderedLemmas.{text_below, text_below-order, texts_rise}
 use Rattle.target_delta.proofs.actions.sorted_texts.Goals as goal
 
 pub returns-clause-order : goal.returns-clause-order

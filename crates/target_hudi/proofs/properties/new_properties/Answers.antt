@@ -1,5 +1,5 @@
 use Rattle.std.proofs.Common.{◌∙◌, Ok, ap}
-use Rattle.hudi_timeline.specs.Pairs.{in_order}
+use Rattle.hudi_properties.specs.Pairs.{in_order}
 use Rattle.target_hudi.proofs.PairLemmas.{is_new_table}
 use Rattle.target_hudi.proofs.properties.new_properties.Goals as goal
 

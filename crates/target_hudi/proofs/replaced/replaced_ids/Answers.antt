@@ -3,7 +3,7 @@ use Rattle.std.proofs.lemmas.List.{length-map}
 use Rattle.std.specs.List.{IsDistinct}
 use Rattle.std.specs.Str.{bytes_eq}
 use Rattle.table_history.specs.Rows.{HasPath}
-use Rattle.hudi_timeline.specs.Group.{joined}
+use Rattle.hudi_groups.specs.Group.{joined}
 use Rattle.target_hudi.specs.Writing.{replaced_of}
 use Rattle.target_hudi.proofs.ReplacedLemmas.{ids_by, whole_again}
 use Rattle.target_hudi.proofs.StatLemmas.{at_most}

@@ -1,7 +1,7 @@
 use Rattle.std.proofs.Common.{rules, ℕ, List}
 use Rattle.std.proofs.lemmas.List.Sorted.{answers_always, length_permutation}
-use Rattle.hudi_timeline.specs.Group.{joined}
-use Rattle.hudi_timeline.specs.InstantText.{replaced_cmp}
+use Rattle.hudi_groups.specs.Group.{joined}
+use Rattle.hudi_instant.specs.InstantText.{replaced_cmp}
 use Rattle.target_hudi.proofs.OrderLemmas.{ids_tied, replaced_below, replaced_below-order, replaced_total, rises}
 use Rattle.target_hudi.proofs.replaced.sorted_ids.Goals as goal
 

@@ -1,7 +1,7 @@
 use Rattle.std.proofs.Common.{rules}
 use Rattle.std.proofs.lemmas.List.Sorted.{answers_always, length_permutation}
-use Rattle.hudi_timeline.specs.InstantText.{stat_cmp}
-use Rattle.hudi_timeline.specs.declared.instant.Stat.{Stat}
+use Rattle.hudi_instant.specs.InstantText.{stat_cmp}
+use Rattle.hudi_instant.specs.declared.instant.Stat.{Stat}
 use Rattle.target_hudi.proofs.OrderLemmas.{rises, stat_below, stat_below-order, stat_total, stats_tied}
 use Rattle.target_hudi.proofs.stats.sorted_stats.Goals as goal
 

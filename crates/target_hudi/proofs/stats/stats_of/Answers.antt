@@ -1,11 +1,11 @@
 use Rattle.std.proofs.Common.{◌≡◌, List, [], ◌∷◌, ◌++◌, length, map, sym, ap, subst, ◌∙◌}
 use Rattle.std.proofs.lemmas.List.{length-map}
 use Rattle.std.proofs.lemmas.List.Elements.{All-push, All-same}
-use Rattle.hudi_timeline.specs.InstantText.{IsSoundStat}
+use Rattle.hudi_instant.specs.InstantText.{IsSoundStat}
 use Rattle.std.specs.List.{IsDistinct}
 use Rattle.std.specs.Str.{bytes_eq}
 use Rattle.table_history.specs.Row.{Row}
-use Rattle.hudi_timeline.specs.declared.instant.Stat.{Stat}
+use Rattle.hudi_instant.specs.declared.instant.Stat.{Stat}
 use Rattle.target_hudi.specs.Writing.{stat_of}
 use Rattle.target_hudi.proofs.StatLemmas.{all_taken, as_many, distinct_stats, item_there, sound_by, stats_by, stats_more}
 use Rattle.target_hudi.proofs.stats.stats_of.Goals as goal

@@ -1,5 +1,5 @@
 use Rattle.std.proofs.Common.{◌≡◌, All, map, take}
-use Rattle.hudi_timeline.specs.InstantText.{IsSoundStat}
+use Rattle.hudi_instant.specs.InstantText.{IsSoundStat}
 use Rattle.target_hudi.specs.Writing.{stat_of}
 use Rattle.target_hudi.proofs.stats.stats_of.Given as goal
 

@@ -1,6 +1,7 @@
 use Rattle.std.proofs.Common.{◌≡◌, [], pos, arith, subst, ◌∙◌}
 use Rattle.std.proofs.lemmas.Grind.{common_steps}
-use Rattle.schema_map.specs.Ids.{HasNoIds, column_paths}
+use Rattle.iceberg_field_ids.specs.Ids.{HasNoIds}
+use Rattle.schema_map.specs.Paths.{column_paths}
 use Rattle.schema_map.specs.declared.fault.MapError.{MapError}
 use Rattle.target_iceberg.proofs.FollowLemmas.{all_pairs, never_passes, zero_ids}
 use Rattle.target_iceberg.proofs.fitting.image_of.Goals as goal

@@ -1,5 +1,5 @@
 use Rattle.std.proofs.Common.{◌≡◌, ◌++◌}
-use Rattle.schema_map.specs.Ids.{column_paths}
+use Rattle.schema_map.specs.Paths.{column_paths}
 use Rattle.target_iceberg.proofs.FollowLemmas.{zero_ids}
 use Rattle.target_iceberg.proofs.fitting.image_of.Given as goal
 

@@ -1,6 +1,6 @@
 use Rattle.std.proofs.Common.{◌≡◌, ◌∷◌, [], drop}
 use Rattle.std.specs.List.{zip}
-use Rattle.schema_map.specs.Ids.{known_id}
+use Rattle.schema_map.specs.Paths.{known_id}
 use Rattle.target_iceberg.proofs.form.column_id.Given as goal
 
 abbrev pub invariant-loop-place : goal.invariant-loop-place

@@ -4,7 +4,7 @@ use Rattle.iceberg_metadata.specs.Paths.{held_schema}
 use Rattle.std.specs.Prelude.{◌↔◌, IsTrue}
 use Rattle.std.specs.List.{zip}
 use Rattle.std.specs.Option.{option_copied}
-use Rattle.schema_map.specs.Ids.{Path, column_paths}
+use Rattle.schema_map.specs.Paths.{Path, column_paths}
 use Rattle.iceberg_metadata.specs.declared.metadata.SpecField.{SpecField}
 use Rattle.iceberg_version.specs.Schemas.{FIRST_PARTITION_ID}
 use Rattle.target_iceberg.specs.FormSteps.{AreFields}

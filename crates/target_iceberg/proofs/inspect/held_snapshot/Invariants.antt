@@ -1,5 +1,5 @@
 use Rattle.std.proofs.Common.{◌≡◌, drop}
-use Rattle.iceberg_metadata.specs.Ancestry.{held}
+use Rattle.iceberg_ancestry.specs.Ancestry.{held}
 use Rattle.target_iceberg.proofs.inspect.held_snapshot.Given as goal
 
 abbrev pub invariant-loop-snapshot : goal.invariant-loop-snapshot

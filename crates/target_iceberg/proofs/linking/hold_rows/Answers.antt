@@ -2,7 +2,7 @@ use Rattle.std.proofs.Common.{◌≡◌, ◌++◌, ◌∷◌, [], ℕ, List, len
 use Rattle.file_links.specs.Rows.{HoldsPath}
 use Rattle.file_links.specs.declared.slots.Held.{Held}
 use Rattle.target_iceberg.specs.InspectSteps.{FillsOwner}
-use Rattle.iceberg_manifest.specs.declared.live.LiveRow.{LiveRow}
+use Rattle.iceberg_live.specs.declared.live.LiveRow.{LiveRow}
 use Rattle.iceberg_table.proofs.EachLaws.{left_moved, left_next, left_none}
 use Rattle.target_iceberg.proofs.LinkLemmas.{has_room, none_yet, path_free, row_in, some_rows}
 use Rattle.target_iceberg.proofs.linking.hold_rows.Goals as goal

@@ -1,6 +1,6 @@
 use Rattle.std.proofs.Common.{◌≡◌, ◌++◌, List}
 use Rattle.target_iceberg.specs.InspectSteps.{FillsOwner}
-use Rattle.iceberg_manifest.specs.declared.live.LiveRow.{LiveRow}
+use Rattle.iceberg_live.specs.declared.live.LiveRow.{LiveRow}
 use Rattle.target_iceberg.proofs.linking.hold_rows.Given as goal
 
 abbrev pub invariant-loop-live : goal.invariant-loop-live

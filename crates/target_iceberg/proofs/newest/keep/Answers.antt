@@ -4,7 +4,7 @@ use Rattle.std.specs.Cmp.Lexicographic.{pointwise}
 use Rattle.std.specs.Str.{bytes_eq}
 use Rattle.std.specs.Option.{option_copied}
 use Rattle.std.proofs.lemmas.Int.{to_z-of_z}
-use Rattle.schema_map.specs.Ids.{Path}
+use Rattle.schema_map.specs.Paths.{Path}
 use Rattle.target_iceberg.specs.Newest.{is_older, later, shape_at}
 use Rattle.target_iceberg.proofs.NewestLemmas.{newer_kept, older_left}
 use Rattle.target_iceberg.proofs.newest.keep.Goals as goal

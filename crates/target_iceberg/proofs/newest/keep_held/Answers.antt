@@ -2,7 +2,7 @@ use mir.Val.{SFits, of_z, to_z}
 use Rattle.std.proofs.Common.{◌≡◌, ℤ, w32, w64, rules, arith, subst}
 use Rattle.std.specs.Prelude.{OnOk}
 use Rattle.std.proofs.lemmas.Int.{ints}
-use Rattle.schema_map.specs.Ids.{Path}
+use Rattle.schema_map.specs.Paths.{Path}
 use Rattle.target_iceberg.specs.Newest.{shape_at, with_schema}
 use Rattle.target_iceberg.proofs.newest.keep_held.Goals as goal
 

@@ -1,7 +1,7 @@
 use Rattle.std.proofs.Common.{◌≡◌, ℤ, w64, [], ◌∷◌, arith, ap, ◌∙◌}
 use Rattle.std.proofs.lemmas.Grind.{common_steps}
 use Rattle.std.proofs.lemmas.Int.{to_z-of_z}
-use Rattle.schema_map.specs.Ids.{column_paths}
+use Rattle.schema_map.specs.Paths.{column_paths}
 use Rattle.target_iceberg.specs.Fitting.{column_types, type_at}
 use Rattle.target_iceberg.specs.Newest.{shape_at, with_type}
 use Rattle.target_iceberg.proofs.NewestLemmas.{as_typed, no_paths_left, no_shapes_left, pairs_step}

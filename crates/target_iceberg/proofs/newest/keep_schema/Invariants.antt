@@ -1,6 +1,6 @@
 use Rattle.std.proofs.Common.{◌≡◌, map}
 use Rattle.std.specs.List.{zip}
-use Rattle.schema_map.specs.Ids.{Path, column_paths}
+use Rattle.schema_map.specs.Paths.{Path, column_paths}
 use Rattle.target_iceberg.specs.Fitting.{column_types}
 use Rattle.target_iceberg.specs.Newest.{shape_at}
 use Rattle.target_iceberg.specs.Shapes.{shape_of}

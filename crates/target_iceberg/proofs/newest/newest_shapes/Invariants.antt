@@ -1,5 +1,5 @@
 use Rattle.std.proofs.Common.{◌≡◌, None, drop, map}
-use Rattle.schema_map.specs.Ids.{Path}
+use Rattle.schema_map.specs.Paths.{Path}
 use Rattle.target_iceberg.specs.Newest.{shape_at, with_schemas}
 use Rattle.target_iceberg.proofs.newest.newest_shapes.Given as goal
 

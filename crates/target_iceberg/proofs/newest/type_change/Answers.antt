@@ -1,5 +1,5 @@
 use Rattle.std.proofs.Common.{◌≡◌, ◌+◌, false, pos, None, List, Contains, take, drop, ap, sym, subst, ◌∙◌}
-use Rattle.schema_map.specs.Ids.{Path}
+use Rattle.schema_map.specs.Paths.{Path}
 use Rattle.target_iceberg.specs.Newest.{is_changed, shape_at, with_schema}
 use Rattle.target_iceberg.proofs.NewestLemmas.{all_taken, item_there, none_kept, one_more, some_path, split_of}
 use Rattle.target_iceberg.proofs.newest.type_change.Goals as goal

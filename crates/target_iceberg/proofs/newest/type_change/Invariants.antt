@@ -1,5 +1,5 @@
 use Rattle.std.proofs.Common.{◌≡◌, false, None, pos, take, Contains}
-use Rattle.schema_map.specs.Ids.{Path}
+use Rattle.schema_map.specs.Paths.{Path}
 use Rattle.target_iceberg.specs.Newest.{is_changed, shape_at, with_schema}
 use Rattle.target_iceberg.proofs.newest.type_change.Given as goal
 

@@ -3,9 +3,9 @@ use Rattle.std.specs.List.{list_any}
 use Rattle.table_history.specs.Rows.{HasDistinctPaths, SameRows}
 use Rattle.table_history.specs.Tables.{IsDiff}
 use Rattle.table_history.proofs.Laws.{change_of_same_rows}
-use Rattle.hudi_timeline.specs.GroupSets.{newest_rows}
-use Rattle.hudi_timeline.specs.GroupChange.{is_long, limit_passed, rows_after}
-use Rattle.hudi_timeline.proofs.GroupChangeLemmas.{touched, diff_of_groups, rows_after_distinct, reversed_distinct, length-rows_after, old_rows, old_length, old_shorter}
+use Rattle.hudi_groups.specs.GroupSets.{newest_rows, rows_after}
+use Rattle.hudi_timeline.specs.GroupChange.{is_long, limit_passed}
+use Rattle.hudi_groups.proofs.GroupChangeLemmas.{touched, diff_of_groups, rows_after_distinct, reversed_distinct, length-rows_after, old_rows, old_length, old_shorter}
 use Rattle.hudi_timeline.proofs.change.between.group_change.Goals as goal
 
 pub overflow_sub-kept : goal.overflow_sub-kept

@@ -4,7 +4,7 @@ use Rattle.std.specs.Str.{bytes_eq}
 use Rattle.table_history.specs.Rows.{HasDistinctPaths}
 use Rattle.table_history.specs.declared.table.Table.{Table}
 use Rattle.table_history.proofs.RowListLemmas.{Contains-none}
-use Rattle.hudi_timeline.proofs.GroupChangeLemmas.{distinct_none}
+use Rattle.hudi_groups.proofs.GroupChangeLemmas.{distinct_none}
 use Rattle.hudi_timeline.proofs.change.between.table_of.Goals as goal
 
 pub apply-requires : goal.apply-requires

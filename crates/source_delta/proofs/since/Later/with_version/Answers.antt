@@ -1,7 +1,7 @@
 use Rattle.std.proofs.Common.{Result, sym, subst, ap, ◌+◌, ℕ}
 use Rattle.std.proofs.lemmas.Result.{err_from_is_err_and}
 use Rattle.std.specs.Prelude.{IfErr}
-use Rattle.delta_log.specs.Change.{IsTableOfLog}
+use Rattle.delta_change.specs.Change.{IsTableOfLog}
 use Rattle.delta_table.proofs.LogLaws.{some_once}
 use Rattle.source_core.specs.Answers.{IsReadRefusal}
 use Rattle.source_core.specs.declared.error.SourceError.{SourceError}

@@ -1,5 +1,5 @@
 use Rattle.std.proofs.Common.{pos, None, subst}
-use Rattle.schema_map.specs.Ids.{column_paths}
+use Rattle.schema_map.specs.Paths.{column_paths}
 use Rattle.target_iceberg.specs.Fitting.{HeldState}
 use Rattle.target_iceberg.specs.Following.{AreHeldBy}
 use Rattle.target_iceberg.specs.Newest.{IsTop, is_changed, shape_at, with_schema}

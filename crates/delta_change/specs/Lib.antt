@@ -1,0 +1,3 @@
+pub mod TableBehind
+pub mod Change
+pub mod ChangeSteps

@@ -1,0 +1,6 @@
+pub mod LiveLemmas
+pub mod BehindLemmas
+pub mod OrderedLemmas
+pub mod ValueLemmas
+pub mod TextLemmas
+pub mod RowLemmas

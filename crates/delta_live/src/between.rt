@@ -1,0 +1,178 @@
+//! What differs between the rows before a commit and those behind it.
+
+ghost use Rattle.std.specs.Prelude.{◌≡◌, ◌↔◌, ◌++◌, ◌∷◌, [], ℕ, List, filter, Contains, IsTrue, IfOk};
+ghost use Rattle.std.specs.List.{count_by, IsDistinct};
+ghost use Rattle.std.specs.Str.{bytes_eq};
+ghost use Rattle.table_history.specs.Rows.{HasDistinctPaths, IsInByteOrder, IsInPathOrder, paths_of};
+ghost use Rattle.table_history.specs.Tables.{IsDiff};
+ghost use Rattle.table_history.specs.declared.row.FileRow.{FileRow};
+ghost use Rattle.delta_log.specs.Commit.{file_path, file_paths};
+ghost use Rattle.delta_live.specs.RowSteps.{has_path, removed_path, removed_paths, lost_paths, added_paths, rows_behind};
+
+use delta_log::FileAction;
+use lake_basics::{Items, Text};
+use std::alloc::{AllocError, Global};
+use table_history::{Change, FileRow, FileRows, Schema};
+
+fn has_path(rows: &FileRows, path: &Text) -> bool
+    ensures path { result ≡ has_path rows.now path.now }
+    ensures distinct { HasDistinctPaths rows.now }
+{
+    rows.get(path.as_bytes()).is_some()
+}
+
+/// How many of the actions are on a path that has a row.
+pub(crate) fn held_count(rows: &FileRows, files: &[FileAction]) -> u64
+    ensures count { result ≡ count_by (λ f. has_path rows.now (file_path f)) files.now }
+{
+    let mut count = 0;
+    for file in files {
+        if has_path(rows, file.path()) {
+            count += 1;
+        }
+    }
+    count
+}
+
+/// Whether this very row is there.
+fn holds(rows: &FileRows, row: &FileRow) -> bool
+    ensures { IsTrue result ↔ Contains rows.now row.now }
+{
+    match rows.get(row.path.as_bytes()) {
+        Some(held) => *held == *row,
+        None => false,
+    }
+}
+
+/// Those of the rows that aren't there before.
+fn new_rows(
+    alloc: Global,
+    before: &FileRows,
+    mut rows: Vec<FileRow>,
+) -> Result<Vec<FileRow>, AllocError>
+    requires { HasDistinctPaths rows.items }
+    ensures rows { IfOk result (λ new. (row : FileRow)
+        → Contains new.items row ↔ (Contains rows.items row × ¬ Contains before.now row)) }
+    ensures distinct { IfOk result (λ new. HasDistinctPaths new.items) }
+{
+    let mut new = Vec::new(alloc);
+    while let Some(row) = rows.pop() {
+        if !holds(before, &row) {
+            new.push(row)?;
+        }
+    }
+    Ok(new)
+}
+
+fn with_held_path(
+    alloc: Global,
+    paths: Vec<Text>,
+    rows: &FileRows,
+    path: &Text,
+) -> Result<Vec<Text>, AllocError>
+    ensures { IfOk result (λ all. all.items
+        ≡ paths.items ++ filter (has_path rows.now) (path.now ∷ [])) }
+{
+    let mut all = paths;
+    if has_path(rows, path) {
+        all.push(path.copy(alloc)?)?;
+    }
+    Ok(all)
+}
+
+fn with_removed(
+    alloc: Global,
+    paths: Vec<Text>,
+    rows: &FileRows,
+    file: &FileAction,
+) -> Result<Vec<Text>, AllocError>
+    ensures { IfOk result (λ all. all.items
+        ≡ paths.items ++ filter (has_path rows.now) (removed_paths (file.now ∷ []))) }
+{
+    match file {
+        FileAction::Add { .. } => Ok(paths),
+        FileAction::Remove { path } => with_held_path(alloc, paths, rows, path),
+    }
+}
+
+/// The paths of removes that have a row.
+fn removed_paths(
+    alloc: Global,
+    rows: &FileRows,
+    files: &[FileAction],
+) -> Result<Vec<Text>, AllocError>
+    ensures { IfOk result (λ all. all.items
+        ≡ filter (has_path rows.now) (removed_paths files.now)) }
+{
+    let mut paths = Vec::new(alloc);
+    for file in files {
+        paths = with_removed(alloc, paths, rows, file)?;
+    }
+    Ok(paths)
+}
+
+/// The paths that have a row before, and no row or another one behind.
+fn lost_paths(
+    alloc: Global,
+    before: &FileRows,
+    files: &[FileAction],
+    added: &[FileRow],
+) -> Result<Vec<Text>, AllocError>
+    ensures { IfOk result (λ all. all.items ≡ lost_paths before.now files.now added.now) }
+{
+    let mut paths = removed_paths(alloc, before, files)?;
+    for row in added {
+        paths = with_held_path(alloc, paths, before, &row.path)?;
+    }
+    Ok(paths)
+}
+
+/// The rows in byte order of their paths.
+fn sorted_rows(rows: Vec<FileRow>) -> Result<Vec<FileRow>, AllocError>
+    requires { HasDistinctPaths rows.items }
+    ensures rows { IfOk result (λ sorted. (row : FileRow)
+        → Contains sorted.items row ↔ Contains rows.items row) }
+    ensures order { IfOk result (λ sorted. IsInPathOrder sorted.items) }
+{
+    let mut sorted = rows;
+    sorted.sort_by(|a, b| a.path.cmp(&b.path))?;
+    Ok(sorted)
+}
+
+/// The texts in byte order.
+fn sorted_texts(texts: Vec<Text>) -> Result<Vec<Text>, AllocError>
+    requires { IsDistinct bytes_eq texts.items }
+    ensures texts { IfOk result (λ sorted. (text : List ℕ)
+        → Contains sorted.items text ↔ Contains texts.items text) }
+    ensures order { IfOk result (λ sorted. IsInByteOrder sorted.items) }
+{
+    let mut sorted = texts;
+    sorted.sort_by(|a, b| a.cmp(b))?;
+    Ok(sorted)
+}
+
+/// The change that the actions make of the rows before, where these are the rows that they add.
+pub(crate) fn change_between(
+    alloc: Global,
+    schema: Option<Schema>,
+    before: &FileRows,
+    files: &[FileAction],
+    rows: Vec<FileRow>,
+) -> Result<Change, AllocError>
+    requires before { HasDistinctPaths before.now }
+    requires distinct { IsDistinct bytes_eq (file_paths files.now) }
+    requires added { paths_of rows.items ≡ added_paths files.now }
+    ensures schema { IfOk result (λ change. change.schema ≡ schema) }
+    ensures diff { IfOk result (λ change. IsDiff before.now
+        (rows_behind before.now files.now rows.items) change.removed change.added) }
+{
+    let added = new_rows(alloc, before, rows)?;
+    let removed = lost_paths(alloc, before, files, added.as_slice())?;
+    let added = sorted_rows(added)?;
+    let removed = sorted_texts(removed)?;
+    Ok(Change {
+        schema,
+        removed: Items::from_vec(removed),
+        added: Items::from_vec(added),
+    })
+}

@@ -1,7 +1,0 @@
-use Rattle.std.proofs.Common.{◌≡◌, drop}
-use Rattle.lake_basics.specs.Outcome.{each, with_front}
-use Rattle.delta_log.specs.ChangeSteps.{part_column}
-use Rattle.delta_log.proofs.change.columns.part_columns.Given as goal
-
-abbrev pub invariant-loop-place : goal.invariant-loop-place
-invariant-loop-place l = with_front l.columns (each (part_column l.schema) (drop l.place l.names)) ≡ each (part_column l.schema) l.names

@@ -1,6 +1,0 @@
-use Rattle.std.proofs.Common.{take}
-use Rattle.delta_log.specs.ChangeSteps.{AreRowsOf}
-use Rattle.delta_log.proofs.change.rows.rows_of.Given as goal
-
-abbrev pub invariant-loop-file : goal.invariant-loop-file
-invariant-loop-file l = AreRowsOf l.columns (take l.file-index l.files) l.rows.items

@@ -1,6 +1,0 @@
-use Rattle.std.proofs.Common.{All, take}
-use Rattle.delta_log.specs.ChangeSteps.{kind_in, PairStands}
-use Rattle.delta_log.proofs.change.texts.judged_pairs.Given as goal
-
-abbrev pub invariant-loop-pair : goal.invariant-loop-pair
-invariant-loop-pair l = All (PairStands (kind_in l.kinds)) (take l.pair-index l.pairs)

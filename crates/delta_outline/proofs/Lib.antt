@@ -1,0 +1,6 @@
+pub mod WorseLemmas
+pub mod WordLemmas
+pub mod OwnLemmas
+pub mod PartLemmas
+pub mod OutlineLemmas
+pub mod SpelledLemmas

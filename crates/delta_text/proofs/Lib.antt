@@ -1,0 +1,4 @@
+pub mod WrittenLemmas
+pub mod ShapeLemmas
+pub mod SortedLemmas
+pub mod AgainLemmas

@@ -1,0 +1,6 @@
+pub mod AnyLemmas
+pub mod GroupChangeLemmas
+pub mod GroupLemmas
+pub mod GroupPathLemmas
+pub mod GroupSetLemmas
+pub mod NewestLemmas

@@ -1,0 +1,3 @@
+pub mod GrammarLemmas
+pub mod PathForms
+pub mod TextLemmas

@@ -1,0 +1,3 @@
+pub mod InstantGrammar
+pub mod InstantText
+pub mod Instants

@@ -1,6 +1,0 @@
-use Rattle.std.proofs.Common.{List, ℕ, take, map, Bor}
-use Rattle.hudi_timeline.specs.Values.{PartsStand}
-use Rattle.hudi_timeline.proofs.change.rows.part_values.Given as goal
-
-abbrev pub invariant-loop-place : goal.invariant-loop-place
-invariant-loop-place l = PartsStand l.style (take l.place l.kinds) (take l.place (map (λ (c : Bor (List ℕ)). c.now) l.parts)) l.values

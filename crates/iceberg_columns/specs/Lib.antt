@@ -1,0 +1,2 @@
+pub mod PathMaps
+pub mod SourceColumns

@@ -1,0 +1,3 @@
+pub mod Ids
+pub mod IdMap
+pub mod OwnIds

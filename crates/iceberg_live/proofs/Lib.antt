@@ -1,0 +1,4 @@
+pub mod EachLaws
+pub mod LocationLemmas
+pub mod LiveLaws
+pub mod MetadataPathLaws

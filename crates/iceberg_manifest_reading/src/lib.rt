@@ -1,0 +1,13 @@
+//! Iceberg's manifests and manifest lists, read (Apache Iceberg table specification, "Manifests" and
+//! "Manifest Lists"): fields are found by their ids.
+#![tactic(auto)]
+
+mod field;
+mod list;
+mod partition;
+mod plan;
+mod reading;
+mod scan;
+mod value;
+
+pub use reading::{entries_of, read_list, read_manifest};

@@ -1,0 +1,4 @@
+pub mod ListWrittenLemmas
+pub mod ManifestWrittenLemmas
+pub mod PartNameLemmas
+pub mod StepLemmas

@@ -1,0 +1,11 @@
+//! Iceberg's manifests and manifest lists, written (Apache Iceberg table specification, "Manifests" and
+//! "Manifest Lists"). What is written reads back.
+#![tactic(auto)]
+
+mod avro_name;
+mod list_writing;
+mod manifest_writing;
+mod schema;
+
+pub use list_writing::list_bytes;
+pub use manifest_writing::manifest_bytes;

@@ -1,5 +1,0 @@
-use Rattle.std.proofs.Common.{◌≡◌, map, take}
-use Rattle.iceberg_metadata.proofs.consistent.snapshot_ids.Given as goal
-
-abbrev pub invariant-loop-snapshot : goal.invariant-loop-snapshot
-invariant-loop-snapshot l = l.ids.items ≡ map (λ s. s.id) (take l.snapshot-index l.snapshots)

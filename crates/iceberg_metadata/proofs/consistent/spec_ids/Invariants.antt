@@ -1,5 +1,0 @@
-use Rattle.std.proofs.Common.{◌≡◌, map, take}
-use Rattle.iceberg_metadata.proofs.consistent.spec_ids.Given as goal
-
-abbrev pub invariant-loop-spec : goal.invariant-loop-spec
-invariant-loop-spec l = l.ids.items ≡ map (λ s. s.id) (take l.spec-index l.specs)

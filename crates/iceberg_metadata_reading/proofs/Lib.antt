@@ -1,0 +1,4 @@
+pub mod AgainLemmas
+pub mod LocationLemmas
+pub mod MalformedLemmas
+pub mod ReadLemmas

@@ -1,0 +1,155 @@
+//! What metadata names by an id, and the paths of its manifest lists.
+
+ghost use Rattle.std.specs.Prelude.{◌≡◌, map, option_map, IfOk};
+ghost use Rattle.std.specs.List.{list_all};
+ghost use Rattle.iceberg_metadata.specs.Location.{without_slash, front_of, behind, names_path};
+ghost use Rattle.iceberg_metadata.specs.IdSets.{HoldsIds};
+ghost use Rattle.iceberg_metadata.specs.Judging.{is_among, is_among_if_any, are_held, is_consistent};
+
+use iceberg_metadata::{Metadata, Snapshot, Spec, id_set};
+use std::alloc::{AllocError, Global};
+use std::collections::BTreeSet;
+use table_history::path_form;
+
+fn spec_ids(alloc: Global, specs: &[Spec]) -> Result<Vec<i64>, AllocError>
+    ensures { IfOk result (λ ids. ids.items ≡ map (λ s. s.id) specs.now) }
+{
+    let mut ids = Vec::with_capacity(alloc, specs.len())?;
+    for spec in specs {
+        ids.push(i64::from(spec.id))?;
+    }
+    Ok(ids)
+}
+
+fn snapshot_ids(alloc: Global, snapshots: &[Snapshot]) -> Result<Vec<i64>, AllocError>
+    ensures { IfOk result (λ ids. ids.items ≡ map (λ s. s.id) snapshots.now) }
+{
+    let mut ids = Vec::with_capacity(alloc, snapshots.len())?;
+    for snapshot in snapshots {
+        ids.push(snapshot.id)?;
+    }
+    Ok(ids)
+}
+
+// ---- what is named is held
+
+fn has_schema(schemas: &BTreeSet<i64>, ids: &[i64], id: Option<i32>) -> bool
+    requires { HoldsIds schemas.now ids.now }
+    ensures { result ≡ is_among_if_any ids.now id }
+{
+    match id {
+        None => true,
+        Some(id) => schemas.contains(&i64::from(id)),
+    }
+}
+
+fn has_schemas(snapshots: &[Snapshot], schemas: &BTreeSet<i64>, ids: &[i64]) -> bool
+    requires { HoldsIds schemas.now ids.now }
+    ensures { result ≡ list_all (λ s. is_among_if_any ids.now s.schema_id) snapshots.now }
+{
+    for snapshot in snapshots {
+        if !has_schema(schemas, ids, snapshot.schema_id) {
+            return false;
+        }
+    }
+    true
+}
+
+// ---- paths
+
+/// The location without the slash at its end.
+fn without_slash(location: &[u8]) -> &[u8]
+    ensures { result.now ≡ without_slash location.now }
+{
+    location.strip_suffix(b"/").unwrap_or(location)
+}
+
+/// What each path in the table begins with.
+fn front(alloc: Global, location: &str) -> Result<Vec<u8>, AllocError>
+    ensures { IfOk result (λ f. f.items ≡ front_of location.now) }
+{
+    let mut front = Vec::from_slice(alloc, without_slash(location.as_bytes()))?;
+    front.push(b'/')?;
+    Ok(front)
+}
+
+/// What is left of a path behind a front that it begins with.
+fn behind<'a>(front: &[u8], path: &'a [u8]) -> Option<&'a [u8]>
+    ensures { option_map (λ r. r.now) result ≡ behind front.now path.now }
+{
+    path.strip_prefix(front)
+}
+
+fn names_path(front: &[u8], list: &str) -> bool
+    ensures { result ≡ names_path front.now list.now }
+{
+    match behind(front, list.as_bytes()) {
+        None => true,
+        Some(rest) => path_form(rest),
+    }
+}
+
+fn name_paths(front: &[u8], snapshots: &[Snapshot]) -> bool
+    ensures { result ≡ list_all (λ s. names_path front.now s.list) snapshots.now }
+{
+    snapshots
+        .iter()
+        .all(|snapshot| names_path(front, snapshot.list.as_str()))
+}
+
+/// Whether no two schemas, specs or snapshots have one id, what is named by an id is held, and each
+/// manifest list in the table's location has a path there.
+pub(crate) fn is_consistent(
+    alloc: Global,
+    metadata: &Metadata,
+    schemas: &[i64],
+) -> Result<bool, AllocError>
+    ensures { IfOk result (λ is. is ≡ is_consistent metadata.now schemas.now) }
+{
+    let snapshots = metadata.snapshots.as_slice();
+    let held = snapshot_ids(alloc, snapshots)?;
+    let specs = spec_ids(alloc, metadata.specs.as_slice())?;
+    let Some(schema_set) = id_set(alloc, schemas)? else {
+        return Ok(false);
+    };
+    if id_set(alloc, specs.as_slice())?.is_none() {
+        return Ok(false);
+    }
+    if id_set(alloc, held.as_slice())?.is_none() {
+        return Ok(false);
+    }
+    if !are_held(metadata, schemas, specs.as_slice(), held.as_slice()) {
+        return Ok(false);
+    }
+    if !has_schemas(snapshots, &schema_set, schemas) {
+        return Ok(false);
+    }
+    let front = front(alloc, metadata.location.as_str())?;
+    Ok(name_paths(front.as_slice(), snapshots))
+}
+
+fn is_among(ids: &[i64], id: i64) -> bool
+    ensures { result ≡ is_among ids.now id }
+{
+    ids.contains(&id)
+}
+
+fn is_among_if_any(ids: &[i64], id: Option<i64>) -> bool
+    ensures { result ≡ is_among_if_any ids.now id }
+{
+    match id {
+        None => true,
+        Some(id) => is_among(ids, id),
+    }
+}
+
+/// Whether the current schema, the default spec and the current snapshot are held.
+fn are_held(metadata: &Metadata, schemas: &[i64], specs: &[i64], snapshots: &[i64]) -> bool
+    requires specs { specs.now ≡ map (λ s. s.id) metadata.now.specs }
+    requires snapshots { snapshots.now ≡ map (λ s. s.id) metadata.now.snapshots }
+    ensures { result ≡ are_held metadata.now schemas.now }
+{
+    is_among(schemas, i64::from(metadata.current_schema))
+        && is_among(specs, i64::from(metadata.default_spec))
+        && is_among_if_any(snapshots, metadata.current_snapshot)
+}

@@ -1,0 +1,3 @@
+pub mod OutlineLemmas
+pub mod SchemaListLemmas
+pub mod ToldLemmas

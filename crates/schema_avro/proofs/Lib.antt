@@ -1,0 +1,9 @@
+pub mod AvroFields
+pub mod AvroOnly
+pub mod AvroOwn
+pub mod AvroRefused
+pub mod Range
+pub mod AvroFound
+pub mod AvroWritten
+pub mod AvroRead
+pub mod AvroSpelled

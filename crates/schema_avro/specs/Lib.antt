@@ -1,0 +1,3 @@
+pub mod Avro
+pub mod AvroSpelling
+pub mod AvroWriting

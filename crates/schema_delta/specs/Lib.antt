@@ -1,0 +1,4 @@
+pub mod Delta
+pub mod DeltaSpelling
+pub mod DeltaWriting
+pub mod DeltaRefusal

@@ -1,0 +1,5 @@
+pub mod Iceberg
+pub mod IcebergSpelling
+pub mod IcebergWriting
+pub mod IcebergRefusal
+pub mod NameMapping

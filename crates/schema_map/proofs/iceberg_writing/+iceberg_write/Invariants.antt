@@ -1,9 +1,0 @@
-use Rattle.std.proofs.Common.{◌≡◌, drop, map}
-use Rattle.serde_json.specs.View.{view}
-use Rattle.table_history.specs.SchemaView.{columns_view}
-use Rattle.schema_map.specs.IcebergWriting.{iceberg_fields}
-use Rattle.schema_map.proofs.Entries.{written_before}
-use Rattle.schema_map.proofs.iceberg_writing.+iceberg_write.Given as goal
-
-abbrev pub invariant-fields_json-loop-column : goal.invariant-fields_json-loop-column
-invariant-fields_json-loop-column l = written_before (map view l.fields.items) (iceberg_fields (columns_view (drop l.column-index l.columns)) l.left) ≡ iceberg_fields (columns_view l.columns) l.ids

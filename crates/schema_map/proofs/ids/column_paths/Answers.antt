@@ -1,6 +1,0 @@
-use Rattle.std.proofs.Common.{◌∙◌}
-use Rattle.schema_map.proofs.Paths.{no_prefix}
-use Rattle.schema_map.proofs.ids.column_paths.Goals as goal
-
-pub returns : goal.returns
-returns c = c.in_ok-push_columns.ensures ∙ rw (c.new-paths.ensures.items, c.new-top.ensures, no_prefix, c.columns.ensures)
