@@ -1,0 +1,43 @@
+//! Plays scripts on Avro: schemas, numbers, values and containers.
+#![tactic(auto)]
+
+mod containers;
+mod schemas;
+mod values;
+
+use rows::{Step, Steps, play_files};
+use std::alloc::{AllocError, Global};
+use std::process::ExitCode;
+
+fn main(rt: HostRuntime) -> ExitCode {
+    let alloc = rt.alloc();
+    play_files(&rt, &mut Avro { alloc })
+}
+
+/// What the steps of a row work on.
+#[derive(Drop)]
+struct Avro {
+    alloc: Global,
+}
+
+impl Steps for Avro {
+    fn begin(&mut self) -> Result<(), AllocError> {
+        Ok(())
+    }
+
+    fn step(&mut self, step: &Step<'_>, shown: &mut String) -> Result<(), AllocError> {
+        let words: Vec<&str> = step.words().split(' ').collect(self.alloc)?;
+        let (words, lines) = (words.as_slice(), step.lines());
+        match words {
+            ["schemas"] => schemas::show_schemas(self.alloc, lines, shown),
+            ["numbers"] => values::show_numbers(self.alloc, lines, shown),
+            ["bytes", "of", "numbers"] => values::show_digits(self.alloc, lines, shown),
+            ["decode"] => values::show_decoded(self.alloc, lines, shown),
+            ["decode", budget, "values"] => values::show_within(self.alloc, budget, lines, shown),
+            ["encode"] => values::show_encoded(self.alloc, lines, shown),
+            ["container"] => containers::show_container(self.alloc, lines, shown),
+            ["container", "again"] => containers::show_again(self.alloc, lines, shown),
+            _ => writeln!(shown, "no step: {}", step.words()),
+        }
+    }
+}

@@ -1,0 +1,65 @@
+//! Logs in a store.
+use delta_table::{Log, list_versions, read_log};
+use lake_basics::limits::MAX_DELTA_VERSION;
+use lake_store::{FuseStore, Store};
+use std::alloc::{AllocError, Global};
+use table_rows::{show_line, show_table};
+
+/// Adds which versions of the log are there.
+pub(crate) fn tell_versions(
+    alloc: Global,
+    store: &mut FuseStore,
+    shown: &mut String,
+) -> Result<(), AllocError> {
+    let line = match list_versions(alloc, store) {
+        Ok(Some(found)) => format!(in alloc; "{} to {}", found.first, found.newest)?,
+        Ok(None) => format!(in alloc; "none")?,
+        Err(error) => format!(in alloc; "{error}")?,
+    };
+    show_line(shown, line.as_str())
+}
+
+/// Adds what the log says up to a version, or why it isn't read.
+pub(crate) fn tell_log(
+    alloc: Global,
+    store: &mut FuseStore,
+    newest: u64,
+    shown: &mut String,
+) -> Result<(), AllocError> {
+    if newest > MAX_DELTA_VERSION {
+        return show_line(shown, "not asked: no version");
+    }
+    match read_log(alloc, store, newest) {
+        Ok(log) => show_log(alloc, &log, shown),
+        Err(error) => show_line(shown, format!(in alloc; "{error}")?.as_str()),
+    }
+}
+
+fn show_log(alloc: Global, log: &Log, shown: &mut String) -> Result<(), AllocError> {
+    let line = format!(in alloc;
+        "{} by {}, reader {} writer {}",
+        log.meta.id.as_str(),
+        log.meta_version,
+        log.protocol.reader,
+        log.protocol.writer
+    )?;
+    show_line(shown, line.as_str())?;
+    show_table(alloc, &log.table, shown)
+}
+
+/// Adds the text of a file.
+pub(crate) fn tell_file(
+    alloc: Global,
+    store: &mut FuseStore,
+    path: &str,
+    shown: &mut String,
+) -> Result<(), AllocError> {
+    match store.inner().read(alloc, path) {
+        Ok(Some(bytes)) => match str::from_utf8(bytes.as_slice()) {
+            Ok(text) => shown.push_str(text),
+            Err(_) => show_line(shown, "no text"),
+        },
+        Ok(None) => show_line(shown, "no file"),
+        Err(_) => Err(AllocError),
+    }
+}

@@ -1,0 +1,34 @@
+//! Plays scripts of Delta logs, and prints their transcripts.
+//!
+//! A row begins with an empty store. Its steps on texts are:
+//!
+//! - `read` shows what the commit below it says, `read bytes` that of hexadecimal digits, and `write` the text of that commit at noon of 2024-01-05;
+//! - `change` shows the change that the commit below it makes as the first of a table, and `follow` the one
+//!   that it makes of the table behind those before it, which is empty at first;
+//! - `version of NAME` and `name of VERSION` show a version by its file's name, and the name.
+//!
+//! Those on the store are:
+//!
+//! - `file PATH` puts the lines below it, `file PATH unended` without the last newline; `show PATH` shows a
+//!   file, and `stop at call NUMBER` lets all calls of the store from this one on fail, counted from 0;
+//! - `versions` shows which versions are there, and `log VERSION` what the log says up to this one;
+//! - `head`, `table` and `since POSITION` show what the source tells; `base` gives the table that commits are
+//!   read over, in the lines below it;
+//! - `inspect for SOURCE` shows what the target tells, `fits COLUMN ..` whether the commits below it fit a
+//!   target that has none yet, and `publish POSITION from SOURCE` publishes what leads to the table below it.
+#![tactic(auto)]
+
+mod commits;
+mod logs;
+mod steps;
+
+use crate::steps::DeltaSteps;
+use rows::play_files;
+use std::process::ExitCode;
+
+fn main(rt: HostRuntime) -> ExitCode {
+    match DeltaSteps::new(rt.alloc()) {
+        Ok(mut steps) => play_files(&rt, &mut steps),
+        Err(_) => ExitCode::FAILURE,
+    }
+}
