@@ -1,4 +1,5 @@
 //! The lock on a table's folder, so that one run at a time writes there.
+use crate::files::is_folder;
 use std::fs::{self, File, TryLockError};
 use std::io::{self, ErrorKind};
 
@@ -28,13 +29,5 @@ pub fn lock_folder(rt: &HostRuntime, folder: &str, access: Access) -> io::Result
     match taken {
         Err(TryLockError::WouldBlock) => Err(io::Error::from(ErrorKind::WouldBlock)),
         _ => Ok(Some(opened)),
-    }
-}
-
-fn is_folder(rt: &HostRuntime, path: &str) -> io::Result<bool> {
-    match fs::metadata(rt, path) {
-        Ok(metadata) => Ok(metadata.is_dir()),
-        Err(error) if error.kind() == ErrorKind::NotFound => Ok(false),
-        Err(error) => Err(error),
     }
 }

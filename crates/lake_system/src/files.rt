@@ -30,12 +30,21 @@ fn says_absent(error: &io::Error) -> bool {
     )
 }
 
-// Whether the error says that this file system can't do it at all: `EINVAL`, `EOPNOTSUPP` or `ENOSYS`.
-fn says_unsupported(error: &io::Error) -> bool {
+// Whether the error says that a folder can't be synced at all: `EINVAL`, `EOPNOTSUPP` or `ENOSYS`.
+fn says_no_sync(error: &io::Error) -> bool {
     matches!(
         error.kind(),
         ErrorKind::Unsupported | ErrorKind::InvalidInput
     )
+}
+
+/// Whether a folder is there, or a link to one.
+pub fn is_folder<R: Files>(rt: &R, path: &str) -> io::Result<bool> {
+    match fs::metadata(rt, path) {
+        Ok(metadata) => Ok(metadata.is_dir()),
+        Err(error) if says_absent(&error) => Ok(false),
+        Err(error) => Err(error),
+    }
 }
 
 // What the system says of the file, where there is one. A folder, a pipe or a device is none.
@@ -170,38 +179,51 @@ fn name_of_file<R: Files + Drop>(
     }
 }
 
-// The folder that a path lies in, or nothing for a path with no `/`.
+/// The folder that a path lies in.
 pub fn folder_of(path: &str) -> &str {
     match path.rsplit_once('/') {
+        Some(("", _)) => "/",
         Some((folder, _)) => folder,
-        None => "",
+        None => ".",
     }
 }
 
-/// Makes the file anew with these bytes, which are on the disk then, and answers whether folders were made for it.
-/// What another name of an old file reads stays, since that file isn't written over; nor is what a link there leads to.
-pub fn write_new<R: Files>(rt: &R, path: &str, bytes: &[u8]) -> io::Result<bool> {
-    let (mut file, has_made_folders) = make_anew(rt, path)?;
+/// The folder that a path lies in, or the next one above it that is there.
+pub fn folder_there<'a, R: Files>(rt: &R, path: &'a str) -> io::Result<&'a str> {
+    let mut folder = folder_of(path);
+    for _ in 0..path.len() {
+        if is_folder(rt, folder)? {
+            break;
+        }
+        folder = folder_of(folder);
+    }
+    Ok(folder)
+}
+
+/// Makes the folder that a path lies in, and those above it.
+pub fn make_folder_of<R: Files>(rt: &R, path: &str) -> io::Result<()> {
+    fs::create_dir_all(rt, folder_of(path))
+}
+
+/// Makes the file anew with these bytes, which are on the disk then. What another name of an old file reads stays,
+/// since that file isn't written over; nor is what a link there leads to.
+pub fn write_new<R: Files>(rt: &R, path: &str, bytes: &[u8]) -> io::Result<()> {
+    let mut file = make_anew(rt, path)?;
     // A file without bytes is there as soon as its folder is on the disk.
     if !bytes.is_empty() {
         file.write_all(bytes)?;
         file.sync_all()?;
     }
-    Ok(has_made_folders)
+    Ok(())
 }
 
-fn make_anew<R: Files>(rt: &R, path: &str) -> io::Result<(R::File, bool)> {
+fn make_anew<R: Files>(rt: &R, path: &str) -> io::Result<R::File> {
     match create_new(rt, path) {
-        Ok(file) => Ok((file, false)),
         Err(error) if error.kind() == ErrorKind::AlreadyExists => {
             remove_if_there(rt, path)?;
-            Ok((create_new(rt, path)?, false))
+            create_new(rt, path)
         }
-        Err(error) if error.kind() == ErrorKind::NotFound => {
-            fs::create_dir_all(rt, folder_of(path))?;
-            Ok((create_new(rt, path)?, true))
-        }
-        Err(error) => Err(error),
+        made => made,
     }
 }
 
@@ -221,13 +243,16 @@ fn remove_if_there<R: Files>(rt: &R, path: &str) -> io::Result<()> {
 }
 
 /// Has the folder's names on the disk. An absent folder needs nothing, nor does one of a file system that can't sync
-/// a folder.
+/// a folder. What isn't a folder isn't opened: to open a pipe may take for ever.
 pub fn sync_folder<R: Files>(rt: &R, folder: &str) -> io::Result<()> {
+    if !is_folder(rt, folder)? {
+        return Ok(());
+    }
     let Some(opened) = open_at(rt, folder)? else {
         return Ok(());
     };
     match opened.sync_all() {
-        Err(error) if !says_unsupported(&error) => Err(error),
+        Err(error) if !says_no_sync(&error) => Err(error),
         _ => Ok(()),
     }
 }
@@ -253,9 +278,10 @@ const NOT_PERMITTED: i32 = 1;
 
 // Whether the error says that this file can't have another name by a hard link.
 fn says_no_links(error: &io::Error) -> bool {
-    says_unsupported(error)
-        || error.kind() == ErrorKind::TooManyLinks
-        || error.raw_os_error() == Some(NOT_PERMITTED)
+    matches!(
+        error.kind(),
+        ErrorKind::Unsupported | ErrorKind::TooManyLinks
+    ) || error.raw_os_error() == Some(NOT_PERMITTED)
 }
 
 // In one folder both names change by one sync. Of two folders the new name is on the disk before the old one goes.

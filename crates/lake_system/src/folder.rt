@@ -24,8 +24,8 @@ pub struct FolderStore<R> {
     folder: String,
     // whether it is made durable what a list finds, since more is built on it
     builds: bool,
-    // the folders that were listed, whose names are on the disk
-    listed: BTreeSet<String>,
+    // the folders whose names were on the disk when they were first listed
+    settled: BTreeSet<String>,
     // the folders whose names may not be on the disk
     unsynced: BTreeSet<String>,
     faults: u64,
@@ -33,15 +33,16 @@ pub struct FolderStore<R> {
 }
 
 impl<R: Files + AllocGlobal + Clone + Drop> FolderStore<R> {
-    /// The files below the folder, which needn't be there yet. Where a run writes, each folder that it lists is on the
-    /// disk before anything is built on the names in it: a run that was cut off may have left one that isn't.
+    /// The files below the folder, which needn't be there yet. Where a run writes, each folder that it lists, and those
+    /// above it, are on the disk before anything is built on the names in them: a run that was cut off may have left
+    /// one that isn't.
     pub fn new(rt: R, alloc: Global, folder: String, access: Access) -> FolderStore<R> {
         FolderStore {
             rt,
             alloc,
             folder,
             builds: access == Access::Writes,
-            listed: BTreeSet::new(alloc),
+            settled: BTreeSet::new(alloc),
             unsynced: BTreeSet::new(alloc),
             faults: 0,
             contests: 0,
@@ -75,9 +76,14 @@ impl<R: Files + AllocGlobal + Clone + Drop> FolderStore<R> {
         ensures faults { self.new.faults ≡ self.old.faults }
         ensures contests { self.new.contests ≡ self.old.contests }
     {
-        if self.builds && !self.listed.contains(folder) {
-            files::sync_folder(&self.rt, folder)?;
-            self.listed.insert(folder.to_string(self.alloc)?)?;
+        if self.builds {
+            settle(
+                &self.rt,
+                self.alloc,
+                folder,
+                self.folder.as_str(),
+                &mut self.settled,
+            )?;
         }
         files::names_in(&self.rt, alloc, folder)
     }
@@ -87,12 +93,12 @@ impl<R: Files + AllocGlobal + Clone + Drop> FolderStore<R> {
         ensures faults { self.new.faults ≡ self.old.faults }
         ensures contests { self.new.contests ≡ self.old.contests }
     {
-        let folder = files::folder_of(path);
-        self.unsynced.insert(folder.to_string(self.alloc)?)?;
-        if files::write_new(&self.rt, path, bytes)? {
-            add_folders_above(self.alloc, folder, self.folder.len(), &mut self.unsynced)?;
+        let there = files::folder_there(&self.rt, path)?;
+        add_folders(self.alloc, path, there, &mut self.unsynced)?;
+        if there != files::folder_of(path) {
+            files::make_folder_of(&self.rt, path)?;
         }
-        Ok(())
+        files::write_new(&self.rt, path, bytes)
     }
 
     fn sync_folders(&self) -> io::Result<()> {
@@ -103,20 +109,43 @@ impl<R: Files + AllocGlobal + Clone + Drop> FolderStore<R> {
     }
 }
 
-// Adds the folders that this one lies in, as long as it has so many bytes: the last one holds the store's own folder.
-fn add_folders_above(
+// Has the names in the folder on the disk, and those of the folders that it lies in, up to `own`: each once in a run.
+fn settle<R: Files>(
+    rt: &R,
     alloc: Global,
     folder: &str,
-    least: usize,
-    folders: &mut BTreeSet<String>,
-) -> Result<(), AllocError> {
-    let mut folder = folder;
+    own: &str,
+    settled: &mut BTreeSet<String>,
+) -> io::Result<()> {
+    let mut folder = folder.trim_end_matches('/');
     for _ in 0..folder.len() {
-        if folder.len() < least {
+        if settled.contains(folder) {
+            break;
+        }
+        files::sync_folder(rt, folder)?;
+        settled.insert(folder.to_string(alloc)?)?;
+        if folder == own {
             break;
         }
         folder = files::folder_of(folder);
+    }
+    Ok(())
+}
+
+// Adds the folders that the path lies in, up to `last`.
+fn add_folders(
+    alloc: Global,
+    path: &str,
+    last: &str,
+    folders: &mut BTreeSet<String>,
+) -> Result<(), AllocError> {
+    let mut folder = path;
+    for _ in 0..path.len() {
+        folder = files::folder_of(folder);
         folders.insert(folder.to_string(alloc)?)?;
+        if folder == last {
+            break;
+        }
     }
     Ok(())
 }

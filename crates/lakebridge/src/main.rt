@@ -75,10 +75,13 @@ fn refuse(alloc: Global, out: &mut impl Sink, refusal: WordsError) -> Status {
     }
 }
 
-// The folder that the first word names.
+// The folder that the first word names. That of the root is all slashes.
 fn place(alloc: Global, words: &[String]) -> Result<String, AllocError> {
     match words.first() {
-        Some(word) => word.as_str().trim_end_matches('/').to_string(alloc),
+        Some(word) => match word.as_str().trim_end_matches('/') {
+            "" => "/".to_string(alloc),
+            folder => folder.to_string(alloc),
+        },
         None => Ok(String::new(alloc)),
     }
 }
