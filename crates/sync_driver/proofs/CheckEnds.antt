@@ -13,21 +13,21 @@ use Rattle.source_core.specs.declared.error.SourceError.TheVariants as source_er
 use Rattle.table_history.specs.declared.limit.LimitKind.{LimitKind}
 use Rattle.target_core.specs.Conditions.{GoesOn}
 use Rattle.target_core.specs.Views.{View}
-use Rattle.sync_driver.specs.Answered.{StandsAt}
-use Rattle.sync_driver.specs.Applied.{status_of_source}
+use Rattle.target_sync.specs.Answered.{StandsAt}
+use Rattle.target_sync.specs.Applied.{status_of_source}
 use Rattle.sync_driver.specs.Checked.{CheckAnswer, Checks, IsCheck, IsCheckEnd, IsCheckFault, IsCheckRefusal, IsCheckStatus, IsCheckedSo, StandsBehind, check_line, check_status}
 use Rattle.sync_driver.specs.Commands.{IsPending}
 use Rattle.sync_driver.specs.Lines.{pending_line}
-use Rattle.sync_driver.specs.Sources.{SourceMeaning}
-use Rattle.sync_driver.specs.Targets.{TargetFacts}
+use Rattle.target_sync.specs.Sources.{SourceMeaning}
+use Rattle.target_sync.specs.Targets.{TargetFacts}
 use Rattle.sync_driver.specs.Tellings.{Tells}
-use Rattle.sync_driver.specs.declared.plan.Mode.TheVariants as modes
-use Rattle.sync_driver.specs.declared.status.Side.TheVariants as side
-use Rattle.sync_driver.specs.declared.status.Status.{Status}
-use Rattle.sync_driver.specs.declared.status.Status.TheVariants as status
-use Rattle.sync_driver.proofs.Counting.{fails_as, fails_then, uncontested_then}
-use Rattle.sync_driver.proofs.Finding.{source_fault}
-use Rattle.sync_driver.proofs.Refusing.{before_of_head}
+use Rattle.target_sync.specs.declared.plan.Mode.TheVariants as modes
+use Rattle.target_sync.specs.declared.status.Side.TheVariants as side
+use Rattle.target_sync.specs.declared.status.Status.{Status}
+use Rattle.target_sync.specs.declared.status.Status.TheVariants as status
+use Rattle.target_sync.proofs.Counting.{fails_as, fails_then, uncontested_then}
+use Rattle.target_sync.proofs.Finding.{source_fault}
+use Rattle.target_sync.proofs.Refusing.{before_of_head}
 
 module _ {S : Type 0} (store : Ghosts S) (source : SourceMeaning) (target : TargetFacts) where
   -- over a run that only read
@@ -96,7 +96,6 @@ module _ {S : Type 0} (store : Ghosts S) (source : SourceMeaning) (target : Targ
     refusal_ends not_foreign files readable served roomy status.SinkFault is fault = absurd is
     refusal_ends not_foreign files readable served roomy (status.Behind kind at head) is fault = tt
     refusal_ends not_foreign files readable served roomy (status.Differs kind path) is fault = tt
-    refusal_ends not_foreign files readable served roomy status.Later is fault = absurd is
 
     given_ends : (line : List ℕ) (due : Status) → IsCheckEnd due → Tells sink out_old out_new line due given → (Rose (sink.faults out_old) (sink.faults out_new) → ⊥) → IsCheckEnd given
     given_ends line due end told no_sink = ⊎_elim (λ is. subst IsCheckEnd (sym is) end) (λ other. ⊎_elim (λ memory. subst IsCheckEnd (sym memory) tt) (λ failed. absurd (no_sink failed.1.1.0)) other) told.status

@@ -17,19 +17,19 @@ use Rattle.target_core.specs.SeenView.{IsSeen}
 use Rattle.target_core.specs.Views.{IsOfSource, Standing, View, absent}
 use Rattle.target_core.specs.declared.target.Seen.{Seen}
 use Rattle.target_core.specs.declared.target.Target as targets
-use Rattle.sync_driver.specs.Applied.{position_at, status_of_source}
+use Rattle.target_sync.specs.Applied.{position_at, status_of_source}
 use Rattle.sync_driver.specs.Checked.{CheckAnswer, IsBehind, IsCheck, IsCheckStatus, IsCheckedSo, IsCompared, IsMarkedAt, IsSeenBehind, IsSeenRefusal, StandsBehind, StandsMarked}
-use Rattle.sync_driver.specs.Dues.{MayBeSame}
-use Rattle.sync_driver.specs.Sources.{source_meaning}
-use Rattle.sync_driver.specs.Targets.{target_facts}
+use Rattle.target_sync.specs.Dues.{MayBeSame}
+use Rattle.target_sync.specs.Sources.{source_meaning}
+use Rattle.target_sync.specs.Targets.{target_facts}
 use Rattle.sync_driver.specs.declared.checking.Same.{Same}
-use Rattle.sync_driver.specs.declared.status.Status.{Status}
-use Rattle.sync_driver.specs.declared.status.Status.TheVariants as status
-use Rattle.sync_driver.proofs.Counting.{fails_as, fails_then, uncontested_then}
-use Rattle.sync_driver.proofs.Finding.{source_fault}
-use Rattle.sync_driver.proofs.Histories.{not_marked, one_standing, unmarked}
-use Rattle.sync_driver.proofs.Standing.{AreOne, one_mark}
-use Rattle.sync_driver.proofs.Syncing.{Laws}
+use Rattle.target_sync.specs.declared.status.Status.{Status}
+use Rattle.target_sync.specs.declared.status.Status.TheVariants as status
+use Rattle.target_sync.proofs.Counting.{fails_as, fails_then, uncontested_then}
+use Rattle.target_sync.proofs.Finding.{source_fault}
+use Rattle.target_sync.proofs.Histories.{not_marked, one_standing, unmarked}
+use Rattle.target_sync.proofs.Standing.{AreOne, one_mark}
+use Rattle.target_sync.proofs.Syncing.{Laws}
 
 -- a target isn't both behind the head and at it
 behind_not_at : (head : Head) (v w : View) (at : Option (List ℕ)) → AreOne v w → IsMarkedAt head v → IsBehind head w at → ⊥
@@ -81,7 +81,6 @@ module _ {S F T K : Type 0} (store : Ghosts S) (source : sources.Ghosts F) (f : 
     seen_checked status.StoreFault why = absurd why
     seen_checked status.SinkFault why = absurd why
     seen_checked (status.Differs kind path) why = absurd why
-    seen_checked status.Later why = absurd why
 
     pub seen_foreign : (e : Status) → IsSeenRefusal (target.kind t) (target.view t) head seen e → (path : List ℕ) → target.is_foreign t (source.kind f) files path → Before (status.Foreign (target.kind t) path) (Some (Err e))
     seen_foreign status.Memory why path foreign = inr tt
@@ -97,7 +96,6 @@ module _ {S F T K : Type 0} (store : Ghosts S) (source : sources.Ghosts F) (f : 
     seen_foreign status.StoreFault why path foreign = absurd why
     seen_foreign status.SinkFault why path foreign = absurd why
     seen_foreign (status.Differs kind other) why path foreign = absurd why
-    seen_foreign status.Later why path foreign = absurd why
 
     pub seen_behind : (e : Status) → IsSeenRefusal (target.kind t) (target.view t) head seen e → (other : Head) (at : Option (List ℕ)) → StandsBehind (source_meaning source f) (target_facts target t) files other at → Before (status.Behind (target.kind t) at other.position) (Some (Err e))
     seen_behind status.Memory why other at stands = inr tt
@@ -118,7 +116,6 @@ module _ {S F T K : Type 0} (store : Ghosts S) (source : sources.Ghosts F) (f : 
     seen_behind status.StoreFault why other at stands = absurd why
     seen_behind status.SinkFault why other at stands = absurd why
     seen_behind (status.Differs kind path) why other at stands = absurd why
-    seen_behind status.Later why other at stands = absurd why
 
   -- a run that only read, and answered so
   pub check_of : (old new : S) (answer : CheckAnswer) → (store.tells → OnlyReads store old new) → FailsBy store old new (answer ≡ Some (Err status.StoreFault)) → (B : Type 0) → IsUncontestedBy store old new B
@@ -193,7 +190,6 @@ module _ {S F T K : Type 0} (store : Ghosts S) (source : sources.Ghosts F) (f : 
       compared_checked (Err status.StoreFault) is = absurd is
       compared_checked (Err status.SinkFault) is = absurd is
       compared_checked (Err (status.Behind kind at position)) is = absurd is
-      compared_checked (Err status.Later) is = absurd is
 
   compared_no_fault : (view : View) (table : Table) (r : Result Same Status) → IsCompared (target.kind t) view table r → ◌≡◌ {A = CheckAnswer} (Some r) (Some (Err status.StoreFault)) → ⊥
   compared_no_fault view table r is same = let one : r ≡ Err status.StoreFault = cc same in subst (IsCompared (target.kind t) view table) one is

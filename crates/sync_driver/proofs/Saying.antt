@@ -14,8 +14,8 @@ use Rattle.table_lines.specs.Lines.{line, printed}
 use Rattle.table_lines.specs.TableLines.{lines_over}
 use Rattle.sync_driver.specs.Shown.{put_status}
 use Rattle.sync_driver.specs.Tellings.{Puts, Tells, cut_of_put}
-use Rattle.sync_driver.specs.declared.status.Status.{Status}
-use Rattle.sync_driver.specs.declared.status.Status.TheVariants.{Done, Memory, SinkFault}
+use Rattle.target_sync.specs.declared.status.Status.{Status}
+use Rattle.target_sync.specs.declared.status.Status.TheVariants.{Done, Memory, SinkFault}
 
 -- ---- putting lines out
 

@@ -13,15 +13,15 @@ use Rattle.source_core.specs.declared.error.SourceError.TheVariants as source
 use Rattle.source_core.specs.declared.head.Head.{Head}
 use Rattle.table_history.specs.declared.table.Table.{Table}
 use Rattle.table_lines.specs.TableLines.{AreTableLines}
-use Rattle.sync_driver.specs.Applied.{status_of_source}
+use Rattle.target_sync.specs.Applied.{status_of_source}
 use Rattle.sync_driver.specs.Commands.{IsPending}
 use Rattle.sync_driver.specs.Lines.{pending_line}
 use Rattle.sync_driver.specs.Shown.{IsShow, IsShowRefusal, IsShownSo, ShowAnswer, Shows, shown_status, shown_text}
-use Rattle.sync_driver.specs.Sources.{SourceMeaning}
+use Rattle.target_sync.specs.Sources.{SourceMeaning}
 use Rattle.sync_driver.specs.Tellings.{Tells}
-use Rattle.sync_driver.specs.declared.status.Status.{Status}
-use Rattle.sync_driver.specs.declared.status.Status.TheVariants as status
-use Rattle.sync_driver.proofs.Counting.{fails_as, fails_then, uncontested_then}
+use Rattle.target_sync.specs.declared.status.Status.{Status}
+use Rattle.target_sync.specs.declared.status.Status.TheVariants as status
+use Rattle.target_sync.proofs.Counting.{fails_as, fails_then, uncontested_then}
 
 -- ---- a source that can be read is refused for want of memory alone, or for a fault of the store
 

@@ -21,18 +21,18 @@ use Rattle.target_core.specs.Conditions.{GoesOn}
 use Rattle.target_core.specs.Views.{IsUnpublished, View}
 use Rattle.target_core.specs.declared.target.Seen.{Seen}
 use Rattle.target_core.specs.declared.target.Seen.TheVariants.{Absent, Ours, Foreign}
-use Rattle.sync_driver.specs.Answered.{CameBefore, StandsAt}
-use Rattle.sync_driver.specs.Applied.{position_at, status_of_source}
+use Rattle.target_sync.specs.Answered.{CameBefore, StandsAt}
+use Rattle.target_sync.specs.Applied.{position_at, status_of_source}
 use Rattle.sync_driver.specs.Commands.{IsPending}
-use Rattle.sync_driver.specs.Dues.{IsMarked, MayBeSame}
+use Rattle.target_sync.specs.Dues.{IsMarked, MayBeSame}
 use Rattle.sync_driver.specs.Lines.{pending_line, refusal_line, same_line}
-use Rattle.sync_driver.specs.Sources.{HasHead, SourceMeaning}
-use Rattle.sync_driver.specs.Targets.{TargetFacts}
+use Rattle.target_sync.specs.Sources.{HasHead, SourceMeaning}
+use Rattle.target_sync.specs.Targets.{TargetFacts}
 use Rattle.sync_driver.specs.Tellings.{Tells}
 use Rattle.sync_driver.specs.declared.checking.Same.{Same}
-use Rattle.sync_driver.specs.declared.status.Side.TheVariants as side
-use Rattle.sync_driver.specs.declared.status.Status.{Status}
-use Rattle.sync_driver.specs.declared.status.Status.TheVariants as status
+use Rattle.target_sync.specs.declared.status.Side.TheVariants as side
+use Rattle.target_sync.specs.declared.status.Status.{Status}
+use Rattle.target_sync.specs.declared.status.Status.TheVariants as status
 
 -- ---- rows
 

@@ -9,16 +9,16 @@ use Rattle.source_core.specs.Answers.{IsHeadRefusal}
 use Rattle.source_core.specs.declared.error.SourceError.{SourceError}
 use Rattle.source_core.specs.declared.head.Head.{Head}
 use Rattle.table_history.specs.declared.kind.Kind.{Kind}
-use Rattle.sync_driver.specs.Along.{IsWholeSync}
-use Rattle.sync_driver.specs.Answered.{Answer, CanSync}
-use Rattle.sync_driver.specs.Applied.{status_of_source}
+use Rattle.target_sync.specs.Along.{IsWholeSync}
+use Rattle.target_sync.specs.Answered.{Answer, CanSync}
+use Rattle.target_sync.specs.Applied.{status_of_source}
 use Rattle.sync_driver.specs.Lines.{pending_line, refusal_line, report_line}
-use Rattle.sync_driver.specs.Sources.{SourceMeaning}
-use Rattle.sync_driver.specs.Targets.{TargetFacts}
+use Rattle.target_sync.specs.Sources.{SourceMeaning}
+use Rattle.target_sync.specs.Targets.{TargetFacts}
 use Rattle.sync_driver.specs.Tellings.{Tells}
-use Rattle.sync_driver.specs.declared.plan.Mode.{Mode}
-use Rattle.sync_driver.specs.declared.status.Status.{Status}
-use Rattle.sync_driver.specs.declared.status.Status.TheVariants.{Done, Memory}
+use Rattle.target_sync.specs.declared.plan.Mode.{Mode}
+use Rattle.target_sync.specs.declared.status.Status.{Status}
+use Rattle.target_sync.specs.declared.status.Status.TheVariants.{Done, Memory}
 
 -- It is what is pending behind the head; or there is none, since finding the head was refused.
 abbrev pub IsPending : SourceMeaning → Files → Option (List ℕ) → (SourceError → Type 0) → Type 0
@@ -41,7 +41,7 @@ answer_status (Some (Err e)) = e
 pub record Syncs {S O : Type 0} (store : Ghosts S) (sink : sinks.Ghosts O) (source : SourceMeaning) (target : TargetFacts) (mode : Mode) (now : ℕ) (old new : S) (out_old out_new : O) (status : Status) : Type 0 where
   pub pending : Option (List ℕ)
   pub answer : Answer
-  pub sync : IsWholeSync store source target mode now old new answer
+  pub sync : IsWholeSync store source target None mode now old new answer
   pub pending_is : store.tells → IsPending source (store.disk old).files pending (λ e. (answer ≡ Some (Err (status_of_source e))) × OnlyReads store old new)
   pub told : Tells sink out_old out_new (pending_line pending ++ answer_line target.files.kind answer) (answer_status answer) status
   -- where there is an answer, the pending commit's line went out whole before it

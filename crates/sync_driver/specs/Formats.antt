@@ -16,8 +16,8 @@ use Rattle.target_hudi.specs.declared.target.HudiTarget.{HudiTarget}
 use Rattle.iceberg_version.specs.declared.kept.IcebergKept.{IcebergKept}
 use Rattle.target_iceberg.specs.TableId as iceberg
 use Rattle.target_iceberg.specs.declared.target.IcebergTarget.{IcebergTarget}
-use Rattle.sync_driver.specs.Sources.{SourceMeaning, source_meaning}
-use Rattle.sync_driver.specs.Targets.{TargetFacts, target_facts}
+use Rattle.target_sync.specs.Sources.{SourceMeaning, source_meaning}
+use Rattle.target_sync.specs.Targets.{TargetFacts, target_facts}
 
 -- what the files of each format mean to its source and to its target
 pub record Formats : Type 1 where

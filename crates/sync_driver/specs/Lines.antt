@@ -4,12 +4,12 @@ use Rattle.std.specs.Fmt.{decimal}
 use Rattle.table_history.specs.declared.kind.Kind.{Kind}
 use Rattle.table_history.specs.Words.{kind_word, feature_word, limit_word}
 use Rattle.table_lines.specs.Lines.{line}
-use Rattle.sync_driver.specs.declared.apply.Report.{Report}
+use Rattle.target_sync.specs.declared.apply.Report.{Report}
 use Rattle.sync_driver.specs.declared.checking.Same.{Same}
-use Rattle.sync_driver.specs.declared.status.Side.{Side}
-use Rattle.sync_driver.specs.declared.status.Side.TheVariants.{Source, Target}
-use Rattle.sync_driver.specs.declared.status.Status.{Status}
-use Rattle.sync_driver.specs.declared.status.Status.TheVariants.{Done, Memory, Usage, Absent, Malformed, Unsupported, Limit, Foreign, Contested, StoreFault, SinkFault, Behind, Differs, Later}
+use Rattle.target_sync.specs.declared.status.Side.{Side}
+use Rattle.target_sync.specs.declared.status.Side.TheVariants.{Source, Target}
+use Rattle.target_sync.specs.declared.status.Status.{Status}
+use Rattle.target_sync.specs.declared.status.Status.TheVariants.{Done, Memory, Usage, Absent, Malformed, Unsupported, Limit, Foreign, Contested, StoreFault, SinkFault, Behind, Differs}
 
 abbrev pub side_word : Side → List ℕ
 side_word Source = codes "source"
@@ -38,7 +38,6 @@ refusal_line StoreFault = line (codes "status 9: StoreFault")
 refusal_line SinkFault = []
 refusal_line (Behind target at head) = line (kind_word target ++ (codes ": status 11: Behind " ++ (position_word at ++ (codes " of " ++ head))))
 refusal_line (Differs target path) = line (kind_word target ++ (codes ": status 12: Differs " ++ path))
-refusal_line Later = line (codes "status 13: Later")
 
 -- the line of a commit that is pending behind the source's head, where there is one
 abbrev pub pending_line : Option (List ℕ) → List ℕ

@@ -13,13 +13,13 @@ use Rattle.source_core.specs.declared.error.SourceError.{SourceError}
 use Rattle.source_core.specs.declared.error.SourceError.TheVariants as source
 use Rattle.source_core.specs.declared.head.Head.{Head}
 use Rattle.table_lines.specs.TableLines.{AreTableLines}
-use Rattle.sync_driver.specs.Applied.{status_of_source}
+use Rattle.target_sync.specs.Applied.{status_of_source}
 use Rattle.sync_driver.specs.Commands.{IsPending}
 use Rattle.sync_driver.specs.Lines.{pending_line, refusal_line}
-use Rattle.sync_driver.specs.Sources.{SourceMeaning}
+use Rattle.target_sync.specs.Sources.{SourceMeaning}
 use Rattle.sync_driver.specs.Tellings.{Tells}
-use Rattle.sync_driver.specs.declared.status.Status.{Status}
-use Rattle.sync_driver.specs.declared.status.Status.TheVariants.{Done, Memory, SinkFault}
+use Rattle.target_sync.specs.declared.status.Status.{Status}
+use Rattle.target_sync.specs.declared.status.Status.TheVariants.{Done, Memory, SinkFault}
 
 abbrev pub put_status : Result (Unit {0}) SinkError → Status
 put_status (Ok x) = Done

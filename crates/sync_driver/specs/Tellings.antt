@@ -4,8 +4,8 @@ use Rattle.lake_store.specs.Cause.{Rose}
 use Rattle.lake_store.specs.declared.sink.Sink.{Ghosts}
 use Rattle.lake_store.specs.declared.sink.SinkError.{SinkError}
 use Rattle.lake_store.specs.declared.sink.SinkError.TheVariants as sink_error
-use Rattle.sync_driver.specs.declared.status.Status.{Status}
-use Rattle.sync_driver.specs.declared.status.Status.TheVariants.{Done, Memory, SinkFault}
+use Rattle.target_sync.specs.declared.status.Status.{Status}
+use Rattle.target_sync.specs.declared.status.Status.TheVariants.{Done, Memory, SinkFault}
 
 -- its line went out whole
 abbrev pub IsSaid : Status → Type 0

@@ -7,16 +7,11 @@ ghost use Rattle.table_history.specs.Rows.{SameRows};
 ghost use Rattle.target_core.specs.SeenView.{IsSeenSound};
 ghost use Rattle.sync_driver.specs.Checked.{Checks, IsCheck, IsCompared, IsFirstDifference, IsKeptAtHead, IsMarkedAt, IsSeenRefusal, check_line, check_status};
 ghost use Rattle.sync_driver.specs.Tellings.{Tells};
-ghost use Rattle.sync_driver.specs.Sources.{source_meaning};
-ghost use Rattle.sync_driver.specs.Targets.{target_facts};
-ghost use Rattle.sync_driver.specs.declared.status.Status.TheVariants as status;
+ghost use Rattle.target_sync.specs.Sources.{source_meaning};
+ghost use Rattle.target_sync.specs.Targets.{target_facts};
+ghost use Rattle.target_sync.specs.declared.status.Status.TheVariants as status;
 
-use crate::apply::position_of;
-use crate::cause::status_of_source;
 use crate::line::same_line;
-use crate::plan::may_be_same;
-use crate::status::Status;
-use crate::sync::inspected;
 use crate::tell::{put_line, put_pending, refuse};
 use lake_basics::Text;
 use lake_store::{Sink, Store};
@@ -25,6 +20,7 @@ use std::alloc::{AllocError, Global};
 use std::cmp::Ordering;
 use table_history::{Kind, Table};
 use target_core::{Seen, Target};
+use target_sync::{Status, inspected, may_be_same, position_of, status_of_source};
 
 /// What is told of a target that has the source's rows.
 #[derive(Debug, Drop, PartialEq, Eq)]

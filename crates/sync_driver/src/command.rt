@@ -1,25 +1,21 @@
 //! A sync of one target with its lines.
 ghost use Rattle.std.specs.Prelude.{◌≡◌, ◌<◌, ◌^◌, Some};
 ghost use Rattle.sync_driver.specs.Commands.{Syncs, answer_line, answer_status};
-ghost use Rattle.sync_driver.specs.Sources.{source_meaning};
-ghost use Rattle.sync_driver.specs.Targets.{target_facts};
+ghost use Rattle.target_sync.specs.Sources.{source_meaning};
+ghost use Rattle.target_sync.specs.Targets.{target_facts};
 ghost use Rattle.sync_driver.specs.Tellings.{Tells};
 
-use crate::apply::Report;
-use crate::cause::status_of_source;
 use crate::line::report_line;
-use crate::plan::Mode;
-use crate::status::Status;
-use crate::sync::sync_from;
 use crate::tell::{put_line, put_pending, refuse};
 use lake_store::{Sink, Store};
 use source_core::{Head, Source};
 use std::alloc::Global;
 use table_history::Kind;
 use target_core::Target;
+use target_sync::{Mode, Report, Status, status_of_source, sync_from};
 
 /// Puts the line of a target out, and answers how that ended.
-fn put_answer<O: Sink>(
+pub(crate) fn put_answer<O: Sink>(
     alloc: Global,
     out: &mut O,
     target: Kind,

@@ -5,13 +5,12 @@ ghost use Rattle.table_history.specs.Words.{kind_word, feature_word, limit_word}
 ghost use Rattle.table_lines.specs.Lines.{line};
 ghost use Rattle.sync_driver.specs.Lines.{side_word, position_word, path_part, pending_line, refusal_line, report_line, same_line, way_word};
 
-use crate::apply::Report;
 use crate::checking::Same;
-use crate::status::{Side, Status};
 use lake_store::Text;
 use std::alloc::{AllocError, Global};
 use table_history::{Feature, Kind, LimitKind};
 use table_lines::line_of_text;
+use target_sync::{Report, Side, Status};
 
 fn word_of_side(side: Side) -> &'static str
     ensures { result.now ≡ side_word side }
@@ -145,7 +144,6 @@ pub(crate) fn line_of_refusal(alloc: Global, status: &Status) -> Result<Vec<u8>,
         Status::StoreFault => line_of_text(alloc, "status 9: StoreFault"),
         Status::Behind { target, at, head } => behind_line(alloc, *target, at, head),
         Status::Differs { target, path } => differs_line(alloc, *target, path),
-        Status::Later => line_of_text(alloc, "status 13: Later"),
     }
 }
 

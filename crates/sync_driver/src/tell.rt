@@ -4,10 +4,10 @@ ghost use Rattle.sync_driver.specs.Lines.{pending_line, refusal_line};
 ghost use Rattle.sync_driver.specs.Tellings.{Puts, Tells, cut_of_put};
 
 use crate::line::{line_of_refusal, pending_line};
-use crate::status::Status;
 use lake_store::{Sink, SinkError};
 use source_core::Head;
 use std::alloc::Global;
+use target_sync::Status;
 
 /// Puts the line out, if it isn't empty. The answer is the status that is due, unless the line is
 /// cut.

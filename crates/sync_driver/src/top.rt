@@ -1,13 +1,10 @@
 //! The top call.
-ghost use Rattle.std.specs.Prelude.{◌↔◌, IsTrue};
-ghost use Rattle.sync_driver.specs.Answers.{Command, IsServed};
+ghost use Rattle.sync_driver.specs.Answers.{Command};
 ghost use Rattle.sync_driver.specs.Lines.{refusal_line};
 ghost use Rattle.sync_driver.specs.Tellings.{Tells};
-ghost use Rattle.sync_driver.specs.declared.status.Status.TheVariants.{Usage};
+ghost use Rattle.target_sync.specs.declared.status.Status.TheVariants.{Usage};
 
 use crate::formats::{bring, compare, print};
-use crate::plan::Mode;
-use crate::status::Status;
 use crate::tell::refuse;
 use crate::words::{Form, command_of};
 use lake_store::{Clock, Sink, Store};
@@ -20,25 +17,13 @@ use target_core::Target;
 use target_delta::DeltaTarget;
 use target_hudi::HudiTarget;
 use target_iceberg::IcebergTarget;
+use target_sync::{Mode, Status};
 
 /// Answers words that are no form.
 pub fn refuse_words<O: Sink>(alloc: Global, out: &mut O) -> Status
     ensures { Tells ⟦<O as Sink>⟧ out.old out.new (refusal_line Usage) Usage result }
 {
     refuse(alloc, out, Status::Usage)
-}
-
-/// Whether this form is served.
-fn is_served(form: Form) -> bool
-    ensures { IsTrue result ↔ IsServed form }
-{
-    match form {
-        Form::Show(_) => true,
-        Form::Sync(_, _, None) => true,
-        Form::Full(_, _, None) => true,
-        Form::Check(_, _) => true,
-        _ => false,
-    }
 }
 
 /// Does what the words ask for, puts its line out, and answers how it ended. The first word is the
@@ -63,17 +48,15 @@ pub fn run<S: Store, C: Clock, O: Sink>(
     let Some(command) = command_of(words) else {
         return refuse(alloc, out, Status::Usage);
     };
-    if !is_served(command.form) {
-        return refuse(alloc, out, Status::Later);
-    }
     let location = command.location;
     match command.form {
         Form::Show(source) => print(alloc, source, store, out),
-        Form::Sync(source, target, _) => {
+        Form::Sync(source, first, second) => {
             bring(
                 alloc,
                 source,
-                target,
+                first,
+                second,
                 location,
                 store,
                 Mode::Sync,
@@ -81,11 +64,12 @@ pub fn run<S: Store, C: Clock, O: Sink>(
                 out,
             )
         }
-        Form::Full(source, target, _) => {
+        Form::Full(source, first, second) => {
             bring(
                 alloc,
                 source,
-                target,
+                first,
+                second,
                 location,
                 store,
                 Mode::Full,

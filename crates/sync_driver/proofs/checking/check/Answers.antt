@@ -2,19 +2,19 @@ use Rattle.std.proofs.Common.{◌≡◌, None, Some, Err, inl, inr, refl, ap, su
 use Rattle.source_core.specs.declared.error.SourceError.{SourceError}
 use Rattle.source_core.specs.declared.error.SourceError.TheVariants.{StoreFault}
 use Rattle.table_history.specs.declared.kind.Kind.{Kind}
-use Rattle.sync_driver.specs.Applied.{status_of_source}
+use Rattle.target_sync.specs.Applied.{status_of_source}
 use Rattle.sync_driver.specs.Checked.{check_line, check_status}
 use Rattle.sync_driver.specs.Lines.{pending_line, refusal_line}
-use Rattle.sync_driver.specs.Sources.{source_meaning}
-use Rattle.sync_driver.specs.Targets.{target_facts}
+use Rattle.target_sync.specs.Sources.{source_meaning}
+use Rattle.target_sync.specs.Targets.{target_facts}
 use Rattle.sync_driver.specs.Tellings.{Tells}
-use Rattle.sync_driver.specs.declared.status.Status.{Status}
-use Rattle.sync_driver.specs.declared.status.Status.TheVariants.{Done}
+use Rattle.target_sync.specs.declared.status.Status.{Status}
+use Rattle.target_sync.specs.declared.status.Status.TheVariants.{Done}
 use Rattle.sync_driver.proofs.CheckEnds.{check_behind, check_headless, check_none, checks}
 use Rattle.sync_driver.proofs.Checks.{not_foreign}
-use Rattle.sync_driver.proofs.Counting.{fails_as}
+use Rattle.target_sync.proofs.Counting.{fails_as}
 use Rattle.sync_driver.proofs.Saying.{first_alone, first_behind, told_alone, told_behind}
-use Rattle.sync_driver.proofs.Syncing.{Laws}
+use Rattle.target_sync.proofs.Syncing.{Laws}
 use Rattle.sync_driver.proofs.checking.check.Goals as goal
 
 pub returns-in-Err : goal.returns-in-Err

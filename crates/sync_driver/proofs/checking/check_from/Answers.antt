@@ -6,13 +6,13 @@ use Rattle.table_history.specs.declared.kind.Kind.{Kind}
 use Rattle.target_core.specs.SeenView.{IsSeen, IsSeenSound}
 use Rattle.target_core.specs.declared.target.Seen.{Seen}
 use Rattle.sync_driver.specs.Checked.{IsCheck}
-use Rattle.sync_driver.specs.Sources.{source_meaning}
-use Rattle.sync_driver.specs.Targets.{target_facts}
+use Rattle.target_sync.specs.Sources.{source_meaning}
+use Rattle.target_sync.specs.Targets.{target_facts}
 use Rattle.sync_driver.specs.declared.checking.Same.{Same}
-use Rattle.sync_driver.specs.declared.status.Status.{Status}
-use Rattle.sync_driver.proofs.Counting.{fails_as}
+use Rattle.target_sync.specs.declared.status.Status.{Status}
+use Rattle.target_sync.proofs.Counting.{fails_as}
 use Rattle.sync_driver.proofs.Checks.{kept_refused, rows_compared, whole_refused}
-use Rattle.sync_driver.proofs.Syncing.{Laws}
+use Rattle.target_sync.proofs.Syncing.{Laws}
 use Rattle.sync_driver.proofs.checking.check_from.Goals as goal
 
 pub returns-in_err-kept : goal.returns-in_err-kept

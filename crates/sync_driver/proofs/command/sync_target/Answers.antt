@@ -3,21 +3,22 @@ use Rattle.lake_store.specs.Disk.{Disk}
 use Rattle.source_core.specs.declared.error.SourceError.{SourceError}
 use Rattle.source_core.specs.declared.error.SourceError.TheVariants.{StoreFault}
 use Rattle.table_history.specs.declared.kind.Kind.{Kind}
-use Rattle.sync_driver.specs.Applied.{status_of_source}
+use Rattle.target_sync.specs.Applied.{status_of_source}
 use Rattle.sync_driver.specs.Commands.{answer_line, answer_status}
 use Rattle.sync_driver.specs.Lines.{pending_line, refusal_line}
-use Rattle.sync_driver.specs.Sources.{source_meaning}
-use Rattle.sync_driver.specs.Targets.{target_facts}
+use Rattle.target_sync.specs.Sources.{source_meaning}
+use Rattle.target_sync.specs.Targets.{target_facts}
 use Rattle.sync_driver.specs.Tellings.{Tells}
-use Rattle.sync_driver.specs.declared.status.Status.{Status}
-use Rattle.sync_driver.specs.declared.status.Status.TheVariants.{Done}
-use Rattle.sync_driver.proofs.Along.{AlongLaws}
-use Rattle.sync_driver.proofs.Commanding.{sync_none, syncs}
-use Rattle.sync_driver.proofs.Counting.{fails_as}
-use Rattle.sync_driver.proofs.Finding.{head_refused}
-use Rattle.sync_driver.proofs.Following.{sync_behind}
+use Rattle.target_sync.specs.declared.status.Status.{Status}
+use Rattle.target_sync.specs.declared.status.Status.TheVariants.{Done}
+use Rattle.target_sync.proofs.Along.{AlongLaws}
+use Rattle.sync_driver.proofs.Commanding.{syncs}
+use Rattle.target_sync.proofs.Counting.{fails_as}
+use Rattle.target_sync.proofs.Finding.{head_refused}
+use Rattle.target_sync.proofs.Following.{sync_behind}
+use Rattle.target_sync.proofs.Pairing.{sync_none}
 use Rattle.sync_driver.proofs.Saying.{first_alone, first_behind, told_alone, told_behind}
-use Rattle.sync_driver.proofs.Syncing.{Laws}
+use Rattle.target_sync.proofs.Syncing.{Laws}
 use Rattle.sync_driver.proofs.command.sync_target.Goals as goal
 
 pub sync_from-answer-requires-clause-head : goal.sync_from-answer-requires-clause-head
@@ -100,7 +101,7 @@ returns-in-Ok-put_pending g c =
       absent_any = g.met.T.Target.absent_any t;
     } in
     syncs store source target c.args.mode c.args.now_ms g.O.Sink old c.sync_from-answer.new.store c.args.out.now c.put_answer.new.out c.put_answer.result head.pending (Some answer) along
-    (sync_behind store source target laws.source_own laws.crash c.args.mode c.args.now_ms old c.head.new.store c.sync_from-answer.new.store
+    (sync_behind store source target laws.source_own laws.crash None c.args.mode c.args.now_ms old c.head.new.store c.sync_from-answer.new.store
     c.in-Ok.ensures.only_reads _ _ c.in-Ok.ensures.cause c.in-Ok.ensures.contest (Some answer) c.sync_from-answer.ensures)
     (λ told. inl (head, (c.in-Ok.ensures.head told).1, refl))
     (λ tells some. first_behind g.O.Sink c.args.out.now c.put_pending.new.out c.put_answer.new.out (pending_line head.pending) (answer_line c.kind.result (Some answer)) (answer_status (Some answer)) c.put_answer.result

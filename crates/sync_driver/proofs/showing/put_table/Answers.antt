@@ -6,8 +6,8 @@ use Rattle.table_history.specs.Rows.{IsInPathOrder, SameRows}
 use Rattle.table_history.specs.declared.row.FileRow.{FileRow}
 use Rattle.table_lines.specs.TableLines.{lines_over}
 use Rattle.sync_driver.specs.Tellings.{Tells}
-use Rattle.sync_driver.specs.declared.status.Status.{Status}
-use Rattle.sync_driver.specs.declared.status.Status.TheVariants.{Done, Memory}
+use Rattle.target_sync.specs.declared.status.Status.{Status}
+use Rattle.target_sync.specs.declared.status.Status.TheVariants.{Done, Memory}
 use Rattle.sync_driver.proofs.Saying.{lines_there, nothing_told, put_told}
 use Rattle.sync_driver.proofs.showing.put_table.Goals as goal
 

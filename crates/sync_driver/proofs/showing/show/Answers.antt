@@ -4,11 +4,11 @@ use Rattle.source_core.specs.declared.error.SourceError.{SourceError}
 use Rattle.source_core.specs.declared.error.SourceError.TheVariants.{StoreFault}
 use Rattle.sync_driver.specs.Lines.{pending_line, refusal_line}
 use Rattle.sync_driver.specs.Shown.{shown_status, shown_text}
-use Rattle.sync_driver.specs.Sources.{source_meaning}
+use Rattle.target_sync.specs.Sources.{source_meaning}
 use Rattle.sync_driver.specs.Tellings.{Tells}
-use Rattle.sync_driver.specs.declared.status.Status.{Status}
-use Rattle.sync_driver.specs.declared.status.Status.TheVariants.{Done}
-use Rattle.sync_driver.proofs.Counting.{fails_as}
+use Rattle.target_sync.specs.declared.status.Status.{Status}
+use Rattle.target_sync.specs.declared.status.Status.TheVariants.{Done}
+use Rattle.target_sync.proofs.Counting.{fails_as}
 use Rattle.sync_driver.proofs.Saying.{told_alone, told_behind}
 use Rattle.sync_driver.proofs.Shows.{show_behind, show_none, shows}
 use Rattle.sync_driver.proofs.showing.show.Goals as goal

@@ -5,10 +5,10 @@ use Rattle.source_core.specs.declared.error.SourceError.TheVariants.{StoreFault}
 use Rattle.table_history.specs.declared.kind.Kind.{Kind}
 use Rattle.table_lines.specs.TableLines.{AreTableLines}
 use Rattle.sync_driver.specs.Lines.{refusal_line}
-use Rattle.sync_driver.specs.Sources.{source_meaning}
+use Rattle.target_sync.specs.Sources.{source_meaning}
 use Rattle.sync_driver.specs.Tellings.{Tells}
-use Rattle.sync_driver.specs.declared.status.Status.{Status}
-use Rattle.sync_driver.proofs.Counting.{fails_as}
+use Rattle.target_sync.specs.declared.status.Status.{Status}
+use Rattle.target_sync.proofs.Counting.{fails_as}
 use Rattle.sync_driver.proofs.Shows.{memory_refused, show_of}
 use Rattle.sync_driver.proofs.showing.show_table.Goals as goal
 

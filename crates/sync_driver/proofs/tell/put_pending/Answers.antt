@@ -2,7 +2,7 @@ use Rattle.std.proofs.Common.{◌≡◌, ◌∙◌, ℕ, List, Result, Some, sym
 use Rattle.std.specs.Prelude.{codes, ◌++◌}
 use Rattle.sync_driver.specs.Lines.{pending_line}
 use Rattle.sync_driver.specs.Tellings.{Puts, cut_of_put}
-use Rattle.sync_driver.specs.declared.status.Status.{Status}
+use Rattle.target_sync.specs.declared.status.Status.{Status}
 use Rattle.sync_driver.proofs.Saying.{line_is_there, put_told, puts_told}
 use Rattle.sync_driver.proofs.tell.put_pending.Goals as goal
 

@@ -1,0 +1,41 @@
+//! Plays scripts of commands over stores in memory, and prints their transcripts.
+//!
+//! A row begins with an empty store. Its steps are:
+//!
+//! - `file PATH` puts the lines below it, durably; `file PATH unended` puts them without the last newline;
+//! - `bytes PATH` puts the bytes whose hexadecimal digits are below it;
+//! - `container PATH CODEC COUNT` puts an Avro container of one block of so many objects: below it are the
+//!   schema on a line, and the digits of the objects;
+//! - `cut PATH` takes off a file's last byte, `copy FROM TO` copies a file, and `remove PATH ..` removes files;
+//! - `place PLACE` and `clock MILLISECONDS` say where and when commands are run, and `puts fail NUMBER ..`
+//!   which of their lines can't be put out;
+//! - `calls fail NUMBER ..` says which calls of the store fail, counted from this step on;
+//! - `run WORDS` runs a command, and shows its status and its lines;
+//! - `at each call TROUBLE: WORDS` runs a command with a trouble at each of its calls of the store in turn,
+//!   each time over a copy of the store, then the command again, and shows each outcome that came. TROUBLE is
+//!   `fail`, `contest`, or `stop and crash CHOICE ..`;
+//! - `report SOURCE TARGET` shows what the call below a sync answers;
+//! - `show PATH`, `list FOLDER ..` and `files FOLDER ..` show a text, names, and names and texts;
+//! - `has PATH` shows whether the text below it stands in a file;
+//! - `remember` and `changes` show whether a file has changed in between;
+//! - `standing TARGET SOURCE` shows what a target stands at for a source;
+//! - `manifests PATH` shows the manifests in a list, each with its files that were added, that were there and
+//!   that went.
+#![tactic(auto)]
+
+mod commands;
+mod container;
+mod files;
+mod running;
+mod setting;
+mod standing;
+mod trouble;
+
+use crate::commands::Commands;
+use rows::play_files;
+use std::process::ExitCode;
+
+fn main(rt: HostRuntime) -> ExitCode {
+    let mut commands = Commands::new(rt.alloc());
+    play_files(&rt, &mut commands)
+}

@@ -1,0 +1,15 @@
+pub mod Along
+pub mod Applying
+pub mod Beside
+pub mod Counting
+pub mod Finding
+pub mod Following
+pub mod Histories
+pub mod Mixing
+pub mod Owning
+pub mod Pairing
+pub mod Planning
+pub mod Refusing
+pub mod Running
+pub mod Standing
+pub mod Syncing

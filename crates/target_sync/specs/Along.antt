@@ -1,0 +1,78 @@
+-- Where a sync leaves a target in each history of its table that the source's files hold.
+use Rattle.std.specs.Prelude.{◌≡◌, ◌⊎◌, ◌≤◌, ◌+◌, ℕ, false, true, List, [], ◌∷◌, drop, length, slice_get, Option, Some}
+use Rattle.lake_store.specs.Disk.{Files}
+use Rattle.lake_store.specs.Runs.{IsEachMoment}
+use Rattle.lake_store.specs.declared.store.Store.{Ghosts}
+use Rattle.source_core.specs.Histories.{IsAt, IsLast, LeadAlong, ShowsEntry}
+use Rattle.table_history.specs.History.{History, IsHistory}
+use Rattle.table_history.specs.Rows.{SameRows}
+use Rattle.table_history.specs.Tables.{IsDiff}
+use Rattle.table_history.specs.declared.kind.Kind.{Kind}
+use Rattle.table_history.specs.declared.table.Commit.{Commit}
+use Rattle.table_history.specs.declared.table.Table.{Table}
+use Rattle.target_core.specs.Conditions.{GoesOn}
+use Rattle.target_core.specs.Meaning.{Meaning}
+use Rattle.target_core.specs.Views.{View}
+use Rattle.target_sync.specs.Answered.{Answer, IsDone, IsSync, IsUndisturbed}
+use Rattle.target_sync.specs.Dues.{Due, TakesCommits}
+use Rattle.target_sync.specs.Sources.{SourceMeaning}
+use Rattle.target_sync.specs.Synced.{IsAsBefore}
+use Rattle.target_sync.specs.Targets.{TargetFacts}
+use Rattle.target_sync.specs.declared.plan.Mode.{Mode}
+
+-- The target stands at a table of the history that isn't before the k-th.
+abbrev pub StandsFrom : Kind → Meaning → History → ℕ → Files → Type 0
+StandsFrom source target history k files = (j : ℕ) × (k ≤ j) × (j ≤ length history) × IsAt source target history files j
+
+-- The view has the rows, the partition columns and the schema, as the target's types hold it, of the table that the source's files make, read from
+-- scratch, where they can be read so.
+abbrev pub HasEachTable : SourceMeaning → Meaning → Files → View → Type 0
+HasEachTable source target before view = (table : Table) → source.is_table before table → SameRows view.table.rows table.rows × (view.table.partition ≡ table.partition) × (target.image table.schema ≡ Some view.table.schema)
+
+-- It stands at the last table, whichever way it took.
+pub record IsAtLast (source : SourceMeaning) (target : Meaning) (history : History) (before files : Files) : Type 0 where
+  pub at : IsAt source.kind target history files (length history)
+  pub equals : HasEachTable source target before at.view
+
+-- From the k-th table of the history the target goes on along it, and no crash takes it back. A target that is done stands at the last.
+pub record GoesOnAlong {S : Type 0} (store : Ghosts S) (source : SourceMeaning) (target : Meaning) (history : History) (k : ℕ) (Uncontested Done : Type 0) (old new : S) : Type 0 where
+  pub at_return : Uncontested → StandsFrom source.kind target history k (store.disk new).files
+  pub moments : Uncontested → IsEachMoment store old new (StandsFrom source.kind target history k)
+  pub done : Done → IsAtLast source target history (store.disk old).files (store.disk new).files
+  pub since : Done → (image : Files) → store.left_since new (store.time new) image → IsAtLast source target history (store.disk old).files image
+
+-- the target is as it was, or at the last table
+abbrev pub StaysOrEnds : SourceMeaning → Meaning → History → View → Files → Files → Type 0
+StaysOrEnds source target history start before files = IsAsBefore target start before files ⊎ IsAt source.kind target history files (length history)
+
+-- A target that takes the whole table stays as it was until it stands at the last one, wherever it stood, so also one whose mark is of another table.
+pub record EndsAlong {S : Type 0} (store : Ghosts S) (source : SourceMeaning) (target : Meaning) (history : History) (start : View) (Uncontested Done : Type 0) (old new : S) : Type 0 where
+  pub at_return : Uncontested → StaysOrEnds source target history start (store.disk old).files (store.disk new).files
+  pub moments : Uncontested → IsEachMoment store old new (StaysOrEnds source target history start (store.disk old).files)
+  pub done : Done → IsAtLast source target history (store.disk old).files (store.disk new).files
+  pub since : Done → (image : Files) → store.left_since new (store.time new) image → IsAtLast source target history (store.disk old).files image
+
+-- One commit, with the last position and with what differs between the target's rows and those of the last table.
+pub record IsToLast (history : History) (start : View) (commits : List Commit) : Type 0 where
+  pub entry : List ℕ × Table
+  pub last : IsLast history entry
+  pub commit : Commit
+  pub only : commits ≡ commit ∷ []
+  pub position : commit.position ≡ entry.0
+  pub rows : IsDiff start.table.rows entry.1.rows commit.change.removed commit.change.added
+
+-- So it goes in each history that the source's files hold. The commits that are due since a mark are one for each later table, with what differs
+-- between that table and the one before it; in full one commit is due.
+pub record IsAlong {S : Type 0} (store : Ghosts S) (source : SourceMeaning) (target : Meaning) (mode : Mode) (old new : S) (answer : Answer) : Type 0 where
+  pub goes : store.tells → (history : History) → IsHistory history → source.holds (store.disk old).files history → (k : ℕ) → IsAt source.kind target history (store.disk old).files k → target.settled (store.disk old)
+      → GoesOnAlong store source target history k (IsUndisturbed answer) (IsDone answer) old new
+  pub ends : store.tells → (history : History) → IsHistory history → source.holds (store.disk old).files history → (start : View) → target.reads (store.disk old).files start → GoesOn source.kind start → target.settled (store.disk old)
+      → ¬ TakesCommits source mode (store.disk old).files start → EndsAlong store source target history start (IsUndisturbed answer) (IsDone answer) old new
+  pub each_once : store.tells → (history : History) → IsHistory history → source.holds (store.disk old).files history → (k : ℕ) (entry : List ℕ × Table) → slice_get history k ≡ Some entry → (start : View) → ShowsEntry source.kind target.image entry start
+      → (due : Due source mode (store.disk old).files start) → due.full ≡ false → LeadAlong entry.1 (drop (k + 1) history) due.commits
+  pub in_full : store.tells → (history : History) → IsHistory history → source.holds (store.disk old).files history → (start : View) (due : Due source mode (store.disk old).files start) → due.full ≡ true → IsToLast history start due.commits
+
+-- A sync of one target, by what is due and by each history. The command may name another target.
+pub record IsWholeSync {S : Type 0} (store : Ghosts S) (source : SourceMeaning) (target : TargetFacts) (other : Option Kind) (mode : Mode) (now : ℕ) (old new : S) (answer : Answer) : Type 0 where
+  pub sync : IsSync store source target other mode now old new answer
+  pub along : IsAlong store source target.files mode old new answer

@@ -1,0 +1,10 @@
+pub mod Along
+pub mod Answered
+pub mod Applied
+pub mod Dues
+pub mod Others
+pub mod Plans
+pub mod Sources
+pub mod Statuses
+pub mod Synced
+pub mod Targets
