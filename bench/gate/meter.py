@@ -1,6 +1,6 @@
 #!/usr/bin/env python3
 """Writes what each process of the prover took: one line of JSON for each that ended, with its crate, its kind
-(proof, tests, edit or other), CPU seconds, seconds by the clock and peak MB. Usage: meter.py LOG; it runs until it is killed."""
+(proof, tests or edit), CPU seconds, seconds by the clock and peak MB. Usage: meter.py LOG; it runs until it is killed."""
 import json
 import os
 import sys
@@ -17,7 +17,7 @@ def begun(pid):
     if not words[0].endswith("/rattle") or "--crate-name" not in words:
         return None
     folder = os.readlink(f"/proc/{pid}/cwd")
-    kind = "proof" if "build" in words else "other"
+    kind = "proof"
     if "rt-edit" in folder:
         kind = "edit"
     elif "--test" in words:

@@ -23,7 +23,7 @@ def main():
     memory, first, last = collections.Counter(), None, None
     with open(sys.argv[1], encoding="utf-8") as log:
         for row in map(json.loads, log):
-            if row["crate"] not in costs or row["kind"] == "other":
+            if row["crate"] not in costs:
                 continue
             costs[row["crate"]][row["kind"]] += row["cpu"]
             memory[row["crate"]] = max(memory[row["crate"]], row["mb"])
