@@ -1,0 +1,25 @@
+# Completion of lakebridge for bash.
+_lakebridge() {
+    local word="${COMP_WORDS[COMP_CWORD]}" most=0 left=() format
+    case "${COMP_WORDS[2]:-}" in
+        sync | full) most=5 ;;
+        check) most=4 ;;
+        show) most=3 ;;
+    esac
+    COMPREPLY=()
+    if [ "$COMP_CWORD" = 1 ]; then
+        compopt -o filenames 2>/dev/null
+        mapfile -t COMPREPLY < <(compgen -d -- "$word")
+    elif [ "$COMP_CWORD" = 2 ]; then
+        mapfile -t COMPREPLY < <(compgen -W "sync full check show" -- "$word")
+    elif [ "$COMP_CWORD" -le "$most" ]; then
+        for format in delta hudi iceberg; do
+            case " ${COMP_WORDS[*]:3:COMP_CWORD-3} " in
+                *" $format "*) ;;
+                *) left+=("$format") ;;
+            esac
+        done
+        mapfile -t COMPREPLY < <(compgen -W "${left[*]}" -- "$word")
+    fi
+}
+complete -F _lakebridge lakebridge

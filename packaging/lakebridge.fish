@@ -1,0 +1,32 @@
+# Completion of lakebridge for fish.
+function __lakebridge_wants -d 'Which word comes next'
+    set -l words (commandline -opc)
+    set -l most 0
+    switch "$words[3]"
+        case sync full
+            set most 6
+        case check
+            set most 5
+        case show
+            set most 4
+    end
+    set -l next (math (count $words) + 1)
+    switch $argv[1]
+        case folder
+            test $next = 2
+        case command
+            test $next = 3
+        case '*'
+            test $next -gt 3 -a $next -le $most; and not contains $argv[1] $words[4..]
+    end
+end
+
+complete -c lakebridge -f
+complete -c lakebridge -n '__lakebridge_wants folder' -a '(__fish_complete_directories)'
+complete -c lakebridge -n '__lakebridge_wants command' -a sync -d 'bring targets to the head of the source'
+complete -c lakebridge -n '__lakebridge_wants command' -a full -d 'publish one commit with all that differs'
+complete -c lakebridge -n '__lakebridge_wants command' -a check -d 'compare a target with the source'
+complete -c lakebridge -n '__lakebridge_wants command' -a show -d 'print the table at its head'
+for format in delta hudi iceberg
+    complete -c lakebridge -n "__lakebridge_wants $format" -a $format
+end
