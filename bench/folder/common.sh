@@ -1,4 +1,4 @@
-# What the scripts of this folder share. The first word is the program.
+# What the scripts of this folder share. The words are the program, the rounds, and the targets if not all are meant.
 here="$(cd "$(dirname "$0")" && pwd)"
 folder="$(mktemp -d)"
 trap 'rm -rf "$folder"' EXIT
@@ -6,6 +6,9 @@ trap 'rm -rf "$folder"' EXIT
 chmod 755 "$folder"
 program="$folder/lakebridge"
 install -m 755 "${1:?give the path of the program}" "$program"
+rounds="${2:-50}"
+targets=("${@:3}")
+[ "${#targets[@]}" != 0 ] || targets=(delta hudi iceberg)
 
 # table NAME COMMITS: makes a Delta table.
 table() {
