@@ -46,11 +46,6 @@ module _ (files : Files) (version : ℕ) (m : Metadata) (newest : IsNewestMetada
   table_refused s held e h =
       weaker (IsRefusedSnapshot files m version s) (ShowsFromScratch files) (λ d shown. inr (version, m, s, record { metadata = newest; held = held }, shown)) e h
 
-  pub held_again : (head : Head) → IsIcebergHead files head → held_at m.snapshots m.current_snapshot ≡ None → ⊥
-  held_again head is none =
-      let same : m ≡ is.metadata = (one_metadata files version is.version m is.metadata newest is.current.metadata).1 in
-      none-some is.snapshot (sym none ∙ ap (λ (x : Metadata). held_at x.snapshots x.current_snapshot) same ∙ is.current.held)
-
 -- what can't be isn't told
 pub never : (Q : SourceError → Type 0) (e : SourceError) → IsReadRefusal (λ _. ⊥) e → IsReadRefusal Q e
 never Q e h = weaker (λ _. ⊥) Q (λ d no. absurd no) e h

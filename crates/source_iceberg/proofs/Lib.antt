@@ -1,4 +1,5 @@
 pub mod AtHead
+pub mod CountLaws
 pub mod LaterLaws
 pub mod Names
 pub mod Present

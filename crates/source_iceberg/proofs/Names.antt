@@ -74,7 +74,7 @@ module _ (files : Files) (versions : (version : ℕ) → HasVersion files versio
 
   unnamed : (HasNoName (names_in files metadata_folder) → ⊥) → IsAbsent files → ⊥
   unnamed there (inl none) = there none.names
-  unnamed there (inr none) = versions none.0 none.2.newest.there
+  unnamed there (inr none) = versions none.0 none.2.states.newest.there
 
   in_folder : (e : SourceError) → IsHeadRefusal (HasNoName (names_in files metadata_folder)) (TellsNames (names_in files metadata_folder)) e → IsHeadRefusal (IsAbsent files) (ShowsAtHead files) e
   in_folder source.Memory h = tt

@@ -93,15 +93,15 @@ module _ (files : Files) (version : ℕ) (newest : IsNewest (HasVersion files) v
   stands_number w n stands none same error.StoreFault e h told = absurd h
   stands_number w n stands none same error.ManyNames e h told = absurd h
   stands_number w n stands none same (error.Missing p) e h told =
-      absurd (none-some stands.bytes (sym h.1 ∙ subst (λ (v : ℕ). HoldsFile files (version_path v) stands.bytes) same stands.holds))
+      absurd (none-some stands.states.bytes (sym h.1 ∙ subst (λ (v : ℕ). HoldsFile files (version_path v) stands.states.bytes) same stands.states.holds))
   stands_number w n stands none same (error.Large p) e h told = (_, _, told)
   stands_number w n stands none same (error.Refused p f) e h told =
-      let bytes : h.1 ≡ stands.bytes = some_is h.1 stands.bytes (sym h.2 ∙ subst (λ (v : ℕ). HoldsFile files (version_path v) stands.bytes) same stands.holds) in
-      by_limit p f e (fault_limit stands.bytes stands.readings n stands.text none stands.supported f (subst (λ (bs : List ℕ). IsMetadataFault bs f) bytes h.3)) told
+      let bytes : h.1 ≡ stands.states.bytes = some_is h.1 stands.states.bytes (sym h.2 ∙ subst (λ (v : ℕ). HoldsFile files (version_path v) stands.states.bytes) same stands.states.holds) in
+      by_limit p f e (fault_limit stands.states.bytes stands.states.readings n stands.states.text none stands.supported f (subst (λ (bs : List ℕ). IsMetadataFault bs f) bytes h.3)) told
 
   there : (e : SourceError) → (IsForNumber e → ⊥) → IsRefusedVersion files version e → IsAbsent files → ⊥
   there e other refused (inl none) = none.versions version newest.there
-  there e other refused (inr (w, n, stands, none)) = other (stands_number w n stands none (one_version (HasVersion files) w version stands.newest newest) refused.0 e refused.1 refused.2)
+  there e other refused (inr (w, n, stands, none)) = other (stands_number w n stands none (one_version (HasVersion files) w version stands.states.newest newest) refused.0 e refused.1 refused.2)
 
   pub version_told : (e : SourceError) → IsReadRefusal (IsRefusedVersion files version) e → IsHeadRefusal (IsAbsent files) (ShowsAtHead files) e
   version_told source.Memory h = tt

@@ -1,6 +1,6 @@
 -- The commits of snapshots, one after another over a base.
-use Rattle.std.proofs.Common.{Bool, true, false, Result, Ok, Err, ◌≡◌, ◌≤◌, ◌+◌, inl, inr, ⊎_elim, ℕ, Option, Some, List, [], ◌∷◌, ◌++◌, Contains, length, arith, refl, sym, ap, subst, ◌∙◌}
-use Rattle.std.specs.Prelude.{unwrap_or}
+use Rattle.std.proofs.Common.{Bool, true, false, Result, Ok, Err, ◌≡◌, ◌≤◌, append_assoc, append-nil, inl, inr, ⊎_elim, ℕ, Option, Some, List, [], ◌∷◌, ◌++◌, Contains, length, refl, sym, ap, subst, ◌∙◌}
+use Rattle.std.specs.Prelude.{reverse, unwrap_or}
 use Rattle.std.specs.Bool.{Decides}
 use Rattle.std.specs.Cmp.Lexicographic.{pointwise}
 use Rattle.std.specs.Str.{bytes_eq}
@@ -23,6 +23,7 @@ use Rattle.source_core.specs.Answers.{IsReadRefusal}
 use Rattle.source_core.specs.declared.error.SourceError.{SourceError}
 use Rattle.source_core.specs.declared.error.SourceError.TheVariants as source
 use Rattle.source_iceberg.specs.HeadLemmas.{metadata_once}
+use Rattle.source_iceberg.specs.SinceLemmas.{ancestors_once}
 use Rattle.source_iceberg.specs.Heads.{IsNewestMetadata}
 use Rattle.source_iceberg.specs.Reading.{Tells}
 use Rattle.table_history.specs.History.{FitColumns}
@@ -37,9 +38,11 @@ use Rattle.target_core.specs.Conditions.{HasKind, IsPublishable}
 use Rattle.source_core.specs.Since.{CanApplyAll, FitAll, IsSinceRefusal}
 use Rattle.iceberg_metadata.specs.declared.metadata.Metadata.{Metadata}
 use Rattle.iceberg_metadata.specs.declared.metadata.Snapshot.{Snapshot}
-use Rattle.iceberg_table.specs.Manifests.{entry_count}
+use Rattle.iceberg_table.specs.declared.manifest.Manifest.{Manifest}
+use Rattle.source_iceberg.specs.Counted.{Counts}
+use Rattle.source_iceberg.specs.Once.{entries_once}
 use Rattle.source_iceberg.specs.Later.{GoesOnBy, IsFoundBehind, IsNotBehind, IsOneMore}
-use Rattle.source_iceberg.specs.Since.{AreCommits, AreCommitsBehind, AreCommitsOver, HasManyEntries, IsCommitOf, IsReached, IsRefusedBehind, NamesOtherColumns, Reaches, ShowsBehind, SnapshotChanges, StopsBehind}
+use Rattle.source_iceberg.specs.Since.{AreCommits, AreCommitsBehind, AreCommitsOver, HasManyEntries, IsBehind, IsCommitOf, IsReached, IsRefusedBehind, NamesOtherColumns, Reaches, ShowsBehind, SnapshotChanges, StopsBehind}
 use Rattle.iceberg_table.specs.declared.snapshot.SnapshotTable.{SnapshotTable}
 use Rattle.source_iceberg.specs.declared.since.Later.{Later}
 
@@ -157,36 +160,42 @@ leads_to_own before own commit schema leads distinct partition = record {
 -- ---- one snapshot more
 
 module _ (files : Files) (m : Metadata) where
-  pub commits_begin : (base : Table) (later : Later) → later.commits ≡ [] → later.table ≡ base → later.entries ≡ 0 → AreCommits files m base [] later.commits later.table later.entries
-  commits_begin base later commits table entries = (commits, table, entries)
+  commits_more : (front : List Snapshot) (s : Snapshot) (base : Table) (commits : List Commit) (before after : Later) (read : List Manifest) (more : IsOneMore files m s before after)
+      → AreCommits files m base front commits before.table read → AreCommits files m base (front ++ s ∷ []) (commits ++ more.commit ∷ []) after.table (read ++ more.own.manifests)
+  commits_more [] s base commits before after read more are = (
+    more.commit,
+    [],
+    more.own,
+    [],
+    ap (λ (cs : List Commit). cs ++ more.commit ∷ []) are.0,
+    subst (λ (t : Table). IsCommitOf files m t s more.commit more.own) are.1 more.is,
+    (refl, more.table, refl),
+    ap (λ (rs : List Manifest). rs ++ more.own.manifests) are.2 ∙ sym (append-nil more.own.manifests),
+  )
+  commits_more (f ∷ front) s base commits before after read more are = (
+    are.0,
+    are.1 ++ more.commit ∷ [],
+    are.2,
+    are.3 ++ more.own.manifests,
+    ap (λ (cs : List Commit). cs ++ more.commit ∷ []) are.4,
+    are.5,
+    commits_more front s are.2.table are.1 before after are.3 more are.6,
+    ap (λ (rs : List Manifest). rs ++ more.own.manifests) are.7 ∙ append_assoc are.2.manifests are.3 more.own.manifests,
+  )
 
-  commits_more : (front : List Snapshot) (s : Snapshot) (base : Table) (commits : List Commit) (before after : Later) (entries : ℕ) (more : IsOneMore files m s before after)
-      → AreCommits files m base front commits before.table entries → AreCommits files m base (front ++ s ∷ []) (commits ++ more.commit ∷ []) after.table (entries + entry_count more.own.manifests)
-  commits_more [] s base commits before after entries more are =
-      let own = entry_count more.own.manifests in
-      let none = are.2 in
-      let count : entries + own ≡ own + 0 = omega (arith, none) in (
-        more.commit,
-        [],
-        more.own,
-        0,
-        ap (λ (cs : List Commit). cs ++ more.commit ∷ []) are.0,
-        subst (λ (t : Table). IsCommitOf files m t s more.commit more.own) are.1 more.is,
-        (refl, more.table, refl),
-        count,
-      )
-  commits_more (f ∷ front) s base commits before after entries more are =
-      let own = entry_count more.own.manifests in
-      let rest = commits_more front s are.2.table are.1 before after are.3 more are.6 in
-      let sum = are.7 in
-      let count : entries + own ≡ entry_count are.2.manifests + (are.3 + own) = omega (arith, sum) in
-      (are.0, are.1 ++ more.commit ∷ [], are.2, are.3 + own, ap (λ (cs : List Commit). cs ++ more.commit ∷ []) are.4, are.5, rest, count)
+  -- what was made of the snapshots so far, and which manifests were read and counted
+  abbrev pub Made : Table → List Snapshot → Later → Type 0
+  Made base front later = (read : List Manifest) × Counts read later.counted × AreCommits files m base front later.commits later.table read
 
-  pub commits_on : (front : List Snapshot) (s : Snapshot) (base : Table) (before after : Later) → AreCommits files m base front before.commits before.table before.entries → IsOneMore files m s before after → AreCommits files m base (front ++ s ∷ []) after.commits after.table after.entries
-  commits_on front s base before after are more =
-      let next = commits_more front s base before.commits before after before.entries more are in
-      subst (λ (cs : List Commit). AreCommits files m base (front ++ s ∷ []) cs after.table after.entries) (sym more.commits)
-      (subst (λ n. AreCommits files m base (front ++ s ∷ []) (before.commits ++ more.commit ∷ []) after.table n) (sym more.entries) next)
+  pub commits_begin : (base : Table) (later : Later) → later.commits ≡ [] → later.table ≡ base → Counts [] later.counted → Made base [] later
+  commits_begin base later commits table counts = ([], counts, (commits, table, refl))
+
+  pub commits_on : (front : List Snapshot) (s : Snapshot) (base : Table) (before after : Later) → Made base front before → IsOneMore files m s before after → Made base (front ++ s ∷ []) after
+  commits_on front s base before after made more = (
+    made.0 ++ more.own.manifests,
+    more.counted made.0 made.1,
+    subst (λ (cs : List Commit). AreCommits files m base (front ++ s ∷ []) cs after.table (made.0 ++ more.own.manifests)) (sym more.commits) (commits_more front s base before.commits before after made.0 more made.2),
+  )
 
 -- ---- what is told
 
@@ -199,16 +208,20 @@ told_cause P (iceberg.Missing path) d h told = h
 told_cause P (iceberg.Large path) d h told = h
 told_cause P (iceberg.Refused path f) d h told = h
 
-pub snapshot_refused : (files : Files) (version : ℕ) (m : Metadata) (before : Table) (entries : ℕ) (s : Snapshot) → (SnapshotChanges m s before → ⊥) → (error : IcebergError) (e : SourceError) → IsRefusal (IsSnapshotRefusal files m version s) error → IsReadRefusal (Tells error) e
-    → IsReadRefusal (IsRefusedBehind files version m before entries s) e
-snapshot_refused files version m before entries s unchanged error e refused told =
-    weaker (Tells error) (IsRefusedBehind files version m before entries s) (λ d of. inr (unchanged, inl (error, told_cause (IsSnapshotRefusal files m version s) error d refused of, of))) e told
+pub snapshot_refused : (files : Files) (version : ℕ) (m : Metadata) (before : Table) (read : List Manifest) (s : Snapshot) → (SnapshotChanges m s before → ⊥) → (error : IcebergError) (e : SourceError) → IsRefusal (IsSnapshotRefusal files m version s) error → IsReadRefusal (Tells error) e
+    → IsReadRefusal (IsRefusedBehind files version m before read s) e
+snapshot_refused files version m before read s unchanged error e refused told =
+    weaker (Tells error) (IsRefusedBehind files version m before read s) (λ d of. inr (unchanged, inl (error, told_cause (IsSnapshotRefusal files m version s) error d refused of, of))) e told
 
-pub stops_at : (files : Files) (version : ℕ) (m : Metadata) (base : Table) (snapshots front rest : List Snapshot) (s : Snapshot) (later : Later) → snapshots ≡ front ++ s ∷ rest → AreCommits files m base front later.commits later.table later.entries → later.entries ≤ MAX_ACTIONS
-    → (e : SourceError) → IsReadRefusal (IsRefusedBehind files version m later.table later.entries s) e → IsReadRefusal (StopsBehind files version m base snapshots) e
-stops_at files version m base snapshots front rest s later split taken few e refused =
-    weaker (IsRefusedBehind files version m later.table later.entries s) (StopsBehind files version m base snapshots)
-    (λ d of. record { front = front; snapshot = s; behind = rest; split = split; commits = later.commits; before = later.table; entries = later.entries; taken = taken; few = few; refused = of }) e refused
+pub stops_at : (files : Files) (version : ℕ) (m : Metadata) (base : Table) (snapshots front rest : List Snapshot) (s : Snapshot) (later : Later) → snapshots ≡ front ++ s ∷ rest → (made : Made files m base front later) → later.counted.entries ≤ MAX_ACTIONS
+    → (e : SourceError) → IsReadRefusal (IsRefusedBehind files version m later.table made.0 s) e → IsReadRefusal (StopsBehind files version m base snapshots) e
+stops_at files version m base snapshots front rest s later split made few e refused =
+    weaker (IsRefusedBehind files version m later.table made.0 s) (StopsBehind files version m base snapshots)
+    (λ d of. record { front = front; snapshot = s; behind = rest; split = split; commits = later.commits; before = later.table; read = made.0; taken = made.2; few = subst (λ n. n ≤ MAX_ACTIONS) made.1.entries few; refused = of }) e refused
+
+-- the commits of all snapshots
+pub all_made : (files : Files) (m : Metadata) (base : Table) (snapshots : List Snapshot) (later : Later) → Made files m base snapshots later → later.counted.entries ≤ MAX_ACTIONS → AreCommitsBehind files m base snapshots later.commits
+all_made files m base snapshots later made few = record { last = later.table; read = made.0; are = made.2; few = subst (λ n. n ≤ MAX_ACTIONS) made.1.entries few }
 
 -- where nothing is told
 pub none_refused : (reached : Type 0) (shows : SourceError → Type 0) (e : SourceError) → IsReadRefusal (λ d. ⊥) e → IsSinceRefusal reached shows e
@@ -228,14 +241,15 @@ since_refused reached shows at (source.Unsupported feature path) h = (at, h)
 since_refused reached shows at (source.Limit which number) h = (at, h)
 since_refused reached shows at source.StoreFault h = tt
 
-pub reached_by : (files : Files) (position : List ℕ) (version : ℕ) (m : Metadata) (later : List Snapshot) → IsNewestMetadata files version m → IsFoundBehind m position later → IsReached files position version m later
-reached_by files position version m later newest found = record { metadata = newest; ancestors = found.ancestors; are = found.are; behind = found.behind }
+pub reached_by : (files : Files) (position : List ℕ) (version : ℕ) (m : Metadata) (ancestors later : List Snapshot) → IsNewestMetadata files version m → IsAncestry m ancestors → IsFoundBehind ancestors position later → IsReached files position version m later
+reached_by files position version m ancestors later newest are found = record { metadata = newest; ancestors = ancestors; are = are; behind = found }
 
-pub not_reached : (files : Files) (position : List ℕ) (version : ℕ) (m : Metadata) → IsNewestMetadata files version m → IsNotBehind m position → Reaches files position → ⊥
-not_reached files position version m newest none at =
+pub not_reached : (files : Files) (position : List ℕ) (version : ℕ) (m : Metadata) (ancestors : List Snapshot) → IsNewestMetadata files version m → IsAncestry m ancestors → IsNotBehind ancestors position → Reaches files position → ⊥
+not_reached files position version m ancestors newest are none at =
     let is = at.3 in
     let same : at.1 ≡ m = metadata_once files at.0 version at.1 m is.metadata newest in
-    none is.ancestors (subst (λ (x : Metadata). IsAncestry x is.ancestors) same is.are) at.2 is.behind
+    let one : is.ancestors ≡ ancestors = ancestors_once m is.ancestors ancestors (subst (λ (x : Metadata). IsAncestry x is.ancestors) same is.are) are in
+    none at.2 (subst (λ (l : List Snapshot). IsBehind (reverse l) position at.2) one is.behind)
 
 pub decided_not : {P : Type 0} (b : Bool) → Decides b P → b ≡ false → P → ⊥
 decided_not b decides is h = false≢true (sym is ∙ decides.1 h)
@@ -258,9 +272,10 @@ partition_kept m s before own columns unchanged =
     )))
     (cases_Bool (pointwise bytes_eq own.partition before.partition))
 
-pub entries_refused : (files : Files) (version : ℕ) (m : Metadata) (before : Table) (entries : ℕ) (s : Snapshot) (own : SnapshotTable) → (SnapshotChanges m s before → ⊥) → IsReadAs files m s own → (e : SourceError) → HasManyEntries entries own e → IsReadRefusal (IsRefusedBehind files version m before entries s) e
-entries_refused files version m before entries s own unchanged read e many =
-    subst (IsReadRefusal (IsRefusedBehind files version m before entries s)) (sym many.1) (inr (unchanged, inr (own, read, (many.0, refl))))
+pub entries_refused : (files : Files) (version : ℕ) (m : Metadata) (before : Table) (read : List Manifest) (s : Snapshot) (own : SnapshotTable) → (SnapshotChanges m s before → ⊥) → IsReadAs files m s own → (e : SourceError) → IsReadRefusal (HasManyEntries read own.manifests) e
+    → IsReadRefusal (IsRefusedBehind files version m before read s) e
+entries_refused files version m before read s own unchanged is e many =
+    weaker (HasManyEntries read own.manifests) (IsRefusedBehind files version m before read s) (λ d h. inr (unchanged, inr (own, is, h))) e many
 
 pub behind_refused : (files : Files) (version : ℕ) (m : Metadata) (base : Table) (given snapshots : List Snapshot) → given ≡ snapshots → (NamesOtherColumns m base → ⊥) → length snapshots ≤ MAX_COMMITS
     → (r : Result (List Commit) SourceError) → IfErr r (IsReadRefusal (StopsBehind files version m base given)) → IfErr r (IsReadRefusal (ShowsBehind files version m base snapshots))

@@ -22,7 +22,7 @@ use Rattle.iceberg_metadata.proofs.ContentLemmas.{contents_are}
 use Rattle.iceberg_table.specs.Files.{HoldsFile}
 use Rattle.iceberg_table.specs.Folder.{HasVersion, IsNewest, version_path}
 use Rattle.source_core.specs.declared.head.Head.{Head}
-use Rattle.source_iceberg.specs.Heads.{IsAbsent, IsCurrent, IsIcebergHead, IsNewestMetadata, StandsForMetadata, metadata_features}
+use Rattle.source_iceberg.specs.Heads.{IsAbsent, IsCurrent, IsIcebergHead, IsNewestMetadata, StandsForMetadata, StatesMetadata, metadata_features}
 
 -- ---- what the newest metadata says
 
@@ -66,16 +66,20 @@ metadata_once files v w m n a b = (one_metadata files v w m n a b).1
 features_of : (bytes : List ℕ) → NoneOf (HasCause bytes) causes → NoneOf (HasCause bytes) metadata_features
 features_of bytes none = (none.0, (none.1.1.0, (none.1.1.1.0, (none.1.1.1.1.0, (none.1.1.1.1.1.0, tt)))))
 
--- what was read stands also where numbers are no matter
+-- what was read is stated
+states_of : (files : Files) (v : ℕ) (m : Metadata) → IsNewestMetadata files v m → StatesMetadata files v m
+states_of files v m is = record { newest = is.newest; bytes = is.says.bytes; holds = is.says.holds; readings = is.says.read.readings; text = is.says.read.text }
+
+-- and stands also where numbers are no matter
 pub stands_for : (files : Files) (v : ℕ) (m : Metadata) → IsNewestMetadata files v m → StandsForMetadata files v m
-stands_for files v m is = record {
-  newest = is.newest;
-  bytes = is.says.bytes;
-  holds = is.says.holds;
-  readings = is.says.read.readings;
-  text = is.says.read.text;
-  supported = features_of is.says.bytes is.says.supported;
-}
+unfolding states_of
+stands_for files v m is = record { states = states_of files v m is; supported = features_of is.says.bytes is.says.supported }
+
+-- Newest metadata states one thing, whatever it shows.
+pub stated_once : (files : Files) (v w : ℕ) (m n : Metadata) → StatesMetadata files v m → IsNewestMetadata files w n → m ≡ n
+stated_once files v w m n a b =
+    let same = one_version (HasVersion files) v w a.newest b.newest in
+    one_said files v w m n same a.bytes b.says.bytes a.readings b.says.read.readings a.holds b.says.holds a.text b.says.read.text
 
 -- ---- its current snapshot
 
@@ -115,9 +119,7 @@ one_current files v w m n s t a b =
 pub not_absent : (files : Files) (v : ℕ) (m : Metadata) (s : Snapshot) → IsCurrent files v m s → IsAbsent files → ⊥
 not_absent files v m s is (inl none) = none.versions v is.metadata.newest.there
 not_absent files v m s is (inr (w, n, stands, none)) =
-    let same = one_version (HasVersion files) v w is.metadata.newest stands.newest in
-    let says = is.metadata.says in
-    let one : m ≡ n = one_said files v w m n same says.bytes stands.bytes says.read.readings stands.readings says.holds stands.holds says.read.text stands.text in
+    let one : m ≡ n = sym (stated_once files w v n m stands.states is.metadata) in
     let no : m.current_snapshot ≡ None = ap (λ (x : Metadata). x.current_snapshot) one ∙ none in
     none-some s (sym (ap (held_at m.snapshots) no) ∙ is.held)
 

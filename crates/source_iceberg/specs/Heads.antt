@@ -30,14 +30,18 @@ pub record IsNewestMetadata (files : Files) (version : ℕ) (m : Metadata) : Typ
 abbrev pub metadata_features : List MetadataError
 metadata_features = FormatVersion ∷ SchemaType ∷ Transform ∷ Renamed ∷ PartitionType ∷ []
 
--- The newest version of the metadata says this. It is in its grammar but for cycles, and shows no feature. Numbers are no matter.
-pub record StandsForMetadata (files : Files) (version : ℕ) (m : Metadata) : Type 0 where
+-- The newest version of the metadata says this. It is in its grammar but for cycles. The features that it shows and numbers are no matter.
+pub record StatesMetadata (files : Files) (version : ℕ) (m : Metadata) : Type 0 where
   pub newest : IsNewest (HasVersion files) version
   pub bytes : List ℕ
   pub holds : HoldsFile files (version_path version) bytes
   pub readings : List SchemaReading
   pub text : IsMetadataText bytes readings m
-  pub supported : NoneOf (HasCause bytes) metadata_features
+
+-- So it does, and shows no feature. Numbers are no matter.
+pub record StandsForMetadata (files : Files) (version : ℕ) (m : Metadata) : Type 0 where
+  pub states : StatesMetadata files version m
+  pub supported : NoneOf (HasCause states.bytes) metadata_features
 
 -- ---- where there is no table
 

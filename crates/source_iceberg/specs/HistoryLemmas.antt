@@ -15,13 +15,14 @@ use Rattle.iceberg_metadata.specs.declared.metadata.Metadata.{Metadata}
 use Rattle.iceberg_metadata.specs.declared.metadata.Snapshot.{Snapshot}
 use Rattle.iceberg_table.specs.Plan.{names_of, snapshot_schema}
 use Rattle.iceberg_table.specs.Snapshots.{IsReadAs, IsTableOfSnapshot}
+use Rattle.iceberg_table.specs.declared.manifest.Manifest.{Manifest}
 use Rattle.iceberg_table.proofs.LiveLaws.{columns_same}
 use Rattle.source_core.specs.Histories.{IsLast, IsLike, LeadAlong, LeadsTo, SameTable}
 use Rattle.source_core.specs.declared.head.Head.{Head}
 use Rattle.source_iceberg.specs.Heads.{IsIcebergHead, IsTableAtHead}
 use Rattle.source_iceberg.specs.Histories.{AreEntriesOf, HoldsHistory, IsEntryOf}
 use Rattle.source_iceberg.specs.ListLemmas.{same_behind}
-use Rattle.source_iceberg.specs.HeadLemmas.{metadata_once}
+use Rattle.source_iceberg.specs.HeadLemmas.{metadata_once, stated_once}
 use Rattle.source_iceberg.specs.Since.{AreCommits, IsSince}
 use Rattle.source_iceberg.specs.SinceLemmas.{ancestors_once, last_ancestor, some_once}
 
@@ -62,7 +63,7 @@ split_entries files m (f ∷ front) s later entries are =
 
 module _ (files : Files) (history : History) (head : Head) (holds : HoldsHistory files history) (is : IsIcebergHead files head) where
   same_metadata : holds.metadata ≡ is.metadata
-  same_metadata = metadata_once files holds.version is.version holds.metadata is.metadata holds.newest is.current.metadata
+  same_metadata = stated_once files holds.version is.version holds.metadata is.metadata holds.newest is.current.metadata
 
   last_entry : SplitsAt files is.metadata is.snapshot [] holds.kept
   last_entry =
@@ -97,10 +98,10 @@ last files history head holds is =
 -- ---- what is behind an entry
 
 module _ (files : Files) (m : Metadata) where
-  leads_along : (later : List Snapshot) (held : Table) (entry : List ℕ × Table) (behind : History) (commits : List Commit) (last : Table) (entries : ℕ)
-      → SameRows held.rows entry.1.rows → held.partition ≡ entry.1.partition → AreEntriesOf files m later behind → AreCommits files m held later commits last entries → LeadAlong entry.1 behind commits
-  leads_along [] held entry behind commits last entries rows partition are made = subst (λ (h : History). LeadAlong entry.1 h commits) (sym are) made.0
-  leads_along (s ∷ later) held entry behind commits last entries rows partition are made =
+  leads_along : (later : List Snapshot) (held : Table) (entry : List ℕ × Table) (behind : History) (commits : List Commit) (last : Table) (read : List Manifest)
+      → SameRows held.rows entry.1.rows → held.partition ≡ entry.1.partition → AreEntriesOf files m later behind → AreCommits files m held later commits last read → LeadAlong entry.1 behind commits
+  leads_along [] held entry behind commits last read rows partition are made = subst (λ (h : History). LeadAlong entry.1 h commits) (sym are) made.0
+  leads_along (s ∷ later) held entry behind commits last read rows partition are made =
       let next = are.0 in
       let commit = made.0 in
       let own = made.2 in
@@ -121,7 +122,7 @@ pub along : (files : Files) (front behind : History) (entry : List ℕ × Table)
 along files front behind entry base commits is holds like since =
     let reached = since.reached in
     let m = since.metadata in
-    let same : holds.metadata ≡ m = metadata_once files holds.version since.version holds.metadata m holds.newest reached.metadata in
+    let same : holds.metadata ≡ m = stated_once files holds.version since.version holds.metadata m holds.newest reached.metadata in
     let one : holds.ancestors ≡ reached.ancestors = ancestors_once m holds.ancestors reached.ancestors (subst (λ (x : Metadata). IsAncestry x holds.ancestors) same holds.are) reached.are in
     let entries = subst (λ (x : Metadata). AreEntriesOf files x (reverse holds.ancestors) holds.kept) same holds.entries in
     let of_reached = subst (λ (ss : List Snapshot). AreEntriesOf files m ss holds.kept) (ap reverse one ∙ reached.behind.split) entries in
@@ -131,4 +132,4 @@ along files front behind entry base commits is holds like since =
     let at : entry.0 ≡ split.entry.0 = reached.behind.spelled ∙ sym split.is.position in
     let rest : behind ≡ split.behind = same_behind front entry behind (holds.earlier ++ split.front) split.entry split.behind is.distinct whole at in
     let made = since.over.behind in
-    subst (λ (h : History). LeadAlong entry.1 h commits) (sym rest) (leads_along files m since.later base entry split.behind commits made.last made.entries like.rows like.partition split.rest made.are)
+    subst (λ (h : History). LeadAlong entry.1 h commits) (sym rest) (leads_along files m since.later base entry split.behind commits made.last made.read like.rows like.partition split.rest made.are)

@@ -12,7 +12,7 @@ use Rattle.source_core.specs.declared.head.Head.{Head}
 use Rattle.target_core.specs.Folders.{SameIn}
 use Rattle.target_core.specs.FolderLemmas.{names_own, same_back}
 use Rattle.std.proofs.Common.{◌∙◌}
-use Rattle.source_iceberg.specs.Heads.{HasNoName, IsAbsent, IsCurrent, IsIcebergHead, IsNewestMetadata, IsTableAtHead, StandsForMetadata}
+use Rattle.source_iceberg.specs.Heads.{HasNoName, IsAbsent, IsCurrent, IsIcebergHead, IsNewestMetadata, IsTableAtHead, StandsForMetadata, StatesMetadata}
 use Rattle.source_iceberg.specs.Reading.{HasManyNames, HasOtherNames, IsRefusedSnapshot, IsRefusedVersion, ShowsAtHead, ShowsFromScratch, TellsNames}
 
 names_same : (a b : Files) → SameIn metadata_folder a b → names_in b metadata_folder ≡ names_in a metadata_folder
@@ -29,15 +29,18 @@ newest_own a b same version h = subst (λ (names : List (List ℕ)). IsNewest (I
 pub newest_metadata_own : (a b : Files) → SameIn metadata_folder a b → (version : ℕ) (m : Metadata) → IsNewestMetadata a version m → IsNewestMetadata b version m
 newest_metadata_own a b same version m h = record { newest = newest_own a b same version h.newest; says = metadata_too a b same version m h.says }
 
-stands_own : (a b : Files) → SameIn metadata_folder a b → (version : ℕ) (m : Metadata) → StandsForMetadata a version m → StandsForMetadata b version m
-stands_own a b same version m h = record {
+pub states_own : (a b : Files) → SameIn metadata_folder a b → (version : ℕ) (m : Metadata) → StatesMetadata a version m → StatesMetadata b version m
+states_own a b same version m h = record {
   newest = newest_own a b same version h.newest;
   bytes = h.bytes;
   holds = same (version_path version) (version_within version) ∙ h.holds;
   readings = h.readings;
   text = h.text;
-  supported = h.supported;
 }
+
+stands_own : (a b : Files) → SameIn metadata_folder a b → (version : ℕ) (m : Metadata) → StandsForMetadata a version m → StandsForMetadata b version m
+unfolding states_own
+stands_own a b same version m h = record { states = states_own a b same version m h.states; supported = h.supported }
 
 pub absent_own : (a b : Files) → SameIn metadata_folder a b → IsAbsent a → IsAbsent b
 absent_own a b same (inl h) = inl (record { versions = λ version has. h.versions version (has_own b a (same_back metadata_folder a b same) version has); names = subst HasNoName (sym (names_same a b same)) h.names })

@@ -1,5 +1,5 @@
 -- The commits of an Iceberg table after a snapshot (Iceberg specification, "Snapshots" and "Scan Planning").
-use Rattle.std.specs.Prelude.{◌≡◌, ◌≢◌, ◌⊎◌, ◌<◌, ◌≤◌, ◌+◌, ℕ, List, [], ◌∷◌, ◌++◌, reverse, length, Contains, Some, Ok}
+use Rattle.std.specs.Prelude.{◌≡◌, ◌≢◌, ◌⊎◌, ◌<◌, ◌≤◌, ℕ, List, [], ◌∷◌, ◌++◌, reverse, length, Contains, Some, Ok}
 use Rattle.std.specs.Fmt.{signed_decimal}
 use Rattle.lake_basics.specs.declared.limits.TheConstants.{MAX_ACTIONS, MAX_COMMITS}
 use Rattle.lake_store.specs.Disk.{Files}
@@ -17,13 +17,14 @@ use Rattle.iceberg_columns.specs.declared.columns.SourceColumn.{SourceColumn}
 use Rattle.iceberg_metadata.specs.declared.metadata.Metadata.{Metadata}
 use Rattle.iceberg_metadata.specs.declared.metadata.Snapshot.{Snapshot}
 use Rattle.iceberg_table.specs.Folder.{version_path}
-use Rattle.iceberg_table.specs.Manifests.{entry_count}
 use Rattle.iceberg_table.specs.Plan.{names_of, snapshot_schema}
 use Rattle.iceberg_table.specs.Snapshots.{IsReadAs, IsTableOfSnapshot}
+use Rattle.iceberg_table.specs.declared.manifest.Manifest.{Manifest}
 use Rattle.iceberg_table.specs.declared.snapshot.SnapshotTable.{SnapshotTable}
 use Rattle.source_core.specs.declared.error.SourceError.{SourceError}
 use Rattle.source_core.specs.declared.error.SourceError.TheVariants.{Limit, Unsupported}
 use Rattle.source_iceberg.specs.Heads.{IsNewestMetadata}
+use Rattle.source_iceberg.specs.Once.{entries_once}
 use Rattle.source_iceberg.specs.Reading.{IsRefusedSnapshot}
 
 -- ---- whether they are there
@@ -76,18 +77,18 @@ pub record IsCommitOf (files : Files) (m : Metadata) (before : Table) (s : Snaps
   pub rows : IsDiff before.rows own.table.rows commit.change.removed commit.change.added
   pub schema : commit.change.schema ≡ Some own.table.schema
 
--- One commit for each snapshot, each over the own table of the one before it, the first over the base. The last leaves this table, and so many entries are read of their manifests.
-abbrev pub AreCommits : Files → Metadata → Table → List Snapshot → List Commit → Table → ℕ → Type 0
-AreCommits files m base [] commits last entries = (commits ≡ []) × (last ≡ base) × (entries ≡ 0)
-AreCommits files m base (s ∷ ss) commits last entries =
-    (commit : Commit) × (rest : List Commit) × (own : SnapshotTable) × (more : ℕ) × (commits ≡ commit ∷ rest) × IsCommitOf files m base s commit own × AreCommits files m own.table ss rest last more × (entries ≡ entry_count own.manifests + more)
+-- One commit for each snapshot, each over the own table of the one before it, the first over the base. The last leaves this table, and these are the manifests of their lists, one list after another.
+abbrev pub AreCommits : Files → Metadata → Table → List Snapshot → List Commit → Table → List Manifest → Type 0
+AreCommits files m base [] commits last read = (commits ≡ []) × (last ≡ base) × (read ≡ [])
+AreCommits files m base (s ∷ ss) commits last read =
+    (commit : Commit) × (rest : List Commit) × (own : SnapshotTable) × (more : List Manifest) × (commits ≡ commit ∷ rest) × IsCommitOf files m base s commit own × AreCommits files m own.table ss rest last more × (read ≡ own.manifests ++ more)
 
--- These are the commits of the snapshots over the base. Not more entries are read than may be, where those of a manifest count once for each snapshot that names it.
+-- These are the commits of the snapshots over the base. Not more entries are read than may be, where a manifest counts once, also one that several lists name.
 pub record AreCommitsBehind (files : Files) (m : Metadata) (base : Table) (snapshots : List Snapshot) (commits : List Commit) : Type 0 where
   pub last : Table
-  pub entries : ℕ
-  pub are : AreCommits files m base snapshots commits last entries
-  pub few : entries ≤ MAX_ACTIONS
+  pub read : List Manifest
+  pub are : AreCommits files m base snapshots commits last read
+  pub few : entries_once read ≤ MAX_ACTIONS
 
 -- The default spec names the base's partition columns, and the snapshots aren't more than are read.
 pub record AreCommitsOver (files : Files) (m : Metadata) (base : Table) (snapshots : List Snapshot) (commits : List Commit) : Type 0 where
@@ -109,15 +110,15 @@ pub record IsSince (files : Files) (position : List ℕ) (base : Table) (commits
 abbrev pub TellsChange : ℕ → SourceError → Type 0
 TellsChange version e = e ≡ Unsupported PartitionChange (version_path version)
 
--- More entries than are read, where so many come before those of this snapshot.
-abbrev pub HasManyEntries : ℕ → SnapshotTable → SourceError → Type 0
-HasManyEntries entries own e = (MAX_ACTIONS < entries + entry_count own.manifests) × (e ≡ Limit limit.Actions MAX_ACTIONS)
+-- These manifests and those that were read before them have more entries than are read, where each manifest counts once.
+abbrev pub HasManyEntries : List Manifest → List Manifest → SourceError → Type 0
+HasManyEntries read manifests e = (MAX_ACTIONS < entries_once (read ++ manifests)) × (e ≡ Limit limit.Actions MAX_ACTIONS)
 
--- The snapshot's partition columns aren't those of the table before it; or they are, and it can't be read, or has too many entries.
-abbrev pub IsRefusedBehind : Files → ℕ → Metadata → Table → ℕ → Snapshot → SourceError → Type 0
-IsRefusedBehind files version m before entries s e =
+-- The snapshot's partition columns aren't those of the table before it; or they are, and it can't be read, or has too many entries besides those of the manifests that were read before.
+abbrev pub IsRefusedBehind : Files → ℕ → Metadata → Table → List Manifest → Snapshot → SourceError → Type 0
+IsRefusedBehind files version m before read s e =
     (SnapshotChanges m s before × TellsChange version e)
-    ⊎ ((¬ SnapshotChanges m s before) × (IsRefusedSnapshot files m version s e ⊎ ((own : SnapshotTable) × IsReadAs files m s own × HasManyEntries entries own e)))
+    ⊎ ((¬ SnapshotChanges m s before) × (IsRefusedSnapshot files m version s e ⊎ ((own : SnapshotTable) × IsReadAs files m s own × HasManyEntries read own.manifests e)))
 
 -- One of the snapshots is refused so, those before it being taken over the base.
 pub record StopsBehind (files : Files) (version : ℕ) (m : Metadata) (base : Table) (snapshots : List Snapshot) (e : SourceError) : Type 0 where
@@ -127,10 +128,10 @@ pub record StopsBehind (files : Files) (version : ℕ) (m : Metadata) (base : Ta
   pub split : snapshots ≡ front ++ snapshot ∷ behind
   pub commits : List Commit
   pub before : Table
-  pub entries : ℕ
-  pub taken : AreCommits files m base front commits before entries
-  pub few : entries ≤ MAX_ACTIONS
-  pub refused : IsRefusedBehind files version m before entries snapshot e
+  pub read : List Manifest
+  pub taken : AreCommits files m base front commits before read
+  pub few : entries_once read ≤ MAX_ACTIONS
+  pub refused : IsRefusedBehind files version m before read snapshot e
 
 abbrev pub HasManyCommits : List Snapshot → SourceError → Type 0
 HasManyCommits later e = (MAX_COMMITS < length later) × (e ≡ Limit limit.Commits MAX_COMMITS)

@@ -9,6 +9,7 @@ use Rattle.table_history.specs.declared.table.Table.{Table}
 use Rattle.iceberg_ancestry.specs.Ancestry.{IsAncestry, LeadsTo, held_at}
 use Rattle.iceberg_metadata.specs.declared.metadata.Metadata.{Metadata}
 use Rattle.iceberg_metadata.specs.declared.metadata.Snapshot.{Snapshot}
+use Rattle.iceberg_table.specs.declared.manifest.Manifest.{Manifest}
 use Rattle.source_core.specs.Since.{EndAt}
 use Rattle.source_core.specs.declared.head.Head.{Head}
 use Rattle.source_iceberg.specs.Heads.{IsCurrent, IsIcebergHead}
@@ -58,28 +59,28 @@ module _ (files : Files) (version : ℕ) (m : Metadata) (s : Snapshot) (current 
       let last = last_ancestor m s is.ancestors current.held (subst (λ (x : Metadata). IsAncestry x is.ancestors) same is.are) in
       same_end is.behind.front is.behind.at later last.0 s (sym is.behind.split ∙ last.1)
 
-end_at : (files : Files) (m : Metadata) (head position : List ℕ) (s at : Snapshot) (later : List Snapshot) (base : Table) (commits : List Commit) (last : Table) (entries : ℕ)
-    → head ≡ signed_decimal s.id → position ≡ signed_decimal at.id → end_of at later ≡ s → AreCommits files m base later commits last entries → EndAt head position commits
-end_at files m head position s at [] base commits last entries is spelled end are =
+end_at : (files : Files) (m : Metadata) (head position : List ℕ) (s at : Snapshot) (later : List Snapshot) (base : Table) (commits : List Commit) (last : Table) (read : List Manifest)
+    → head ≡ signed_decimal s.id → position ≡ signed_decimal at.id → end_of at later ≡ s → AreCommits files m base later commits last read → EndAt head position commits
+end_at files m head position s at [] base commits last read is spelled end are =
     subst (EndAt head position) (sym are.0) (spelled ∙ ap (λ (u : Snapshot). signed_decimal u.id) end ∙ sym is)
-end_at files m head position s at (t ∷ later) base commits last entries is spelled end are =
+end_at files m head position s at (t ∷ later) base commits last read is spelled end are =
     subst (EndAt head position) (sym are.4) (end_at files m head are.0.position s t later are.2.table are.1 last are.3 is are.5.position end are.6)
 
 pub ends : (files : Files) (head : Head) (position : List ℕ) (base : Table) (commits : List Commit) → IsIcebergHead files head → IsSince files position base commits → EndAt head.position position commits
 ends files head position base commits is since =
     let reached = since.reached in
     let made = since.over.behind in
-    end_at files since.metadata head.position position is.snapshot reached.behind.at since.later base commits made.last made.entries is.position reached.behind.spelled
+    end_at files since.metadata head.position position is.snapshot reached.behind.at since.later base commits made.last made.read is.position reached.behind.spelled
     (reached_end files is.version is.metadata is.snapshot is.current position since.version since.metadata since.later reached) made.are
 
-none_behind : (files : Files) (m : Metadata) (position : List ℕ) (s at : Snapshot) (later : List Snapshot) (base : Table) (commits : List Commit) (last : Table) (entries : ℕ)
-    → position ≡ signed_decimal s.id → end_of at later ≡ s → ((t : Snapshot) → Contains later t → position ≡ signed_decimal t.id → ⊥) → AreCommits files m base later commits last entries → commits ≡ []
-none_behind files m position s at [] base commits last entries is end others are = are.0
-none_behind files m position s at (t ∷ later) base commits last entries is end others are = absurd (others (end_of t later) (end_in t later) (is ∙ ap (λ (u : Snapshot). signed_decimal u.id) (sym end)))
+none_behind : (files : Files) (m : Metadata) (position : List ℕ) (s at : Snapshot) (later : List Snapshot) (base : Table) (commits : List Commit) (last : Table) (read : List Manifest)
+    → position ≡ signed_decimal s.id → end_of at later ≡ s → ((t : Snapshot) → Contains later t → position ≡ signed_decimal t.id → ⊥) → AreCommits files m base later commits last read → commits ≡ []
+none_behind files m position s at [] base commits last read is end others are = are.0
+none_behind files m position s at (t ∷ later) base commits last read is end others are = absurd (others (end_of t later) (end_in t later) (is ∙ ap (λ (u : Snapshot). signed_decimal u.id) (sym end)))
 
 pub none_at_head : (files : Files) (head : Head) (base : Table) (commits : List Commit) → IsIcebergHead files head → IsSince files head.position base commits → commits ≡ []
 none_at_head files head base commits is since =
     let reached = since.reached in
     let made = since.over.behind in
-    none_behind files since.metadata head.position is.snapshot reached.behind.at since.later base commits made.last made.entries is.position
+    none_behind files since.metadata head.position is.snapshot reached.behind.at since.later base commits made.last made.read is.position
     (reached_end files is.version is.metadata is.snapshot is.current head.position since.version since.metadata since.later reached) reached.behind.others made.are

@@ -9,12 +9,13 @@ use Rattle.iceberg_metadata.specs.declared.metadata.Metadata.{Metadata}
 use Rattle.iceberg_metadata.specs.declared.metadata.Snapshot.{Snapshot}
 use Rattle.iceberg_table.specs.Folder.{metadata_folder}
 use Rattle.iceberg_table.specs.OwnFolder.{read_as_too, table_too}
+use Rattle.iceberg_table.specs.declared.manifest.Manifest.{Manifest}
 use Rattle.iceberg_table.specs.declared.snapshot.SnapshotTable.{SnapshotTable}
 use Rattle.source_core.specs.declared.error.SourceError.{SourceError}
 use Rattle.target_core.specs.Folders.{SameIn}
 use Rattle.target_core.specs.FolderLemmas.{same_back}
 use Rattle.source_iceberg.specs.Histories.{AreEntriesOf, HoldsHistory, IsEntryOf}
-use Rattle.source_iceberg.specs.OwnLemmas.{newest_metadata_own, refused_own}
+use Rattle.source_iceberg.specs.OwnLemmas.{newest_metadata_own, refused_own, states_own}
 use Rattle.source_iceberg.specs.Since.{AreCommits, AreCommitsOver, IsCommitOf, IsReached, IsRefusedBehind, IsSince, Reaches, ShowsBehind, ShowsFromPosition, ShowsInLater, StopsBehind}
 
 reached_own : (a b : Files) → SameIn metadata_folder a b → (position : List ℕ) (version : ℕ) (m : Metadata) (later : List Snapshot) → IsReached a position version m later → IsReached b position version m later
@@ -36,10 +37,10 @@ commit_own a b same m before s commit own h = record {
   schema = h.schema;
 }
 
-commits_own : (a b : Files) → SameIn metadata_folder a b → (m : Metadata) (base : Table) (snapshots : List Snapshot) (commits : List Commit) (last : Table) (entries : ℕ)
-    → AreCommits a m base snapshots commits last entries → AreCommits b m base snapshots commits last entries
-commits_own a b same m base [] commits last entries h = h
-commits_own a b same m base (s ∷ ss) commits last entries h =
+commits_own : (a b : Files) → SameIn metadata_folder a b → (m : Metadata) (base : Table) (snapshots : List Snapshot) (commits : List Commit) (last : Table) (read : List Manifest)
+    → AreCommits a m base snapshots commits last read → AreCommits b m base snapshots commits last read
+commits_own a b same m base [] commits last read h = h
+commits_own a b same m base (s ∷ ss) commits last read h =
     (h.0, h.1, h.2, h.3, h.4, commit_own a b same m base s h.0 h.2 h.5, commits_own a b same m h.2.table ss h.1 last h.3 h.6, h.7)
 
 over_own : (a b : Files) → SameIn metadata_folder a b → (m : Metadata) (base : Table) (snapshots : List Snapshot) (commits : List Commit) → AreCommitsOver a m base snapshots commits → AreCommitsOver b m base snapshots commits
@@ -48,8 +49,8 @@ over_own a b same m base snapshots commits h = record {
   few = h.few;
   behind = record {
     last = h.behind.last;
-    entries = h.behind.entries;
-    are = commits_own a b same m base snapshots commits h.behind.last h.behind.entries h.behind.are;
+    read = h.behind.read;
+    are = commits_own a b same m base snapshots commits h.behind.last h.behind.read h.behind.are;
     few = h.behind.few;
   };
 }
@@ -65,10 +66,10 @@ since_own a b position base commits same h = record {
 
 -- ---- causes
 
-refused_behind_own : (a b : Files) → SameIn metadata_folder a b → (version : ℕ) (m : Metadata) (before : Table) (entries : ℕ) (s : Snapshot) (e : SourceError) → IsRefusedBehind a version m before entries s e → IsRefusedBehind b version m before entries s e
-refused_behind_own a b same version m before entries s e (inl h) = inl h
-refused_behind_own a b same version m before entries s e (inr (kept, inl h)) = inr (kept, inl (refused_own a b same m version s e h))
-refused_behind_own a b same version m before entries s e (inr (kept, inr h)) = inr (kept, inr (h.0, read_as_too a b same m s h.0 h.1, h.2))
+refused_behind_own : (a b : Files) → SameIn metadata_folder a b → (version : ℕ) (m : Metadata) (before : Table) (read : List Manifest) (s : Snapshot) (e : SourceError) → IsRefusedBehind a version m before read s e → IsRefusedBehind b version m before read s e
+refused_behind_own a b same version m before read s e (inl h) = inl h
+refused_behind_own a b same version m before read s e (inr (kept, inl h)) = inr (kept, inl (refused_own a b same m version s e h))
+refused_behind_own a b same version m before read s e (inr (kept, inr h)) = inr (kept, inr (h.0, read_as_too a b same m s h.0 h.1, h.2))
 
 stops_own : (a b : Files) → SameIn metadata_folder a b → (version : ℕ) (m : Metadata) (base : Table) (snapshots : List Snapshot) (e : SourceError) → StopsBehind a version m base snapshots e → StopsBehind b version m base snapshots e
 stops_own a b same version m base snapshots e h = record {
@@ -78,10 +79,10 @@ stops_own a b same version m base snapshots e h = record {
   split = h.split;
   commits = h.commits;
   before = h.before;
-  entries = h.entries;
-  taken = commits_own a b same m base h.front h.commits h.before h.entries h.taken;
+  read = h.read;
+  taken = commits_own a b same m base h.front h.commits h.before h.read h.taken;
   few = h.few;
-  refused = refused_behind_own a b same version m h.before h.entries h.snapshot e h.refused;
+  refused = refused_behind_own a b same version m h.before h.read h.snapshot e h.refused;
 }
 
 in_later_own : (a b : Files) → SameIn metadata_folder a b → (version : ℕ) (m : Metadata) (base : Table) (later : List Snapshot) (e : SourceError) → ShowsInLater a version m base later e → ShowsInLater b version m base later e
@@ -111,7 +112,7 @@ pub holds_own : (a b : Files) (history : History) → SameIn metadata_folder a b
 holds_own a b history same h = record {
   version = h.version;
   metadata = h.metadata;
-  newest = newest_metadata_own a b same h.version h.metadata h.newest;
+  newest = states_own a b same h.version h.metadata h.newest;
   ancestors = h.ancestors;
   are = h.are;
   earlier = h.earlier;

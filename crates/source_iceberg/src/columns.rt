@@ -5,7 +5,6 @@ ghost use Rattle.std.specs.Bool.{Decides};
 ghost use Rattle.iceberg_metadata.specs.Schemas.{HeldSchema};
 ghost use Rattle.iceberg_columns.specs.SourceColumns.{columns_of};
 ghost use Rattle.iceberg_columns.specs.declared.columns.SourceColumn.{SourceColumn};
-ghost use Rattle.iceberg_table.specs.Folder.{version_path};
 ghost use Rattle.iceberg_table.specs.Plan.{names_of, snapshot_schema};
 ghost use Rattle.source_core.specs.Answers.{IsReadRefusal};
 ghost use Rattle.source_core.specs.declared.error.SourceError.TheVariants.{Memory, StoreFault};
@@ -13,6 +12,7 @@ ghost use Rattle.source_iceberg.specs.Since.{ChangesPartition, HasOtherColumns, 
 
 use iceberg_columns::{SourceColumn, default_columns};
 use iceberg_metadata::{Metadata, MetadataError, Snapshot, held_schema};
+use iceberg_table::version_path;
 use lake_basics::{Items, Text};
 use partition_map::has_other_kind;
 use schema_map::Ids;
@@ -139,13 +139,6 @@ pub(crate) fn snapshot_changes(
         Some(schema) => changes_partition(alloc, metadata, schema, before),
         None => Ok(false),
     }
-}
-
-/// The path of the metadata of a version.
-fn version_path(alloc: Global, version: u32) -> Result<Text, AllocError>
-    ensures { IfOk result (λ path. path ≡ version_path version) }
-{
-    Ok(Text::from_string(format!(in alloc; "metadata/v{}.metadata.json", version)?))
 }
 
 /// What is told where the partition columns of the newest metadata aren't those of the table before.

@@ -3,6 +3,7 @@
 #![tactic(auto)]
 
 mod columns;
+mod counted;
 mod later;
 mod newest;
 mod since;

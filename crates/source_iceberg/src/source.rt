@@ -13,14 +13,15 @@ ghost use Rattle.iceberg_table.specs.declared.snapshot.SnapshotTable.{SnapshotTa
 ghost use Rattle.source_core.specs.Answers.{IsReadRefusal};
 ghost use Rattle.source_core.specs.declared.error.SourceError.TheVariants.{Absent, Memory, StoreFault};
 ghost use Rattle.iceberg_metadata.specs.declared.metadata.Snapshot.{Snapshot};
-ghost use Rattle.source_iceberg.specs.Heads.{IsNewestMetadata, IsTableAtHead};
+ghost use Rattle.source_iceberg.specs.Heads.{IsIcebergHead, IsNewestMetadata, IsTableAtHead};
 ghost use Rattle.source_iceberg.specs.Reading.{IsRefusedSnapshot, ShowsFromScratch};
 
+use crate::later::ancestors_to;
 use crate::newest::{Newest, newest_metadata};
 use crate::since::commits_since;
-use crate::told::source_error;
+use crate::told::{lacks_head, source_error};
 use iceberg_metadata::{Metadata, Snapshot};
-use iceberg_table::{METADATA_FOLDER, read_snapshot};
+use iceberg_table::read_snapshot;
 use lake_basics::Text;
 use lake_store::Store;
 use source_core::{Head, Since, Source, SourceError, position_of};
@@ -73,37 +74,28 @@ fn table_of<S: Store>(
     }
 }
 
-/// What is told where the newest metadata has no current snapshot any more.
-fn no_snapshot(alloc: Global) -> SourceError
-    ensures { result ≢ StoreFault }
-{
-    match Text::from_str(alloc, METADATA_FOLDER) {
-        Ok(path) => SourceError::Malformed { path },
-        Err(_) => SourceError::Memory,
-    }
-}
-
-/// The table that the current snapshot stands for.
-fn current_table<S: Store>(
+/// The table that the head's snapshot stands for. The newest metadata may have newer ones by now.
+fn head_table<S: Store>(
     alloc: Global,
     store: &mut S,
     newest: &Newest,
+    head: &Head,
 ) -> Result<Table, SourceError>
-    ensures table { S.tells
-        → IsNewestMetadata (S.disk store.old).files newest.now.version newest.now.metadata
-        → IfOk result (IsTableAtHead (S.disk store.old).files) }
+    requires newest { S.tells
+        → IsNewestMetadata (S.disk store.old).files newest.now.version newest.now.metadata }
+    requires head { S.tells → IsIcebergHead (S.disk store.old).files head.now }
+    ensures table { S.tells → IfOk result (IsTableAtHead (S.disk store.old).files) }
     ensures sound { IsWritable newest.now.metadata → IfOk result IsPublishable }
-    ensures refused { S.tells
-        → IsNewestMetadata (S.disk store.old).files newest.now.version newest.now.metadata
-        → held_at newest.now.metadata.snapshots newest.now.metadata.current_snapshot ≢ None
-        → IfErr result (IsReadRefusal (ShowsFromScratch (S.disk store.old).files)) }
+    ensures refused { S.tells → IfErr result
+        (IsReadRefusal (ShowsFromScratch (S.disk store.old).files)) }
     ensures only_reads { S.tells → OnlyReads ⟦<S as Store>⟧ store.old store.new }
     ensures cause { FailsBy ⟦<S as Store>⟧ store.old store.new (IsErrOf result StoreFault) }
     ensures contest { IsUncontestedBy ⟦<S as Store>⟧ store.old store.new ⊥ }
 {
-    match current_snapshot(&newest.metadata) {
+    let ancestors = ancestors_to(alloc, &newest.metadata, &head.position)?;
+    match ancestors.get(0) {
         Some(snapshot) => table_of(alloc, store, newest, snapshot),
-        None => Err(no_snapshot(alloc)),
+        None => Err(lacks_head(alloc, newest.version)),
     }
 }
 
@@ -191,10 +183,10 @@ impl Source for IcebergSource {
         &self,
         alloc: Global,
         store: &mut S,
-        _head: &Head,
+        head: &Head,
     ) -> Result<Table, SourceError> {
         let newest = newest_metadata(alloc, store)?;
-        current_table(alloc, store, &newest)
+        head_table(alloc, store, &newest, head)
     }
 
     /// The commits of the ancestors behind a position up to the head, which `head` has given, over
@@ -205,11 +197,11 @@ impl Source for IcebergSource {
         &self,
         alloc: Global,
         store: &mut S,
-        _head: &Head,
+        head: &Head,
         position: &Text,
         base: &Table,
     ) -> Result<Since, SourceError> {
-        commits_since(alloc, store, position, base)
+        commits_since(alloc, store, head, position, base)
     }
 
     ghost one_head = { λ source files a b x y. one_head files a b x y };

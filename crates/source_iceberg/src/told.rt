@@ -3,14 +3,16 @@
 ghost use Rattle.std.specs.Prelude.{◌≡◌, ◌≢◌};
 ghost use Rattle.table_history.specs.Words.{limit_number};
 ghost use Rattle.table_history.specs.declared.kind.Kind.TheVariants.{Iceberg};
+ghost use Rattle.iceberg_table.specs.Folder.{version_path};
 ghost use Rattle.iceberg_table.specs.declared.error.IcebergError.TheVariants as iceberg;
 ghost use Rattle.source_core.specs.Answers.{IsReadRefusal};
-ghost use Rattle.source_core.specs.declared.error.SourceError.TheVariants.{Limit, StoreFault};
+ghost use Rattle.source_core.specs.declared.error.SourceError.TheVariants.{Limit, Malformed, StoreFault};
 ghost use Rattle.source_iceberg.specs.Reading.{Tells, TellsFault};
 
-use iceberg_table::{Fault, IcebergError};
+use iceberg_table::{Fault, IcebergError, version_path};
 use lake_basics::Text;
 use source_core::SourceError;
+use std::alloc::Global;
 use table_history::{Kind, LimitKind};
 
 pub(crate) fn limit(which: LimitKind) -> SourceError
@@ -31,6 +33,18 @@ fn fault_error(path: Text, fault: Fault) -> SourceError
         Fault::Malformed => SourceError::Malformed { path },
         Fault::Unsupported { feature } => SourceError::Unsupported { feature, path },
         Fault::Limit { which } => limit(which),
+    }
+}
+
+/// What is told where the newest metadata, of this version, no longer has the head among the current
+/// snapshot and its ancestors.
+pub(crate) fn lacks_head(alloc: Global, version: u32) -> SourceError
+    ensures told { IsReadRefusal (λ e. e ≡ Malformed (version_path version)) result }
+    ensures fault { result ≢ StoreFault }
+{
+    match version_path(alloc, version) {
+        Ok(path) => SourceError::Malformed { path },
+        Err(_) => SourceError::Memory,
     }
 }
 

@@ -7,14 +7,14 @@ use Rattle.source_iceberg.proofs.later.later_ancestors.Goals as goal
 
 pub returns-in-Some-clause-found : goal.returns-in-Some-clause-found
 returns-in-Some-clause-found c =
-    let ancestors = c.in-Ok.ancestors in
+    let ancestors = c.args.ancestors in
     let position = c.args.position.now in
     let found = subst (λ (o : Option (List Snapshot)). MatchOption o (HasNone ancestors position) (AreAhead ancestors position)) c.in-Some.is c.in_ok-ahead.ensures in
-    found_behind c.args.metadata.now position ancestors c.in-Some.ahead c.reversed.result c.in-Ok.ensures.ancestors found c.reversed.ensures
+    found_behind position ancestors c.in-Some.ahead c.reversed.result found c.reversed.ensures
 
 pub returns-in-None-clause-found : goal.returns-in-None-clause-found
 returns-in-None-clause-found c =
-    let ancestors = c.in-Ok.ancestors in
+    let ancestors = c.args.ancestors in
     let position = c.args.position.now in
     let none = subst (λ (o : Option (List Snapshot)). MatchOption o (HasNone ancestors position) (AreAhead ancestors position)) c.in-None.is c.in_ok-ahead.ensures in
-    not_behind c.args.metadata.now position ancestors c.in-Ok.ensures.ancestors none
+    not_behind position ancestors none

@@ -11,8 +11,8 @@ use Rattle.iceberg_table.proofs.Runs.{fails_never, uncontested_further}
 use Rattle.source_core.specs.Answers.{IsReadRefusal}
 use Rattle.source_core.specs.declared.error.SourceError.{SourceError}
 use Rattle.source_iceberg.specs.Later.{IsOneMore}
-use Rattle.source_iceberg.specs.Since.{AreCommits, IsRefusedBehind, StopsBehind}
-use Rattle.source_iceberg.proofs.SinceLaws.{can_apply_all, commits_begin, commits_on, fit_all, lead_begins, lead_on, stops_at}
+use Rattle.source_iceberg.specs.Since.{IsRefusedBehind, StopsBehind}
+use Rattle.source_iceberg.proofs.SinceLaws.{Made, all_made, can_apply_all, commits_begin, commits_on, fit_all, lead_begins, lead_on, stops_at}
 use Rattle.source_iceberg.proofs.since.read_later.Goals as goal
 
 pub loop-snapshot-init : goal.loop-snapshot-init
@@ -20,11 +20,10 @@ loop-snapshot-init g c =
     let store = g.S.Store in
     let later = c.in_ok-later.later in
     let new = c.in_ok-later.ensures in
-    let none = new.2 in
     record {
-      few = omega (arith, none);
-      are = λ told. commits_begin (store.disk c.args.store.now).files c.args.metadata.now c.args.base.now later new.0 new.1 new.2;
-      fit = lead_begins c.args.base.now later new.0 new.1;
+      few = new.few;
+      made = λ told. commits_begin (store.disk c.args.store.now).files c.args.metadata.now c.args.base.now later new.made.0 new.made.1 new.counts;
+      fit = lead_begins c.args.base.now later new.made.0 new.made.1;
       reads = reading_begins store g.met.S.Store.only_now c.args.store.now;
       cause = record { later = omega arith; still = λ m. m; rose = λ never. absurd never; allowed = λ never. absurd never };
       contest = record { same = refl; still = λ m. m; never = λ never. never };
@@ -45,10 +44,11 @@ returns-in_err-later-2-clause-refused g c told =
     let at : drop i xs ≡ x ∷ drop (i + 1) xs = drop_more xs i x c.loop-snapshot-test.true ∙ ap (λ (y : Snapshot). y ∷ drop (i + 1) xs) (sym c.snapshot-item.is) in
     let split = split_at xs i x c.loop-snapshot-test.true at in
     let P : SourceError → Type 0 = StopsBehind files c.args.version m c.args.base.now xs in
-    let step = subst (λ (d : Disk). IsReadRefusal (IsRefusedBehind d.files c.args.version m later.table later.entries x) e) (so_far.reads told).disk (c.in_err-later-2.ensures.refused told) in
+    let made = so_far.made told in
+    let step = subst (λ (d : Disk). IsReadRefusal (IsRefusedBehind d.files c.args.version m later.table made.0 x) e) (so_far.reads told).disk (c.in_err-later-2.ensures.refused told made.0 made.1) in
     subst (λ (r : Result (List Commit) SourceError). IfErr r (IsReadRefusal P)) (sym exit.1)
     (subst (IsReadRefusal P) (sym exit.2)
-    (stops_at files c.args.version m c.args.base.now xs (take i xs) (drop (i + 1) xs) x later split (so_far.are told) so_far.few e step))
+    (stops_at files c.args.version m c.args.base.now xs (take i xs) (drop (i + 1) xs) x later split made so_far.few e step))
 
 pub returns-in_err-later-2-clause-only_reads : goal.returns-in_err-later-2-clause-only_reads
 returns-in_err-later-2-clause-only_reads g c = reading_further g.S.Store c.args.store.now c.loop-snapshot.store c.with_snapshot.new.store c.loop-snapshot.invariant.reads c.in_err-later-2.ensures.only_reads
@@ -68,9 +68,9 @@ loop-snapshot-preserved g c =
     let longer : take (i + 1) xs ≡ take i xs ++ x ∷ [] = take_more xs i x c.loop-snapshot-test.true ∙ ap (λ (y : Snapshot). take i xs ++ y ∷ []) (sym c.snapshot-item.is) in
     record {
       few = c.in_ok-later-2.ensures.few;
-      are = λ told.
+      made = λ told.
           let more = subst (λ (d : Disk). IsOneMore d.files m x before after) (so_far.reads told).disk (c.in_ok-later-2.ensures.next told) in
-          subst (λ (ss : List Snapshot). AreCommits files m base ss after.commits after.table after.entries) (sym longer) (commits_on files m (take i xs) x base before after (so_far.are told) more);
+          subst (λ (ss : List Snapshot). Made files m base ss after) (sym longer) (commits_on files m (take i xs) x base before after (so_far.made told) more);
       fit = lead_on base before after so_far.fit (c.in_ok-later-2.ensures.sound c.requires);
       reads = reading_further store c.args.store.now c.loop-snapshot.store c.with_snapshot.new.store so_far.reads c.in_ok-later-2.ensures.only_reads;
       cause = fails_never store.faults store.may_fail c.args.store.now c.loop-snapshot.store c.with_snapshot.new.store _ so_far.cause c.in_ok-later-2.ensures.cause;
@@ -82,12 +82,9 @@ returns-clause-commits g c told =
     let store = g.S.Store in
     let later = c.loop-snapshot.later in
     let so_far = c.loop-snapshot.invariant in
-    record {
-      last = later.table;
-      entries = later.entries;
-      are = subst (λ (ss : List Snapshot). AreCommits (store.disk c.args.store.now).files c.args.metadata.now c.args.base.now ss later.commits later.table later.entries) (take_all c.loop-snapshot.snapshot-index c.args.snapshots.now c.loop-snapshot-test.false) (so_far.are told);
-      few = so_far.few;
-    }
+    let files = (store.disk c.args.store.now).files in
+    let all = subst (λ (ss : List Snapshot). Made files c.args.metadata.now c.args.base.now ss later) (take_all c.loop-snapshot.snapshot-index c.args.snapshots.now c.loop-snapshot-test.false) (so_far.made told) in
+    all_made files c.args.metadata.now c.args.base.now c.args.snapshots.now later all so_far.few
 
 pub returns-clause-fits : goal.returns-clause-fits
 returns-clause-fits g c = fit_all c.args.base.now c.loop-snapshot.later.commits c.loop-snapshot.later.table c.loop-snapshot.invariant.fit

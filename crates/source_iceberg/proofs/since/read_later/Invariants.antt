@@ -1,16 +1,15 @@
 use Rattle.std.proofs.Common.{◌≤◌, take}
 use Rattle.lake_basics.specs.declared.limits.TheConstants.{MAX_ACTIONS}
 use Rattle.lake_store.specs.Runs.{FailsBy, IsUncontestedBy, OnlyReads}
-use Rattle.source_iceberg.specs.Since.{AreCommits}
-use Rattle.source_iceberg.proofs.SinceLaws.{LeadOn}
+use Rattle.source_iceberg.proofs.SinceLaws.{LeadOn, Made}
 use Rattle.source_iceberg.proofs.since.read_later.Given as goal
 
 abbrev pub invariant-loop-snapshot : goal.invariant-loop-snapshot
 invariant-loop-snapshot g l =
     let store = g.S.Store in
     record {
-      few : l.later.entries ≤ MAX_ACTIONS;
-      are : store.tells → AreCommits (store.disk l.fn.store).files l.metadata l.base (take l.snapshot-index l.snapshots) l.later.commits l.later.table l.later.entries;
+      few : l.later.counted.entries ≤ MAX_ACTIONS;
+      made : store.tells → Made (store.disk l.fn.store).files l.metadata l.base (take l.snapshot-index l.snapshots) l.later;
       fit : LeadOn l.base l.later.commits l.later.table;
       reads : store.tells → OnlyReads store l.fn.store l.store;
       cause : FailsBy store l.fn.store l.store ⊥;
