@@ -1,0 +1,6 @@
+pub mod Numbers
+pub mod Paths
+pub mod Commits
+pub mod Syncs
+pub mod Tables
+pub mod Legal

@@ -1,0 +1,4 @@
+pub mod Drill
+pub mod Events
+pub mod Histories
+pub mod Vectors
