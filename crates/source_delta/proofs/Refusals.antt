@@ -16,7 +16,7 @@ use Rattle.source_core.proofs.Answers.{weaker}
 use Rattle.source_core.specs.declared.error.SourceError.{SourceError}
 use Rattle.source_core.specs.declared.error.SourceError.TheVariants as source
 use Rattle.source_delta.specs.Heads.{IsAbsent, IsNewest, IsTableId}
-use Rattle.source_delta.specs.Reading.{HasEach, HasManyNames, IsLastMissing, IsRefusedLog, ShowsAtHead, ShowsFromScratch, Tells}
+use Rattle.source_delta.specs.Reading.{HasEach, HasFewNames, HasManyNames, IsFirstRefused, IsLastMissing, IsRefusedLog, ShowsAtHead, ShowsFromScratch, Tells}
 use Rattle.source_delta.specs.SinceLemmas.{one_newest}
 
 -- ---- the names
@@ -86,8 +86,11 @@ there files (log.Refused version error) other h e t =
     subst (λ v. HasVersion files v) (zero_of h.0 h.2)
     (⊎_elim (λ unreadable. (unreadable.0, unreadable.1)) (λ unfit. (unfit.1.bytes, unfit.1.holds)) h.4.1)
 
-pub first_refused : (files : Files) (cause : LogError) (e : SourceError) → ((version : ℕ) → cause ≡ log.Missing version → ⊥) → IsLogRefusal files 0 cause → IsReadRefusal (Tells cause) e → IsReadRefusal (ShowsAtHead files) e
-first_refused files cause e other h told = weaker (Tells cause) (ShowsAtHead files) (λ d t. inr (there files cause other h d t, (cause, h, t))) e told
+pub first_refused : (files : Files) (cause : LogError) (e : SourceError) → ((version : ℕ) → cause ≡ log.Missing version → ⊥) → IsLogRefusal files 0 cause → IsReadRefusal (Tells cause) e → IsReadRefusal (IsFirstRefused files) e
+first_refused files cause e other h told = weaker (Tells cause) (IsFirstRefused files) (λ d t. (there files cause other h d t, (cause, h, t))) e told
+
+pub first_shown : (files : Files) → HasFewNames files → (e : SourceError) → IsReadRefusal (IsFirstRefused files) e → IsReadRefusal (ShowsAtHead files) e
+first_shown files few e h = weaker (IsFirstRefused files) (ShowsAtHead files) (λ d t. inr (few, t)) e h
 
 -- version 0 wasn't read
 pub no_id : (files : Files) (error : LogError) (r : Result (Option (List ℕ)) SourceError) → IsLogRefusal files 0 error
@@ -96,7 +99,7 @@ no_id files error (Ok id) h is = subst (IsTableId files) (sym is.0) (not_there f
 no_id files error (Err e) h is = tt
 
 pub id_refused : (files : Files) (error : LogError) (r : Result (Option (List ℕ)) SourceError) → IsLogRefusal files 0 error
-    → IfErr r (λ e. IsReadRefusal (Tells error) e × ((version : ℕ) → error ≡ log.Missing version → ⊥)) → IfErr r (IsReadRefusal (ShowsAtHead files))
+    → IfErr r (λ e. IsReadRefusal (Tells error) e × ((version : ℕ) → error ≡ log.Missing version → ⊥)) → IfErr r (IsReadRefusal (IsFirstRefused files))
 id_refused files error (Ok id) h is = tt
 id_refused files error (Err e) h is = first_refused files error e is.1 h is.0
 
@@ -146,14 +149,14 @@ module _ (files : Files) (newest : ℕ) (is : IsNewest files newest) (versions :
 
 -- ---- from scratch
 
-module _ (files : Files) (newest : ℕ) (is : IsNewest files newest) where
+module _ (files : Files) (few : HasFewNames files) (newest : ℕ) (is : IsNewest files newest) where
   pub names_from_scratch : (e : SourceError) → IsReadRefusal (HasManyNames files) e → IsReadRefusal (ShowsFromScratch files) e
   names_from_scratch e h = weaker (HasManyNames files) (ShowsFromScratch files) (λ d many. inl many) e h
 
   pub lacking : (version : ℕ) → IsLastMissing files newest version → (e : SourceError)
       → IsReadRefusal (λ d. (path : List ℕ) × IsVersionPath path version × (d ≡ source.Unsupported NeedsCheckpoint path)) e → IsReadRefusal (ShowsFromScratch files) e
   lacking version missing e h = weaker (λ (d : SourceError). (path : List ℕ) × IsVersionPath path version × (d ≡ source.Unsupported NeedsCheckpoint path)) (ShowsFromScratch files)
-      (λ d t. inr (newest, is, inl (version, t.0, missing, t.1, t.2))) e h
+      (λ d t. inr (few, newest, is, inl (version, t.0, missing, t.1, t.2))) e h
 
   pub refused_from_scratch : HasEach files newest → (e : SourceError) → IsReadRefusal (IsRefusedLog files newest) e → IsReadRefusal (ShowsFromScratch files) e
-  refused_from_scratch each e h = weaker (IsRefusedLog files newest) (ShowsFromScratch files) (λ d t. inr (newest, is, inr (each, t))) e h
+  refused_from_scratch each e h = weaker (IsRefusedLog files newest) (ShowsFromScratch files) (λ d t. inr (few, newest, is, inr (each, t))) e h

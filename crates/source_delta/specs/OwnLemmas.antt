@@ -16,7 +16,7 @@ use Rattle.source_core.specs.declared.head.Head.{Head}
 use Rattle.target_core.specs.Folders.{SameIn}
 use Rattle.target_core.specs.FolderLemmas.{names_own, same_back}
 use Rattle.source_delta.specs.Heads.{IsAbsent, IsDeltaHead, IsNewest, IsTableAtHead, IsTableId}
-use Rattle.source_delta.specs.Reading.{HasEach, HasManyNames, IsLastMissing, IsRefusedLog, LacksVersion, ShowsAtHead, ShowsFromScratch}
+use Rattle.source_delta.specs.Reading.{HasEach, HasFewNames, HasManyNames, IsLastMissing, IsRefusedLog, LacksVersion, ShowsAtHead, ShowsFromScratch}
 use Rattle.source_delta.specs.Since.{AreCommits, HaveActions, IsCommitOf, IsReached, IsRefusedBehind, IsSince, Reaches, ShowsFromPosition, StopsBehind}
 
 has_own : (a b : Files) → SameIn log_folder a b → (version : ℕ) → HasVersion a version → HasVersion b version
@@ -42,6 +42,9 @@ id_own a b (Some id) same h =
 log_names : (a b : Files) → SameIn log_folder a b → names_in b log_folder ≡ names_in a log_folder
 log_names a b same = names_own log_folder (λ name. (name, refl)) a b same
 
+few_own : (a b : Files) → SameIn log_folder a b → HasFewNames a → HasFewNames b
+few_own a b same few = subst (λ (names : List (List ℕ)). length names ≤ MAX_NAMES) (sym (log_names a b same)) few
+
 pub head_own : (a b : Files) (head : Head) → SameIn log_folder a b → IsDeltaHead a head → IsDeltaHead b head
 head_own a b head same h = record {
   newest = h.newest;
@@ -49,7 +52,7 @@ head_own a b head same h = record {
   position = h.position;
   pending = h.pending;
   table = id_own a b head.table same h.table;
-  few = subst (λ (names : List (List ℕ)). length names ≤ MAX_NAMES) (sym (log_names a b same)) h.few;
+  few = few_own a b same h.few;
 }
 
 -- ---- the table
@@ -83,12 +86,12 @@ each_own a b newest same each version within = has_own a b same version (each ve
 
 pub at_head_own : (a b : Files) (e : SourceError) → SameIn log_folder a b → ShowsAtHead a e → ShowsAtHead b e
 at_head_own a b e same (inl h) = inl (many_own a b e same h)
-at_head_own a b e same (inr h) = inr (has_own a b same 0 h.0, refused_own a b 0 e same h.1)
+at_head_own a b e same (inr (few, first)) = inr (few_own a b same few, (has_own a b same 0 first.0, refused_own a b 0 e same first.1))
 
 pub from_scratch_own : (a b : Files) (e : SourceError) → SameIn log_folder a b → ShowsFromScratch a e → ShowsFromScratch b e
 from_scratch_own a b e same (inl h) = inl (many_own a b e same h)
-from_scratch_own a b e same (inr (newest, is, inl h)) = inr (newest, newest_own a b newest same is, inl (lacks_own a b newest e same h))
-from_scratch_own a b e same (inr (newest, is, inr h)) = inr (newest, newest_own a b newest same is, inr (each_own a b newest same h.0, refused_own a b newest e same h.1))
+from_scratch_own a b e same (inr (few, newest, is, inl h)) = inr (few_own a b same few, newest, newest_own a b newest same is, inl (lacks_own a b newest e same h))
+from_scratch_own a b e same (inr (few, newest, is, inr h)) = inr (few_own a b same few, newest, newest_own a b newest same is, inr (each_own a b newest same h.0, refused_own a b newest e same h.1))
 
 -- ---- the commits since a position
 

@@ -1,5 +1,5 @@
 -- What a Delta log shows for which it isn't read as a source.
-use Rattle.std.specs.Prelude.{◌≡◌, ◌⊎◌, ◌<◌, ◌≤◌, ℕ, List, length}
+use Rattle.std.specs.Prelude.{◌≡◌, ◌⊎◌, ◌<◌, ◌≤◌, ℕ, List, length, Option, Some, None}
 use Rattle.lake_basics.specs.declared.limits.TheConstants.{MAX_COMMITS, MAX_FILE_BYTES, MAX_NAMES}
 use Rattle.lake_store.specs.Disk.{Files, names_in}
 use Rattle.table_history.specs.Words.{limit_number}
@@ -13,7 +13,7 @@ use Rattle.delta_table.specs.Versions.{HasVersion, IsVersionPath, log_folder}
 use Rattle.delta_table.specs.declared.error.LogError.{LogError}
 use Rattle.delta_table.specs.declared.error.LogError.TheVariants as log
 use Rattle.source_core.specs.declared.error.SourceError.{SourceError}
-use Rattle.source_core.specs.declared.error.SourceError.TheVariants.{Malformed, Unsupported, Limit}
+use Rattle.source_core.specs.declared.error.SourceError.TheVariants.{Memory, Malformed, Unsupported, Limit, StoreFault}
 use Rattle.source_delta.specs.Heads.{IsNewest}
 
 -- ---- how a fault of a log is told
@@ -35,6 +35,23 @@ Tells log.ManyCommits e = e ≡ Limit limit.Commits MAX_COMMITS
 Tells (log.Missing version) e = (path : List ℕ) × IsVersionPath path version × (e ≡ Malformed path)
 Tells (log.Large version) e = e ≡ Limit limit.File MAX_FILE_BYTES
 Tells (log.Refused version error) e = TellsCommit version error e
+
+-- what is told of a fault of a commit, and of one of a log, where no path is told
+abbrev pub plain_of_commit : DeltaError → Option SourceError
+plain_of_commit delta.Memory = Some Memory
+plain_of_commit (delta.Malformed line) = None
+plain_of_commit (delta.DoublePath line) = None
+plain_of_commit (delta.Unsupported feature line) = None
+plain_of_commit (delta.Limit which) = Some (Limit which (limit_number Delta which))
+
+abbrev pub plain : LogError → Option SourceError
+plain log.Memory = Some Memory
+plain log.StoreFault = Some StoreFault
+plain log.ManyNames = Some (Limit limit.Names MAX_NAMES)
+plain log.ManyCommits = Some (Limit limit.Commits MAX_COMMITS)
+plain (log.Missing version) = None
+plain (log.Large version) = Some (Limit limit.File MAX_FILE_BYTES)
+plain (log.Refused version error) = plain_of_commit error
 
 -- ---- causes
 
@@ -58,12 +75,19 @@ pub record IsLastMissing (files : Files) (newest version : ℕ) : Type 0 where
 abbrev pub LacksVersion : Files → ℕ → SourceError → Type 0
 LacksVersion files newest e = (version : ℕ) × (path : List ℕ) × IsLastMissing files newest version × IsVersionPath path version × (e ≡ Unsupported NeedsCheckpoint path)
 
--- Finding the head reads the names, and then version 0, where it is there.
-abbrev pub ShowsAtHead : Files → SourceError → Type 0
-ShowsAtHead files e = HasManyNames files e ⊎ (HasVersion files 0 × IsRefusedLog files 0 e)
+abbrev pub HasFewNames : Files → Type 0
+HasFewNames files = length (names_in files log_folder) ≤ MAX_NAMES
 
--- Reading from scratch reads the names, and then the versions from 0 to the newest, unless one of them is missing.
+-- Version 0 is there, and is refused.
+abbrev pub IsFirstRefused : Files → SourceError → Type 0
+IsFirstRefused files e = HasVersion files 0 × IsRefusedLog files 0 e
+
+-- Finding the head reads the names, and then, where they aren't too many, version 0, where it is there.
+abbrev pub ShowsAtHead : Files → SourceError → Type 0
+ShowsAtHead files e = HasManyNames files e ⊎ (HasFewNames files × IsFirstRefused files e)
+
+-- Reading from scratch reads the names, and then, where they aren't too many, the versions from 0 to the newest, unless one of them is missing.
 abbrev pub ShowsFromScratch : Files → SourceError → Type 0
 ShowsFromScratch files e =
     HasManyNames files e
-    ⊎ ((newest : ℕ) × IsNewest files newest × (LacksVersion files newest e ⊎ (HasEach files newest × IsRefusedLog files newest e)))
+    ⊎ (HasFewNames files × (newest : ℕ) × IsNewest files newest × (LacksVersion files newest e ⊎ (HasEach files newest × IsRefusedLog files newest e)))

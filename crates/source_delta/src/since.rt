@@ -1,8 +1,9 @@
 //! The commits of a log after a version.
 
-ghost use Rattle.std.specs.Prelude.{◌≡◌, ◌≢◌, ◌≤◌, ◌+◌, ℕ, List, [], length, IfErr, IfOk, IsErrOf, MatchOption, Some};
+ghost use Rattle.std.specs.Prelude.{◌≡◌, ◌≢◌, ◌<◌, ◌≤◌, ◌+◌, ℕ, List, [], length, IfErr, IfOk, IsErrOf, MatchOption, Some};
 ghost use Rattle.lake_basics.specs.declared.limits.TheConstants.{MAX_ACTIONS, MAX_COMMITS, MAX_DELTA_VERSION, MAX_NAMES};
 ghost use Rattle.lake_store.specs.Disk.{names_in};
+ghost use Rattle.table_history.specs.declared.limit.LimitKind.TheVariants.{Commits};
 ghost use Rattle.table_history.specs.declared.table.Table.{Table};
 ghost use Rattle.lake_store.specs.Runs.{FailsBy, IsUncontestedBy, OnlyReads};
 ghost use Rattle.delta_change.specs.Change.{GoesOn};
@@ -12,7 +13,7 @@ ghost use Rattle.delta_table.specs.Versions.{log_folder};
 ghost use Rattle.target_core.specs.Conditions.{IsPublishable};
 ghost use Rattle.source_core.specs.Answers.{IsReadRefusal};
 ghost use Rattle.source_core.specs.Since.{CanApplyAll, CanApplySince, FitAll, FitSince, IsSinceAnswer, IsSinceRefusal};
-ghost use Rattle.source_core.specs.declared.error.SourceError.TheVariants.{StoreFault};
+ghost use Rattle.source_core.specs.declared.error.SourceError.TheVariants.{Limit, StoreFault};
 ghost use Rattle.source_delta.specs.Heads.{IsNewest};
 ghost use Rattle.source_delta.specs.Reading.{HasManyNames};
 ghost use Rattle.source_delta.specs.Since.{HasManyActions, IsMadeOf, IsReached, IsRefusedBehind, IsRefusedOver, IsSince, Reaches, ShowsFromPosition};
@@ -239,6 +240,8 @@ fn later_commits<S: Store>(
         → IsReached (S.disk store.old).files position version newest
         → IfErr result (IsReadRefusal
         (ShowsFromPosition (S.disk store.old).files position base.now)) }
+    ensures many { version + MAX_COMMITS < newest
+        → IsErrOf result (Limit Commits MAX_COMMITS) }
     ensures only_reads { S.tells → OnlyReads ⟦<S as Store>⟧ store.old store.new }
     ensures cause { FailsBy ⟦<S as Store>⟧ store.old store.new (IsErrOf result StoreFault) }
     ensures contest { IsUncontestedBy ⟦<S as Store>⟧ store.old store.new ⊥ }

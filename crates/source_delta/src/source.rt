@@ -11,7 +11,7 @@ ghost use Rattle.delta_table.specs.declared.error.LogError.TheVariants as log;
 ghost use Rattle.source_core.specs.Answers.{IsHeadRefusal, IsReadRefusal};
 ghost use Rattle.source_core.specs.declared.error.SourceError.TheVariants.{StoreFault};
 ghost use Rattle.source_delta.specs.Heads.{IsAbsent, IsNewest, IsTableAtHead, IsTableId};
-ghost use Rattle.source_delta.specs.Reading.{HasEach, HasManyNames, IsLastMissing, IsRefusedLog, ShowsAtHead, ShowsFromScratch, Tells};
+ghost use Rattle.source_delta.specs.Reading.{HasEach, HasFewNames, HasManyNames, IsFirstRefused, IsLastMissing, IsRefusedLog, ShowsFromScratch, Tells};
 
 use crate::position::{position, version_at};
 use crate::since::commits_since;
@@ -76,7 +76,7 @@ fn without_id(alloc: Global, error: LogError) -> Result<Option<Text>, SourceErro
 fn table_id<S: Store>(alloc: Global, store: &mut S) -> Result<Option<Text>, SourceError>
     ensures id { S.tells → IfOk result (IsTableId (S.disk store.old).files) }
     ensures refused { S.tells
-        → IfErr result (IsReadRefusal (ShowsAtHead (S.disk store.old).files)) }
+        → IfErr result (IsReadRefusal (IsFirstRefused (S.disk store.old).files)) }
     ensures only_reads { S.tells → OnlyReads ⟦<S as Store>⟧ store.old store.new }
     ensures cause { FailsBy ⟦<S as Store>⟧ store.old store.new (IsErrOf result StoreFault) }
     ensures contest { IsUncontestedBy ⟦<S as Store>⟧ store.old store.new ⊥ }
@@ -143,7 +143,8 @@ fn whole_table<S: Store>(alloc: Global, store: &mut S, newest: u64) -> Result<Ta
     ensures table { S.tells → IsNewest (S.disk store.old).files newest
         → IfOk result (IsTableAtHead (S.disk store.old).files) }
     ensures sound { IfOk result IsPublishable }
-    ensures refused { S.tells → IsNewest (S.disk store.old).files newest
+    ensures refused { S.tells → HasFewNames (S.disk store.old).files
+        → IsNewest (S.disk store.old).files newest
         → IfErr result (IsReadRefusal (ShowsFromScratch (S.disk store.old).files)) }
     ensures only_reads { S.tells → OnlyReads ⟦<S as Store>⟧ store.old store.new }
     ensures cause { FailsBy ⟦<S as Store>⟧ store.old store.new (IsErrOf result StoreFault) }

@@ -1,15 +1,16 @@
 //! How a fault of a log is told.
 
-ghost use Rattle.std.specs.Prelude.{◌≡◌, ◌≢◌, ◌≤◌, ℕ, List};
-ghost use Rattle.lake_basics.specs.declared.limits.TheConstants.{MAX_DELTA_VERSION};
+ghost use Rattle.std.specs.Prelude.{◌≡◌, ◌≢◌, ◌≤◌, ℕ, List, MatchOption};
+ghost use Rattle.lake_basics.specs.declared.limits.TheConstants.{MAX_DELTA_VERSION, MAX_NAMES};
 ghost use Rattle.table_history.specs.Words.{limit_number};
 ghost use Rattle.table_history.specs.declared.kind.Kind.TheVariants.{Delta};
+ghost use Rattle.table_history.specs.declared.limit.LimitKind.TheVariants.{Names};
 ghost use Rattle.delta_table.specs.Refusals.{TellsOf};
 ghost use Rattle.delta_table.specs.Versions.{IsVersionPath};
 ghost use Rattle.delta_table.specs.declared.error.LogError.TheVariants as log;
 ghost use Rattle.source_core.specs.Answers.{IsReadRefusal};
 ghost use Rattle.source_core.specs.declared.error.SourceError.TheVariants.{Limit, Malformed, StoreFault, Unsupported};
-ghost use Rattle.source_delta.specs.Reading.{Tells, TellsCommit};
+ghost use Rattle.source_delta.specs.Reading.{Tells, TellsCommit, plain, plain_of_commit};
 
 use delta_log::DeltaError;
 use delta_table::{LogError, version_path};
@@ -56,6 +57,7 @@ pub(crate) fn unsupported(alloc: Global, feature: Feature, version: u64) -> Sour
 pub(crate) fn commit_error(alloc: Global, version: u64, error: DeltaError) -> SourceError
     requires { version ≤ MAX_DELTA_VERSION }
     ensures told { IsReadRefusal (TellsCommit version error) result }
+    ensures exact { MatchOption (plain_of_commit error) (Unit {0}) (λ e. result ≡ e) }
     ensures fault { result ≢ StoreFault }
 {
     match error {
@@ -70,6 +72,7 @@ pub(crate) fn commit_error(alloc: Global, version: u64, error: DeltaError) -> So
 pub(crate) fn source_error(alloc: Global, error: LogError) -> SourceError
     requires { TellsOf (λ version. version ≤ MAX_DELTA_VERSION) error }
     ensures told { IsReadRefusal (Tells error) result }
+    ensures exact { MatchOption (plain error) (Unit {0}) (λ e. result ≡ e) }
     ensures fault { result ≡ StoreFault → error ≡ log.StoreFault }
 {
     match error {
@@ -87,6 +90,8 @@ pub(crate) fn source_error(alloc: Global, error: LogError) -> SourceError
 /// number of names alone.
 pub(crate) fn list_error(error: LogError) -> SourceError
     ensures told { IsReadRefusal (Tells error) result }
+    ensures names { error ≡ log.ManyNames → result ≡ Limit Names MAX_NAMES }
+    ensures store { error ≡ log.StoreFault → result ≡ StoreFault }
     ensures fault { result ≡ StoreFault → error ≡ log.StoreFault }
 {
     match error {

@@ -12,9 +12,9 @@ use Rattle.source_core.proofs.Runs.{fails_then}
 use Rattle.source_delta.proofs.source.whole_table.Goals as goal
 
 pub returns-in-Ok-Some-clause-refused : goal.returns-in-Ok-Some-clause-refused
-returns-in-Ok-Some-clause-refused g c told = λ is.
+returns-in-Ok-Some-clause-refused g c told = λ few is.
     let files = (g.S.Store.disk c.args.store.now).files in
-    lacking files c.args.newest is c.in-Ok-Some.version
+    lacking files few c.args.newest is c.in-Ok-Some.version
     (subst (λ (o : Option ℕ). MatchOption o (HasEach files c.args.newest) (IsLastMissing files c.args.newest)) c.in-Ok-Some.field-0-is (c.in-Ok-Some.ensures.missing told is))
     c.unsupported.result c.unsupported.ensures.told
 
@@ -25,11 +25,11 @@ returns-in-Ok-None-clause-table g c told = λ is.
     (c.table_up_to.ensures.table told (subst (λ (d : Disk). IsNewest d.files c.args.newest) (sym same) is))
 
 pub returns-in-Ok-None-clause-refused : goal.returns-in-Ok-None-clause-refused
-returns-in-Ok-None-clause-refused g c told = λ is.
+returns-in-Ok-None-clause-refused g c told = λ few is.
     let files = (g.S.Store.disk c.args.store.now).files in
     let same = (c.in-Ok-None.ensures.only_reads told).disk in
     let each = subst (λ (o : Option ℕ). MatchOption o (HasEach files c.args.newest) (IsLastMissing files c.args.newest)) c.in-Ok-None.field-0-is (c.in-Ok-None.ensures.missing told is) in
-    errs c.table_up_to.result _ _ (refused_from_scratch files c.args.newest is each)
+    errs c.table_up_to.result _ _ (refused_from_scratch files few c.args.newest is each)
     (subst (λ (d : Disk). IfErr c.table_up_to.result (IsReadRefusal (IsRefusedLog d.files c.args.newest))) same (c.table_up_to.ensures.refused told))
 
 pub returns-in-Ok-None-clause-only_reads : goal.returns-in-Ok-None-clause-only_reads
@@ -46,6 +46,6 @@ returns-in-Ok-None-clause-contest g c =
     uncontested_further store.contests store.may_contest c.args.store.now c.missing_version.new.store c.table_up_to.new.store c.in-Ok-None.ensures.contest c.table_up_to.ensures.contest
 
 pub returns-in-Err-clause-refused : goal.returns-in-Err-clause-refused
-returns-in-Err-clause-refused g c told = λ is.
+returns-in-Err-clause-refused g c told = λ few is.
     let files = (g.S.Store.disk c.args.store.now).files in
-    names_from_scratch files c.args.newest is c.in-Err.error (c.in-Err.ensures.refused told is)
+    names_from_scratch files few c.args.newest is c.in-Err.error (c.in-Err.ensures.refused told is)

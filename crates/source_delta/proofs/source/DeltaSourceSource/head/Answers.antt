@@ -7,8 +7,8 @@ use Rattle.source_core.specs.Answers.{IsHeadAnswer, IsHeadRefusal, IsReadRefusal
 use Rattle.source_core.specs.declared.error.SourceError.{SourceError}
 use Rattle.source_core.specs.declared.head.Head.{Head}
 use Rattle.source_delta.specs.Heads.{IsAbsent, IsDeltaHead, IsTableId}
-use Rattle.source_delta.specs.Reading.{ShowsAtHead}
-use Rattle.source_delta.proofs.Refusals.{head_refused, names_shown}
+use Rattle.source_delta.specs.Reading.{IsFirstRefused, ShowsAtHead}
+use Rattle.source_delta.proofs.Refusals.{first_shown, head_refused, names_shown}
 use Rattle.source_delta.proofs.source.DeltaSourceSource.head.Goals as goal
 
 pub returns-in_err-newest-clause-head : goal.returns-in_err-newest-clause-head
@@ -23,7 +23,8 @@ returns-in_err-table-clause-head g c told =
     let exit = err_from_is_err_and c.from_residual-in_err-table.result c.from_residual-in_err-table.ensures.1 in
     let files = (g.S.Store.disk c.args.store.now).files in
     let same = (c.in_ok-newest.ensures.only_reads told).disk in
-    let shown = subst (λ (d : Disk). IsReadRefusal (ShowsAtHead d.files) c.in_err-table.field-0.0) same (c.in_err-table.ensures.refused told) in
+    let refused = subst (λ (d : Disk). IsReadRefusal (IsFirstRefused d.files) c.in_err-table.field-0.0) same (c.in_err-table.ensures.refused told) in
+    let shown = first_shown files (c.in_ok-newest.ensures.few told) c.in_err-table.field-0.0 refused in
     subst (λ (r : Result Head SourceError). IsHeadAnswer (IsAbsent files) (IsDeltaHead files) (ShowsAtHead files) r) (sym exit.1)
     (subst (IsHeadRefusal (IsAbsent files) (ShowsAtHead files)) (sym exit.2) (head_refused files c.in_ok-newest.newest (c.in_ok-newest.ensures.newest told).there c.in_err-table.field-0.0 shown))
 

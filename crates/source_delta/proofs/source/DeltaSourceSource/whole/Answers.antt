@@ -19,7 +19,7 @@ returns-in-Some-clause-refused g c told =
     let known = c.version_at.ensures.known is.newest (version_within files is.newest is.is.there) (c.as_str.ensures.value ∙ is.position) in
     let both : Some c.in-Some.newest ≡ Some is.newest = sym c.in-Some.is ∙ known in
     let same : is.newest ≡ c.in-Some.newest = cc in
-    c.whole_table.ensures.refused told (subst (λ (n : ℕ). IsNewest files n) same is.is)
+    c.whole_table.ensures.refused told is.few (subst (λ (n : ℕ). IsNewest files n) same is.is)
 
 pub returns-in-None-clause-refused : goal.returns-in-None-clause-refused
 returns-in-None-clause-refused g c told =
