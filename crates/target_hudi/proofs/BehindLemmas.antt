@@ -14,6 +14,7 @@ use Rattle.hudi_names.specs.declared.name.State.{State}
 use Rattle.hudi_names.specs.declared.name.State.TheVariants as state
 use Rattle.hudi_instant.specs.Instants.{json_instant}
 use Rattle.hudi_instant.specs.declared.instant.Instant.{Instant}
+use Rattle.hudi_table.proofs.ReadingLaws.{live_rows}
 use Rattle.hudi_table.specs.Files.{ReadsAs, SaysInstant, SaysProperties}
 use Rattle.hudi_table.specs.Reading.{IsNextHere, IsReadingOf, table_in}
 use Rattle.hudi_table.specs.declared.instants.CompletedInstant.{CompletedInstant}
@@ -130,6 +131,9 @@ module _ (instant : List ℕ) (real : IsSomeTime instant) (old : Files) (earlier
     marked = marked;
   }
 
+  all_read : IsReadingOf new External table.table (completed_in new) (Some latest)
+  all_read = subst (λ (cs : List CompletedInstant). IsReadingOf new External table.table cs (Some latest)) (sym completed_now) read_now
+
   -- each mark is for a source of this format
   pub ours_now : HasOwnProperties new → HasOwnNames new
       → ((c : CompletedInstant) → Contains (completed_in old) c → (standing : Standing) × IsMarkAt old c standing × (standing.origin.source ≡ mark.source))
@@ -140,7 +144,8 @@ module _ (instant : List ℕ) (real : IsSomeTime instant) (old : Files) (earlier
     table = table;
     says = says_table;
     latest = latest;
-    read = subst (λ (cs : List CompletedInstant). IsReadingOf new External table.table cs (Some latest)) (sym completed_now) read_now;
+    read = all_read;
+    live = live_rows new External table.table (completed_in new) latest all_read;
     source = mark.source;
     marked = λ c within. ⊎_elim
         (λ before. let m = marks c before in (m.0, marked_still instant real old earlier new beside c m.0 before m.1, m.2))

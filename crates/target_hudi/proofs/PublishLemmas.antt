@@ -13,6 +13,7 @@ use Rattle.table_history.proofs.RowListLemmas.{Contains-head, Contains-none}
 use Rattle.schema_map.specs.Image.{wide_columns}
 use Rattle.hudi_groups.proofs.GroupChangeLemmas.{distinct_none}
 use Rattle.hudi_properties.specs.declared.table.HudiTable.{HudiTable}
+use Rattle.hudi_table.proofs.ReadingLaws.{live_rows}
 use Rattle.hudi_table.specs.Files.{ReadsAs, SaysProperties}
 use Rattle.hudi_table.specs.Folder.{IsEarlier}
 use Rattle.hudi_table.specs.Reading.{IsReadingOf, table_in}
@@ -193,13 +194,15 @@ module _ (name : List ℕ) (origin : Origin) (now : ℕ) (kept next : HudiKept) 
       reads_by (inl none) = inl (record { properties = own_before.0; names = own_before.1; none = same_completed ∙ none.0.none }, none.1)
       reads_by (inr ours) =
           let among : (c : CompletedInstant) → Contains (completed_in files) c → Contains (completed_in old) c = λ c within. subst (λ (l : List CompletedInstant). Contains l c) same_completed within in
+          let read : IsReadingOf files External ours.table.table (completed_in files) (Some ours.latest) = subst (λ (cs : List CompletedInstant). IsReadingOf files External ours.table.table cs (Some ours.latest)) (sym same_completed) (reading_still instant v.real old earlier files still.beside External ours.table.table (completed_in old) (Some ours.latest) (λ c within. within) ours.read) in
           inr (record {
             properties = own_before.0;
             names = own_before.1;
             table = ours.table;
             says = properties_still instant v.real old earlier files still.beside ours.table (some ours) ours.says;
             latest = ours.latest;
-            read = subst (λ (cs : List CompletedInstant). IsReadingOf files External ours.table.table cs (Some ours.latest)) (sym same_completed) (reading_still instant v.real old earlier files still.beside External ours.table.table (completed_in old) (Some ours.latest) (λ c within. within) ours.read);
+            read = read;
+            live = live_rows files External ours.table.table (completed_in files) ours.latest read;
             source = ours.source;
             marked = λ c within. let m = ours.marked c (among c within) in (m.0, marked_still instant v.real old earlier files still.beside c m.0 (among c within) m.1, m.2);
             front = ours.front;

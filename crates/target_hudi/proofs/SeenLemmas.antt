@@ -22,6 +22,7 @@ use Rattle.hudi_names.specs.declared.error.HudiError.{HudiError}
 use Rattle.hudi_names.specs.declared.error.HudiError.TheVariants as hudi
 use Rattle.hudi_instant.specs.declared.instant.Instant.{Instant}
 use Rattle.hudi_properties.specs.declared.table.HudiTable.{HudiTable}
+use Rattle.hudi_table.proofs.ReadingLaws.{live_rows}
 use Rattle.hudi_table.specs.Files.{HasFault}
 use Rattle.hudi_table.specs.Instants.{IsOfNames, completed_of, instants_in, is_commit, is_done, is_second, path_of}
 use Rattle.hudi_table.specs.Reading.{IsNextHere, IsReadingOf, table_in}
@@ -232,6 +233,9 @@ module _ (source : Kind) (files : Files) where
     count : kept.commits ≡ commits_in files
     count = k.commits_are ∙ ap (λ (l : List CompletedInstant). length l) own.are
 
+    whole : IsReadingOf files External p.table (completed_in files) (Some newest.latest)
+    whole = subst (λ (l : List CompletedInstant). IsReadingOf files External p.table l (Some newest.latest)) own.are read.read
+
     ours : IsOurs files (view_of kept)
     ours = record {
       properties = own.properties;
@@ -239,7 +243,8 @@ module _ (source : Kind) (files : Files) where
       table = p;
       says = own.says;
       latest = newest.latest;
-      read = subst (λ (l : List CompletedInstant). IsReadingOf files External p.table l (Some newest.latest)) own.are read.read;
+      read = whole;
+      live = live_rows files External p.table (completed_in files) newest.latest whole;
       source = source;
       marked = subst (AllMarked source files) own.are read.marked;
       front = read.last.0;

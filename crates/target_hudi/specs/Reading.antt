@@ -14,7 +14,7 @@ use Rattle.hudi_instant.specs.declared.instant.Instant.{Instant}
 use Rattle.hudi_properties.specs.declared.table.HudiTable.{HudiTable}
 use Rattle.hudi_table.specs.Files.{HoldsFile, ReadsAs, SaysInstant, SaysProperties}
 use Rattle.hudi_table.specs.Instants.{path_of, timeline_of}
-use Rattle.hudi_table.specs.Reading.{IsReadingOf, form_of}
+use Rattle.hudi_table.specs.Reading.{HasLiveRows, IsReadingOf, form_of}
 use Rattle.hudi_table.specs.declared.instants.CompletedInstant.{CompletedInstant}
 use Rattle.hudi_table.specs.declared.properties.Properties.{Properties}
 use Rattle.hudi_table.specs.declared.reading.Latest.{Latest}
@@ -81,7 +81,8 @@ pub record IsAbsent (files : Files) : Type 0 where
   pub names : HasOwnNames files
   pub none : completed_in files ≡ []
 
--- Each completed instant is read over those before it and has a mark of its own, all for sources of one format. The newest says where the target stands.
+-- Each completed instant is read over those before it and has a mark of its own, all for sources of one format, and the rows are the live ones after the
+-- newest (Hudi technical specification, file groups), which says where the target stands.
 pub record IsOurs (files : Files) (view : View) : Type 0 where
   pub properties : HasOwnProperties files
   pub names : HasOwnNames files
@@ -89,6 +90,7 @@ pub record IsOurs (files : Files) (view : View) : Type 0 where
   pub says : SaysProperties files table
   pub latest : Latest
   pub read : IsReadingOf files External table.table (completed_in files) (Some latest)
+  pub live : HasLiveRows files External table.table (completed_in files) latest
   pub source : Kind
   pub marked : (c : CompletedInstant) → Contains (completed_in files) c → (standing : Standing) × IsMarkAt files c standing × (standing.origin.source ≡ source)
   pub front : List CompletedInstant

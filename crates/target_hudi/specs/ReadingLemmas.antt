@@ -14,6 +14,7 @@ use Rattle.hudi_names.specs.declared.name.State.TheVariants as state
 use Rattle.hudi_timeline.specs.Live.{Timeline}
 use Rattle.hudi_instant.specs.declared.instant.Instant.{Instant}
 use Rattle.hudi_properties.specs.declared.table.HudiTable.{HudiTable}
+use Rattle.hudi_table.proofs.ReadingLaws.{live_rows}
 use Rattle.hudi_table.specs.Files.{SaysInstant, SaysProperties}
 use Rattle.hudi_table.specs.Reading.{IsLatestOf, SayTimeline}
 use Rattle.hudi_table.specs.declared.instants.CompletedInstant.{CompletedInstant}
@@ -135,7 +136,7 @@ module _ (a b : Files) (same : IsSameTimeline a b) where
 
   ours_too : (v : View) → HasOwnProperties b → HasOwnNames b → IsOurs a v → IsOurs b v
   ours_too v properties names h =
-      let read = read_too a b same External h.table.table (completed_in a) h.latest (λ c within. within) h.read in
+      let read = subst (λ (cs : List CompletedInstant). IsLatestOf b External h.table.table cs h.latest) (sym completed) (read_too a b same External h.table.table (completed_in a) h.latest (λ c within. within) h.read) in
       let among : Contains (completed_in a) h.newest = in_middle (completed_in a) h.front h.newest [] h.last in
       record {
         properties = properties;
@@ -143,7 +144,8 @@ module _ (a b : Files) (same : IsSameTimeline a b) where
         table = h.table;
         says = says_properties_too a b same h.table h.says;
         latest = h.latest;
-        read = subst (λ (cs : List CompletedInstant). IsLatestOf b External h.table.table cs h.latest) (sym completed) read;
+        read = read;
+        live = live_rows b External h.table.table (completed_in b) h.latest read;
         source = h.source;
         marked = λ c within.
             let before : Contains (completed_in a) c = subst (λ (cs : List CompletedInstant). Contains cs c) completed within in
