@@ -92,6 +92,12 @@ only_long errors.Failed which number is = absurd (cc)
 only_long (errors.TooLong n) which number is = (n, refl)
 only_long errors.Taken which number is = absurd (cc)
 
+only_of_names : (s : StoreError) (which : LimitKind) (number : ℕ) → answer_of Names MAX_NAMES s ≡ Limit which number → which ≡ Names
+only_of_names errors.Memory which number is = absurd (cc)
+only_of_names errors.Failed which number is = absurd (cc)
+only_of_names (errors.TooLong n) which number is = cc
+only_of_names errors.Taken which number is = absurd (cc)
+
 module _ (s : StoreError) (e : TargetError) (gives : e ≡ answer_of Names MAX_NAMES s) where
   -- another writer is told as a contest, and so is nothing else
   pub contested_error : IsErrOf {T = Unit {0}} (Err s) errors.Taken → IsErrOf {T = Unit {0}} (Err e) Contested
@@ -105,6 +111,10 @@ module _ (s : StoreError) (e : TargetError) (gives : e ≡ answer_of Names MAX_N
   limited_by which number limited =
       let long = only_long s which number (sym gives ∙ answer_same e (Limit which number) limited) in
       (long.0, ap (λ (t : StoreError). Err t) long.1)
+
+  -- and it is names of which there are too many
+  pub only_names : (which : LimitKind) (number : ℕ) → IsErrOf {T = Unit {0}} (Err e) (Limit which number) → which ≡ Names
+  only_names which number limited = only_of_names s which number (sym gives ∙ answer_same e (Limit which number) limited)
 
   -- the refusal is that too many claims are there
   pub refused_by : (files : Files) (end : TimelineEnd) (origin : Origin) (now : ℕ) (commit : Commit) → ((n : ℕ) → IsErrOf {T = Unit {0}} (Err s) (errors.TooLong n) → (MAX_NAMES < n) × (n ≡ length (names_in files claims_folder)))

@@ -1,10 +1,11 @@
 //! Publishing a commit.
 
-ghost use Rattle.std.specs.Prelude.{◌≡◌, ◌<◌, ◌≤◌, ◌+◌, ◌^◌, ◌∷◌, [], IfErr, IsErrOf, List, OnOk, is_ok, ℕ};
+ghost use Rattle.std.specs.Prelude.{◌≡◌, ◌≢◌, ◌<◌, ◌≤◌, ◌+◌, ◌^◌, ◌∷◌, [], IfErr, IsErrOf, List, OnOk, is_ok, ℕ};
 ghost use Rattle.std.specs.Option.{option_copied};
-ghost use Rattle.lake_store.specs.Runs.{ChangesOnlyIn, FailsBy, IsContestedBy, IsEachMoment};
+ghost use Rattle.lake_store.specs.Runs.{ChangesOnlyIn, FailsBy, IsContestedBy, IsEachMoment, OnlyReads};
 ghost use Rattle.hudi_commit.specs.Names.{timeline_folder};
 ghost use Rattle.table_history.specs.declared.limit.LimitKind.{LimitKind};
+ghost use Rattle.table_history.specs.declared.limit.LimitKind.TheVariants.{Names};
 ghost use Rattle.table_history.specs.declared.table.Commit.{Commit};
 ghost use Rattle.target_core.specs.Conditions.{CanPublish, Fits, GoesOn};
 ghost use Rattle.target_core.specs.Gained.{CarriesAll};
@@ -93,6 +94,10 @@ pub(crate) fn publish<S: Store>(
         → IsSettledTarget (S.disk store.old) → (which : LimitKind) (number : ℕ)
         → IsErrOf result (TargetError.Limit which number)
         → Reads (S.disk store.new).files (view_of kept.old) }
+    // The time is drawn and all texts are built before the first write.
+    ensures untouched { S.tells → (which : LimitKind) (number : ℕ)
+        → IsErrOf result (TargetError.Limit which number) → which ≢ Names
+        → OnlyReads ⟦<S as Store>⟧ store.old store.new }
     ensures few { IfErr result IsOfCommit }
     ensures ahead { S.tells → OnOk result
         ((commits : List Commit) (which : LimitKind) (number : ℕ)

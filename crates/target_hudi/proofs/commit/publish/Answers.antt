@@ -3,6 +3,7 @@ use Rattle.std.specs.Prelude.{is_ok}
 use Rattle.std.specs.Option.{option_copied}
 use Rattle.std.proofs.lemmas.Result.{err_from_is_err_and}
 use Rattle.lake_basics.specs.declared.limits.TheConstants.{MAX_NAMES}
+use Rattle.lake_store.proofs.RunLaws.{reading_begins}
 use Rattle.table_history.specs.declared.limit.LimitKind.TheVariants.{Names}
 use Rattle.target_core.specs.Outcome.{Uncontested, answer_of}
 use Rattle.target_core.specs.Publishing.{Publishes}
@@ -13,7 +14,7 @@ use Rattle.target_hudi.specs.Kept.{end_of, view_of}
 use Rattle.target_hudi.proofs.TimelineLemmas.{free}
 use Rattle.target_hudi.proofs.KeepsLemmas.{advanced, fits_behind}
 use Rattle.target_hudi.proofs.PublishLemmas.{earlier}
-use Rattle.target_hudi.proofs.StoreLemmas.{contest_too, contested_error, counted_now, few_now, kept_taken, limited_by, orderly_before, passes_ahead, publishes_instant, publishes_nothing, reads_unmoved, ready, refused_by, same_instant, stands_behind, taken_answer, taken_now, writes}
+use Rattle.target_hudi.proofs.StoreLemmas.{contest_too, contested_error, counted_now, few_now, kept_taken, limited_by, only_names, orderly_before, passes_ahead, publishes_instant, publishes_nothing, reads_unmoved, ready, refused_by, same_instant, stands_behind, taken_answer, taken_now, writes}
 use Rattle.target_hudi.proofs.commit.publish.Goals as goal
 
 pub returns-in_err-new-clause-publishes : goal.returns-in_err-new-clause-publishes
@@ -24,6 +25,9 @@ returns-in_err-new-clause-publishes g c told stands settled =
     let exit = err_from_is_err_and c.from_residual.result c.from_residual.ensures.1 in
     subst (λ (done : Bool). Publishes g.S.Store hudi_meaning origin (view_of kept) (c.args.commit.now ∷ []) (Uncontested c.from_residual.result) done s s) (sym (ap is_ok exit.1))
     (publishes_nothing g.S.Store g.met.S.Store.only_now s told origin kept c.args.commit.now stands settled (Uncontested c.from_residual.result))
+
+pub returns-in_err-new-clause-untouched : goal.returns-in_err-new-clause-untouched
+returns-in_err-new-clause-untouched g c told which number limited other = reading_begins g.S.Store g.met.S.Store.only_now c.args.store.now told
 
 pub publish_commit-requires-clause-free : goal.publish_commit-requires-clause-free
 publish_commit-requires-clause-free g c told =
@@ -227,6 +231,9 @@ returns-clause-limited g c told stands settled which number limited =
     let whole = orderly_before store old new told name origin now kept next commit instant properties text v counted alone stands in
     let long = limited_by c.in-Err.error c.of_list.result c.of_list.ensures which number limited in
     reads_unmoved store old new told name origin now kept next commit instant properties text v counted alone stands (c.in-Err.ensures.unmoved told whole long.0 long.1)
+
+pub returns-clause-untouched : goal.returns-clause-untouched
+returns-clause-untouched g c told which number limited other = absurd (other (only_names c.in-Err.error c.of_list.result c.of_list.ensures which number limited))
 
 pub returns-clause-taken : goal.returns-clause-taken
 returns-clause-taken g c told contested =
