@@ -1,12 +1,15 @@
 //! The instant that a commit is written as.
 
-ghost use Rattle.std.specs.Prelude.{◌≡◌, ◌<◌, ◌+◌, ◌∷◌, [], IfErr, IfOk, IfSome, IsSome, List, OnOk, Ok, Some, ℕ, ℤ, length};
+ghost use Rattle.std.specs.Prelude.{◌≡◌, ◌<◌, ◌+◌, ◌∷◌, [], IfErr, IfOk, IfSome, IsErrOf, IsSome, List, OnOk, Ok, Some, ℕ, ℤ, length};
 ghost use Rattle.std.specs.Cmp.Lexicographic.{slice_cmp};
 ghost use Rattle.std.specs.Option.{option_copied};
 ghost use Rattle.std.specs.Ordering.{nat_cmp};
 ghost use Rattle.std.specs.declared.cmp.Ordering.TheVariants.{Less};
 ghost use Rattle.table_history.specs.Tables.{IsAfter};
 ghost use Rattle.table_history.specs.TypeTree.{ColumnTrees};
+ghost use Rattle.table_history.specs.Words.{limit_number};
+ghost use Rattle.table_history.specs.declared.kind.Kind.TheVariants.{Hudi};
+ghost use Rattle.table_history.specs.declared.limit.LimitKind.TheVariants.{Versions};
 ghost use Rattle.lake_basics.specs.declared.limits.TheConstants.{MAX_FILE_BYTES};
 ghost use Rattle.hudi_names.specs.Time.{IsPast9999, IsSomeTime, IsTime};
 ghost use Rattle.hudi_instant.specs.InstantText.{IsWritable, instant_text};
@@ -50,6 +53,8 @@ fn time_behind(alloc: Global, last: Option<&Text>, now_ms: u64) -> Result<Text, 
     ensures later { IfOk result
         (λ time. IfSome (option_copied last.entry) (λ l. slice_cmp nat_cmp l time ≡ Less)) }
     ensures refusal { IfErr result (IsTimeRefusal (option_copied last.entry) now_ms) }
+    ensures past { ((ms : ℤ) → IsNext (option_copied last.entry) now_ms ms → IsPast9999 ms)
+        → IsErrOf result (TargetError.Limit Versions (limit_number Hudi Versions)) }
 {
     match next_instant(alloc, last, now_ms) {
         Ok(time) => Ok(time),
@@ -68,6 +73,8 @@ fn next_time(alloc: Global, kept: &HudiKept, now_ms: u64) -> Result<Text, Target
     ensures later { IfOk result
         (λ time. IfSome kept.now.newest (λ l. slice_cmp nat_cmp l time ≡ Less)) }
     ensures refusal { IfErr result (IsTimeRefusal kept.now.newest now_ms) }
+    ensures past { ((ms : ℤ) → IsNext kept.now.newest now_ms ms → IsPast9999 ms)
+        → IsErrOf result (TargetError.Limit Versions (limit_number Hudi Versions)) }
 {
     let Some(last) = &kept.newest else {
         return time_behind(alloc, None, now_ms);
