@@ -19,7 +19,7 @@ use Rattle.table_history.specs.declared.limit.LimitKind.TheVariants.{Actions}
 use Rattle.lake_basics.specs.Outcome.{FailsUnlessMemory}
 use Rattle.hudi_names.specs.Errors.{malformed, is_memory, Gives}
 use Rattle.hudi_instant.specs.Instants as read
-use Rattle.hudi_instant.specs.InstantGrammar.{IsSize, IsStat, IsSkipped, AreStats, ArraysHoldStats, AreIds, ArraysHoldIds, AreReplaced, IsTextOrNone, IsExtraText, StatesInstant}
+use Rattle.hudi_instant.specs.InstantGrammar.{IsSize, IsStat, IsSkipped, AreStats, ArraysHoldStats, AreIds, ArraysHoldIds, AreReplaced, IsTextOrNone, IsExtraText, StatesInstant, mark_in}
 use Rattle.hudi_instant.specs.InstantText.{IsSoundStat, IsSound}
 use Rattle.hudi_instant.proofs.PathForms.{is_path_of_any_length-true}
 
@@ -317,6 +317,9 @@ object_by (Some x) ms is = (x, refl, is)
 object_read : (name : List ℕ) (d : Data) (ms : Members) → object_member name d ≡ Some ms → (x : Data) × (get name d ≡ Some x) × (as_object x ≡ Some ms)
 object_read name d ms is = object_by (get name d) ms is
 
+abbrev instant_made : List Stat → List (List ℕ × List ℕ) → Option (List ℕ) → Option (List ℕ) → Instant
+instant_made stats gone schema mark = record { stats = stats; replaced = gone; schema = schema; mark = mark }
+
 pub instant_read : (d : Data) (i : Instant) → StatesInstant d i → read.instant d ≡ Ok i
 unfolding read.instant
 instant_read d i h =
@@ -329,11 +332,8 @@ instant_read d i h =
       partitions_read [] i.stats (pairs h.partitions) h.stats,
       gone_read (present (codes "partitionToReplaceFileIds") d) i.replaced h.replaced,
       extra_read (present (codes "extraMetadata") d) (codes "schema") i.schema h.schema,
-      extra_read (present (codes "extraMetadata") d) (codes "lakebridge.mark") i.mark h.mark,
     )
-
-abbrev instant_made : List Stat → List (List ℕ × List ℕ) → Option (List ℕ) → Option (List ℕ) → Instant
-instant_made stats gone schema mark = record { stats = stats; replaced = gone; schema = schema; mark = mark }
+    (ap (λ mark. Ok (instant_made i.stats i.replaced i.schema mark)) (sym h.mark))
 
 pub instant_stated : (d : Data) (i : Instant) → read.instant d ≡ Ok i → StatesInstant d i
 unfolding read.instant
@@ -344,8 +344,7 @@ instant_stated d i is =
     let stats = then_ok (read.with_partitions [] (pairs members.0)) _ i members.2 in
     let gone = then_ok (read.replaced (present (codes "partitionToReplaceFileIds") d)) _ i stats.2 in
     let schema = then_ok (read.extra_text (present (codes "extraMetadata") d) (codes "schema")) _ i gone.2 in
-    let mark = then_ok (read.extra_text (present (codes "extraMetadata") d) (codes "lakebridge.mark")) _ i schema.2 in
-    let same : instant_made stats.0 gone.0 schema.0 mark.0 ≡ i = cc in
+    let same : instant_made stats.0 gone.0 schema.0 (mark_in (present (codes "extraMetadata") d)) ≡ i = let made = schema.2 in cc in
     let has = object_at (codes "partitionToWriteStats") d held.0 members.0 (required_ok (get (codes "partitionToWriteStats") d) held.0 held.1) (required_ok (as_object held.0) members.0 members.1) in
     let all = partitions_stated [] stats.0 (pairs members.0) stats.1 in
     subst (StatesInstant d) same
@@ -355,7 +354,7 @@ instant_stated d i is =
       stats = subst (ArraysHoldStats (pairs members.0)) (sym all.2) all.1;
       replaced = gone_stated (present (codes "partitionToReplaceFileIds") d) gone.0 gone.1;
       schema = extra_stated (present (codes "extraMetadata") d) (codes "schema") schema.0 schema.1;
-      mark = extra_stated (present (codes "extraMetadata") d) (codes "lakebridge.mark") mark.0 mark.1;
+      mark = refl;
     })
 
 -- ---- what an instant that was read is fit for

@@ -22,6 +22,7 @@ use Rattle.hudi_instant.specs.declared.instant.Instant.{Instant}
 use Rattle.hudi_instant.specs.declared.instant.Stat.{Stat}
 use Rattle.hudi_instant.proofs.PathForms.{is_path_of_any_length-true}
 use Rattle.hudi_instant.specs.Instants.{stat, with_stats, with_partitions, with_ids, with_replaced, extra_text, instant, json_instant}
+use Rattle.hudi_instant.specs.InstantGrammar.{mark_in}
 use Rattle.hudi_instant.specs.InstantText.{stat_data, onto_group, runs_by, arrays_by, partition_of, replaced_partition, id_data, put_text, extra_data, instant_data, stat_cmp, replaced_cmp, IsSoundStat, IsWritable}
 
 -- ---- runs
@@ -337,7 +338,7 @@ schema_again None (Some s) = refl
 schema_again (Some m) None = refl
 schema_again (Some m) (Some s) = refl
 
-mark_again : (mark schema : Option (List ℕ)) → extra_text (Some (extra_data mark schema)) (codes "lakebridge.mark") ≡ Ok mark
+mark_again : (mark schema : Option (List ℕ)) → mark_in (Some (extra_data mark schema)) ≡ mark
 mark_again None None = refl
 mark_again None (Some s) = refl
 mark_again (Some m) None = refl

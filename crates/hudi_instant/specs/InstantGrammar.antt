@@ -1,5 +1,5 @@
 -- The grammar of a completed commit or replacecommit (Hudi technical specification, commit metadata): which JSON states which instant.
-use Rattle.std.specs.Prelude.{◌≡◌, ℕ, ◌<◌, ◌^◌, ◌⊎◌, List, [], ◌∷◌, ◌++◌, codes, Option, Some, None, IsSome}
+use Rattle.std.specs.Prelude.{◌≡◌, ℕ, ◌<◌, ◌^◌, ◌⊎◌, List, [], ◌∷◌, ◌++◌, codes, Option, Some, None, IsSome, option_and_then}
 use Rattle.serde_json.specs.Data.{Data, Items, Members}
 use Rattle.serde_json.specs.Find.{get, as_str, as_array, as_object}
 use Rattle.json_reading.specs.Json.{present, count, items, pairs, text_member, count_member, object_member}
@@ -62,6 +62,10 @@ abbrev pub IsExtraText : Option Data → List ℕ → Option (List ℕ) → Type
 IsExtraText None name text = text ≡ None
 IsExtraText (Some extra) name text = IsSome (as_object extra) × IsTextOrNone (present name extra) text
 
+-- The mark that stands in the extra metadata. What isn't a text there is none, since the marks of a table's targets are no part of the format.
+abbrev pub mark_in : Option Data → Option (List ℕ)
+mark_in extra = option_and_then (text_member (codes "lakebridge.mark")) extra
+
 -- the JSON of an instant
 pub record StatesInstant (d : Data) (i : Instant) : Type 0 where
   pub partitions : Members
@@ -69,4 +73,4 @@ pub record StatesInstant (d : Data) (i : Instant) : Type 0 where
   pub stats : ArraysHoldStats (pairs partitions) i.stats
   pub replaced : AreReplaced (present (codes "partitionToReplaceFileIds") d) i.replaced
   pub schema : IsExtraText (present (codes "extraMetadata") d) (codes "schema") i.schema
-  pub mark : IsExtraText (present (codes "extraMetadata") d) (codes "lakebridge.mark") i.mark
+  pub mark : i.mark ≡ mark_in (present (codes "extraMetadata") d)

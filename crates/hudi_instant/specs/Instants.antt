@@ -10,6 +10,7 @@ use Rattle.hudi_names.specs.declared.error.HudiError.TheVariants.{Limit}
 use Rattle.hudi_names.specs.Errors.{malformed}
 use Rattle.hudi_instant.specs.declared.instant.Instant.{Instant}
 use Rattle.hudi_instant.specs.declared.instant.Stat.{Stat}
+use Rattle.hudi_instant.specs.InstantGrammar.{mark_in}
 use Rattle.json_reading.specs.Json.{present, count, items, pairs, json, text}
 use Rattle.lake_basics.specs.Outcome.{◌>>=◌, required}
 
@@ -86,8 +87,7 @@ instant d = do
   stats ← with_partitions [] (pairs members)
   gone ← replaced (present (codes "partitionToReplaceFileIds") d)
   schema ← extra_text (present (codes "extraMetadata") d) (codes "schema")
-  mark ← extra_text (present (codes "extraMetadata") d) (codes "lakebridge.mark")
-  Ok (record { stats = stats; replaced = gone; schema = schema; mark = mark })
+  Ok (record { stats = stats; replaced = gone; schema = schema; mark = mark_in (present (codes "extraMetadata") d) })
 
 -- so many write stats and replaced ids are read
 abbrev pub within_actions : Instant → Result Instant HudiError

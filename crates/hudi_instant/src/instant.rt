@@ -7,13 +7,13 @@ ghost use Rattle.json_reading.specs.Json.{items, pairs, present, text, json};
 ghost use Rattle.lake_basics.specs.Outcome.{required};
 ghost use Rattle.hudi_names.specs.Errors.{Gives, GivesBy, malformed};
 ghost use Rattle.serde_json.specs.Data.{Data};
-ghost use Rattle.hudi_instant.specs.InstantGrammar.{StatesInstant};
+ghost use Rattle.hudi_instant.specs.InstantGrammar.{StatesInstant, mark_in};
 ghost use Rattle.hudi_instant.specs.InstantText.{IsSound};
 ghost use Rattle.hudi_instant.specs.declared.instant.Instant.{Instant};
 ghost use Rattle.hudi_instant.specs.Instants.{size_number, text_member, data_path, within_actions, size, stat, with_stats, with_partitions, with_ids, with_replaced, replaced, extra_text, instant, json_instant};
 
 use hudi_names::{HudiError, MALFORMED};
-use json_reading::{count_in, present_of, read_json};
+use json_reading::{count_in, present_of, read_json, text_of};
 use lake_basics::limits::MAX_ACTIONS;
 use lake_basics::{Items, ReadError, Text};
 use serde_json::{Map, Value};
@@ -200,6 +200,19 @@ fn extra_text(alloc: Global, extra: Option<&Value>, name: &str) -> Result<Option
     }
 }
 
+/// The mark in the extra metadata. What isn't a text there is none.
+fn mark_in(alloc: Global, extra: Option<&Value>) -> Result<Option<Text>, HudiError>
+    ensures { Gives result (Ok (mark_in (option_map (λ v. view v.now) extra.entry))) }
+{
+    let Some(extra) = extra else {
+        return Ok(None);
+    };
+    match text_of(extra, "lakebridge.mark") {
+        None => Ok(None),
+        Some(mark) => Ok(Some(Text::from_str(alloc, mark)?)),
+    }
+}
+
 #[tactic(auto, unfolding(crate::specs::Instants::instant))]
 fn instant_in(alloc: Global, value: &Value) -> Result<Instant, HudiError>
     ensures { Gives result (instant (view value.now)) }
@@ -212,7 +225,7 @@ fn instant_in(alloc: Global, value: &Value) -> Result<Instant, HudiError>
     let replaced = replaced_in(alloc, value)?;
     let extra = present_of(value, "extraMetadata");
     let schema = extra_text(alloc, extra, "schema")?;
-    let mark = extra_text(alloc, extra, "lakebridge.mark")?;
+    let mark = mark_in(alloc, extra)?;
     Ok(Instant {
         stats,
         replaced,
