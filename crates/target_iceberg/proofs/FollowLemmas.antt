@@ -1,6 +1,6 @@
 -- What a target holds behind commits, and the first of them that changes a type.
 use Rattle.std.proofs.Common.{◌≡◌, ◌⊎◌, inl, inr, ⊎_elim, ℕ, suc, ◌<◌, ◌+◌, Bool, true, false, cond, ◌&&◌, ◌||◌, List, [], ◌∷◌, ◌++◌, length, get_or, drop, map, Contains, Option, Some, None, refl, sym, ap, subst, ◌∙◌, arith}
-use Rattle.std.specs.Prelude.{ℤ, pos, negsuc, ◌+ℤ◌, ◌<ℤ◌, is_some, not, unwrap_or}
+use Rattle.std.specs.Prelude.{ℤ, pos, negsuc, ◌+ℤ◌, ◌<ℤ◌, ◌≤ℤ◌, is_some, not, unwrap_or}
 use Rattle.std.specs.List.{list_all}
 use Rattle.std.specs.Cmp.Lexicographic.{pointwise}
 use Rattle.std.specs.Ordering.{int_eq}
@@ -14,6 +14,7 @@ use Rattle.iceberg_metadata.specs.Judging.{are_distinct, is_among}
 use Rattle.iceberg_metadata.specs.Paths.{held_schema}
 use Rattle.iceberg_metadata.specs.Schemas.{HeldSchema}
 use Rattle.iceberg_version.specs.Sound.{have_first_ids, is_own_image, is_under}
+use Rattle.iceberg_field_ids.proofs.IcebergGiven.{column_paths_wide}
 use Rattle.iceberg_field_ids.specs.Ids.{PassesGreatest, new_count}
 use Rattle.schema_map.specs.Paths.{Path, column_paths, known_id}
 use Rattle.schema_map.specs.Image.{wide_columns}
@@ -22,11 +23,11 @@ use Rattle.table_history.specs.TypeEqLaws.{columns_eq-Decides}
 use Rattle.table_history.specs.TypeTree.{ColumnTrees}
 use Rattle.table_history.specs.declared.table.Commit.{Commit}
 use Rattle.table_history.proofs.RowListLemmas.{Contains-cases, Contains-head, Contains-none, Contains-tail}
-use Rattle.target_iceberg.specs.Fitting.{HasTypeChange, HeldState, IdSchema, IsFirstChange, IsFirstTypeChange, held_behind, is_current, state_behind, state_with}
-use Rattle.target_iceberg.specs.Following.{AreFirst, AreHeldBy, IsChangeOf, IsReady}
+use Rattle.target_iceberg.specs.Fitting.{ChangesType, HasTypeChange, HeldState, IdSchema, IsFirstChange, IsFirstTypeChange, held_behind, is_current, may_become, state_behind, state_with, stated_in, type_at}
+use Rattle.target_iceberg.specs.Following.{AreFirst, AreHeldBy, IsAtCurrent, IsChangeOf, IsReady}
 use Rattle.target_iceberg.specs.Newest.{HeldShape, IsTop, is_changed, with_schema, with_schemas}
 use Rattle.target_iceberg.proofs.NewestLemmas.{next_of, path_decides}
-use Rattle.target_iceberg.proofs.TypeLemmas.{first_change, no_change}
+use Rattle.target_iceberg.proofs.TypeLemmas.{become_self, first_change, here as held_last, no_change, of_both, same_type}
 
 -- ---- the ids of held schemas
 
@@ -180,9 +181,9 @@ pub own_image : (table : ColumnTrees) → is_own_image table ≡ true → wide_c
 own_image table is = (columns_eq-Decides (wide_columns table) table).0 is
 
 -- without a stated schema, behind a commit
-pub held_still : (shapes : Path → Option HeldShape) (current : Option ColumnTrees) (count : ℤ) (state : HeldState) → AreHeldBy shapes current count state → (state.current ≡ Some state.schema) × (wide_columns state.schema ≡ state.schema) → AreHeldBy shapes current count (state_with state state.schema)
-held_still shapes current count state held ready =
-    held_same shapes current count state held state.schema state.schema (sym ready.1) (ap (λ (o : Option ColumnTrees). is_current o state.schema) (held.current_is ∙ ready.0) ∙ (columns_eq-Decides state.schema state.schema).1 refl)
+pub held_still : (shapes : Path → Option HeldShape) (current : Option ColumnTrees) (count : ℤ) (state : HeldState) → AreHeldBy shapes current count state → IsAtCurrent state → AreHeldBy shapes current count (state_with state state.schema)
+held_still shapes current count state held at =
+    held_same shapes current count state held state.schema state.schema (sym at.own) (ap (λ (o : Option ColumnTrees). is_current o state.schema) (held.current_is ∙ at.current) ∙ (columns_eq-Decides state.schema state.schema).1 refl)
 
 -- ---- a commit more
 
@@ -190,17 +191,9 @@ module _ (state : HeldState) (commit : Commit) where
   pub behind_none : commit.change.schema ≡ None → state_with state state.schema ≡ state_behind state commit
   behind_none none = ap (λ (o : Option ColumnTrees). state_with state (unwrap_or o state.schema)) (sym none)
 
-  pub behind_some : (stated : ColumnTrees) → commit.change.schema ≡ Some stated → state_with state stated ≡ state_behind state commit
-  behind_some stated some = ap (λ (o : Option ColumnTrees). state_with state (unwrap_or o state.schema)) (sym some)
-
-  pub none_changes : commit.change.schema ≡ None → (name : List ℕ) → HasTypeChange state commit name → ⊥
-  none_changes none name change = let both : None ≡ Some change.0 = sym none ∙ change.1 in absurd (cc)
-
-  pub some_changes : (stated : ColumnTrees) → commit.change.schema ≡ Some stated → ((name : List ℕ) → IsFirstTypeChange state.held stated name → ⊥) → (name : List ℕ) → HasTypeChange state commit name → ⊥
-  some_changes stated some none name change =
-      let both : Some stated ≡ Some change.0 = sym some ∙ change.1 in
-      let one : change.0 ≡ stated = cc in
-      none name (subst (λ (s : ColumnTrees). IsFirstTypeChange state.held s name) one change.2)
+  -- without a stated schema nothing changes where the one before is the current one
+  pub none_changes : commit.change.schema ≡ None → IsAtCurrent state → (name : List ℕ) → HasTypeChange state commit name → ⊥
+  none_changes none at name change = at.none name (subst (λ (o : Option ColumnTrees). IsFirstTypeChange state.held (unwrap_or o state.schema) name) none change)
 
 top_same : (f g : Path → Bool) (paths : List Path) (o : Option (List ℕ)) → ((path : Path) → f path ≡ g path) → IsTop f paths o → IsTop g paths o
 top_same f g paths None same top = λ path there. sym (same path) ∙ top path there
@@ -228,6 +221,63 @@ module _ (shapes : Path → Option HeldShape) (current : Option ColumnTrees) (co
   pub one_changes : (name : List ℕ) → IsTop (λ path. is_changed (shapes path) (with_schema None (pos 0, image) path)) (column_paths image) (Some name) → IsFirstTypeChange state.held stated name
   one_changes name top = first_change state.held held.first stated name (of_stated (Some name) top)
 
+-- ---- a held schema changes no type
+
+-- What changes a type in the Image of a schema changes it in the schema.
+change_back : (held : List IdSchema) (stated : ColumnTrees) (path : Path) → ChangesType held (wide_columns stated) path → ChangesType held stated path
+change_back held stated path change = record {
+  before = change.before;
+  was = change.was;
+  after = change.after;
+  is = ap (λ (s : ColumnTrees). type_at s path) (sym (columns_twice stated)) ∙ change.is;
+  other = change.other;
+}
+
+change_to : (held : List IdSchema) (stated : ColumnTrees) (path : Path) → ChangesType held stated path → ChangesType held (wide_columns stated) path
+change_to held stated path change = record {
+  before = change.before;
+  was = change.was;
+  after = change.after;
+  is = ap (λ (s : ColumnTrees). type_at s path) (columns_twice stated) ∙ change.is;
+  other = change.other;
+}
+
+first_back : (held : List IdSchema) (stated : ColumnTrees) (name : List ℕ) → IsFirstTypeChange held (wide_columns stated) name → IsFirstTypeChange held stated name
+first_back held stated name change = record {
+  front = change.front;
+  path = change.path;
+  behind = change.behind;
+  split = sym (column_paths_wide stated) ∙ change.split;
+  here = change_back held stated change.path change.here;
+  none = λ other there never. change.none other there (change_to held stated other never);
+  below = change.below;
+  is = change.is;
+}
+
+module _ (state : HeldState) (stated : ColumnTrees) (first : AreFirst state.held) where
+  abbrev last : IdSchema
+  last = (pos (length state.held), wide_columns stated)
+
+  -- Of all schemas that have a path the one that is held behind the others is the newest.
+  never_newest : (path : Path) → ChangesType (state.held ++ (pos (length state.held), wide_columns stated) ∷ []) (wide_columns stated) path → ⊥
+  never_newest path change =
+      let at : type_at (wide_columns stated) path ≡ Some change.after = ap (λ (s : ColumnTrees). type_at s path) (sym (columns_twice stated)) ∙ change.is in
+      let newer : pos (length state.held) ≤ℤ change.was.schema.0 = change.was.newest last change.after (held_last state.held last path) at in
+      ⊎_elim
+      (λ before. let under = first.under change.was.schema before in absurd (omega (arith, ints, newer, under)))
+      (λ (here : last ≡ change.was.schema).
+      let same : change.after ≡ change.before = same_type (type_at (wide_columns stated) path) change.after change.before at (ap (λ (s : IdSchema). type_at s.1 path) here ∙ change.was.at) in
+      false≢true (sym change.other ∙ ap (may_become change.before) same ∙ become_self change.before))
+      (of_both state.held last path change.was.schema change.was.holds)
+
+  -- A schema that was taken over changes no type of those that are held with it.
+  pub still_none : ((name : List ℕ) → IsFirstTypeChange state.held stated name → ⊥) → (name : List ℕ) → IsFirstTypeChange (held_behind state stated) (wide_columns stated) name → ⊥
+  still_none none name change = by (is_current state.current (wide_columns stated)) refl change
+    where
+      by : (b : Bool) → is_current state.current (wide_columns stated) ≡ b → IsFirstTypeChange (cond b state.held (state.held ++ (pos (length state.held), wide_columns stated) ∷ [])) (wide_columns stated) name → ⊥
+      by true is change = none name (first_back state.held stated name change)
+      by false is change = never_newest change.path change.here
+
 -- ---- along the commits
 
 -- Behind the first commits, so many, the target holds this, and the first change of all of them is that of the rest.
@@ -235,7 +285,7 @@ pub record AtCommit (state : HeldState) (table : ColumnTrees) (index : ℕ) (sha
   pub here : HeldState
   pub held : AreHeldBy shapes current count here
   pub before : index ≡ 0 → here.schema ≡ table
-  pub behind : 0 < index → (here.current ≡ Some here.schema) × (wide_columns here.schema ≡ here.schema)
+  pub behind : 0 < index → IsAtCurrent here
   pub to : (name : List ℕ) → IsFirstChange state commits name → IsFirstChange here rest name
   pub back : (name : List ℕ) → IsFirstChange here rest name → IsFirstChange state commits name
 
@@ -254,7 +304,11 @@ module _ (state : HeldState) (table : ColumnTrees) (index : ℕ) (shapes : Path 
     here = state_behind s.here commit;
     held = held;
     before = λ is. absurd (omega (arith, is));
-    behind = λ _. (refl, columns_twice (unwrap_or commit.change.schema s.here.schema));
+    behind = λ _. record {
+      current = refl;
+      own = columns_twice (stated_in s.here commit);
+      none = still_none s.here (stated_in s.here commit) s.held.first none;
+    };
     to = λ name h. ⊎_elim (λ (change : HasTypeChange s.here commit name). absurd (none name change)) (λ later. later.1) (s.to name h);
     back = λ name h. s.back name (inr (none, h));
   }

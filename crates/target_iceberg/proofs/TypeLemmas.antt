@@ -1,7 +1,8 @@
 -- Which type a column path has newest among held schemas, and which types it may get.
 use Rattle.std.proofs.Common.{◌≡◌, ◌⊎◌, inl, inr, ⊎_elim, ℕ, Bool, true, false, List, [], ◌∷◌, ◌++◌, Contains, Option, Some, None, refl, sym, ap, subst, ◌∙◌, append_assoc, arith}
-use Rattle.std.specs.Prelude.{ℤ, pos, ◌≤ℤ◌, int_lt, not}
+use Rattle.std.specs.Prelude.{ℤ, pos, ◌≤ℤ◌, ◌==◌, ◌&&◌, int_lt, nat_le, not}
 use Rattle.std.proofs.lemmas.Bool.{cases_Bool, cond-false, cond-true, false≢true}
+use Rattle.std.proofs.lemmas.Bool.Decides.{Decides-eqb, nat_tests}
 use Rattle.std.proofs.lemmas.Int.{ints}
 use Rattle.std.proofs.lemmas.List.{append-nil}
 use Rattle.std.proofs.lemmas.List.Elements.{Contains-append_cases, Contains-append_left, Contains-append_right}
@@ -37,6 +38,31 @@ as_shapes (tree.list_of t b) (tree.list_of u c) = refl
 as_shapes (tree.map_of k v b) (tree.map_of l w c) = refl
 as_shapes _ _ = refl
 
+decimal_self : (p s : ℕ) → ((s == s) && nat_le p p) ≡ true
+decimal_self p s =
+    let scale : (s == s) ≡ true = (Decides-eqb s s).1 refl in
+    let precision : nat_le p p ≡ true = grind (arith, nat_tests) in
+    λ i. scale i && precision i
+
+-- a column may stay of its type
+pub become_self : (t : TypeTree) → may_become t t ≡ true
+become_self tree.boolean = refl
+become_self tree.byte = refl
+become_self tree.short = refl
+become_self tree.int = refl
+become_self tree.long = refl
+become_self tree.float = refl
+become_self tree.double = refl
+become_self (tree.decimal p s) = decimal_self p s
+become_self tree.text = refl
+become_self tree.binary = refl
+become_self tree.date = refl
+become_self tree.timestamp = refl
+become_self tree.timestamp_ntz = refl
+become_self (tree.struct_of cs) = refl
+become_self (tree.list_of t b) = refl
+become_self (tree.map_of k v b) = refl
+
 -- ---- the newest type
 
 -- Of these schemas this one has the path, with this type, and no newer one has it.
@@ -55,7 +81,7 @@ Best held path (Some h) = Newest held path h
 two_types : (o : Option TypeTree) (t : TypeTree) → o ≡ None → o ≡ Some t → ⊥
 two_types o t none some = let both : None ≡ Some t = sym none ∙ some in absurd (cc)
 
-same_type : (o : Option TypeTree) (t u : TypeTree) → o ≡ Some t → o ≡ Some u → t ≡ u
+pub same_type : (o : Option TypeTree) (t u : TypeTree) → o ≡ Some t → o ≡ Some u → t ≡ u
 same_type o t u one other = let both : Some t ≡ Some u = sym one ∙ other in cc
 
 before_it : (a b : ℤ) → int_lt a b ≡ true → a ≤ℤ b
@@ -71,10 +97,10 @@ itself : (a : ℤ) → a ≤ℤ a
 itself a = omega (arith, ints)
 
 module _ (held : List IdSchema) (schema : IdSchema) (path : Path) where
-  of_both : (other : IdSchema) → Contains (held ++ schema ∷ []) other → Contains held other ⊎ (schema ≡ other)
+  pub of_both : (other : IdSchema) → Contains (held ++ schema ∷ []) other → Contains held other ⊎ (schema ≡ other)
   of_both other there = ⊎_elim inl (λ last. ⊎_elim inr (λ none. absurd (Contains-none other none)) (Contains-cases schema [] other last)) (Contains-append_cases held (schema ∷ []) other there)
 
-  here : Contains (held ++ schema ∷ []) schema
+  pub here : Contains (held ++ schema ∷ []) schema
   here = Contains-append_right held (schema ∷ []) schema (Contains-head schema [])
 
   best_step : (o : Option HeldShape) (t : Option TypeTree) → type_at schema.1 path ≡ t → Best held path o → Best (held ++ schema ∷ []) path (with_type o schema.0 t)

@@ -134,9 +134,9 @@ pub record IsFirstTypeChange (held : List IdSchema) (stated : ColumnTrees) (name
   pub below : Path
   pub is : path ≡ name ∷ below
 
--- The commit states a schema in which the type of a column changes so.
+-- In the schema after the commit, whether the commit states it or not, the type of a column changes so.
 abbrev pub HasTypeChange : HeldState → Commit → List ℕ → Type 0
-HasTypeChange state commit name = (stated : ColumnTrees) × (commit.change.schema ≡ Some stated) × IsFirstTypeChange state.held stated name
+HasTypeChange state commit name = IsFirstTypeChange state.held (stated_in state commit) name
 
 -- This is the column of the first of the commits with such a change.
 abbrev pub IsFirstChange : HeldState → List Commit → List ℕ → Type 0

@@ -5,7 +5,7 @@ use Rattle.schema_map.specs.Paths.{Path}
 use Rattle.schema_map.specs.Image.{wide_columns}
 use Rattle.table_history.specs.TypeTree.{ColumnTrees}
 use Rattle.table_history.specs.declared.table.Commit.{Commit}
-use Rattle.target_iceberg.specs.Fitting.{HasTypeChange, HeldState, IdSchema, IsFirstChange, kinds_of, state_behind}
+use Rattle.target_iceberg.specs.Fitting.{HasTypeChange, HeldState, IdSchema, IsFirstChange, IsFirstTypeChange, kinds_of, state_behind, stated_in}
 use Rattle.target_iceberg.specs.Newest.{HeldShape, with_schemas}
 
 -- These columns are of these kinds in the target's schema, and it has a commit where that is so.
@@ -25,10 +25,21 @@ pub record AreHeldBy (shapes : Path → Option HeldShape) (current : Option Colu
   pub count_is : count ≡ pos (length state.held)
   pub first : AreFirst state.held
 
+-- The target's schema is the current one, in Iceberg's types, and changes no type.
+pub record IsAtCurrent (state : HeldState) : Type 0 where
+  pub current : state.current ≡ Some state.schema
+  pub own : wide_columns state.schema ≡ state.schema
+  pub none : (name : List ℕ) → ¬ IsFirstTypeChange state.held state.schema name
+
 -- The target's schema is the table's before a first commit, and the current one behind a commit.
 pub record IsReady (state : HeldState) (table : ColumnTrees) (first : Bool) : Type 0 where
   pub before : first ≡ true → state.schema ≡ table
-  pub behind : first ≡ false → (state.current ≡ Some state.schema) × (wide_columns state.schema ≡ state.schema)
+  pub behind : first ≡ false → IsAtCurrent state
+
+-- This is the schema after the commit in Iceberg's types. None is given where the commit states none and the one before is the current one.
+abbrev pub IsImageAfter : HeldState → Commit → Option ColumnTrees → Type 0
+IsImageAfter state commit None = (commit.change.schema ≡ None) × IsAtCurrent state
+IsImageAfter state commit (Some image) = image ≡ wide_columns (stated_in state commit)
 
 -- This is the column of the first path that the commit changes the type of. Where there is none, this is what the target holds behind the commit.
 abbrev pub IsPassed : (Path → Option HeldShape) → Option ColumnTrees → ℤ → HeldState → Commit → Option (List ℕ) → Type 0

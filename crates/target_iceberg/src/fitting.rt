@@ -9,7 +9,7 @@ ghost use Rattle.table_history.specs.TypeTree.{ColumnTrees};
 ghost use Rattle.target_core.specs.Conditions.{Fits};
 ghost use Rattle.target_core.specs.Refusals.{IsFitsRefusal};
 ghost use Rattle.target_iceberg.specs.Fitting.{ChangesKinds, ChangesPartition, HeldState, Unfit, is_current, state_of, state_with};
-ghost use Rattle.target_iceberg.specs.Following.{AreKindsOf, AreHeldBy, IsChangeOf, IsPassed, IsReady};
+ghost use Rattle.target_iceberg.specs.Following.{AreKindsOf, AreHeldBy, IsChangeOf, IsImageAfter, IsPassed, IsReady};
 ghost use Rattle.target_iceberg.specs.Newest.{shape_at};
 
 use crate::newest::{NewestShapes, keep_schema, newest_shapes, type_change};
@@ -109,6 +109,28 @@ fn image_of(alloc: Global, schema: &Schema) -> Result<Schema, AllocError>
     }
 }
 
+/// The schema after a commit, in Iceberg's types: the one that the commit states, or else after a
+/// first one the table's. A later commit that states none has the schema of the one before it, and
+/// so none is given.
+fn image_after(
+    alloc: Global,
+    table: &Schema,
+    commit: &Commit,
+    first: bool,
+) -> Result<Option<Schema>, AllocError>
+    requires { is_own_image table.now ≡ true }
+    ensures { IfOk result (λ image. (state : HeldState) → IsReady state table.now first
+        → IsImageAfter state commit.now image) }
+{
+    if let Some(stated) = &commit.change.schema {
+        return Ok(Some(image_of(alloc, stated)?));
+    }
+    if first {
+        return Ok(Some(table.copy(alloc)?));
+    }
+    Ok(None)
+}
+
 fn has_id(schema: &(i32, Schema, Ids), id: i32) -> bool
     ensures { result ≡ int_eq schema.now.0 id }
 {
@@ -185,26 +207,8 @@ impl HeldSchemas {
         Ok(())
     }
 
-    /// Holds the table's schema behind a first commit that states none.
-    fn hold_table(&mut self, alloc: Global, table: &Schema, first: bool) -> Result<(), AllocError>
-        requires own { is_own_image table.now ≡ true }
-        requires few { self.old.count <ℤ pos (2 ^ 62) }
-        ensures held { OnOk result ((state : HeldState)
-            → AreHeldBy (shape_at self.old.newest) self.old.current self.old.count state
-            → IsReady state table.now first
-            → AreHeldBy (shape_at self.new.newest) self.new.current self.new.count
-            (state_with state state.schema)) }
-        ensures count { OnOk result (self.new.count ≤ℤ (self.old.count +ℤ pos 1)) }
-    {
-        if !first {
-            return Ok(());
-        }
-        let image = table.copy(alloc)?;
-        self.hold(alloc, image)
-    }
-
-    /// Holds what a commit states. The top-level column of the first column path whose type changes,
-    /// if one does.
+    /// Holds the schema after a commit. The top-level column of the first column path whose type
+    /// changes in it, if one does.
     fn pass(
         &mut self,
         alloc: Global,
@@ -220,11 +224,9 @@ impl HeldSchemas {
             → IsPassed (shape_at self.new.newest) self.new.current self.new.count state commit.now change) }
         ensures count { OnOk result (self.new.count ≤ℤ (self.old.count +ℤ pos 1)) }
     {
-        let Some(stated) = &commit.change.schema else {
-            self.hold_table(alloc, table, first)?;
+        let Some(image) = image_after(alloc, table, commit, first)? else {
             return Ok(None);
         };
-        let image = image_of(alloc, stated)?;
         if let Some(name) = type_change(alloc, &self.newest, &image)? {
             return Ok(Some(name));
         }
