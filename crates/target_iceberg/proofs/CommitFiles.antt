@@ -29,7 +29,7 @@ use Rattle.target_core.specs.Folders.{after_crash}
 use Rattle.target_core.specs.Gained.{CarriesAll}
 use Rattle.target_core.specs.Step.{IsBefore, IsBeforeOrBehind, IsBehind}
 use Rattle.target_core.specs.Views.{Origin, View}
-use Rattle.target_iceberg.specs.CountLemmas.{commits_newest}
+use Rattle.target_iceberg.specs.CountLemmas.{commits_newest, commits_read}
 use Rattle.target_iceberg.specs.Fitting.{Unfit, state_of}
 use Rattle.target_iceberg.specs.IcebergMeaning.{iceberg_meaning}
 use Rattle.target_iceberg.specs.Kept.{HoldsEnd, IsCounted, IsFirst, StandsFor}
@@ -41,12 +41,13 @@ use Rattle.target_iceberg.specs.SameLemmas.{SameReached, files_back, goes_on_too
 use Rattle.target_iceberg.specs.SameLemmas as same
 use Rattle.target_iceberg.specs.SettledLemmas.{dirty_or_clean, leftover_name, name_in, never_leftover, not_both, reached_clean}
 use Rattle.target_iceberg.specs.Writes.{Writes}
+use Rattle.target_iceberg.proofs.FewManifests.{few_written}
 use Rattle.target_iceberg.proofs.Written as behind
 use Rattle.target_iceberg.proofs.Written.{IsCommitted, published_writes}
 use Rattle.target_iceberg.proofs.WrittenFiles.{carried_too, version_at, version_held}
 use Rattle.target_iceberg.proofs.WrittenNames.{one_version, version_list, version_manifest, version_staged}
 use Rattle.target_iceberg.proofs.WrittenNext.{few_rows, few_texts}
-use Rattle.target_iceberg.proofs.WrittenStart.{starts}
+use Rattle.target_iceberg.proofs.WrittenStart.{distinct_live, starts}
 
 -- ---- names
 
@@ -286,8 +287,10 @@ module _ (kept next : IcebergKept) (origin : Origin) (now : ℕ) (commit : Commi
   made_by before after is = subst (λ (f : VersionFiles). IsPublished f before after) v.files is
 
   -- what is written has come, and nothing else
-  pub writes_now : (before after : Files) → IsPublished new before after → Writes (end_of kept) before origin now commit after
-  writes_now before after is = published_writes (end_of kept) before after origin now commit v.written v.is (made_by before after is)
+  pub writes_now : (id location : List ℕ) (before after : Files) → StandsFor id location kept before → IsPublished new before after → Writes (end_of kept) before origin now commit after
+  writes_now id location before after stands is =
+      published_writes (end_of kept) before after origin now commit v.written v.is (made_by before after is)
+      (few_written (end_of kept) commit.change v.is.schemas v.is.fields v.is.columns v.written.texts v.written.manifests v.is.manifests (distinct_live id location kept before stands))
 
   -- ---- over files that stand for what is kept
 
@@ -309,6 +312,10 @@ module _ (kept next : IcebergKept) (origin : Origin) (now : ℕ) (commit : Commi
       earlier = λ number change standing within h. carries_before disk.files after alike id number change standing h;
     }
 
+    -- Where only what is written aside has changed, no version has come.
+    pub same_count : (now : Disk) → Keeps (IsNotAside new) disk now → commits_in now.files ≡ kept.version
+    same_count now keeps = commits_read now.files (view_of kept) (before_by now.files (disk_before disk kept.version new short_names settled free new_later now keeps)).reads
+
     module _ (after : Files) (is : IsPublished new disk.files after) where
       committed : IsCommitted disk after id location kept origin now commit
       unfolding writes_now published_writes
@@ -318,7 +325,7 @@ module _ (kept next : IcebergKept) (origin : Origin) (now : ℕ) (commit : Commi
         plain = plain;
         can = can;
         fits = fits;
-        writes = writes_now disk.files after is;
+        writes = writes_now id location disk.files after stands is;
         back = v.back;
         within = v.within;
         small = v.small;

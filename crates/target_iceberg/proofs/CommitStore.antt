@@ -1,6 +1,6 @@
 -- What a commit leaves of the store, where it is refused before it writes, and where its version is published.
-use Rattle.std.proofs.Common.{◌≡◌, ◌≢◌, ◌⊎◌, inl, inr, ℕ, ◌+◌, ◌≤◌, Bool, true, false, List, [], ◌∷◌, ◌++◌, refl, sym, arith}
-use Rattle.std.specs.Prelude.{Err, IsErrOf, Ok, OnOk, Result, is_ok}
+use Rattle.std.proofs.Common.{◌≡◌, ◌≢◌, ◌⊎◌, inl, inr, ⊎_elim, ℕ, ◌+◌, ◌<◌, ◌≤◌, Bool, true, false, List, [], ◌∷◌, ◌++◌, refl, sym, arith}
+use Rattle.std.specs.Prelude.{Err, IfErr, IsErrOf, Ok, OnOk, Result, is_ok}
 use Rattle.std.specs.FinMap as map
 use Rattle.lake_store.specs.Cause.{HasContest, HasFault}
 use Rattle.lake_store.specs.Disk.{Files, MayLeave}
@@ -19,11 +19,13 @@ use Rattle.target_core.specs.Conditions.{CanPublish, Fits}
 use Rattle.target_core.specs.Folders.{MayLeaveIn, after_crash}
 use Rattle.target_core.specs.Gained.{CarriesAll}
 use Rattle.target_core.specs.Publishing.{Publishes}
+use Rattle.target_core.specs.Refusals.{IsCommitRefusal}
 use Rattle.target_core.specs.Step.{IsBefore}
 use Rattle.target_core.specs.Views.{Origin}
 use Rattle.target_core.specs.declared.target.TargetError.{TargetError}
 use Rattle.target_core.specs.declared.target.TargetError.TheVariants.{Contested, Limit, Memory, StoreFault, Unsupported}
 use Rattle.target_core.proofs.OneStep.{publishes_none, publishes_one}
+use Rattle.target_iceberg.specs.CountLemmas.{commits_read}
 use Rattle.target_iceberg.specs.Fitting.{Unfit, state_of}
 use Rattle.target_iceberg.specs.IcebergMeaning.{iceberg_meaning}
 use Rattle.target_iceberg.specs.Kept.{IsCounted, StandsFor}
@@ -69,9 +71,25 @@ never_contested passes r e is h contested = never_contest passes e h (one_error 
 pub never_fault : {T : Type 0} (passes : LimitKind → ℕ → Type 0) (r : Result T TargetError) (e : TargetError) → r ≡ Err e → IsVersionRefusal passes e → IsErrOf r StoreFault → ⊥
 never_fault passes r e is h fault = never_fail passes e h (one_error r e StoreFault is fault)
 
+-- a refusal for no number
+never_number : (e : TargetError) (which : LimitKind) (number : ℕ) → IsCommitRefusal (λ which number. ⊥) e → e ≡ Limit which number → ⊥
+never_number Memory which number h is = cc
+never_number (Limit other more) which number h is = h
+never_number StoreFault which number h is = cc
+never_number Contested which number h is = cc
+never_number (Unsupported feature path) which number h is = h
+
+pub never_limited : {T : Type 0} (r : Result T TargetError) → IfErr r (IsCommitRefusal (λ which number. ⊥)) → (which : LimitKind) (number : ℕ) → IsErrOf r (Limit which number) → ⊥
+never_limited (Ok v) h which number limited = absurd (cc)
+never_limited (Err e) h which number limited = never_number e which number h (one_error (Err e) e (Limit which number) refl limited)
+
 pub on_ok : {T : Type 0} (r : Result T TargetError) (P : Type 0) → (is_ok r ≡ true → P) → OnOk r P
 on_ok (Ok v) P h = h refl
 on_ok (Err e) P h = tt
+
+-- what is kept of files stands for all their versions
+pub never_later : (id location : List ℕ) (kept : IcebergKept) (files : Files) → StandsFor id location kept files → kept.version < commits_in files → ⊥
+never_later id location kept files stands later = let same : commits_in files ≡ kept.version = commits_read files (view_of kept) stands.reads in omega (arith, later, same)
 
 -- ---- nothing is done
 
@@ -108,8 +126,8 @@ module _ {S : Type 0} (store : Ghosts S) (old new : S) (told : store.tells) (ver
   number : version.version ≡ kept.version + 1
   number = files.number kept next origin now commit version v
 
-  pub writes_now : done ≡ true → Writes (end_of kept) (store.disk old).files origin now commit (store.disk new).files
-  writes_now is = files.writes_now kept next origin now commit version v (store.disk old).files (store.disk new).files (p.all is).files
+  pub writes_now : (id location : List ℕ) → StandsFor id location kept (store.disk old).files → done ≡ true → Writes (end_of kept) (store.disk old).files origin now commit (store.disk new).files
+  writes_now id location stands is = files.writes_now kept next origin now commit version v id location (store.disk old).files (store.disk new).files stands (p.all is).files
 
   pub counted_now : IsCounted kept.version (store.disk old).files → done ≡ true → IsCounted next.version (store.disk new).files
   counted_now counted is =
@@ -139,6 +157,14 @@ module _ {S : Type 0} (store : Ghosts S) (old new : S) (told : store.tells) (ver
         (λ is. files.is_behind kept next origin now commit version v id location plain can fits (store.disk old) stands settled (store.disk new).files (p.all is).files)
         (λ u. files.disk_either kept next origin now commit version v id location plain can fits (store.disk old) stands settled (store.disk new) (p.at_return u))
         (λ u. weaker store old new Shown (λ image. Either image × IsSettled (after_crash image)) (files.image_either kept next origin now commit version v id location plain can fits (store.disk old) stands settled) (λ _. p.moments u) told)
+
+    -- Where the version is published, what is kept stands for it.
+    pub ready_now : U → kept.version < commits_in (store.disk new).files → StandsFor id location next (store.disk new).files
+    ready_now u later =
+        ⊎_elim
+        (λ keeps. let same : commits_in (store.disk new).files ≡ kept.version = files.same_count kept next origin now commit version v id location plain can fits (store.disk old) stands settled (store.disk new) keeps in absurd (omega (arith, later, same)))
+        (λ durable. files.stands_behind kept next origin now commit version v id location plain can fits (store.disk old) stands settled (store.disk new).files durable.files)
+        (p.at_return u)
 
     -- Behind another writer's version nothing is published.
     pub count_contested : C → commits_in (store.disk new).files ≤ kept.version + 1

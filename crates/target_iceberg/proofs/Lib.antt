@@ -14,6 +14,7 @@ pub mod WrittenVersion
 pub mod WrittenNext
 pub mod WrittenManifests
 pub mod WrittenRows
+pub mod FewManifests
 pub mod WrittenCurrent
 pub mod WrittenReached
 pub mod WrittenOwn

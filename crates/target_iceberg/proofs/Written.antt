@@ -49,7 +49,7 @@ use Rattle.target_iceberg.specs.Kept.{HoldsEnd, IsCounted, IsKeptOf, StandsFor}
 use Rattle.target_iceberg.specs.Reached.{CanGoOn, IsReached, IsSettled}
 use Rattle.target_iceberg.specs.Reading.{IsCarried, IsMarked, IsOurs}
 use Rattle.target_iceberg.specs.Publishing.{IsAside, IsPublished}
-use Rattle.target_iceberg.specs.Writes.{Writes}
+use Rattle.target_iceberg.specs.Writes.{Writes, most_manifests}
 use Rattle.target_iceberg.proofs.WrittenCarried.{carries}
 use Rattle.target_iceberg.proofs.WrittenFiles as before
 use Rattle.target_iceberg.proofs.WrittenCurrent as written
@@ -120,13 +120,14 @@ module _ (kept : IcebergKept) (commit : Commit) (fits : Fits (Unfit (state_of ke
 -- ---- what is published
 
 -- Where its files are published, the commit has left what it writes.
-unfoldable pub published_writes : (end : TableEnd) (before after : Files) (origin : Origin) (now : ℕ) (commit : Commit) (written : NewVersion) → IsWritten end origin now commit written → IsPublished (version_files end written) before after → Writes end before origin now commit after
-published_writes end before after origin now commit written is published = record {
+unfoldable pub published_writes : (end : TableEnd) (before after : Files) (origin : Origin) (now : ℕ) (commit : Commit) (written : NewVersion) → IsWritten end origin now commit written → IsPublished (version_files end written) before after → length written.texts ≤ most_manifests commit.change → Writes end before origin now commit after
+published_writes end before after origin now commit written is published few = record {
   written = written;
   is = is;
   metadata = published.metadata;
   list = published.list;
   manifests = published.manifests;
+  few = few;
   staged = published.staged;
   others = λ path version list manifests staged. published.others path (record { version = version; aside = other path list manifests staged });
 }

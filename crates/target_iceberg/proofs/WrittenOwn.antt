@@ -48,7 +48,7 @@ two_parts removed (h ∷ rows) = by (is_lost removed h) (two_parts removed rows)
     by true rest = omega (arith, rest)
     by false rest = omega (arith, rest)
 
-each_length : {A B : Type 0} (P : A → B → Type 0) (xs : List A) (ys : List B) → AreEach P xs ys → length xs ≡ length ys
+pub each_length : {A B : Type 0} (P : A → B → Type 0) (xs : List A) (ys : List B) → AreEach P xs ys → length xs ≡ length ys
 each_length P [] [] are = refl
 each_length P [] (y ∷ ys) are = absurd are
 each_length P (x ∷ xs) [] are = absurd are

@@ -162,7 +162,7 @@ paths_append : (xs ys : List Row) → paths_of (xs ++ ys) ≡ paths_of xs ++ pat
 paths_append [] ys = refl
 paths_append (x ∷ xs) ys = ap (λ (l : List (List ℕ)). x.path ∷ l) (paths_append xs ys)
 
-of_paths : (rows : List Row) (path : List ℕ) → Contains (paths_of rows) path → HasPath rows path
+pub of_paths : (rows : List Row) (path : List ℕ) → Contains (paths_of rows) path → HasPath rows path
 of_paths [] path there = absurd (Contains-none path there)
 of_paths (r ∷ rows) path there =
     ⊎_elim (λ same. (r, Contains-head r rows, same)) (λ later. let rest = of_paths rows path later in (rest.0, Contains-tail r rows rest.0 rest.1, rest.2)) (Contains-cases r.path (paths_of rows) path there)

@@ -137,6 +137,14 @@ all_live links [] (k ∷ ks) are = absurd are
 all_live links (r ∷ rs) [] are = absurd are
 all_live links (r ∷ rs) (k ∷ ks) are = (kept_live links r k are.0, all_live links rs ks are.1)
 
+-- no two live rows of what is kept have one path
+pub distinct_live : (id location : List ℕ) (kept : IcebergKept) (files : Files) → StandsFor id location kept files → HasDistinctPaths (live_rows (manifests_of kept))
+distinct_live id location kept files stands = by stands.end
+  where
+    by : IsFirst files id location kept ⊎ HoldsEnd files kept → HasDistinctPaths (live_rows (manifests_of kept))
+    by (inl first) = subst HasDistinctPaths (sym (ap (λ (ms : List KeptManifest). live_rows (map (live_manifest kept.links) ms)) (none_in kept.manifests first.manifests))) nothing_twice
+    by (inr holds) = subst HasDistinctPaths (sym (live_rows_are holds.current.manifests (manifests_of kept) (all_live kept.links holds.current.manifests kept.manifests holds.manifests))) holds.current.says.distinct
+
 same_table : (files : Files) (m n : Metadata) (c : SaysCurrent files m) (d : SaysCurrent files n) (t : Table) → m ≡ n → IsTableOfSnapshot files m c.snapshot t → IsTableOfSnapshot files n d.snapshot t
 same_table files m n c d t same table =
     let snapshot : c.snapshot ≡ d.snapshot = some_once (held_at m.snapshots m.current_snapshot) c.snapshot d.snapshot c.current (ap (λ (x : Metadata). held_at x.snapshots x.current_snapshot) same ∙ d.current) in

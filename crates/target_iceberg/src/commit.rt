@@ -2,7 +2,7 @@
 
 ghost use Rattle.std.specs.Prelude.{◌≡◌, ◌<◌, ◌≤◌, ◌+◌, ◌^◌, ◌++◌, ◌∷◌, [], IfErr, IsErrOf, List, OnOk, is_ok, ℕ};
 ghost use Rattle.std.specs.Option.{option_copied};
-ghost use Rattle.lake_store.specs.Runs.{ChangesOnlyIn, FailsBy, IsContestedBy, IsEachMoment};
+ghost use Rattle.lake_store.specs.Runs.{ChangesOnlyIn, FailsBy, IsContestedBy, IsEachMoment, OnlyReads};
 ghost use Rattle.iceberg_table.specs.Folder.{metadata_folder};
 ghost use Rattle.iceberg_commit.specs.NextVersion.{image};
 ghost use Rattle.iceberg_version.specs.KeptEnd.{end_of, view_of};
@@ -19,7 +19,7 @@ ghost use Rattle.target_iceberg.specs.Fitting.{Unfit, state_of};
 ghost use Rattle.target_iceberg.specs.IcebergMeaning.{iceberg_meaning};
 ghost use Rattle.target_iceberg.specs.Kept.{IsCounted, StandsFor};
 ghost use Rattle.target_iceberg.specs.Reached.{IsSettled};
-ghost use Rattle.target_iceberg.specs.Reading.{Reads, commits_in};
+ghost use Rattle.target_iceberg.specs.Reading.{commits_in};
 ghost use Rattle.target_iceberg.specs.Writes.{Writes};
 
 use crate::publish::publish_version;
@@ -60,6 +60,13 @@ pub(crate) fn publish_commit<S: Store>(
         → ((front : List ℕ) → location ≡ front ++ 47 ∷ [] → ⊥)
         → StandsFor id location kept.old (S.disk store.old).files → IsSettled (S.disk store.old)
         → OnOk result (StandsFor id location kept.new (S.disk store.new).files) }
+    // Once the version is published nothing is left to do that could want memory: what is kept
+    // stands for the files, whatever is answered.
+    ensures ready { S.tells → (id location : List ℕ)
+        → ((front : List ℕ) → location ≡ front ++ 47 ∷ [] → ⊥)
+        → StandsFor id location kept.old (S.disk store.old).files → IsSettled (S.disk store.old)
+        → Uncontested result → kept.old.version < commits_in (S.disk store.new).files
+        → StandsFor id location kept.new (S.disk store.new).files }
     ensures publishes { S.tells → (id location : List ℕ)
         → ((front : List ℕ) → location ≡ front ++ 47 ∷ [] → ⊥)
         → StandsFor id location kept.old (S.disk store.old).files → IsSettled (S.disk store.old)
@@ -67,7 +74,9 @@ pub(crate) fn publish_commit<S: Store>(
         (record { source = source; table = option_copied table.entry })
         (view_of kept.old) (commit.now ∷ [])
         (Uncontested result) (is_ok result) store.old store.new }
-    ensures writes { S.tells → OnOk result (Writes (end_of kept.old) (S.disk store.old).files
+    ensures writes { S.tells → (id location : List ℕ)
+        → StandsFor id location kept.old (S.disk store.old).files
+        → OnOk result (Writes (end_of kept.old) (S.disk store.old).files
         (record { source = source; table = option_copied table.entry }) now_ms commit.now
         (S.disk store.new).files) }
     ensures contested { S.tells → (id location : List ℕ)
@@ -84,10 +93,10 @@ pub(crate) fn publish_commit<S: Store>(
     ensures refusal { IfErr result (IsCommitRefusal (Passes (end_of kept.old)
         (record { source = source; table = option_copied table.entry }) now_ms
         (commit.now ∷ []))) }
-    ensures limited { S.tells → (id location : List ℕ)
-        → StandsFor id location kept.old (S.disk store.old).files → IsSettled (S.disk store.old)
-        → (which : LimitKind) (number : ℕ) → IsErrOf result (TargetError.Limit which number)
-        → Reads (S.disk store.new).files (view_of kept.old) }
+    // All texts are made before the first write, so where a number is passed nothing is written.
+    ensures limited { S.tells → (which : LimitKind) (number : ℕ)
+        → IsErrOf result (TargetError.Limit which number)
+        → OnlyReads ⟦<S as Store>⟧ store.old store.new }
     ensures few { IfErr result IsOfCommit }
     ensures ahead { OnOk result ((commits : List Commit) (which : LimitKind) (number : ℕ)
         → Passes (end_of kept.new)

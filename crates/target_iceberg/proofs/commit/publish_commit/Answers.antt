@@ -8,6 +8,7 @@ use Rattle.iceberg_version.specs.KeptEnd.{end_of, view_of}
 use Rattle.iceberg_version.specs.Writing.{Passes}
 use Rattle.iceberg_commit.specs.NextVersion.{IsNextVersion, VersionFiles}
 use Rattle.iceberg_commit.specs.NewVersion.{IsVersionRefusal}
+use Rattle.lake_store.proofs.RunLaws.{reading_begins}
 use Rattle.target_core.specs.Outcome.{Uncontested}
 use Rattle.target_core.specs.Publishing.{Publishes}
 use Rattle.target_core.specs.Views.{Origin}
@@ -16,7 +17,7 @@ use Rattle.target_core.specs.declared.target.TargetError.TheVariants.{Contested,
 use Rattle.target_iceberg.specs.IcebergMeaning.{iceberg_meaning}
 use Rattle.target_iceberg.proofs.CommitFiles.{free_path, number}
 use Rattle.target_iceberg.proofs.CommitKept.{fits_behind, kinds_stay, passes_behind}
-use Rattle.target_iceberg.proofs.CommitStore.{count_contested, counted_now, kept_contested, never_contested, never_fault, no_contest, no_fault, on_ok, publishes_nothing, publishes_version, stands_now, writes_now}
+use Rattle.target_iceberg.proofs.CommitStore.{count_contested, counted_now, kept_contested, never_contested, never_fault, never_later, never_limited, no_contest, no_fault, on_ok, publishes_nothing, publishes_version, ready_now, stands_now, writes_now}
 use Rattle.target_iceberg.proofs.commit.publish_commit.Goals as goal
 
 pub returns-in_err-new-clause-publishes : goal.returns-in_err-new-clause-publishes
@@ -27,6 +28,13 @@ returns-in_err-new-clause-publishes g c told id location plain stands settled =
     let exit = err_from_is_err_and c.from_residual.result c.from_residual.ensures.1 in
     subst (λ (done : Bool). Publishes g.S.Store (iceberg_meaning id) origin (view_of kept) (c.args.commit.now ∷ []) (Uncontested c.from_residual.result) done s s) (sym (ap is_ok exit.1))
     (publishes_nothing g.S.Store g.met.S.Store.only_now s told id location origin kept c.args.commit.now stands settled (Uncontested c.from_residual.result))
+
+pub returns-in_err-new-clause-limited : goal.returns-in_err-new-clause-limited
+returns-in_err-new-clause-limited g c told which most is = reading_begins g.S.Store g.met.S.Store.only_now c.args.store.now told
+
+pub returns-in_err-new-clause-ready : goal.returns-in_err-new-clause-ready
+returns-in_err-new-clause-ready g c told id location plain stands settled un later =
+    absurd (never_later id location c.args.kept.now (g.S.Store.disk c.args.store.now).files stands later)
 
 pub returns-in_err-new-clause-contested : goal.returns-in_err-new-clause-contested
 returns-in_err-new-clause-contested g c told id location plain stands settled contested =
@@ -125,6 +133,25 @@ returns-clause-stands g c told id location plain stands settled =
     let at = c.publish_version.ensures.publishes told in
     on_ok r _ (stands_now g.S.Store old new told files (Uncontested r) (IsErrOf r Contested) (is_ok r) at kept next origin c.args.now_ms commit v id location plain c.requires.can c.requires.fits stands settled)
 
+pub returns-clause-limited : goal.returns-clause-limited
+returns-clause-limited g c told which most is = absurd (never_limited c.publish_version.result c.publish_version.ensures.refusal which most is)
+
+pub returns-clause-ready : goal.returns-clause-ready
+returns-clause-ready g c told id location plain stands settled un later =
+    let kept = c.args.kept.now in
+    let next = c.next_version.new.kept in
+    let old = c.args.store.now in
+    let commit = c.args.commit.now in
+    let origin : Origin = record { source = c.args.source; table = option_copied c.args.table } in
+    let made = c.in_ok-new.new in
+    let files : VersionFiles = record { version = made.version; manifests = c.as_slice-manifests.result.now; list = made.list; metadata = made.metadata } in
+    let v : IsNextVersion kept origin c.args.now_ms commit files next =
+    subst (λ (texts : List (List ℕ)). IsNextVersion kept origin c.args.now_ms commit (record { version = made.version; manifests = texts; list = made.list; metadata = made.metadata }) next) (sym c.as_slice-manifests.ensures.value) c.in_ok-new.ensures.is in
+    let new = c.publish_version.new.store in
+    let r = c.publish_version.result in
+    let at = c.publish_version.ensures.publishes told in
+    ready_now g.S.Store old new told files (Uncontested r) (IsErrOf r Contested) (is_ok r) at kept next origin c.args.now_ms commit v id location plain c.requires.can c.requires.fits stands settled un later
+
 pub returns-clause-publishes : goal.returns-clause-publishes
 returns-clause-publishes g c told id location plain stands settled =
     let kept = c.args.kept.now in
@@ -142,7 +169,7 @@ returns-clause-publishes g c told id location plain stands settled =
     publishes_version g.S.Store old new told files (Uncontested r) (IsErrOf r Contested) (is_ok r) at kept next origin c.args.now_ms commit v id location plain c.requires.can c.requires.fits stands settled
 
 pub returns-clause-writes : goal.returns-clause-writes
-returns-clause-writes g c told =
+returns-clause-writes g c told id location stands =
     let kept = c.args.kept.now in
     let next = c.next_version.new.kept in
     let old = c.args.store.now in
@@ -155,7 +182,7 @@ returns-clause-writes g c told =
     let new = c.publish_version.new.store in
     let r = c.publish_version.result in
     let at = c.publish_version.ensures.publishes told in
-    on_ok r _ (writes_now g.S.Store old new told files (Uncontested r) (IsErrOf r Contested) (is_ok r) at kept next origin c.args.now_ms commit v)
+    on_ok r _ (writes_now g.S.Store old new told files (Uncontested r) (IsErrOf r Contested) (is_ok r) at kept next origin c.args.now_ms commit v id location stands)
 
 pub returns-clause-contested : goal.returns-clause-contested
 returns-clause-contested g c told id location plain stands settled contested =
