@@ -22,7 +22,7 @@ use Rattle.target_core.specs.Meaning.{Meaning}
 use Rattle.target_core.specs.Views.{IsAdvanced, IsAdvancedAll, IsPublished, IsSchemaAfter, IsUnpublished, Origin, SameView, Standing, View, absent, standing_at}
 use Rattle.target_core.specs.Folders.{after_crash}
 use Rattle.target_core.proofs.Same.{same_refl, same_trans}
-use Rattle.target_sync.specs.Along.{EndsAlong, GoesOnAlong, HasEachTable, IsAlong, IsAtLast, IsToLast, IsWholeSync, StandsFrom, StaysOrEnds}
+use Rattle.target_sync.specs.Along.{EndsAlong, GoesOnAlong, HasEachTable, HasGoneTo, IsAlong, IsAtLast, IsToLast, IsWholeSync, LeadsAsFar, StandsFrom, StaysOrEnds}
 use Rattle.target_sync.specs.Answered.{Answer, IsDone, IsReady, IsSync, IsUndisturbed}
 use Rattle.target_sync.specs.Targets.{TargetFacts}
 use Rattle.target_core.specs.Conditions.{GoesOn}
@@ -235,8 +235,8 @@ module _ (source : SourceMeaning) (laws : HistoryLaws source) (target : Meaning)
         still zero none = none_still files start view none same.mark reads
         still (suc i) at = (at.0, at.1, entry_same source.kind target.image at.0 start view same at.2)
 
-    pub before_from : (files : Files) → IsAsBefore target start before files → StandsFrom source.kind target history k files
-    before_from files was = (k, omega arith, within, same_at files was.view was.same was.reads)
+    pub before_from : (files : Files) → IsAsBefore target start before files → StandsFrom source target mode history k start before files
+    before_from files was = record { j = k; from = omega arith; within = within; at = same_at files was.view was.same was.reads; by = inl (refl, was) }
 
     -- no commit of the whole table is published
     none_at : (files : Files) (partition : List (List ℕ)) (view : View) → (partition ≡ start.table.partition) ⊎ IsUnpublished start → SameView (with_columns partition start) view → target.reads files view → IsAt source.kind target history files k
@@ -248,23 +248,45 @@ module _ (source : SourceMeaning) (laws : HistoryLaws source) (target : Meaning)
         still (suc i) at = absurd (unmarked_entry source.kind target.image at.0 start none at.2)
 
     module _ (files : Files) (due : Due source mode before start) where
-      full_from : (n : ℕ) → (due.partition ≡ start.table.partition) ⊎ IsUnpublished start → IsInFull source mode before start due.head due.partition due.commits due.full → Gained target (origin_of due) (with_columns due.partition start) before due.commits n files → StandsFrom source.kind target history k files
-      full_from zero columns are gained = (k, omega arith, within, none_at files due.partition gained.view columns gained.leads gained.stands)
-      full_from (suc n) columns are gained =
-          (length history, within, omega arith, full_at source laws target mode before history is holds start due.head due.is_head due.partition due.commits due.full are due.id files (suc n) gained (omega arith))
+      -- so many of them lead to the j-th table
+      gone_to : (j n : ℕ) → (due.partition ≡ start.table.partition) ⊎ IsUnpublished start → Gained target (origin_of due) (with_columns due.partition start) before due.commits n files → (full : Bool) → due.full ≡ full → LeadsAsFar full history k n j
+          → HasGoneTo source target mode history k j start before files
+      gone_to j n columns gained full way far = record { due = due; columns = columns; count = n; gained = gained; as_far = subst (λ (f : Bool). LeadsAsFar f history k n j) (sym way) far }
 
-      since_from : (n : ℕ) → AreSinceMark source mode before start due.partition due.commits due.full → Gained target (origin_of due) (with_columns due.partition start) before due.commits n files → StandsFrom source.kind target history k files
-      since_from n are gained = from k shows
+      full_from : (n : ℕ) → (due.partition ≡ start.table.partition) ⊎ IsUnpublished start → IsInFull source mode before start due.head due.partition due.commits due.full → Gained target (origin_of due) (with_columns due.partition start) before due.commits n files
+          → StandsFrom source target mode history k start before files
+      full_from zero columns are gained = record {
+        j = k;
+        from = omega arith;
+        within = within;
+        at = none_at files due.partition gained.view columns gained.leads gained.stands;
+        by = inr (gone_to k zero columns gained true are.way (inl (refl, refl)));
+      }
+      full_from (suc n) columns are gained =
+          let one : length due.commits ≡ 1 = ap (λ (cs : List Commit). length cs) are.only in
+          let within_one : suc n ≤ length due.commits = gained.within in
+          let count : suc n ≡ 1 = omega (arith, one, within_one) in
+          record {
+            j = length history;
+            from = within;
+            within = omega arith;
+            at = full_at source laws target mode before history is holds start due.head due.is_head due.partition due.commits due.full are due.id files (suc n) gained (omega arith);
+            by = inr (gone_to (length history) (suc n) columns gained true are.way (inr (count, refl)));
+          }
+
+      since_from : (n : ℕ) → (due.partition ≡ start.table.partition) ⊎ IsUnpublished start → AreSinceMark source mode before start due.partition due.commits due.full → Gained target (origin_of due) (with_columns due.partition start) before due.commits n files
+          → StandsFrom source target mode history k start before files
+      since_from n columns are gained = from k shows (λ j far. gone_to j n columns gained false are.way far)
         where
-          from : (j : ℕ) → ShowsTable source.kind target.image history j start → StandsFrom source.kind target history j files
-          from zero none = absurd (not_marked start (λ s. Unit {0}) (unmarked start none) (are.marked.0, are.marked.1, tt))
-          from (suc i) at =
+          from : (m : ℕ) → ShowsTable source.kind target.image history m start → ((j : ℕ) → j ≡ m + n → HasGoneTo source target mode history m j start before files) → StandsFrom source target mode history m start before files
+          from zero none by = absurd (not_marked start (λ s. Unit {0}) (unmarked start none) (are.marked.0, are.marked.1, tt))
+          from (suc i) at by =
               let further : IsAt source.kind target history files (suc (i + n)) = since_at source laws target kinds published mode before history is holds i at.0 at.1 start at.2 files due.partition due.commits due.full are due.id n gained in
               let there = slice_get_within history (i + n) further.shows.0 further.shows.1 in
-              (suc (i + n), omega arith, omega (arith, there), further)
+              record { j = suc (i + n); from = omega arith; within = omega (arith, there); at = further; by = inr (by (suc (i + n)) (omega arith)) }
 
-      pub underway_from : (due.partition ≡ start.table.partition) ⊎ IsUnpublished start → (n : ℕ) → Gained target (origin_of due) (with_columns due.partition start) before due.commits n files → StandsFrom source.kind target history k files
-      underway_from columns n gained = ⊎_elim (λ are. since_from n are gained) (λ are. full_from n columns are gained) due.way
+      pub underway_from : (due.partition ≡ start.table.partition) ⊎ IsUnpublished start → (n : ℕ) → Gained target (origin_of due) (with_columns due.partition start) before due.commits n files → StandsFrom source target mode history k start before files
+      underway_from columns n gained = ⊎_elim (λ are. since_from n columns are gained) (λ are. full_from n columns are gained) due.way
 
       pub end_at : Gained target (origin_of due) (with_columns due.partition start) before due.commits (length due.commits) files → IsAt source.kind target history files (length history)
       end_at gained = ⊎_elim (λ are. since_all k shows are) full_all due.way
@@ -279,14 +301,16 @@ module _ (source : SourceMeaning) (laws : HistoryLaws source) (target : Meaning)
               full_at source laws target mode before history is holds start due.head due.is_head due.partition due.commits due.full are due.id files (length due.commits) gained (omega (arith, one))
 
     -- so it goes on along the history
-    pub goes_on : {S : Type 0} (store : Ghosts S) (U D : Type 0) (old new : S) → store.tells → (store.disk old).files ≡ before → Synced store source target mode start U D old new → GoesOnAlong store source target history k U D old new
+    pub goes_on : {S : Type 0} (store : Ghosts S) (U D : Type 0) (old new : S) → store.tells → (store.disk old).files ≡ before → Synced store source target mode start U D old new → GoesOnAlong store source target mode history k start U D old new
     goes_on store U D old new told here synced =
-        let either : (files : Files) → IsAsBeforeOrUnderway source target mode start before files → StandsFrom source.kind target history k files = λ files stands. ⊎_elim (before_from files) (λ (on : IsUnderway source target mode start before files). underway_from files on.due on.columns on.gained.count on.gained.gained) stands in
+        let either : (files : Files) → IsAsBeforeOrUnderway source target mode start before files → StandsFrom source target mode history k start (store.disk old).files files = λ files stands.
+        subst (λ (f : Files). StandsFrom source target mode history k start f files) (sym here)
+        (⊎_elim (before_from files) (λ (on : IsUnderway source target mode start before files). underway_from files on.due on.columns on.gained.count on.gained.gained) stands) in
         let end : (files : Files) → IsAtHead source target mode start before files → IsAtLast source target history (store.disk old).files files = λ files on.
         subst (λ (f : Files). IsAtLast source target history f files) (sym here) (at_last source laws target before history is holds on.due.head on.due.is_head files (end_at files on.due on.gained)) in
         record {
           at_return = λ u. either (store.disk new).files (subst (λ (f : Files). IsAsBeforeOrUnderway source target mode start f (store.disk new).files) here (synced.at_return u));
-          moments = λ u. weaker store old new (λ image. IsAsBeforeOrUnderway source target mode start (store.disk old).files image × target.settled (after_crash image)) (StandsFrom source.kind target history k)
+          moments = λ u. weaker store old new (λ image. IsAsBeforeOrUnderway source target mode start (store.disk old).files image × target.settled (after_crash image)) (StandsFrom source target mode history k start (store.disk old).files)
               (λ image stands. either image (subst (λ (f : Files). IsAsBeforeOrUnderway source target mode start f image) here stands.0)) (λ t. synced.moments u) told;
           done = λ d. end (store.disk new).files (subst (λ (f : Files). IsAtHead source target mode start f (store.disk new).files) here (synced.done d));
           since = λ d image left. end image (subst (λ (f : Files). IsAtHead source target mode start f image) here (synced.since d image left));

@@ -1,5 +1,5 @@
 -- Where a sync leaves a target in each history of its table that the source's files hold.
-use Rattle.std.specs.Prelude.{◌≡◌, ◌⊎◌, ◌≤◌, ◌+◌, ℕ, false, true, List, [], ◌∷◌, drop, length, slice_get, Option, Some}
+use Rattle.std.specs.Prelude.{◌≡◌, ◌⊎◌, ◌≤◌, ◌+◌, ℕ, Bool, false, true, List, [], ◌∷◌, drop, length, slice_get, Option, Some}
 use Rattle.lake_store.specs.Disk.{Files}
 use Rattle.lake_store.specs.Runs.{IsEachMoment}
 use Rattle.lake_store.specs.declared.store.Store.{Ghosts}
@@ -11,18 +11,38 @@ use Rattle.table_history.specs.declared.kind.Kind.{Kind}
 use Rattle.table_history.specs.declared.table.Commit.{Commit}
 use Rattle.table_history.specs.declared.table.Table.{Table}
 use Rattle.target_core.specs.Conditions.{GoesOn}
+use Rattle.target_core.specs.Gained.{Gained}
 use Rattle.target_core.specs.Meaning.{Meaning}
-use Rattle.target_core.specs.Views.{View}
+use Rattle.target_core.specs.Views.{IsUnpublished, View}
 use Rattle.target_sync.specs.Answered.{Answer, IsDone, IsSync, IsUndisturbed}
-use Rattle.target_sync.specs.Dues.{Due, TakesCommits}
+use Rattle.target_sync.specs.Dues.{Due, TakesCommits, origin_of}
 use Rattle.target_sync.specs.Sources.{SourceMeaning}
-use Rattle.target_sync.specs.Synced.{IsAsBefore}
+use Rattle.target_sync.specs.Synced.{IsAsBefore, with_columns}
 use Rattle.target_sync.specs.Targets.{TargetFacts}
 use Rattle.target_sync.specs.declared.plan.Mode.{Mode}
 
--- The target stands at a table of the history that isn't before the k-th.
-abbrev pub StandsFrom : Kind → Meaning → History → ℕ → Files → Type 0
-StandsFrom source target history k files = (j : ℕ) × (k ≤ j) × (j ≤ length history) × IsAt source target history files j
+-- How far so many of the commits that are due lead from the k-th table: since a mark one table with each, in full nowhere with none and to the last
+-- table with the only one.
+abbrev pub LeadsAsFar : Bool → History → ℕ → ℕ → ℕ → Type 0
+LeadsAsFar false history k count j = j ≡ k + count
+LeadsAsFar true history k count j = ((count ≡ 0) × (j ≡ k)) ⊎ ((count ≡ 1) × (j ≡ length history))
+
+-- The target has gained as many of the commits that are due as lead from the k-th table to the j-th, and no other one.
+pub record HasGoneTo (source : SourceMeaning) (target : Meaning) (mode : Mode) (history : History) (k j : ℕ) (start : View) (before files : Files) : Type 0 where
+  pub due : Due source mode before start
+  pub columns : (due.partition ≡ start.table.partition) ⊎ IsUnpublished start
+  pub count : ℕ
+  pub gained : Gained target (origin_of due) (with_columns due.partition start) before due.commits count files
+  pub as_far : LeadsAsFar due.full history k count j
+
+-- The target stands at a table of the history that isn't before the k-th, at which it stood with the view `start`. It has the commits that it had, and
+-- just those more that lead there.
+pub record StandsFrom (source : SourceMeaning) (target : Meaning) (mode : Mode) (history : History) (k : ℕ) (start : View) (before files : Files) : Type 0 where
+  pub j : ℕ
+  pub from : k ≤ j
+  pub within : j ≤ length history
+  pub at : IsAt source.kind target history files j
+  pub by : ((j ≡ k) × IsAsBefore target start before files) ⊎ HasGoneTo source target mode history k j start before files
 
 -- The view has the rows, the partition columns and the schema, as the target's types hold it, of the table that the source's files make, read from
 -- scratch, where they can be read so.
@@ -34,10 +54,11 @@ pub record IsAtLast (source : SourceMeaning) (target : Meaning) (history : Histo
   pub at : IsAt source.kind target history files (length history)
   pub equals : HasEachTable source target before at.view
 
--- From the k-th table of the history the target goes on along it, and no crash takes it back. A target that is done stands at the last.
-pub record GoesOnAlong {S : Type 0} (store : Ghosts S) (source : SourceMeaning) (target : Meaning) (history : History) (k : ℕ) (Uncontested Done : Type 0) (old new : S) : Type 0 where
-  pub at_return : Uncontested → StandsFrom source.kind target history k (store.disk new).files
-  pub moments : Uncontested → IsEachMoment store old new (StandsFrom source.kind target history k)
+-- From the k-th table of the history the target goes on along it by the commits that are due, and no crash takes it back. A target that is done stands
+-- at the last.
+pub record GoesOnAlong {S : Type 0} (store : Ghosts S) (source : SourceMeaning) (target : Meaning) (mode : Mode) (history : History) (k : ℕ) (start : View) (Uncontested Done : Type 0) (old new : S) : Type 0 where
+  pub at_return : Uncontested → StandsFrom source target mode history k start (store.disk old).files (store.disk new).files
+  pub moments : Uncontested → IsEachMoment store old new (StandsFrom source target mode history k start (store.disk old).files)
   pub done : Done → IsAtLast source target history (store.disk old).files (store.disk new).files
   pub since : Done → (image : Files) → store.left_since new (store.time new) image → IsAtLast source target history (store.disk old).files image
 
@@ -64,8 +85,8 @@ pub record IsToLast (history : History) (start : View) (commits : List Commit) :
 -- So it goes in each history that the source's files hold. The commits that are due since a mark are one for each later table, with what differs
 -- between that table and the one before it; in full one commit is due.
 pub record IsAlong {S : Type 0} (store : Ghosts S) (source : SourceMeaning) (target : Meaning) (mode : Mode) (old new : S) (answer : Answer) : Type 0 where
-  pub goes : store.tells → (history : History) → IsHistory history → source.holds (store.disk old).files history → (k : ℕ) → IsAt source.kind target history (store.disk old).files k → target.settled (store.disk old)
-      → GoesOnAlong store source target history k (IsUndisturbed answer) (IsDone answer) old new
+  pub goes : store.tells → (history : History) → IsHistory history → source.holds (store.disk old).files history → (k : ℕ) → (at : IsAt source.kind target history (store.disk old).files k) → target.settled (store.disk old)
+      → GoesOnAlong store source target mode history k at.view (IsUndisturbed answer) (IsDone answer) old new
   pub ends : store.tells → (history : History) → IsHistory history → source.holds (store.disk old).files history → (start : View) → target.reads (store.disk old).files start → GoesOn source.kind start → target.settled (store.disk old)
       → ¬ TakesCommits source mode (store.disk old).files start → EndsAlong store source target history start (IsUndisturbed answer) (IsDone answer) old new
   pub each_once : store.tells → (history : History) → IsHistory history → source.holds (store.disk old).files history → (k : ℕ) (entry : List ℕ × Table) → slice_get history k ≡ Some entry → (start : View) → ShowsEntry source.kind target.image entry start
