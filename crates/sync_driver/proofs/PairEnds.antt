@@ -262,9 +262,10 @@ sync_skipped store source target other mode now own crash old new reading A B ca
     record {
       alone = alone;
       source_stays = λ told apart clean. source_of_others store source own target.files.kind (Some other) old new told apart (alone told) clean;
-      synced = λ told start ready. (synced_idle source own target.files mode crash store start (Unit {0}) ⊥ (λ never. never) old new told (reading told) ready.reads ready.settled, tt);
+      synced = λ told start ready. synced_idle source own target.files mode crash store start (Unit {0}) ⊥ (λ never. never) old new told (reading told) ready.reads ready.settled;
+      reported = λ told start reads goes. tt;
       in_full = tt;
-      still = λ told mode_is done start ready at. absurd done;
+      still = λ told mode_is done start reads goes at. absurd done;
       contested = λ told is start ready. absurd (cc is);
       limited = λ told which number is start ready. absurd (cc is);
       few = tt;

@@ -386,10 +386,10 @@ pub sync_along : {S : Type 0} (store : Ghosts S) (source : SourceMeaning) → Hi
 sync_along store source laws target kinds published absent_any other mode now old new answer sync = record {
   goes = λ told history is holds k at settled.
       let ready : IsReady source target (store.disk old).files at.view (target.files.settled (store.disk old)) = record { reads = at.reads; goes_on = going history k at.view at.shows; settled = settled } in
-      goes_on source laws target.files kinds published mode (store.disk old).files history is holds k at.view at.shows store (IsUndisturbed answer) (IsDone answer) old new told refl (sync.synced told at.view ready).0;
+      goes_on source laws target.files kinds published mode (store.disk old).files history is holds k at.view at.shows store (IsUndisturbed answer) (IsDone answer) old new told refl (sync.synced told at.view ready);
   ends = λ told history is holds start reads goes settled full.
       let ready : IsReady source target (store.disk old).files start (target.files.settled (store.disk old)) = record { reads = reads; goes_on = goes; settled = settled } in
-      ends_along source laws target.files kinds published mode (store.disk old).files history is holds start full absent_any store (IsUndisturbed answer) (IsDone answer) old new told refl (sync.synced told start ready).0;
+      ends_along source laws target.files kinds published mode (store.disk old).files history is holds start full absent_any store (IsUndisturbed answer) (IsDone answer) old new told refl (sync.synced told start ready);
   in_full = λ told history is holds start due full.
       ⊎_elim (λ (are : AreSinceMark source mode (store.disk old).files start due.partition due.commits due.full). absurd (since_full source mode (store.disk old).files start due.partition due.commits due.full are full))
       (λ (are : IsInFull source mode (store.disk old).files start due.head due.partition due.commits due.full). to_last source laws mode (store.disk old).files history is holds start due.head due.is_head due.partition due.commits due.full are) due.way;

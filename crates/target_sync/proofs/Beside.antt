@@ -150,6 +150,25 @@ module _ {S : Type 0} (store : Ghosts S) (only_now : NowOnly store) (now_counts 
     abbrev before : Files
     before = (store.disk old).files
 
+    reported_on : store.tells → (start : View) (Settled : Type 0) (given : Answer) → IsReported source target None mode now start Settled before (store.disk mid).files given → IsReported source target (Some other) mode now start Settled before (store.disk new).files given
+    reported_on told start Settled None is = tt
+    reported_on told start Settled (Some (Err e)) is = tt
+    reported_on told start Settled (Some (Ok report)) is = record {
+      due = is.due;
+      columns = is.columns;
+      last = is.last;
+      leads = is.leads;
+      in_full = is.in_full;
+      way = is.way;
+      published = is.published;
+      distinct = is.distinct;
+      files_are = is.files_are;
+      position = is.position;
+      reads = λ settled. own.reads (store.disk mid).files (store.disk new).files is.last (same mid new (run told)) (is.reads settled);
+      gained = λ settled. gained_own source target own mode start before (store.disk mid).files (store.disk new).files (same mid new (run told)) (origin_of is.due) (with_columns is.due.partition start) is.due.commits (length is.due.commits) (is.gained settled);
+      written = λ settled. (before, (store.disk mid).files, (λ path mine. refl), same mid new (run told), is.written settled);
+    }
+
     idle_on : store.tells → OnlyReads store old mid → ChangesOnlyIn store beside old new
     idle_on told idle = alone_further store (IsOutside beside) old mid new (λ t. alone_by_reading store (IsOutside beside) old mid idle) run told
 
@@ -158,48 +177,34 @@ module _ {S : Type 0} (store : Ghosts S) (only_now : NowOnly store) (now_counts 
         (λ t. alone_of_fewer store (IsOutside folder) (IsOutsideBoth target.files.kind other) old mid (λ path both. both.0) (sync.alone t)) (λ t. both_kept mid new (run t)) told
 
     module _ (told : store.tells) (start : View) (ready : IsReady source target before start (target.files.settled (store.disk old))) where
-      was : Synced store source target.files mode start (IsUndisturbed answer) (IsDone answer) old mid × IsReported source target None mode now start before (store.disk mid).files answer
+      was : Synced store source target.files mode start (IsUndisturbed answer) (IsDone answer) old mid
       was = sync.synced told start ready
 
       moments_on : IsUndisturbed answer → IsEachMoment store old new (IsEither start before)
       moments_on u =
-          let settled : target.files.settled (store.disk mid) = was.0.settled u in
-          goes_further store old mid new (IsEither start before) (λ t. was.0.moments u)
+          let settled : target.files.settled (store.disk mid) = was.settled u in
+          goes_further store old mid new (IsEither start before) (λ t. was.moments u)
           (weaker store mid new (KeepsImage (IsOutside beside) (store.disk mid)) (IsEither start before)
           (λ image kept.
           let may : MayLeaveIn folder (store.disk mid) image = left_in mid new (run told) image kept in (
-            either_left source target.files crash mode start before (store.disk mid) image settled may (was.0.at_return u),
+            either_left source target.files crash mode start before (store.disk mid) image settled may (was.at_return u),
             crash.settled (store.disk mid) image settled may,
           )) (λ t. (run t).moments)) told
 
       done_on : IsDone answer → IsAtHead source target.files mode start before (store.disk new).files
-      done_on d = at_head_own source target own mode start before (store.disk mid).files (store.disk new).files (same mid new (run told)) (was.0.done d)
+      done_on d = at_head_own source target own mode start before (store.disk mid).files (store.disk new).files (same mid new (run told)) (was.done d)
 
       synced_on : Synced store source target.files mode start (IsUndisturbed answer) (IsDone answer) old new
       synced_on = record {
-        at_return = λ u. either_own source target own mode start before (store.disk mid).files (store.disk new).files (same mid new (run told)) (was.0.at_return u);
-        settled = λ u. settled_on mid new (run told) (was.0.settled u);
+        at_return = λ u. either_own source target own mode start before (store.disk mid).files (store.disk new).files (same mid new (run told)) (was.at_return u);
+        settled = λ u. settled_on mid new (run told) (was.settled u);
         moments = moments_on;
         done = done_on;
         since = λ d image left.
             let may : MayLeave (store.disk new) image = only_now new image told left in
-            at_head_left source target.files crash mode start before (store.disk new) image (settled_on mid new (run told) (was.0.settled (undisturbed answer d))) (λ path mine clean. may path clean) (done_on d);
-        earlier = λ c change m le held. own.carries (store.disk mid).files (store.disk new).files c change m (same mid new (run told)) (was.0.earlier c change m le held);
-        bytes = alone_further store (target.files.reached before) old mid new (λ t. was.0.bytes) (λ t. bytes_kept mid new (run t) (target.files.reached before) (own.reached_in before)) told;
-      }
-
-      reported_on : (given : Answer) → IsReported source target None mode now start before (store.disk mid).files given → IsReported source target (Some other) mode now start before (store.disk new).files given
-      unfolding at_head_own gained_own
-      reported_on None is = tt
-      reported_on (Some (Err e)) is = tt
-      reported_on (Some (Ok report)) is = record {
-        at = at_head_own source target own mode start before (store.disk mid).files (store.disk new).files (same mid new (run told)) is.at;
-        way = is.way;
-        published = is.published;
-        written = (before, (store.disk mid).files, (λ path mine. refl), same mid new (run told), is.written);
-        distinct = is.distinct;
-        files_are = is.files_are;
-        position = is.position;
+            at_head_left source target.files crash mode start before (store.disk new) image (settled_on mid new (run told) (was.settled (undisturbed answer d))) (λ path mine clean. may path clean) (done_on d);
+        earlier = λ c change m le held. own.carries (store.disk mid).files (store.disk new).files c change m (same mid new (run told)) (was.earlier c change m le held);
+        bytes = alone_further store (target.files.reached before) old mid new (λ t. was.bytes) (λ t. bytes_kept mid new (run t) (target.files.reached before) (own.reached_in before)) told;
       }
 
       -- what a crash shows of the target while the other is changed, it might have shown at once
@@ -245,9 +250,10 @@ module _ {S : Type 0} (store : Ghosts S) (only_now : NowOnly store) (now_counts 
     beside_behind = record {
       alone = alone_on;
       source_stays = λ told far clean. source_of_others store source laws target.files.kind (Some other) old new told far (alone_on told) clean;
-      synced = λ told start ready. (synced_on told start ready, reported_on told start ready answer (was told start ready).1);
+      synced = synced_on;
+      reported = λ told start reads goes. reported_on told start (target.files.settled (store.disk old)) answer (sync.reported told start reads goes);
       in_full = sync.in_full;
-      still = λ told mode_is done start ready at. idle_on told (sync.still told mode_is done start ready at);
+      still = λ told mode_is done start reads goes at. idle_on told (sync.still told mode_is done start reads goes at);
       contested = λ told is start ready. contested_on told start ready (sync.contested told is start ready);
       limited = λ told which number is start ready. limited_on told start ready which number (sync.limited told which number is start ready);
       few = sync.few;
@@ -293,11 +299,37 @@ module _ {S : Type 0} (store : Ghosts S) (only_now : NowOnly store) (now_counts 
       source_back : SameIn (folder_of source.kind) middle first
       source_back = same_back (folder_of source.kind) first middle source_here
 
+    reads_mid : store.tells → (start : View) → target.files.reads first start → target.files.reads middle start
+    reads_mid told start reads = own.reads first middle start (here told) reads
+
+    reported_since : store.tells → (start : View) (Settled Before : Type 0) → (Before → Settled) → (given : Answer) → IsReported source target None mode now start Settled middle (store.disk new).files given
+        → IsReported source target (Some other) mode now start Before first (store.disk new).files given
+    unfolding due_own
+    reported_since told start Settled Before from None is = tt
+    reported_since told start Settled Before from (Some (Err e)) is = tt
+    reported_since told start Settled Before from (Some (Ok report)) is = record {
+      due = due_own source laws middle first (source_back told) mode start is.due;
+      columns = is.columns;
+      last = is.last;
+      leads = is.leads;
+      in_full = λ full.
+          let has = is.in_full full in
+          record { table = has.table; is_table = laws.table_own middle first has.table (source_back told) has.is_table; rows = has.rows; partition = has.partition; schema = has.schema };
+      way = is.way;
+      published = is.published;
+      distinct = is.distinct;
+      files_are = is.files_are;
+      position = is.position;
+      reads = λ settled. is.reads (from settled);
+      gained = λ settled. gained_since source laws target own mode start middle first (store.disk new).files (source_back told) (here told) (origin_of is.due) (with_columns is.due.partition start) is.due.commits (length is.due.commits) (is.gained (from settled));
+      written = λ settled. (middle, (store.disk new).files, here told, (λ path mine. refl), is.written (from settled));
+    }
+
     module _ (told : store.tells) (start : View) (ready : IsReady source target first start (target.files.settled (store.disk old))) where
       ready_mid : IsReady source target middle start (target.files.settled (store.disk mid))
-      ready_mid = record { reads = own.reads first middle start (here told) ready.reads; goes_on = ready.goes_on; settled = settled_on old mid (run told) ready.settled }
+      ready_mid = record { reads = reads_mid told start ready.reads; goes_on = ready.goes_on; settled = settled_on old mid (run told) ready.settled }
 
-      did : Synced store source target.files mode start (IsUndisturbed answer) (IsDone answer) mid new × IsReported source target None mode now start middle (store.disk new).files answer
+      did : Synced store source target.files mode start (IsUndisturbed answer) (IsDone answer) mid new
       did = sync.synced told start ready_mid
 
       either_first : (image : Files) → IsAsBeforeOrUnderway source target.files mode start middle image → IsAsBeforeOrUnderway source target.files mode start first image
@@ -319,33 +351,19 @@ module _ {S : Type 0} (store : Ghosts S) (only_now : NowOnly store) (now_counts 
             earlier = λ c change m le held. crash.carries (store.disk old) image start c change m ready.settled may ready.reads le held;
           } in
           (inl as_before, crash.settled (store.disk old) image ready.settled may)) (λ t. (run t).moments))
-          (weaker store mid new (IsEither start middle) (IsEither start first) (λ image is. (either_first image is.0, is.1)) (λ t. did.0.moments u)) told
+          (weaker store mid new (IsEither start middle) (IsEither start first) (λ image is. (either_first image is.0, is.1)) (λ t. did.moments u)) told
 
       synced_since : Synced store source target.files mode start (IsUndisturbed answer) (IsDone answer) old new
       synced_since = record {
-        at_return = λ u. either_first (store.disk new).files (did.0.at_return u);
-        settled = did.0.settled;
+        at_return = λ u. either_first (store.disk new).files (did.at_return u);
+        settled = did.settled;
         moments = moments_since;
-        done = λ d. head_first (store.disk new).files (did.0.done d);
-        since = λ d image left. head_first image (did.0.since d image left);
-        earlier = λ c change m le held. did.0.earlier c change m le (own.carries first middle c change m (here told) held);
+        done = λ d. head_first (store.disk new).files (did.done d);
+        since = λ d image left. head_first image (did.since d image left);
+        earlier = λ c change m le held. did.earlier c change m le (own.carries first middle c change m (here told) held);
         bytes = alone_further store (target.files.reached first) old mid new (λ t. bytes_kept old mid (run t) (target.files.reached first) (own.reached_in first))
             (λ t. alone_of_fewer store (target.files.reached middle) (target.files.reached first) mid new
-            (λ path reached. own.reached_stays first middle (λ q held. here told q (own.reached_in first q held)) path reached) did.0.bytes) told;
-      }
-
-      reported_since : (given : Answer) → IsReported source target None mode now start middle (store.disk new).files given → IsReported source target (Some other) mode now start first (store.disk new).files given
-      unfolding at_head_since due_own gained_since
-      reported_since None is = tt
-      reported_since (Some (Err e)) is = tt
-      reported_since (Some (Ok report)) is = record {
-        at = at_head_since source laws target own mode start middle first (store.disk new).files (source_back told) (here told) is.at;
-        way = is.way;
-        published = is.published;
-        written = (middle, (store.disk new).files, here told, (λ path mine. refl), is.written);
-        distinct = is.distinct;
-        files_are = is.files_are;
-        position = is.position;
+            (λ path reached. own.reached_stays first middle (λ q held. here told q (own.reached_in first q held)) path reached) did.bytes) told;
       }
 
       shown_since : (origin : Origin) (commits : List Commit) → IsEachMoment store mid new (StayShown target.files origin start.commits commits (store.disk new).files) → IsEachMoment store old new (StayShown target.files origin start.commits commits (store.disk new).files)
@@ -387,9 +405,10 @@ module _ {S : Type 0} (store : Ghosts S) (only_now : NowOnly store) (now_counts 
     beside_before = record {
       alone = alone_since;
       source_stays = λ told clear clean. source_of_others store source laws target.files.kind (Some other) old new told clear (alone_since told) clean;
-      synced = λ told start ready. (synced_since told start ready, reported_since told start ready answer (did told start ready).1);
+      synced = synced_since;
+      reported = λ told start reads goes. reported_since told start (target.files.settled (store.disk mid)) (target.files.settled (store.disk old)) (settled_on old mid (run told)) answer (sync.reported told start (reads_mid told start reads) goes);
       in_full = sync.in_full;
-      still = λ told mode_is done start ready at. idle_since told (sync.still told mode_is done start (ready_mid told start ready) (stands_at_head source laws first middle (source_here told) start at));
+      still = λ told mode_is done start reads goes at. idle_since told (sync.still told mode_is done start (reads_mid told start reads) goes (stands_at_head source laws first middle (source_here told) start at));
       contested = λ told is start ready. contested_since told start ready (sync.contested told is start (ready_mid told start ready));
       limited = λ told which number is start ready. limited_since told start ready which number (sync.limited told which number is start (ready_mid told start ready));
       few = sync.few;

@@ -94,13 +94,12 @@ module _ {S : Type 0} (store : Ghosts S) (source : SourceMeaning) (target : Targ
         alone = alone;
         source_stays = λ told apart clean. source_of_others store source own target.files.kind other old new told apart (alone told) clean;
         synced = λ told start ready.
-            let was = sync.synced told start (ready_mid told start ready) in (
-              synced_behind source own target.files mode crash store start _ _ old mid new told (reading told) ready.reads ready.settled was.0,
-              subst (λ (d : Disk). IsReported source target other mode now start d.files (store.disk new).files answer) (same told) was.1,
-            );
+            synced_behind source own target.files mode crash store start _ _ old mid new told (reading told) ready.reads ready.settled (sync.synced told start (ready_mid told start ready));
+        reported = λ told start reads goes.
+            subst (λ (d : Disk). IsReported source target other mode now start (target.files.settled d) d.files (store.disk new).files answer) (same told) (sync.reported told start (reads_mid told start reads) goes);
         in_full = sync.in_full;
-        still = λ told mode_is done start ready at.
-            idle_behind store old mid new reading other told (sync.still told mode_is done start (ready_mid told start ready) (subst (λ (d : Disk). StandsAtHead source d.files start) (sym (same told)) at));
+        still = λ told mode_is done start reads goes at.
+            idle_behind store old mid new reading other told (sync.still told mode_is done start (reads_mid told start reads) goes (subst (λ (d : Disk). StandsAtHead source d.files start) (sym (same told)) at));
         contested = λ told is start ready. contested_old told start ready (subst (λ (d : Disk). IsContested store source target.files mode start d.files mid new) (same told) (sync.contested told is start (ready_mid told start ready)));
         limited = λ told which number is start ready. limited_old told start which number (sync.limited told which number is start (ready_mid told start ready));
         few = sync.few;
@@ -115,9 +114,12 @@ module _ {S : Type 0} (store : Ghosts S) (source : SourceMeaning) (target : Targ
             (λ rose. no_fault (rose_from (store.faults old) (store.faults mid) (store.faults new) cause.later rose)) no_contest;
       }
     where
+      reads_mid : store.tells → (start : View) → target.files.reads (store.disk old).files start → target.files.reads (store.disk mid).files start
+      reads_mid told start reads = subst (λ (d : Disk). target.files.reads d.files start) (sym (reading told).disk) reads
+
       ready_mid : store.tells → (start : View) → IsReady source target (store.disk old).files start (target.files.settled (store.disk old)) → IsReady source target (store.disk mid).files start (target.files.settled (store.disk mid))
       ready_mid told start ready = record {
-        reads = subst (λ (d : Disk). target.files.reads d.files start) (sym (reading told).disk) ready.reads;
+        reads = reads_mid told start ready.reads;
         goes_on = ready.goes_on;
         settled = subst (λ (d : Disk). target.files.settled d) (sym (reading told).disk) ready.settled;
       }

@@ -40,9 +40,10 @@ sync_none store source target mode now own crash old new reading A B cause quiet
     record {
       alone = alone;
       source_stays = λ told apart clean. source_kept store source own target.files.kind apart old new told (alone told) clean;
-      synced = λ told start ready. (synced_idle source own target.files mode crash store start (Unit {0}) ⊥ (λ never. never) old new told (reading told) ready.reads ready.settled, tt);
+      synced = λ told start ready. synced_idle source own target.files mode crash store start (Unit {0}) ⊥ (λ never. never) old new told (reading told) ready.reads ready.settled;
+      reported = λ told start reads goes. tt;
       in_full = tt;
-      still = λ told mode_is done start ready at. absurd done;
+      still = λ told mode_is done start reads goes at. absurd done;
       contested = λ told is start ready. absurd (cc is);
       limited = λ told which number is start ready. absurd (cc is);
       few = tt;

@@ -212,6 +212,20 @@ position_behind image origin head (commit ∷ commits) view last leads ends =
     let at : position_at next.mark ≡ commit.position = ap position_at leads.1.mark in
     position_behind image origin head commits next last leads.2 (subst (λ (p : List ℕ). EndAt head p commits) (sym at) ends)
 
+-- What is due at the view that was kept is due at each view of the target, and leads to this one, also where a crash can damage the target.
+pub record ToldDue (source : SourceMeaning) (target : Meaning) (mode : Mode) (v start : View) (before : Files) (head : Head) (partition : List (List ℕ)) (commits : List Commit) (full : Bool) (origin : Origin) (last : View) : Type 0 where
+  pub due : Due source mode before start
+  pub head_is : due.head ≡ head
+  pub partition_is : due.partition ≡ partition
+  pub commits_are : due.commits ≡ commits
+  pub full_is : due.full ≡ full
+  pub origin_is : origin_of due ≡ origin
+  pub columns : (due.partition ≡ start.table.partition) ⊎ IsUnpublished start
+  pub leads : IsAdvancedAll target.image (origin_of due) (with_columns due.partition start) due.commits last
+  pub in_full : due.full ≡ true → HasTable source target before last
+  pub position : position_at last.mark ≡ due.head.position
+  pub gained : (files : Files) → Gained target origin v before commits (length commits) files → Gained target (origin_of due) (with_columns due.partition start) before due.commits (length due.commits) files
+
 module _ (source : SourceMeaning) (own : SourceLaws source) (target : Meaning) (mode : Mode) where
   module _ (crash : CrashLaws target) where
     head_left : (start : View) (before : Files) (disk : Disk) (image : Files) → target.settled disk → MayLeave disk image → IsAtHead source target mode start before disk.files → IsAtHead source target mode start before image
@@ -398,26 +412,21 @@ module _ (source : SourceMeaning) (own : SourceLaws source) (target : Meaning) (
           stay = subst (λ (c : ℕ). IsEachMoment store old new (StayShown target origin c commits (store.disk new).files)) begun_same.commits stay;
         }
 
-        -- what is told of the target is what it stands at
-        pub told_head : (files : Files) (last : View) → IsAdvancedAll target.image origin v commits last → target.reads files last → Gained target origin v before commits (length commits) files
-            → (at : IsAtHead source target mode start before files) × (at.gained.view ≡ last) × (at.due.head ≡ head) × (at.due.full ≡ full) × (at.due.partition ≡ partition) × (at.due.commits ≡ commits) × (origin_of at.due ≡ origin)
-        unfolding due_one due_here at_head gained_begun
-        told_head files last leads reads gained = (
-          at_head files (record {
-            within = gained.within;
-            view = last;
-            leads = subst (λ (cs : List Commit). IsAdvancedAll target.image origin v cs last) (sym (take-length commits)) leads;
-            stands = reads;
-            each = gained.each;
-            earlier = gained.earlier;
-          }),
-          refl,
-          refl,
-          refl,
-          refl,
-          refl,
-          refl,
-        )
+        pub told_due : (last : View) → IsAdvancedAll target.image origin v commits last → ToldDue source target mode v start before head partition commits full origin last
+        unfolding due_one due_here gained_begun
+        told_due last leads = record {
+          due = due_one source mode before v start one due_here;
+          head_is = refl;
+          partition_is = refl;
+          commits_are = refl;
+          full_is = refl;
+          origin_is = refl;
+          columns = columns_of v start partition one columns;
+          leads = advanced_from target.image origin v begun commits last begun_same leads;
+          in_full = λ is_full. has_table last leads is_full;
+          position = position_behind target.image origin head.position commits v last leads ends_here;
+          gained = λ files gained. gained_begun (length commits) files gained;
+        }
 
         pub synced_all : {S : Type 0} (store : Ghosts S) → CrashLaws target → NowOnly store → (U D Published : Type 0) (done : Bool) (old new : S) → store.tells → (store.disk old).files ≡ before → (U → Published) → (D → Published × (done ≡ true))
             → Publishes store target origin v commits Published done old new → Synced store source target mode start U D old new

@@ -20,7 +20,7 @@ use Rattle.target_core.specs.Views.{IsOfSource, IsUnpublished, Origin, View}
 use Rattle.target_core.specs.declared.target.Target as targets
 use Rattle.target_core.specs.declared.target.TargetError.{TargetError}
 use Rattle.target_core.specs.declared.target.TargetError.TheVariants as target_error
-use Rattle.target_sync.specs.Answered.{CameBefore, CanSync, IsAbsence, IsCaused, IsComplete, IsContest, IsDone, IsFew, IsLate, IsOfSync, IsOneInFull, IsPassed, IsReady, IsRefusal, IsReported, IsSync, IsUndisturbed, IsUnfit, StandsAtHead}
+use Rattle.target_sync.specs.Answered.{CameBefore, CanSync, IsAbsence, IsCaused, IsComplete, IsContest, IsDone, IsFew, IsLate, IsOfSync, IsOneInFull, IsPassed, IsReady, IsRefusal, IsReport, IsReported, IsSync, IsUndisturbed, IsUnfit, StandsAtHead}
 use Rattle.target_sync.specs.Applied.{Applies, IsContestedAt, IsLimitedAt, PassesIn, answer_of_target, position_at, status_of_target}
 use Rattle.target_sync.specs.Dues.{AreSinceMark, Due, IsIdBehind, IsInFull, origin_of}
 use Rattle.target_sync.specs.Sources.{source_meaning}
@@ -35,7 +35,7 @@ use Rattle.target_sync.specs.declared.status.Status.TheVariants as status
 use Rattle.target_sync.proofs.Applying.{CrashLaws, goes_on_start, stay_behind}
 use Rattle.target_sync.proofs.Counting.{contested_as, contested_of_none, contested_then, fails_as, fails_then}
 use Rattle.target_sync.proofs.Refusing.{late_of_apply, only_memory, refusal_of_apply}
-use Rattle.target_sync.proofs.Standing.{AreOne, SourceLaws, ViewLaws, contested_here, due_here, limited_here, source_kept, still_none, synced_all, synced_behind, synced_idle, told_head}
+use Rattle.target_sync.proofs.Standing.{AreOne, SourceLaws, ViewLaws, contested_here, due_here, limited_here, source_kept, still_none, synced_all, synced_behind, synced_idle, told_due}
 
 pub few_of_target : (kind : Kind) (e : TargetError) → IsOfSync kind (status_of_target kind e)
 few_of_target kind target_error.Memory = tt
@@ -118,9 +118,10 @@ module _ {S F T K : Type 0} (store : Ghosts S) (only_now : NowOnly store) (sourc
       record {
         alone = alone;
         source_stays = λ told apart clean. source_kept store (source_meaning source f) laws.source_own (target.kind t) apart old new told (alone told) clean;
-        synced = λ told start ready. (synced_idle (source_meaning source f) laws.source_own (meaning target t) mode laws.crash store start (¬ IsContest e) ⊥ (λ never. never) old new told (reading told) ready.reads ready.settled, tt);
+        synced = λ told start ready. synced_idle (source_meaning source f) laws.source_own (meaning target t) mode laws.crash store start (¬ IsContest e) ⊥ (λ never. never) old new told (reading told) ready.reads ready.settled;
+        reported = λ told start reads goes. tt;
         in_full = tt;
-        still = λ told sync done start ready at. absurd done;
+        still = λ told sync done start reads goes at. absurd done;
         contested = λ told is start ready. absurd (contest.never (some_err e (status.Contested (target.kind t)) is));
         limited = λ told which number is start ready. inl (reading told);
         few = few;
@@ -190,28 +191,30 @@ module _ {S F T K : Type 0} (store : Ghosts S) (only_now : NowOnly store) (sourc
         subst (λ (d : Disk). target.settled t d) (sym disk_same) settled,
       )
 
-      report_is : (columns : v.table.partition ≡ partition) (start : View) → IsReady (source_meaning source f) (target_facts target t) before start (target.settled t (store.disk old)) → AreOne v start
-          → (answer : Result Report TargetError) → Applied answer → IsReported (source_meaning source f) (target_facts target t) None mode now start before (store.disk new).files (Some (answer_of_target (target.kind t) answer))
-      report_is columns start ready same (Err e) given = tt
-      report_is columns start ready same (Ok report) given =
-          let stands_here = stands_mid ready.settled in
+      report_is : (columns : v.table.partition ≡ partition) (start : View) → AreOne v start → (report : Report) → Applied (Ok report)
+          → IsReport (source_meaning source f) (target_facts target t) None mode now start (target.settled t (store.disk old)) before (store.disk new).files report
+      report_is columns start same report given =
           let tells = given.reported in
+          let h = told_due (source_meaning source f) laws.source_own (meaning target t) mode v before head (is_head told) id (is_id told) partition commits full (way told) columns start same tells.last tells.leads in
           let Written : List (List ℕ) → Origin → List Commit → Type 0 = λ names o cs. (target_facts target t).writes before names o now cs (store.disk new).files in
-          let gained = subst (λ (d : Disk). Gained (meaning target t) origin v d.files commits (length commits) (store.disk new).files) disk_same ((given.publishes told stands_here).all refl) in
-          let h = told_head (source_meaning source f) laws.source_own (meaning target t) mode v before head (is_head told) id (is_id told) partition commits full (way told) columns start same (store.disk new).files tells.last tells.leads
-          (tells.reads (told, stands_here)) gained in
-          let at = h.0 in
-          let view_is : at.gained.view ≡ tells.last = h.1 in
-          let written : HaveWritten target t kept before origin now commits (store.disk new).files = subst (λ (d : Disk). HaveWritten target t kept d.files origin now commits (store.disk new).files) disk_same (given.writes told stands_here) in
           record {
-            at = at;
-            way = tells.is.way ∙ sym h.3;
-            published = tells.is.published ∙ ap (λ (cs : List Commit). length cs) (sym h.5);
-            written = subst (λ (names : List (List ℕ)). Written names (origin_of at.due) at.due.commits) (sym h.4)
-                (subst (λ (o : Origin). Written partition o at.due.commits) (sym h.6) (subst (λ (cs : List Commit). Written partition origin cs) (sym h.5) (kept, is_kept told, written)));
-            distinct = subst (λ (w : View). HasDistinctPaths w.table.rows) (sym view_is) tells.is.distinct;
-            files_are = tells.is.files ∙ ap (λ (w : View). length w.table.rows) (sym view_is);
-            position = tells.is.at ∙ ap position_at (ap (λ (w : View). w.mark) (sym view_is)) ∙ at.position;
+            due = h.due;
+            columns = h.columns;
+            last = tells.last;
+            leads = h.leads;
+            in_full = h.in_full;
+            way = tells.is.way ∙ sym h.full_is;
+            published = tells.is.published ∙ ap (λ (cs : List Commit). length cs) (sym h.commits_are);
+            distinct = tells.is.distinct;
+            files_are = tells.is.files;
+            position = tells.is.at ∙ h.position;
+            reads = λ settled. tells.reads (told, stands_mid settled);
+            gained = λ settled. h.gained (store.disk new).files
+                (subst (λ (d : Disk). Gained (meaning target t) origin v d.files commits (length commits) (store.disk new).files) disk_same ((given.publishes told (stands_mid settled)).all refl));
+            written = λ settled.
+                let here : Written partition origin commits = (kept, is_kept told, subst (λ (d : Disk). HaveWritten target t kept d.files origin now commits (store.disk new).files) disk_same (given.writes told (stands_mid settled))) in
+                subst (λ (names : List (List ℕ)). Written names (origin_of h.due) h.due.commits) (sym h.partition_is)
+                (subst (λ (o : Origin). Written partition o h.due.commits) (sym h.origin_is) (subst (λ (cs : List Commit). Written partition origin cs) (sym h.commits_are) here));
           }
 
       -- what isn't idle has the source's columns
@@ -222,27 +225,25 @@ module _ {S F T K : Type 0} (store : Ghosts S) (only_now : NowOnly store) (sourc
 
       synced_is : (start : View) → IsReady (source_meaning source f) (target_facts target t) before start (target.settled t (store.disk old)) → (answer : Result Report TargetError) → Applied answer
           → Synced store (source_meaning source f) (meaning target t) mode start (IsUndisturbed (Some (answer_of_target (target.kind t) answer))) (IsDone (Some (answer_of_target (target.kind t) answer))) old new
-          × IsReported (source_meaning source f) (target_facts target t) None mode now start before (store.disk new).files (Some (answer_of_target (target.kind t) answer))
       synced_is start ready answer given =
           let U : Type 0 = IsUndisturbed (Some (answer_of_target (target.kind t) answer)) in
           let D : Type 0 = IsDone (Some (answer_of_target (target.kind t) answer)) in
           let same : AreOne v start = laws.views.one_view before v start (kept_reads told) ready.reads in
           ⊎_elim
-          (λ (columns : v.table.partition ≡ partition). (
-            synced_behind (source_meaning source f) laws.source_own (meaning target t) mode laws.crash store start U D old mid new told (reading told) ready.reads ready.settled
-                (synced_all (source_meaning source f) laws.source_own (meaning target t) mode v before head (is_head told) id (is_id told) partition commits full (way told) columns start same store laws.crash only_now U D (Uncontested answer) (is_ok answer) mid new told
-                (ap (λ (d : Disk). d.files) disk_same) (undisturbed (target.kind t) answer) (done_ok (target.kind t) answer) (given.publishes told (stands_mid ready.settled))),
-            report_is columns start ready same answer given,
-          ))
-          (λ (idle : (is_ok answer ≡ true → ⊥) × (store.tells → OnlyReads store mid new)). (
-            synced_idle (source_meaning source f) laws.source_own (meaning target t) mode laws.crash store start U D (λ d. idle.0 (done_ok (target.kind t) answer d).1) old new told (reading_further store old mid new reading idle.1 told) ready.reads ready.settled,
-            not_reported idle.0 answer refl,
-          ))
+          (λ (columns : v.table.partition ≡ partition).
+          synced_behind (source_meaning source f) laws.source_own (meaning target t) mode laws.crash store start U D old mid new told (reading told) ready.reads ready.settled
+          (synced_all (source_meaning source f) laws.source_own (meaning target t) mode v before head (is_head told) id (is_id told) partition commits full (way told) columns start same store laws.crash only_now U D (Uncontested answer) (is_ok answer) mid new told
+          (ap (λ (d : Disk). d.files) disk_same) (undisturbed (target.kind t) answer) (done_ok (target.kind t) answer) (given.publishes told (stands_mid ready.settled))))
+          (λ (idle : (is_ok answer ≡ true → ⊥) × (store.tells → OnlyReads store mid new)).
+          synced_idle (source_meaning source f) laws.source_own (meaning target t) mode laws.crash store start U D (λ d. idle.0 (done_ok (target.kind t) answer d).1) old new told (reading_further store old mid new reading idle.1 told) ready.reads ready.settled)
           (columns_known _ given.columns)
-        where
-          not_reported : (is_ok answer ≡ true → ⊥) → (r : Result Report TargetError) → r ≡ answer → IsReported (source_meaning source f) (target_facts target t) None mode now start before (store.disk new).files (Some (answer_of_target (target.kind t) r))
-          not_reported not (Err e) is = tt
-          not_reported not (Ok report) is = absurd (not (ap (λ (r : Result Report TargetError). is_ok r) (sym is)))
+
+      reported_is : (start : View) → target.reads t before start → (answer : Result Report TargetError) → Applied answer
+          → IsReported (source_meaning source f) (target_facts target t) None mode now start (target.settled t (store.disk old)) before (store.disk new).files (Some (answer_of_target (target.kind t) answer))
+      reported_is start reads (Err e) given = tt
+      reported_is start reads (Ok report) given =
+          ⊎_elim (λ (columns : v.table.partition ≡ partition). report_is columns start (laws.views.one_view before v start (kept_reads told) reads) report given)
+          (λ (idle : (is_ok {E = TargetError} (Ok report) ≡ true → ⊥) × (store.tells → OnlyReads store mid new)). absurd (idle.0 refl)) (columns_known _ given.columns)
 
       contested_is : (start : View) → IsReady (source_meaning source f) (target_facts target t) before start (target.settled t (store.disk old)) → IsContestedAt store (meaning target t) origin v partition commits mid new
           → IsContested store (source_meaning source f) (meaning target t) mode start before old new
@@ -264,11 +265,11 @@ module _ {S F T K : Type 0} (store : Ghosts S) (only_now : NowOnly store) (sourc
           inr (limited_here (source_meaning source f) laws.source_own (meaning target t) mode v before head (is_head told) id (is_id told) partition commits full (way told) at.columns start
           (laws.views.one_view before v start (kept_reads told) ready.reads) passes_at (store.disk new).files which number at.place at.within (kept, is_kept told, at.passed) at.gained)
 
-      still_is : (answer : Result Report TargetError) → Applied answer → mode ≡ modes.Sync → IsDone (Some (answer_of_target (target.kind t) answer)) → (start : View) → IsReady (source_meaning source f) (target_facts target t) before start (target.settled t (store.disk old))
+      still_is : (answer : Result Report TargetError) → Applied answer → mode ≡ modes.Sync → IsDone (Some (answer_of_target (target.kind t) answer)) → (start : View) → target.reads t before start
           → StandsAtHead (source_meaning source f) before start → OnlyReads store old new
-      still_is (Err e) given sync done start ready at = absurd done
-      still_is (Ok report) given sync done start ready at =
-          let same : AreOne v start = laws.views.one_view before v start (kept_reads told) ready.reads in
+      still_is (Err e) given sync done start reads at = absurd done
+      still_is (Ok report) given sync done start reads at =
+          let same : AreOne v start = laws.views.one_view before v start (kept_reads told) reads in
           let none : commits ≡ [] = still_none (source_meaning source f) laws.source_own (meaning target t) mode v before head (is_head told) id (is_id told) partition commits full (way told) start same sync at in
           reading_further store old mid new reading (λ t. given.none t none) told
 
@@ -307,8 +308,9 @@ module _ {S F T K : Type 0} (store : Ghosts S) (only_now : NowOnly store) (sourc
           alone = alone;
           source_stays = λ told apart clean. source_kept store (source_meaning source f) laws.source_own (target.kind t) apart old new told (alone told) clean;
           synced = λ told start ready. synced_is told start ready answer given;
+          reported = λ told start reads goes. reported_is told start reads answer given;
           in_full = full_told answer given;
-          still = λ told sync done start ready at. still_is told answer given sync done start ready at;
+          still = λ told sync done start reads goes at. still_is told answer given sync done start reads at;
           contested = λ told is start ready. contested_is told start ready (given.contested told (stands_mid told ready.settled) (contest_told (target.kind t) answer is));
           limited = λ told which number is start ready. limited_is told start ready which number (given.limited told (stands_mid told ready.settled) which number (limit_told (target.kind t) which number answer is));
           few = few_told (target.kind t) answer;

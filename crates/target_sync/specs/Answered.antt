@@ -13,14 +13,15 @@ use Rattle.source_core.specs.declared.error.SourceError.TheVariants as source_er
 use Rattle.source_core.specs.declared.head.Head.{Head}
 use Rattle.target_core.specs.Conditions.{GoesOn}
 use Rattle.target_core.specs.Folders.{folder_of}
-use Rattle.target_core.specs.Views.{View}
+use Rattle.target_core.specs.Gained.{Gained}
+use Rattle.target_core.specs.Views.{IsAdvancedAll, IsUnpublished, View}
 use Rattle.target_core.specs.declared.target.TargetError.{TargetError}
 use Rattle.target_core.specs.declared.target.TargetError.TheVariants as target_error
 use Rattle.target_sync.specs.Applied.{PassesIn, status_of_source}
 use Rattle.target_sync.specs.Dues.{Due, IsMarked, IsSinceFault, IsWhole, TakesCommits, origin_of}
 use Rattle.target_sync.specs.Others.{ChangesTargets, CountsContest, HasWritten, IsApart, IsIdle}
 use Rattle.target_sync.specs.Sources.{HasHead, SourceMeaning}
-use Rattle.target_sync.specs.Synced.{IsAtHead, IsContested, IsLimited, KeepsSource, Synced}
+use Rattle.target_sync.specs.Synced.{HasTable, IsContested, IsLimited, KeepsSource, Synced, with_columns}
 use Rattle.target_sync.specs.Targets.{TargetFacts}
 use Rattle.target_sync.specs.declared.apply.Report.{Report}
 use Rattle.target_sync.specs.declared.plan.Mode.{Mode}
@@ -218,23 +219,29 @@ IsComplete None = Unit {0}
 IsComplete (Some (Ok report)) = Unit {0}
 IsComplete (Some (Err e)) = e ≡ status.Memory
 
--- The commits that were due were published, in this way, and the target has so many rows and stands at this position. Just what publishing them at
--- this time writes has come.
-pub record IsReport (source : SourceMeaning) (target : TargetFacts) (other : Option Kind) (mode : Mode) (now : ℕ) (start : View) (before files : Files) (report : Report) : Type 0 where
-  pub at : IsAtHead source target.files mode start before files
-  pub way : report.full ≡ at.due.full
-  pub published : report.published ≡ length at.due.commits
-  pub written : HasWritten target.files.kind other (λ from to. target.writes from at.due.partition (origin_of at.due) now at.due.commits to) before files
-  pub distinct : HasDistinctPaths at.gained.view.table.rows
-  pub files_are : report.files ≡ length at.gained.view.table.rows
-  pub position : report.at ≡ at.due.head.position
+-- The commits that were due were published, in this way, and over the view they lead to the last one, which has so many rows, and in full the source's
+-- table; they end at this position. A settled target reads as that last view, and just what publishing them at this time writes has come.
+pub record IsReport (source : SourceMeaning) (target : TargetFacts) (other : Option Kind) (mode : Mode) (now : ℕ) (start : View) (Settled : Type 0) (before files : Files) (report : Report) : Type 0 where
+  pub due : Due source mode before start
+  pub columns : (due.partition ≡ start.table.partition) ⊎ IsUnpublished start
+  pub last : View
+  pub leads : IsAdvancedAll target.files.image (origin_of due) (with_columns due.partition start) due.commits last
+  pub in_full : due.full ≡ true → HasTable source target.files before last
+  pub way : report.full ≡ due.full
+  pub published : report.published ≡ length due.commits
+  pub distinct : HasDistinctPaths last.table.rows
+  pub files_are : report.files ≡ length last.table.rows
+  pub position : report.at ≡ due.head.position
+  pub reads : Settled → target.files.reads files last
+  pub gained : Settled → Gained target.files (origin_of due) (with_columns due.partition start) before due.commits (length due.commits) files
+  pub written : Settled → HasWritten target.files.kind other (λ from to. target.writes from due.partition (origin_of due) now due.commits to) before files
 
 -- ---- one target
 
-abbrev pub IsReported : SourceMeaning → TargetFacts → Option Kind → Mode → ℕ → View → Files → Files → Answer → Type 0
-IsReported source target other mode now start before files None = Unit {0}
-IsReported source target other mode now start before files (Some (Ok report)) = IsReport source target other mode now start before files report
-IsReported source target other mode now start before files (Some (Err e)) = Unit {0}
+abbrev pub IsReported : SourceMeaning → TargetFacts → Option Kind → Mode → ℕ → View → Type 0 → Files → Files → Answer → Type 0
+IsReported source target other mode now start Settled before files None = Unit {0}
+IsReported source target other mode now start Settled before files (Some (Ok report)) = IsReport source target other mode now start Settled before files report
+IsReported source target other mode now start Settled before files (Some (Err e)) = Unit {0}
 
 -- What is told of each target that is done: in full it took one commit, and the command `full` goes no other way.
 abbrev pub IsOneInFull : Mode → Answer → Type 0
@@ -258,10 +265,13 @@ pub record IsSync {S : Type 0} (store : Ghosts S) (source : SourceMeaning) (targ
   pub alone : store.tells → ChangesTargets store target.files.kind other old new
   pub source_stays : store.tells → IsApart source.kind target.files.kind other → ((path : List ℕ) → IsIn (folder_of source.kind) path → IsClean (store.disk old) path) → KeepsSource store source old new
   pub synced : store.tells → (start : View) → IsReady source target (store.disk old).files start (target.files.settled (store.disk old))
-      → Synced store source target.files mode start (IsUndisturbed answer) (IsDone answer) old new × IsReported source target other mode now start (store.disk old).files (store.disk new).files answer
+      → Synced store source target.files mode start (IsUndisturbed answer) (IsDone answer) old new
+  -- What is told of a target that is absent or ours, also of one that a crash can damage.
+  pub reported : store.tells → (start : View) → target.files.reads (store.disk old).files start → GoesOn source.kind start
+      → IsReported source target other mode now start (target.files.settled (store.disk old)) (store.disk old).files (store.disk new).files answer
   pub in_full : IsOneInFull mode answer
   -- Of a target whose mark has the head's position files are read alone.
-  pub still : store.tells → mode ≡ modes.Sync → IsDone answer → (start : View) → IsReady source target (store.disk old).files start (target.files.settled (store.disk old)) → StandsAtHead source (store.disk old).files start → IsIdle store other old new
+  pub still : store.tells → mode ≡ modes.Sync → IsDone answer → (start : View) → target.files.reads (store.disk old).files start → GoesOn source.kind start → StandsAtHead source (store.disk old).files start → IsIdle store other old new
   -- Where another writer was in the way, the commits published before stay, and nothing is published behind that writer's.
   pub contested : store.tells → answer ≡ Some (Err (status.Contested target.files.kind)) → (start : View) → IsReady source target (store.disk old).files start (target.files.settled (store.disk old))
       → IsContested store source target.files mode start (store.disk old).files old new
