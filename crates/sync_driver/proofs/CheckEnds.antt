@@ -10,12 +10,13 @@ use Rattle.lake_store.proofs.RunLaws.{reading_further}
 use Rattle.source_core.specs.Answers.{IsHeadRefusal, IsReadable}
 use Rattle.source_core.specs.declared.error.SourceError.{SourceError}
 use Rattle.source_core.specs.declared.error.SourceError.TheVariants as source_error
+use Rattle.table_history.specs.declared.kind.Kind.{Kind}
 use Rattle.table_history.specs.declared.limit.LimitKind.{LimitKind}
 use Rattle.target_core.specs.Conditions.{GoesOn}
 use Rattle.target_core.specs.Views.{View}
 use Rattle.target_sync.specs.Answered.{StandsAt}
 use Rattle.target_sync.specs.Applied.{status_of_source}
-use Rattle.sync_driver.specs.Checked.{CheckAnswer, Checks, IsCheck, IsCheckEnd, IsCheckFault, IsCheckRefusal, IsCheckStatus, IsCheckedSo, StandsBehind, check_line, check_status}
+use Rattle.sync_driver.specs.Checked.{CheckAnswer, Checks, IsCheck, IsCheckEnd, IsCheckFault, IsCheckRefusal, IsCheckStatus, IsCheckedSo, IsOfCheck, StandsBehind, check_line, check_status}
 use Rattle.sync_driver.specs.Commands.{IsPending}
 use Rattle.sync_driver.specs.Lines.{pending_line}
 use Rattle.target_sync.specs.Sources.{SourceMeaning}
@@ -29,6 +30,15 @@ use Rattle.target_sync.proofs.Counting.{fails_as, fails_then, uncontested_then}
 use Rattle.target_sync.proofs.Finding.{source_fault}
 use Rattle.target_sync.proofs.Refusing.{before_of_head}
 
+-- a refusal of reading the source
+pub few_of_source : (kind : Kind) (e : SourceError) → IsOfCheck kind (status_of_source e)
+few_of_source kind source_error.Memory = tt
+few_of_source kind source_error.Absent = tt
+few_of_source kind (source_error.Malformed path) = tt
+few_of_source kind (source_error.Unsupported feature path) = tt
+few_of_source kind (source_error.Limit which number) = tt
+few_of_source kind source_error.StoreFault = tt
+
 module _ {S : Type 0} (store : Ghosts S) (source : SourceMeaning) (target : TargetFacts) where
   -- over a run that only read
   pub check_behind : (old mid new : S) → (store.tells → OnlyReads store old mid) → (A B : Type 0) → FailsBy store old mid A → IsUncontestedBy store old mid B → (answer : CheckAnswer) → IsCheck store source target mid new answer → IsCheck store source target old new answer
@@ -36,6 +46,7 @@ module _ {S : Type 0} (store : Ghosts S) (source : SourceMeaning) (target : Targ
     reads = reading_further store old mid new reading check.reads;
     fault = fails_then store.faults store.may_fail old mid new A _ cause check.fault;
     contest = uncontested_then store.contests store.may_contest old mid new B ⊥ quiet check.contest;
+    few = check.few;
     checked = λ told. subst (λ (d : Disk). IsCheckedSo source target d.files answer) (reading told).disk (check.checked told);
     foreign = λ told path is. subst (λ (d : Disk). IsCheckStatus source target d.files (status.Foreign target.files.kind path) answer) (reading told).disk (check.foreign told path (subst (λ (d : Disk). target.is_foreign source.kind d.files path) (sym (reading told).disk) is));
     behind = λ told head at is. subst (λ (d : Disk). IsCheckStatus source target d.files (status.Behind target.files.kind at head.position) answer) (reading told).disk
@@ -48,6 +59,7 @@ module _ {S : Type 0} (store : Ghosts S) (source : SourceMeaning) (target : Targ
     reads = reading;
     fault = fails_as store.faults store.may_fail old new A (None ≡ Some (Err status.StoreFault)) (λ is. absurd (cc is)) cause;
     contest = record { same = quiet.same; still = quiet.still; never = λ never. never };
+    few = tt;
     checked = λ told. tt;
     foreign = λ told path is. tt;
     behind = λ told head at is. tt;
@@ -68,6 +80,7 @@ module _ {S : Type 0} (store : Ghosts S) (source : SourceMeaning) (target : Targ
     reads = reading;
     fault = fails_as store.faults store.may_fail old new (e ≡ source_error.StoreFault) _ (λ same. let one : status_of_source e ≡ status.StoreFault = cc same in source_fault e one) cause;
     contest = quiet;
+    few = few_of_source target.files.kind e;
     checked = λ told. head_checked (store.disk old).files e (refused told);
     foreign = λ told path is. inr (before_of_head source target modes.Sync 0 (store.disk old).files (Unit {0}) tt e (refused told));
     behind = λ told head at is. inr (before_of_head source target modes.Sync 0 (store.disk old).files (Unit {0}) tt e (refused told));

@@ -18,7 +18,7 @@ use Rattle.target_core.specs.Views.{IsOfSource, Standing, View, absent}
 use Rattle.target_core.specs.declared.target.Seen.{Seen}
 use Rattle.target_core.specs.declared.target.Target as targets
 use Rattle.target_sync.specs.Applied.{position_at, status_of_source}
-use Rattle.sync_driver.specs.Checked.{CheckAnswer, IsBehind, IsCheck, IsCheckStatus, IsCheckedSo, IsCompared, IsMarkedAt, IsSeenBehind, IsSeenRefusal, StandsBehind, StandsMarked}
+use Rattle.sync_driver.specs.Checked.{CheckAnswer, IsBehind, IsCheck, IsCheckStatus, IsCheckedSo, IsCompared, IsFewOfCheck, IsMarkedAt, IsOfCheck, IsSeenBehind, IsSeenRefusal, StandsBehind, StandsMarked}
 use Rattle.target_sync.specs.Dues.{MayBeSame}
 use Rattle.target_sync.specs.Sources.{source_meaning}
 use Rattle.target_sync.specs.Targets.{target_facts}
@@ -30,6 +30,7 @@ use Rattle.target_sync.proofs.Finding.{source_fault}
 use Rattle.target_sync.proofs.Histories.{not_marked, one_standing, unmarked}
 use Rattle.target_sync.proofs.Standing.{AreOne, one_mark}
 use Rattle.target_sync.proofs.Syncing.{Laws}
+use Rattle.sync_driver.proofs.CheckEnds.{few_of_source}
 
 -- a target isn't both behind the head and at it
 behind_not_at : (head : Head) (v w : View) (at : Option (List ℕ)) → AreOne v w → IsMarkedAt head v → IsBehind head w at → ⊥
@@ -46,6 +47,38 @@ behind_once head v w (Some a) None one here there = absurd (not_marked v _ (one_
 behind_once head v w (Some a) (Some b) one here there =
     let same : here.0 ≡ there.0 = one_standing v here.0 there.0 here.1 (one_mark v w one ∙ there.1) in
     ap (λ (p : List ℕ). Some p) (here.2.0 ∙ ap (λ (s : Standing). s.to) same ∙ sym there.2.0)
+
+-- what isn't compared, and what comparing answers, is of a check
+few_of_seen : {K : Type 0} (view : K → View) (kind : Kind) (head : Head) (seen : Seen K) (e : Status) → IsSeenRefusal kind view head seen e → IsOfCheck kind e
+few_of_seen view kind head seen status.Memory why = tt
+few_of_seen view kind head seen (status.Foreign other path) why = why.0
+few_of_seen view kind head seen (status.Behind other at position) why = why.0
+few_of_seen view kind head seen status.Done why = absurd why
+few_of_seen view kind head seen status.Usage why = absurd why
+few_of_seen view kind head seen status.Absent why = absurd why
+few_of_seen view kind head seen (status.Malformed path) why = absurd why
+few_of_seen view kind head seen (status.Unsupported side feature path) why = absurd why
+few_of_seen view kind head seen (status.Limit side which number) why = absurd why
+few_of_seen view kind head seen (status.Contested other) why = absurd why
+few_of_seen view kind head seen status.StoreFault why = absurd why
+few_of_seen view kind head seen status.SinkFault why = absurd why
+few_of_seen view kind head seen (status.Differs other path) why = absurd why
+
+few_of_compared : (kind : Kind) (view : View) (table : Table) (r : Result Same Status) → IsCompared kind view table r → IsFewOfCheck kind (Some r)
+few_of_compared kind view table (Ok same) is = tt
+few_of_compared kind view table (Err status.Memory) is = tt
+few_of_compared kind view table (Err (status.Differs other path)) is = is.0
+few_of_compared kind view table (Err status.Done) is = absurd is
+few_of_compared kind view table (Err status.Usage) is = absurd is
+few_of_compared kind view table (Err status.Absent) is = absurd is
+few_of_compared kind view table (Err (status.Malformed path)) is = absurd is
+few_of_compared kind view table (Err (status.Unsupported side feature path)) is = absurd is
+few_of_compared kind view table (Err (status.Limit side which number)) is = absurd is
+few_of_compared kind view table (Err (status.Foreign other path)) is = absurd is
+few_of_compared kind view table (Err (status.Contested other)) is = absurd is
+few_of_compared kind view table (Err status.StoreFault) is = absurd is
+few_of_compared kind view table (Err status.SinkFault) is = absurd is
+few_of_compared kind view table (Err (status.Behind other at position)) is = absurd is
 
 module _ {S F T K : Type 0} (store : Ghosts S) (source : sources.Ghosts F) (f : F) (target : targets.Ghosts T K) (t : T) (laws : Laws source f target t)
     (one_path : (kind : Kind) (files : Files) (p q : List ℕ) → target.is_foreign t kind files p → target.is_foreign t kind files q → p ≡ q) where
@@ -118,15 +151,16 @@ module _ {S F T K : Type 0} (store : Ghosts S) (source : sources.Ghosts F) (f : 
     seen_behind (status.Differs kind path) why other at stands = absurd why
 
   -- a run that only read, and answered so
-  pub check_of : (old new : S) (answer : CheckAnswer) → (store.tells → OnlyReads store old new) → FailsBy store old new (answer ≡ Some (Err status.StoreFault)) → (B : Type 0) → IsUncontestedBy store old new B
+  pub check_of : (old new : S) (answer : CheckAnswer) → (store.tells → OnlyReads store old new) → FailsBy store old new (answer ≡ Some (Err status.StoreFault)) → (B : Type 0) → IsUncontestedBy store old new B → IsFewOfCheck (target.kind t) answer
       → (store.tells → IsCheckedSo (source_meaning source f) (target_facts target t) (store.disk old).files answer)
       → (store.tells → (path : List ℕ) → target.is_foreign t (source.kind f) (store.disk old).files path → IsCheckStatus (source_meaning source f) (target_facts target t) (store.disk old).files (status.Foreign (target.kind t) path) answer)
       → (store.tells → (head : Head) (at : Option (List ℕ)) → StandsBehind (source_meaning source f) (target_facts target t) (store.disk old).files head at → IsCheckStatus (source_meaning source f) (target_facts target t) (store.disk old).files (status.Behind (target.kind t) at head.position) answer)
       → IsCheck store (source_meaning source f) (target_facts target t) old new answer
-  check_of old new answer reading cause B quiet checked foreign behind = record {
+  check_of old new answer reading cause B quiet few checked foreign behind = record {
     reads = reading;
     fault = cause;
     contest = record { same = quiet.same; still = quiet.still; never = λ never. never };
+    few = few;
     checked = checked;
     foreign = foreign;
     behind = behind;
@@ -141,7 +175,7 @@ module _ {S F T K : Type 0} (store : Ghosts S) (source : sources.Ghosts F) (f : 
       → (e : Status) → IsSeenRefusal (target.kind t) (target.view t) head seen e → IsCheck store (source_meaning source f) (target_facts target t) old new (Some (Err e))
   kept_refused old new reading A B cause quiet head is_head seen is e why =
       check_of old new (Some (Err e)) reading
-      (fails_as store.faults store.may_fail old new A (Some (Err e) ≡ Some (Err status.StoreFault)) (λ same. let one : e ≡ status.StoreFault = cc same in seen_no_fault (target.view t) (target.kind t) head seen e why one) cause) B quiet
+      (fails_as store.faults store.may_fail old new A (Some (Err e) ≡ Some (Err status.StoreFault)) (λ same. let one : e ≡ status.StoreFault = cc same in seen_no_fault (target.view t) (target.kind t) head seen e why one) cause) B quiet (few_of_seen (target.view t) (target.kind t) head seen e why)
       (λ told. seen_checked (store.disk old).files head (is_head told) seen (is told) e why)
       (λ told path foreign. seen_foreign (store.disk old).files head (is_head told) seen (is told) e why path foreign)
       (λ told other at stands. seen_behind (store.disk old).files head (is_head told) seen (is told) e why other at stands)
@@ -206,7 +240,7 @@ module _ {S F T K : Type 0} (store : Ghosts S) (source : sources.Ghosts F) (f : 
     whole_refused e more still refused =
         check_of old new (Some (Err (status_of_source e))) all
         (fails_as store.faults store.may_fail old new (e ≡ source_error.StoreFault) _ (λ same. let one : status_of_source e ≡ status.StoreFault = cc same in source_fault e one) (fails_then store.faults store.may_fail old mid new A (e ≡ source_error.StoreFault) cause more)) ⊥
-        (uncontested_then store.contests store.may_contest old mid new B ⊥ quiet still)
+        (uncontested_then store.contests store.may_contest old mid new B ⊥ quiet still) (few_of_source (target.kind t) e)
         (λ told. read_checked (store.disk old).files head (is_head told) kept (stands told) ours marked e (subst (λ (d : Disk). IsReadRefusal (source.from_scratch f d.files) e) (reading told).disk (refused told)))
         (λ told path foreign. absurd (no_foreign (store.disk old).files head (is_head told) kept (stands told) ours marked path foreign))
         (λ told other at there. absurd (no_behind (store.disk old).files head (is_head told) kept (stands told) ours marked other at there))
@@ -217,7 +251,7 @@ module _ {S F T K : Type 0} (store : Ghosts S) (source : sources.Ghosts F) (f : 
     rows_compared C more still table is_table r is =
         check_of old new (Some r) all
         (fails_as store.faults store.may_fail old new C (Some r ≡ Some (Err status.StoreFault)) (λ same. absurd (compared_no_fault (target.view t kept) table r is same)) (fails_then store.faults store.may_fail old mid new A C cause more)) ⊥
-        (uncontested_then store.contests store.may_contest old mid new B ⊥ quiet still)
+        (uncontested_then store.contests store.may_contest old mid new B ⊥ quiet still) (few_of_compared (target.kind t) (target.view t kept) table r is)
         (λ told. compared_checked (store.disk old).files head (is_head told) kept (stands told) ours marked table (subst (λ (d : Disk). source.is_table f d.files table) (reading told).disk (is_table told)) r is)
         (λ told path foreign. absurd (no_foreign (store.disk old).files head (is_head told) kept (stands told) ours marked path foreign))
         (λ told other at there. absurd (no_behind (store.disk old).files head (is_head told) kept (stands told) ours marked other at there))

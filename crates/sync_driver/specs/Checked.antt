@@ -89,6 +89,25 @@ IsCheckRefusal source target files (status.Differs kind path) =
     (kind ≡ target.files.kind) × StandsMarked source target files (λ view. (table : Table) × source.is_table files table × IsFirstDifference view.table.rows table.rows path)
 IsCheckRefusal source target files _ = ⊥
 
+-- a refusal of comparing a target of this format, also where the store tells nothing
+abbrev pub IsOfCheck : Kind → Status → Type 0
+IsOfCheck target status.Memory = Unit {0}
+IsOfCheck target status.StoreFault = Unit {0}
+IsOfCheck target status.Absent = Unit {0}
+IsOfCheck target (status.Malformed path) = Unit {0}
+IsOfCheck target (status.Unsupported side.Source feature path) = Unit {0}
+IsOfCheck target (status.Limit side.Source which number) = Unit {0}
+IsOfCheck target (status.Limit (side.Target kind) which number) = kind ≡ target
+IsOfCheck target (status.Foreign kind path) = kind ≡ target
+IsOfCheck target (status.Behind kind at position) = kind ≡ target
+IsOfCheck target (status.Differs kind path) = kind ≡ target
+IsOfCheck target _ = ⊥
+
+abbrev pub IsFewOfCheck : Kind → CheckAnswer → Type 0
+IsFewOfCheck target None = Unit {0}
+IsFewOfCheck target (Some (Ok same)) = Unit {0}
+IsFewOfCheck target (Some (Err e)) = IsOfCheck target e
+
 -- The target's mark is at the source's head, and it has the rows that the source has from scratch.
 abbrev pub IsSame : SourceMeaning → TargetFacts → Files → Same → Type 0
 IsSame source target files same = StandsMarked source target files (λ view.
@@ -106,11 +125,13 @@ IsCheckStatus source target files due None = Unit {0}
 IsCheckStatus source target files due (Some (Ok same)) = ⊥
 IsCheckStatus source target files due (Some (Err e)) = (e ≡ due) ⊎ CameBefore source target files e
 
--- No file changes, whatever is answered. Each answer has its cause, and a target that is foreign or behind is always told so.
+-- No file changes, whatever is answered. Each answer has its cause, no other status is answered, and a target that is foreign or behind is always told
+-- so.
 pub record IsCheck {S : Type 0} (store : Ghosts S) (source : SourceMeaning) (target : TargetFacts) (old new : S) (answer : CheckAnswer) : Type 0 where
   pub reads : store.tells → OnlyReads store old new
   pub fault : FailsBy store old new (answer ≡ Some (Err status.StoreFault))
   pub contest : IsUncontestedBy store old new ⊥
+  pub few : IsFewOfCheck target.files.kind answer
   pub checked : store.tells → IsCheckedSo source target (store.disk old).files answer
   pub foreign : store.tells → (path : List ℕ) → target.is_foreign source.kind (store.disk old).files path → IsCheckStatus source target (store.disk old).files (status.Foreign target.files.kind path) answer
   pub behind : store.tells → (head : Head) (at : Option (List ℕ)) → StandsBehind source target (store.disk old).files head at → IsCheckStatus source target (store.disk old).files (status.Behind target.files.kind at head.position) answer
