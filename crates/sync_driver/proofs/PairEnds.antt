@@ -268,6 +268,7 @@ sync_skipped store source target other mode now own crash old new reading A B ca
       still = λ told mode_is done start reads goes at. absurd done;
       contested = λ told is start ready. absurd (cc is);
       limited = λ told which number is start ready. absurd (cc is);
+      stopped = λ told start ready. tt;
       few = tt;
       caused = λ told. alone_by_reading store (IsOutside (folder_of other)) old new (reading told);
       absent = λ told is. tt;

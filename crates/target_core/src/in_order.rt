@@ -12,7 +12,7 @@ ghost use Rattle.target_core.specs.Publishing.{Publishes};
 ghost use Rattle.target_core.specs.Refusals.{IsOfCommit};
 ghost use Rattle.target_core.specs.TargetMeanings.{meaning};
 ghost use Rattle.target_core.specs.Views.{IsAdvancedAll};
-ghost use Rattle.target_core.specs.Written.{AreWritten};
+ghost use Rattle.target_core.specs.Written.{AreWritten, HaveLeft};
 
 use crate::target::{Target, TargetError};
 use lake_basics::Text;
@@ -78,15 +78,19 @@ pub fn follow<T: Target, S: Store>(
         (record { source = source; table = option_copied table.entry }) now_ms commit after)
         kept.old (S.disk store.old).files commits.now kept.new (S.disk store.new).files) }
 
-    // It is refused at one of them, behind those before it.
-    ensures refusal { S.tells → IfErr result (IsRefusedAt (meaning ⟦<T as Target>⟧ target.now)
+    // It is refused at one of them, behind those before it, and just what these write has come.
+    ensures refusal { S.tells → IfErr result (IsRefusedAt ⟦<S as Store>⟧
+        (meaning ⟦<T as Target>⟧ target.now)
         (T.passes target.now kept.old (S.disk store.old).files
         (record { source = source; table = option_copied table.entry }) now_ms)
+        (HaveLeft (T.stands_for target.now)
+        (λ kept before commit after. T.writes target.now kept before
+        (record { source = source; table = option_copied table.entry }) now_ms commit after)
+        kept.old (S.disk store.old).files)
         (T.stands_for target.now kept.old (S.disk store.old).files
         × T.settled target.now (S.disk store.old))
         (record { source = source; table = option_copied table.entry })
-        (T.view target.now kept.old) (S.disk store.old).files commits.now
-        (S.disk store.new).files) }
+        (T.view target.now kept.old) commits.now store.old store.new) }
 
     // What a crash since entry would have shown as published stays, but for a last one.
     ensures kept { S.tells → T.stands_for target.now kept.old (S.disk store.old).files

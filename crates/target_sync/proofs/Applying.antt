@@ -1,5 +1,6 @@
 -- What applying a plan leaves, by how it ends.
-use Rattle.std.proofs.Common.{◌≡◌, ◌≢◌, inl, inr, ◌+◌, ◌<◌, ◌≤◌, ℕ, Bool, true, false, List, [], ◌∷◌, length, take, Option, sym, ap, subst, arith}
+use Rattle.std.proofs.Common.{◌≡◌, ◌≢◌, inl, inr, ◌+◌, ◌<◌, ◌≤◌, ℕ, Bool, true, false, List, [], ◌∷◌, length, take, Option, refl, sym, ap, subst, arith}
+use Rattle.std.proofs.Math.Seq.{take-length}
 use Rattle.std.specs.Prelude.{Result, Ok, Err, IsErrOf}
 use Rattle.lake_store.specs.Disk.{Disk, Files, MayLeave}
 use Rattle.lake_store.specs.Runs.{ChangesOnlyIn, FailsBy, IsContestedBy, IsEachMoment, IsOutside, OnlyReads}
@@ -118,6 +119,7 @@ module _ {S : Type 0} (store : Ghosts S) (target : Meaning) (origin : Origin) (s
           columns = λ some. inr ((λ is. false_true is), reading);
           writes = λ told stands. tt;
           reported = tt;
+          stopped = λ told stands. inl (reading told);
           contested = λ told stands is_contest. absurd (no_contest e is (err_same e Contested is_contest));
           limited = λ told stands which number is_limit. inl (reading told);
           refused = λ told. unfit_refusal (OnlyReads store s s) (PassesIn passes commits) e (reading told) is;
@@ -140,7 +142,7 @@ module _ {S : Type 0} (store : Ghosts S) (target : Meaning) (origin : Origin) (s
       -- publishing was refused
       pub applies_refused : (e : TargetError)
           → (store.tells → Stands → Publishes store target origin start commits (e ≡ Contested → ⊥) false old new)
-          → (store.tells → IsRefusedAt target passes Stands origin start (store.disk old).files commits (store.disk new).files e)
+          → (store.tells → IsRefusedAt store target passes written Stands origin start commits old new e)
           → (store.tells → Stands → IsEachMoment store old new (KeepsShown target origin start commits (store.disk new).files e))
           → FailsBy store old new (IsErrOf {T = ℕ} (Err e) StoreFault) → IsContestedBy store old new (IsErrOf {T = ℕ} (Err e) Contested)
           → Applies store target unfit passes written origin start partition commits full Stands old new (Err e)
@@ -151,6 +153,10 @@ module _ {S : Type 0} (store : Ghosts S) (target : Meaning) (origin : Origin) (s
         columns = λ some. inl (columns some);
         writes = λ told stands. tt;
         reported = tt;
+        stopped = λ told stands.
+            let at = refused told in
+            let within = at.within in
+            inr (record { place = at.place; within = omega (arith, within); left = at.stay stands; gained = at.gained stands });
         contested = λ told stands is_contest.
             let at = refused told in
             record {
@@ -158,6 +164,7 @@ module _ {S : Type 0} (store : Ghosts S) (target : Meaning) (origin : Origin) (s
               within = at.within;
               columns = columns (has_some commits at.place at.within);
               published = at.before stands;
+              left = at.stay stands;
               newest = at.contested stands (err_same e Contested is_contest);
               stay = weaker store old new (KeepsShown target origin start commits (store.disk new).files e) (StayShown target origin start.commits commits (store.disk new).files)
                   (λ image kept_at. kept_at.contested (err_same e Contested is_contest)) (λ t. kept t stands) told;
@@ -170,6 +177,7 @@ module _ {S : Type 0} (store : Ghosts S) (target : Meaning) (origin : Origin) (s
               within = at.within;
               columns = columns (has_some commits at.place at.within);
               passed = subst (λ (x : TargetError). IsCommitRefusal (passes (take (at.place + 1) commits)) x) same at.cause;
+              left = at.stay stands;
               gained = at.limited stands which number same;
             });
         refused = λ told. refusal_at (OnlyReads store old new) (refused told).place (refused told).within e (refused told).cause;
@@ -183,14 +191,24 @@ module _ {S : Type 0} (store : Ghosts S) (target : Meaning) (origin : Origin) (s
         memory_is d apart is = apart (err_same Memory d is)
 
         -- all are published, and memory ran out behind them
-        pub applies_untold : Applies store target unfit passes written origin start partition commits full Stands old new (Err Memory)
-        applies_untold = record {
+        pub applies_untold : NowOnly store → (store.tells → Stands → written commits (store.disk new).files) → Applies store target unfit passes written origin start partition commits full Stands old new (Err Memory)
+        applies_untold only_now has_written = record {
           alone = alone;
           publishes = λ told stands. publishes_as (Unit {0}) (Memory ≡ Contested → ⊥) true false old new (λ v. tt) (λ is. absurd (false_true is)) (publishes told stands);
           none = still;
           columns = λ some. inl (columns some);
           writes = λ told stands. tt;
           reported = tt;
+          stopped = λ told stands. inr (record {
+            place = length commits;
+            within = omega arith;
+            left = record {
+              middle = new;
+              left = subst (λ (cs : List Commit). written cs (store.disk new).files) (sym (take-length commits)) (has_written told stands);
+              stay = alone_by_reading store (target.reached (store.disk new).files) new new (reading_begins store only_now new told);
+            };
+            gained = λ u. (length commits, omega arith, omega arith, (publishes told stands).all refl);
+          });
           contested = λ told stands is. absurd (memory_is Contested (λ same. cc same) is);
           limited = λ told stands which number is. absurd (memory_is (Limit which number) (λ same. cc same) is);
           refused = λ told. tt;
@@ -206,6 +224,7 @@ module _ {S : Type 0} (store : Ghosts S) (target : Meaning) (origin : Origin) (s
           columns = λ some. inl (columns some);
           writes = has_written;
           reported = told;
+          stopped = λ told stands. tt;
           contested = λ told stands is. absurd (ok_err report Contested is);
           limited = λ told stands which number is. absurd (ok_err report (Limit which number) is);
           refused = λ told. tt;

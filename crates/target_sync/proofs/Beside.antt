@@ -1,5 +1,5 @@
 -- A sync of one target behind or before the changes of another one in its own folder.
-use Rattle.std.proofs.Common.{◌≡◌, ◌⊎◌, inl, inr, ⊎_elim, ℕ, ◌+◌, ◌≤◌, List, length, Option, Some, None, refl, sym, ap, subst, ◌∙◌, arith}
+use Rattle.std.proofs.Common.{◌≡◌, ◌⊎◌, inl, inr, ⊎_elim, ℕ, ◌+◌, ◌≤◌, List, length, take, Option, Some, None, refl, sym, ap, subst, ◌∙◌, arith}
 use Rattle.std.specs.Prelude.{Ok, Err}
 use Rattle.std.specs.FinMap as map
 use Rattle.lake_store.specs.Cause.{HasFault, Rose}
@@ -15,10 +15,11 @@ use Rattle.target_core.specs.Folders.{MayLeaveIn, SameIn, after_crash, folder_of
 use Rattle.target_core.specs.Gained.{CarriesAt, Gained, StillCarries}
 use Rattle.target_core.specs.Meaning.{Meaning}
 use Rattle.target_core.specs.Views.{Origin, View, standing_at}
+use Rattle.target_core.specs.Written.{StayAfter}
 use Rattle.target_core.proofs.Apart.{folders_apart}
 use Rattle.target_core.proofs.Same.{same_refl}
 use Rattle.target_core.proofs.Steps.{count_taken}
-use Rattle.target_sync.specs.Answered.{Answer, IsDone, IsReady, IsReported, IsSync, IsUndisturbed, StandsAtHead}
+use Rattle.target_sync.specs.Answered.{Answer, IsDone, IsReady, IsReported, IsSync, IsUndisturbed, StandsAtHead, Leaves, StopsSo}
 use Rattle.target_sync.specs.Applied.{StayShown}
 use Rattle.target_sync.specs.Dues.{origin_of}
 use Rattle.target_sync.specs.Others.{IsOutsideBoth}
@@ -119,6 +120,9 @@ module _ {S : Type 0} (store : Ghosts S) (only_now : NowOnly store) (now_counts 
 
   abbrev beside : List ℕ
   beside = folder_of other
+
+  abbrev passes_now : Files → List (List ℕ) → Origin → List Commit → LimitKind → ℕ → Type 0
+  passes_now files partition origin = target.passes files partition origin now
 
   outside : (path : List ℕ) → IsIn folder path → IsOutside beside path
   outside path mine theirs = folders_apart target.files.kind other apart path mine theirs
@@ -223,19 +227,30 @@ module _ {S : Type 0} (store : Ghosts S) (only_now : NowOnly store) (now_counts 
           on whole left i (shown.0, shown.1, own.carries image whole (count + i + 1) shown.0.change (standing_at origin shown.0.position) alike shown.2))
           (λ t. (run t).moments)) told
 
-      contested_on : IsContested store source target.files mode start before old mid → IsContested store source target.files mode start before old new
+      -- what was left stays while the other is changed
+      stay_on : (partition : List (List ℕ)) (origin : Origin) (commits : List Commit) → StayAfter store target.files (Leaves target None now before partition origin commits) mid → StayAfter store target.files (Leaves target (Some other) now before partition origin commits) new
+      stay_on partition origin commits is =
+          let reached : List ℕ → Type 0 = target.files.reached (store.disk is.middle).files in
+          record {
+            middle = is.middle;
+            left = (before, (store.disk is.middle).files, (λ path mine. refl), (λ path mine. refl), is.left);
+            stay = alone_further store reached is.middle mid new (λ t. is.stay) (λ t. bytes_kept mid new (run t) reached (own.reached_in (store.disk is.middle).files)) told;
+          }
+
+      contested_on : IsContested store source target.files (Leaves target None now) mode start before old mid → IsContested store source target.files (Leaves target (Some other) now) mode start before old new
       contested_on is = record {
         due = is.due;
         columns = is.columns;
         place = is.place;
         within = is.within;
         published = λ i commit below at. own.carries (store.disk mid).files (store.disk new).files (start.commits + i + 1) commit.change (standing_at (origin_of is.due) commit.position) (same mid new (run told)) (is.published i commit below at);
+        left = stay_on is.due.partition (origin_of is.due) (take is.place is.due.commits) is.left;
         newest = subst (λ (n : ℕ). n ≤ start.commits + is.place + 1) (sym (own.commits (store.disk mid).files (store.disk new).files (same mid new (run told)))) is.newest;
         stay = shown_on (origin_of is.due) start.commits is.due.commits is.stay;
       }
 
-      limited_on : (which : LimitKind) (number : ℕ) → OnlyReads store old mid ⊎ IsLimited source target.files (λ files partition origin. target.passes files partition origin now) mode start before (store.disk mid).files which number
-          → ChangesOnlyIn store beside old new ⊎ IsLimited source target.files (λ files partition origin. target.passes files partition origin now) mode start before (store.disk new).files which number
+      limited_on : (which : LimitKind) (number : ℕ) → OnlyReads store old mid ⊎ IsLimited store source target.files passes_now (Leaves target None now) mode start before mid which number
+          → ChangesOnlyIn store beside old new ⊎ IsLimited store source target.files passes_now (Leaves target (Some other) now) mode start before new which number
       limited_on which number (inl idle) = inl (idle_on told idle)
       limited_on which number (inr is) = inr (record {
         due = is.due;
@@ -243,7 +258,27 @@ module _ {S : Type 0} (store : Ghosts S) (only_now : NowOnly store) (now_counts 
         place = is.place;
         within = is.within;
         passed = is.passed;
+        left = stay_on is.due.partition (origin_of is.due) (take is.place is.due.commits) is.left;
         gained = gained_own source target own mode start before (store.disk mid).files (store.disk new).files (same mid new (run told)) (origin_of is.due) (with_columns is.due.partition start) is.due.commits is.place is.gained;
+      })
+
+      stopped_on : (given : Answer) → StopsSo store source target None mode now start old mid given → StopsSo store source target (Some other) mode now start old new given
+      stopped_on None is = tt
+      stopped_on (Some (Ok report)) is = tt
+      stopped_on (Some (Err e)) (inl idle) = inl (idle_on told idle)
+      stopped_on (Some (Err e)) (inr is) = inr (record {
+        due = is.due;
+        columns = is.columns;
+        place = is.place;
+        within = is.within;
+        left = stay_on is.due.partition (origin_of is.due) (take is.place is.due.commits) is.left;
+        gained = λ u.
+            let some = is.gained u in (
+              some.0,
+              some.1,
+              some.2,
+              gained_own source target own mode start before (store.disk mid).files (store.disk new).files (same mid new (run told)) (origin_of is.due) (with_columns is.due.partition start) is.due.commits some.0 some.3,
+            );
       })
 
     pub beside_behind : IsSync store source target (Some other) mode now old new answer
@@ -256,6 +291,7 @@ module _ {S : Type 0} (store : Ghosts S) (only_now : NowOnly store) (now_counts 
       still = λ told mode_is done start reads goes at. idle_on told (sync.still told mode_is done start reads goes at);
       contested = λ told is start ready. contested_on told start ready (sync.contested told is start ready);
       limited = λ told which number is start ready. limited_on told start ready which number (sync.limited told which number is start ready);
+      stopped = λ told start ready. stopped_on told start ready answer (sync.stopped told start ready);
       few = sync.few;
       caused = λ told. caused_as (OnlyReads store old mid) (ChangesOnlyIn store beside old new) (idle_on told) source target mode now before answer (sync.caused told);
       absent = λ told is. absent_of_two other source before answer (sync.absent told is);
@@ -376,7 +412,11 @@ module _ {S : Type 0} (store : Ghosts S) (only_now : NowOnly store) (now_counts 
           absurd (omega (arith, le))) (λ t. (run t).moments))
           (λ t. stay) told
 
-      contested_since : IsContested store source target.files mode start middle mid new → IsContested store source target.files mode start first old new
+      -- what was left over the other's files was left over the first ones
+      stay_since : (partition : List (List ℕ)) (origin : Origin) (commits : List Commit) → StayAfter store target.files (Leaves target None now middle partition origin commits) new → StayAfter store target.files (Leaves target (Some other) now first partition origin commits) new
+      stay_since partition origin commits is = record { middle = is.middle; left = (middle, (store.disk is.middle).files, here told, (λ path mine. refl), is.left); stay = is.stay }
+
+      contested_since : IsContested store source target.files (Leaves target None now) mode start middle mid new → IsContested store source target.files (Leaves target (Some other) now) mode start first old new
       unfolding due_own
       contested_since is = record {
         due = due_own source laws middle first (source_back told) mode start is.due;
@@ -384,12 +424,13 @@ module _ {S : Type 0} (store : Ghosts S) (only_now : NowOnly store) (now_counts 
         place = is.place;
         within = is.within;
         published = is.published;
+        left = stay_since is.due.partition (origin_of is.due) (take is.place is.due.commits) is.left;
         newest = is.newest;
         stay = shown_since (origin_of is.due) is.due.commits is.stay;
       }
 
-      limited_since : (which : LimitKind) (number : ℕ) → OnlyReads store mid new ⊎ IsLimited source target.files (λ files partition origin. target.passes files partition origin now) mode start middle (store.disk new).files which number
-          → ChangesOnlyIn store beside old new ⊎ IsLimited source target.files (λ files partition origin. target.passes files partition origin now) mode start first (store.disk new).files which number
+      limited_since : (which : LimitKind) (number : ℕ) → OnlyReads store mid new ⊎ IsLimited store source target.files passes_now (Leaves target None now) mode start middle new which number
+          → ChangesOnlyIn store beside old new ⊎ IsLimited store source target.files passes_now (Leaves target (Some other) now) mode start first new which number
       unfolding due_own
       limited_since which number (inl idle) = inl (idle_since told idle)
       limited_since which number (inr is) = inr (record {
@@ -398,7 +439,28 @@ module _ {S : Type 0} (store : Ghosts S) (only_now : NowOnly store) (now_counts 
         place = is.place;
         within = is.within;
         passed = own.passes middle first is.due.partition (origin_of is.due) now _ which number (back told) is.passed;
+        left = stay_since is.due.partition (origin_of is.due) (take is.place is.due.commits) is.left;
         gained = gained_since source laws target own mode start middle first (store.disk new).files (source_back told) (here told) (origin_of is.due) (with_columns is.due.partition start) is.due.commits is.place is.gained;
+      })
+
+      stopped_since : (given : Answer) → StopsSo store source target None mode now start mid new given → StopsSo store source target (Some other) mode now start old new given
+      unfolding due_own
+      stopped_since None is = tt
+      stopped_since (Some (Ok report)) is = tt
+      stopped_since (Some (Err e)) (inl idle) = inl (idle_since told idle)
+      stopped_since (Some (Err e)) (inr is) = inr (record {
+        due = due_own source laws middle first (source_back told) mode start is.due;
+        columns = is.columns;
+        place = is.place;
+        within = is.within;
+        left = stay_since is.due.partition (origin_of is.due) (take is.place is.due.commits) is.left;
+        gained = λ u.
+            let some = is.gained u in (
+              some.0,
+              some.1,
+              some.2,
+              gained_since source laws target own mode start middle first (store.disk new).files (source_back told) (here told) (origin_of is.due) (with_columns is.due.partition start) is.due.commits some.0 some.3,
+            );
       })
 
     pub beside_before : IsSync store source target (Some other) mode now old new answer
@@ -411,6 +473,7 @@ module _ {S : Type 0} (store : Ghosts S) (only_now : NowOnly store) (now_counts 
       still = λ told mode_is done start reads goes at. idle_since told (sync.still told mode_is done start (reads_mid told start reads) goes (stands_at_head source laws first middle (source_here told) start at));
       contested = λ told is start ready. contested_since told start ready (sync.contested told is start (ready_mid told start ready));
       limited = λ told which number is start ready. limited_since told start ready which number (sync.limited told which number is start (ready_mid told start ready));
+      stopped = λ told start ready. stopped_since told start ready answer (sync.stopped told start (ready_mid told start ready));
       few = sync.few;
       caused = λ told. caused_own source laws faults target own mode now middle first (source_back told) (back told) (ChangesOnlyIn store beside old new) answer
           (caused_as (OnlyReads store mid new) (ChangesOnlyIn store beside old new) (idle_since told) source target mode now middle answer (sync.caused told));

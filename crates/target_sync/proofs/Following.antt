@@ -1,5 +1,5 @@
 -- A sync behind a run that only read.
-use Rattle.std.proofs.Common.{◌≡◌, ◌⊎◌, ℕ, List, Option, Some, Ok, Err, None, sym, subst, ◌≤◌, inl, inr, arith}
+use Rattle.std.proofs.Common.{◌≡◌, ◌⊎◌, ⊎_elim, ℕ, List, Option, Some, Ok, Err, None, sym, subst, ◌≤◌, inl, inr, arith}
 use Rattle.lake_store.specs.Cause.{HasFault, Rose}
 use Rattle.lake_store.specs.Disk.{Disk, Files, IsClean}
 use Rattle.lake_store.specs.Runs.{FailsBy, IsIn, IsOutside, IsUncontestedBy, OnlyReads}
@@ -10,11 +10,11 @@ use Rattle.table_history.specs.declared.limit.LimitKind.{LimitKind}
 use Rattle.target_core.specs.Folders.{folder_of}
 use Rattle.target_core.specs.Views.{View}
 use Rattle.target_core.proofs.Apart.{folders_apart}
-use Rattle.target_sync.specs.Answered.{Answer, CanSync, IsAbsent, IsCaused, IsReady, IsRefusal, IsReported, IsStatus, IsSync, StandsAtHead}
+use Rattle.target_sync.specs.Answered.{Answer, CanSync, IsAbsent, IsCaused, IsContest, IsReady, IsRefusal, IsReported, IsStatus, IsSync, Leaves, StandsAtHead, StopsSo}
 use Rattle.target_sync.specs.Dues.{origin_of}
 use Rattle.target_sync.specs.Others.{ChangesTargets, CountsContest, IsApart, IsIdle, IsOutsideBoth}
 use Rattle.target_sync.specs.Sources.{SourceMeaning}
-use Rattle.target_sync.specs.Synced.{IsContested, IsLimited, KeepsSource}
+use Rattle.target_sync.specs.Synced.{IsContested, IsLimited, IsStopped, KeepsSource}
 use Rattle.target_sync.specs.Targets.{TargetFacts}
 use Rattle.target_sync.specs.declared.plan.Mode.{Mode}
 use Rattle.target_sync.specs.declared.status.Side.TheVariants as side
@@ -100,8 +100,9 @@ module _ {S : Type 0} (store : Ghosts S) (source : SourceMeaning) (target : Targ
         in_full = sync.in_full;
         still = λ told mode_is done start reads goes at.
             idle_behind store old mid new reading other told (sync.still told mode_is done start (reads_mid told start reads) goes (subst (λ (d : Disk). StandsAtHead source d.files start) (sym (same told)) at));
-        contested = λ told is start ready. contested_old told start ready (subst (λ (d : Disk). IsContested store source target.files mode start d.files mid new) (same told) (sync.contested told is start (ready_mid told start ready)));
+        contested = λ told is start ready. contested_old told start ready (subst (λ (d : Disk). IsContested store source target.files (Leaves target other now) mode start d.files mid new) (same told) (sync.contested told is start (ready_mid told start ready)));
         limited = λ told which number is start ready. limited_old told start which number (sync.limited told which number is start (ready_mid told start ready));
+        stopped = λ told start ready. stopped_old told start answer (sync.stopped told start (ready_mid told start ready));
         few = sync.few;
         caused = λ told. subst (λ (d : Disk). IsCaused (IsIdle store other old new) source target mode now d.files answer) (same told)
             (caused_as (IsIdle store other mid new) (IsIdle store other old new) (idle_behind store old mid new reading other told) source target mode now (store.disk mid).files answer (sync.caused told));
@@ -124,18 +125,27 @@ module _ {S : Type 0} (store : Ghosts S) (source : SourceMeaning) (target : Targ
         settled = subst (λ (d : Disk). target.files.settled d) (sym (reading told).disk) ready.settled;
       }
 
-      limited_old : store.tells → (start : View) (which : LimitKind) (number : ℕ) → IsIdle store other mid new ⊎ IsLimited source target.files (λ files partition origin. target.passes files partition origin now) mode start (store.disk mid).files (store.disk new).files which number → IsIdle store other old new ⊎ IsLimited source target.files (λ files partition origin. target.passes files partition origin now) mode start (store.disk old).files (store.disk new).files which number
+      limited_old : store.tells → (start : View) (which : LimitKind) (number : ℕ) → IsIdle store other mid new ⊎ IsLimited store source target.files (λ files partition origin. target.passes files partition origin now) (Leaves target other now) mode start (store.disk mid).files new which number
+          → IsIdle store other old new ⊎ IsLimited store source target.files (λ files partition origin. target.passes files partition origin now) (Leaves target other now) mode start (store.disk old).files new which number
       limited_old told start which number (inl idle) = inl (idle_behind store old mid new reading other told idle)
-      limited_old told start which number (inr at) = inr (subst (λ (d : Disk). IsLimited source target.files (λ files partition origin. target.passes files partition origin now) mode start d.files (store.disk new).files which number) (reading told).disk at)
+      limited_old told start which number (inr at) = inr (subst (λ (d : Disk). IsLimited store source target.files (λ files partition origin. target.passes files partition origin now) (Leaves target other now) mode start d.files new which number) (reading told).disk at)
 
-      contested_old : store.tells → (start : View) → IsReady source target (store.disk old).files start (target.files.settled (store.disk old)) → IsContested store source target.files mode start (store.disk old).files mid new
-          → IsContested store source target.files mode start (store.disk old).files old new
+      stopped_old : store.tells → (start : View) (given : Answer) → StopsSo store source target other mode now start mid new given → StopsSo store source target other mode now start old new given
+      stopped_old told start None is = tt
+      stopped_old told start (Some (Ok report)) is = tt
+      stopped_old told start (Some (Err e)) is = ⊎_elim (λ (idle : IsIdle store other mid new). inl (idle_behind store old mid new reading other told idle))
+          (λ (at : IsStopped store source target.files (Leaves target other now) mode start (¬ IsContest e) (store.disk mid).files new).
+          inr (subst (λ (d : Disk). IsStopped store source target.files (Leaves target other now) mode start (¬ IsContest e) d.files new) (reading told).disk at)) is
+
+      contested_old : store.tells → (start : View) → IsReady source target (store.disk old).files start (target.files.settled (store.disk old)) → IsContested store source target.files (Leaves target other now) mode start (store.disk old).files mid new
+          → IsContested store source target.files (Leaves target other now) mode start (store.disk old).files old new
       contested_old told start ready is = record {
         due = is.due;
         columns = is.columns;
         place = is.place;
         within = is.within;
         published = is.published;
+        left = is.left;
         newest = is.newest;
         stay = stay_behind store target.files (origin_of is.due) start is.due.commits crash old mid new told (reading told) ready.reads ready.settled (store.disk new).files is.stay;
       }

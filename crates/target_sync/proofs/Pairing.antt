@@ -46,6 +46,7 @@ sync_none store source target mode now own crash old new reading A B cause quiet
       still = λ told mode_is done start reads goes at. absurd done;
       contested = λ told is start ready. absurd (cc is);
       limited = λ told which number is start ready. absurd (cc is);
+      stopped = λ told start ready. tt;
       few = tt;
       caused = reading;
       absent = λ told is. absurd (there told is);

@@ -24,6 +24,7 @@ use Rattle.target_core.specs.Gained.{Carries, Gained, GainedSome, StillCarries}
 use Rattle.target_core.specs.Meaning.{Meaning}
 use Rattle.target_core.specs.Publishing.{LeavesSome, Publishes}
 use Rattle.target_core.specs.Views.{IsAdvancedAll, IsPublished, IsSchemaAfter, IsUnpublished, Origin, SameView, Standing, View, absent, standing_at}
+use Rattle.target_core.specs.Written.{StayAfter}
 use Rattle.target_core.proofs.Apart.{folders_apart}
 use Rattle.target_core.proofs.Same.{advanced_from, same_refl}
 use Rattle.target_core.proofs.Steps.{count_taken}
@@ -31,7 +32,7 @@ use Rattle.target_sync.specs.Applied.{StayShown, position_at}
 use Rattle.source_core.specs.Histories.{SameTable}
 use Rattle.target_sync.specs.Dues.{AreSinceMark, Due, IsIdBehind, IsInFull, IsMarked, IsWhole, TakesCommits, origin_of}
 use Rattle.target_sync.specs.Sources.{SameSource, SourceMeaning}
-use Rattle.target_sync.specs.Synced.{HasTable, IsAsBefore, IsAsBeforeOrUnderway, IsAtHead, IsContested, IsLimited, IsUnderway, KeepsSource, Synced, with_columns}
+use Rattle.target_sync.specs.Synced.{HasTable, IsAsBefore, IsAsBeforeOrUnderway, IsAtHead, IsContested, IsLimited, IsStopped, IsUnderway, KeepsSource, Leaving, Synced, with_columns}
 use Rattle.target_sync.specs.declared.plan.Mode.{Mode}
 use Rattle.target_sync.specs.declared.plan.Mode.TheVariants as modes
 use Rattle.target_sync.proofs.Applying.{CrashLaws}
@@ -387,27 +388,42 @@ module _ (source : SourceMeaning) (own : SourceLaws source) (target : Meaning) (
               in_full = λ is_full. has_table gained.view leads is_full;
             }
 
-        pub limited_here : (passes : Files → List (List ℕ) → Origin → List Commit → LimitKind → ℕ → Type 0) (files : Files) (which : LimitKind) (number : ℕ) (place : ℕ) → place < length commits → passes before partition origin (take (place + 1) commits) which number
-            → Gained target origin v before commits place files → IsLimited source target passes mode start before files which number
+        pub stopped_here : {S : Type 0} (store : Ghosts S) (leaves : Leaving) (new : S) (U : Type 0) (place : ℕ) → place ≤ length commits → StayAfter store target (leaves before partition origin (take place commits)) new
+            → (U → (n : ℕ) × (place ≤ n) × (n ≤ place + 1) × Gained target origin v before commits n (store.disk new).files) → IsStopped store source target leaves mode start U before new
         unfolding due_one due_here
-        limited_here passes files which number place within passed gained = record {
+        stopped_here store leaves new U place within left gained = record {
+          due = due_one source mode before v start one due_here;
+          columns = columns_of v start partition one columns;
+          place = place;
+          within = within;
+          left = left;
+          gained = λ u. let some = gained u in (some.0, some.1, some.2, gained_begun some.0 (store.disk new).files some.3);
+        }
+
+        pub limited_here : {S : Type 0} (store : Ghosts S) (passes : Files → List (List ℕ) → Origin → List Commit → LimitKind → ℕ → Type 0) (leaves : Leaving) (new : S) (which : LimitKind) (number : ℕ) (place : ℕ) → place < length commits
+            → passes before partition origin (take (place + 1) commits) which number → StayAfter store target (leaves before partition origin (take place commits)) new
+            → Gained target origin v before commits place (store.disk new).files → IsLimited store source target passes leaves mode start before new which number
+        unfolding due_one due_here
+        limited_here store passes leaves new which number place within passed left gained = record {
           due = due_one source mode before v start one due_here;
           columns = columns_of v start partition one columns;
           place = place;
           within = within;
           passed = passed;
-          gained = gained_begun place files gained;
+          left = left;
+          gained = gained_begun place (store.disk new).files gained;
         }
 
-        pub contested_here : {S : Type 0} (store : Ghosts S) (old new : S) (place : ℕ) → place < length commits → Carries target origin v.commits commits place (store.disk new).files
-            → target.commits_in (store.disk new).files ≤ v.commits + place + 1 → IsEachMoment store old new (StayShown target origin v.commits commits (store.disk new).files) → IsContested store source target mode start before old new
+        pub contested_here : {S : Type 0} (store : Ghosts S) (leaves : Leaving) (old new : S) (place : ℕ) → place < length commits → Carries target origin v.commits commits place (store.disk new).files
+            → StayAfter store target (leaves before partition origin (take place commits)) new → target.commits_in (store.disk new).files ≤ v.commits + place + 1 → IsEachMoment store old new (StayShown target origin v.commits commits (store.disk new).files) → IsContested store source target leaves mode start before old new
         unfolding due_one due_here
-        contested_here store old new place within published newest stay = record {
+        contested_here store leaves old new place within published left newest stay = record {
           due = due_one source mode before v start one due_here;
           columns = columns_of v start partition one columns;
           place = place;
           within = within;
           published = subst (λ (c : ℕ). Carries target origin c commits place (store.disk new).files) begun_same.commits published;
+          left = left;
           newest = subst (λ (c : ℕ). target.commits_in (store.disk new).files ≤ c + place + 1) begun_same.commits newest;
           stay = subst (λ (c : ℕ). IsEachMoment store old new (StayShown target origin c commits (store.disk new).files)) begun_same.commits stay;
         }

@@ -1,5 +1,5 @@
 -- What a sync of one target answers and leaves, by how it ends.
-use Rattle.std.proofs.Common.{◌≡◌, ◌≢◌, ◌⊎◌, inl, inr, ⊎_elim, ℕ, Bool, true, List, [], ◌∷◌, length, Option, Some, None, refl, sym, ap, subst, ◌∙◌}
+use Rattle.std.proofs.Common.{◌≡◌, ◌≢◌, ◌⊎◌, inl, inr, ⊎_elim, ℕ, ◌+◌, Bool, true, List, [], ◌∷◌, length, take, Option, Some, None, refl, sym, ap, subst, ◌∙◌}
 use Rattle.std.specs.Prelude.{IfErr, Result, Ok, Err, IsErrOf, is_ok}
 use Rattle.lake_store.specs.Disk.{Disk, Files}
 use Rattle.lake_store.specs.Runs.{ChangesOnlyIn, FailsBy, IsOutside, IsUncontestedBy, OnlyReads}
@@ -17,11 +17,12 @@ use Rattle.target_core.specs.Gained.{Gained}
 use Rattle.target_core.specs.Outcome.{Uncontested}
 use Rattle.target_core.specs.TargetMeanings.{meaning}
 use Rattle.target_core.specs.Views.{IsOfSource, IsUnpublished, Origin, View}
+use Rattle.target_core.specs.Written.{StayAfter}
 use Rattle.target_core.specs.declared.target.Target as targets
 use Rattle.target_core.specs.declared.target.TargetError.{TargetError}
 use Rattle.target_core.specs.declared.target.TargetError.TheVariants as target_error
-use Rattle.target_sync.specs.Answered.{CameBefore, CanSync, IsAbsence, IsCaused, IsComplete, IsContest, IsDone, IsFew, IsLate, IsOfSync, IsOneInFull, IsPassed, IsReady, IsRefusal, IsReport, IsReported, IsSync, IsUndisturbed, IsUnfit, StandsAtHead}
-use Rattle.target_sync.specs.Applied.{Applies, IsContestedAt, IsLimitedAt, PassesIn, answer_of_target, position_at, status_of_target}
+use Rattle.target_sync.specs.Answered.{CameBefore, CanSync, IsAbsence, IsCaused, IsComplete, IsContest, IsDone, IsFew, IsLate, IsOfSync, IsOneInFull, IsPassed, IsReady, IsRefusal, IsReport, IsReported, IsSync, IsUndisturbed, IsUnfit, Leaves, StandsAtHead, StopsSo}
+use Rattle.target_sync.specs.Applied.{Applies, IsContestedAt, IsLimitedAt, IsStoppedAt, PassesIn, answer_of_target, position_at, status_of_target}
 use Rattle.target_sync.specs.Dues.{AreSinceMark, Due, IsIdBehind, IsInFull, origin_of}
 use Rattle.target_sync.specs.Sources.{source_meaning}
 use Rattle.target_sync.specs.Synced.{IsContested, IsLimited, Synced}
@@ -35,7 +36,7 @@ use Rattle.target_sync.specs.declared.status.Status.TheVariants as status
 use Rattle.target_sync.proofs.Applying.{CrashLaws, goes_on_start, stay_behind}
 use Rattle.target_sync.proofs.Counting.{contested_as, contested_of_none, contested_then, fails_as, fails_then}
 use Rattle.target_sync.proofs.Refusing.{late_of_apply, only_memory, refusal_of_apply}
-use Rattle.target_sync.proofs.Standing.{AreOne, SourceLaws, ViewLaws, contested_here, due_here, limited_here, source_kept, still_none, synced_all, synced_behind, synced_idle, told_due}
+use Rattle.target_sync.proofs.Standing.{AreOne, SourceLaws, ViewLaws, contested_here, due_here, limited_here, source_kept, still_none, stopped_here, synced_all, synced_behind, synced_idle, told_due}
 
 pub few_of_target : (kind : Kind) (e : TargetError) → IsOfSync kind (status_of_target kind e)
 few_of_target kind target_error.Memory = tt
@@ -124,6 +125,7 @@ module _ {S F T K : Type 0} (store : Ghosts S) (only_now : NowOnly store) (sourc
         still = λ told sync done start reads goes at. absurd done;
         contested = λ told is start ready. absurd (contest.never (some_err e (status.Contested (target.kind t)) is));
         limited = λ told which number is start ready. inl (reading told);
+        stopped = λ told start ready. inl (reading told);
         few = few;
         caused = refused;
         absent = absent;
@@ -245,25 +247,55 @@ module _ {S F T K : Type 0} (store : Ghosts S) (only_now : NowOnly store) (sourc
           ⊎_elim (λ (columns : v.table.partition ≡ partition). report_is columns start (laws.views.one_view before v start (kept_reads told) reads) report given)
           (λ (idle : (is_ok {E = TargetError} (Ok report) ≡ true → ⊥) × (store.tells → OnlyReads store mid new)). absurd (idle.0 refl)) (columns_known _ given.columns)
 
-      contested_is : (start : View) → IsReady (source_meaning source f) (target_facts target t) before start (target.settled t (store.disk old)) → IsContestedAt store (meaning target t) origin v partition commits mid new
-          → IsContested store (source_meaning source f) (meaning target t) mode start before old new
+      -- what they left over the view that was kept
+      stay_is : (cs : List Commit) → StayAfter store (meaning target t) (HaveWritten target t kept (store.disk mid).files origin now cs) new → StayAfter store (meaning target t) (Leaves (target_facts target t) None now before partition origin cs) new
+      stay_is cs is = record {
+        middle = is.middle;
+        left = (kept, is_kept told, subst (λ (d : Disk). HaveWritten target t kept d.files origin now cs (store.disk is.middle).files) disk_same is.left);
+        stay = is.stay;
+      }
+
+      contested_is : (start : View) → IsReady (source_meaning source f) (target_facts target t) before start (target.settled t (store.disk old)) → IsContestedAt store (meaning target t) (HaveWritten target t kept (store.disk mid).files origin now) origin v partition commits mid new
+          → IsContested store (source_meaning source f) (meaning target t) (Leaves (target_facts target t) None now) mode start before old new
       contested_is start ready at =
           contested_here (source_meaning source f) laws.source_own (meaning target t) mode v before head (is_head told) id (is_id told) partition commits full (way told) at.columns start
-          (laws.views.one_view before v start (kept_reads told) ready.reads) store old new at.place at.within at.published at.newest
+          (laws.views.one_view before v start (kept_reads told) ready.reads) store (Leaves (target_facts target t) None now) old new at.place at.within at.published (stay_is (take at.place commits) at.left) at.newest
           (stay_behind store (meaning target t) origin v commits laws.crash old mid new told (reading told) (kept_reads told) ready.settled (store.disk new).files at.stay)
 
       abbrev passes_at : Files → List (List ℕ) → Origin → List Commit → LimitKind → ℕ → Type 0
       passes_at files names at = (target_facts target t).passes files names at now
 
       limited_is : (start : View) → IsReady (source_meaning source f) (target_facts target t) before start (target.settled t (store.disk old)) → (which : LimitKind) (number : ℕ)
-          → OnlyReads store mid new ⊎ IsLimitedAt (meaning target t) (target.passes t kept (store.disk mid).files origin now) origin v partition (store.disk mid).files commits (store.disk new).files which number
-          → OnlyReads store old new ⊎ IsLimited (source_meaning source f) (meaning target t) passes_at mode start before (store.disk new).files which number
+          → OnlyReads store mid new ⊎ IsLimitedAt store (meaning target t) (target.passes t kept (store.disk mid).files origin now) (HaveWritten target t kept (store.disk mid).files origin now) origin v partition commits mid new which number
+          → OnlyReads store old new ⊎ IsLimited store (source_meaning source f) (meaning target t) passes_at (Leaves (target_facts target t) None now) mode start before new which number
       limited_is start ready which number (inl idle) = inl (reading_further store old mid new reading (λ t. idle) told)
-      limited_is start ready which number (inr at_mid) =
-          let at : IsLimitedAt (meaning target t) (target.passes t kept before origin now) origin v partition before commits (store.disk new).files which number
-          = subst (λ (d : Disk). IsLimitedAt (meaning target t) (target.passes t kept d.files origin now) origin v partition d.files commits (store.disk new).files which number) disk_same at_mid in
+      limited_is start ready which number (inr at) =
+          let passed : target.passes t kept before origin now (take (at.place + 1) commits) which number = subst (λ (d : Disk). target.passes t kept d.files origin now (take (at.place + 1) commits) which number) disk_same at.passed in
+          let gained = subst (λ (d : Disk). Gained (meaning target t) origin v d.files commits at.place (store.disk new).files) disk_same at.gained in
           inr (limited_here (source_meaning source f) laws.source_own (meaning target t) mode v before head (is_head told) id (is_id told) partition commits full (way told) at.columns start
-          (laws.views.one_view before v start (kept_reads told) ready.reads) passes_at (store.disk new).files which number at.place at.within (kept, is_kept told, at.passed) at.gained)
+          (laws.views.one_view before v start (kept_reads told) ready.reads) store passes_at (Leaves (target_facts target t) None now) new which number at.place at.within (kept, is_kept told, passed) (stay_is (take at.place commits) at.left) gained)
+
+      -- what isn't idle has the source's columns, from before it was read
+      columns_or : {X : Type 0} → (v.table.partition ≡ partition) ⊎ (X × (store.tells → OnlyReads store mid new)) → (v.table.partition ≡ partition) ⊎ OnlyReads store old new
+      columns_or (inl columns) = inl columns
+      columns_or (inr idle) = inr (reading_further store old mid new reading idle.1 told)
+
+      stopped_at : (start : View) → IsReady (source_meaning source f) (target_facts target t) before start (target.settled t (store.disk old)) → (e : TargetError) → (v.table.partition ≡ partition) ⊎ OnlyReads store old new
+          → IsStoppedAt store (meaning target t) (HaveWritten target t kept (store.disk mid).files origin now) (e ≡ target_error.Contested → ⊥) origin v commits mid new
+          → StopsSo store (source_meaning source f) (target_facts target t) None mode now start old new (Some (answer_of_target (target.kind t) (Err e)))
+      stopped_at start ready e (inr idle) at = inl idle
+      stopped_at start ready e (inl columns) at =
+          inr (stopped_here (source_meaning source f) laws.source_own (meaning target t) mode v before head (is_head told) id (is_id told) partition commits full (way told) columns start
+          (laws.views.one_view before v start (kept_reads told) ready.reads) store (Leaves (target_facts target t) None now) new (¬ IsContest (status_of_target (target.kind t) e)) at.place at.within (stay_is (take at.place commits) at.left)
+          (λ u. let some = at.gained (undisturbed (target.kind t) (Err e) u) in (some.0, some.1, some.2, subst (λ (d : Disk). Gained (meaning target t) origin v d.files commits some.0 (store.disk new).files) disk_same some.3)))
+
+      stopped_is : (start : View) → IsReady (source_meaning source f) (target_facts target t) before start (target.settled t (store.disk old)) → (answer : Result Report TargetError) → Applied answer
+          → StopsSo store (source_meaning source f) (target_facts target t) None mode now start old new (Some (answer_of_target (target.kind t) answer))
+      stopped_is start ready (Ok report) given = tt
+      stopped_is start ready (Err e) given =
+          ⊎_elim (λ (idle : OnlyReads store mid new). inl (reading_further store old mid new reading (λ t. idle) told))
+          (λ (at : IsStoppedAt store (meaning target t) (HaveWritten target t kept (store.disk mid).files origin now) (e ≡ target_error.Contested → ⊥) origin v commits mid new). stopped_at start ready e (columns_or (columns_known _ given.columns)) at)
+          (given.stopped told (stands_mid ready.settled))
 
       still_is : (answer : Result Report TargetError) → Applied answer → mode ≡ modes.Sync → IsDone (Some (answer_of_target (target.kind t) answer)) → (start : View) → target.reads t before start
           → StandsAtHead (source_meaning source f) before start → OnlyReads store old new
@@ -313,6 +345,7 @@ module _ {S F T K : Type 0} (store : Ghosts S) (only_now : NowOnly store) (sourc
           still = λ told sync done start reads goes at. still_is told answer given sync done start reads at;
           contested = λ told is start ready. contested_is told start ready (given.contested told (stands_mid told ready.settled) (contest_told (target.kind t) answer is));
           limited = λ told which number is start ready. limited_is told start ready which number (given.limited told (stands_mid told ready.settled) which number (limit_told (target.kind t) which number answer is));
+          stopped = λ told start ready. stopped_is told start ready answer given;
           few = few_told (target.kind t) answer;
           caused = λ told. caused_is told answer given;
           absent = λ told is. absurd (there told is);

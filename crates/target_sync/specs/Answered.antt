@@ -7,6 +7,7 @@ use Rattle.lake_store.specs.declared.store.Store.{Ghosts}
 use Rattle.table_history.specs.Rows.{HasDistinctPaths}
 use Rattle.table_history.specs.declared.kind.Kind.{Kind}
 use Rattle.table_history.specs.declared.limit.LimitKind.{LimitKind}
+use Rattle.table_history.specs.declared.table.Commit.{Commit}
 use Rattle.source_core.specs.Answers.{IsReadRefusal}
 use Rattle.source_core.specs.declared.error.SourceError.{SourceError}
 use Rattle.source_core.specs.declared.error.SourceError.TheVariants as source_error
@@ -14,14 +15,14 @@ use Rattle.source_core.specs.declared.head.Head.{Head}
 use Rattle.target_core.specs.Conditions.{GoesOn}
 use Rattle.target_core.specs.Folders.{folder_of}
 use Rattle.target_core.specs.Gained.{Gained}
-use Rattle.target_core.specs.Views.{IsAdvancedAll, IsUnpublished, View}
+use Rattle.target_core.specs.Views.{IsAdvancedAll, IsUnpublished, Origin, View}
 use Rattle.target_core.specs.declared.target.TargetError.{TargetError}
 use Rattle.target_core.specs.declared.target.TargetError.TheVariants as target_error
 use Rattle.target_sync.specs.Applied.{PassesIn, status_of_source}
 use Rattle.target_sync.specs.Dues.{Due, IsMarked, IsSinceFault, IsWhole, TakesCommits, origin_of}
 use Rattle.target_sync.specs.Others.{ChangesTargets, CountsContest, HasWritten, IsApart, IsIdle}
 use Rattle.target_sync.specs.Sources.{HasHead, SourceMeaning}
-use Rattle.target_sync.specs.Synced.{HasTable, IsContested, IsLimited, KeepsSource, Synced, with_columns}
+use Rattle.target_sync.specs.Synced.{HasTable, IsContested, IsLimited, IsStopped, KeepsSource, Synced, with_columns}
 use Rattle.target_sync.specs.Targets.{TargetFacts}
 use Rattle.target_sync.specs.declared.apply.Report.{Report}
 use Rattle.target_sync.specs.declared.plan.Mode.{Mode}
@@ -219,6 +220,10 @@ IsComplete None = Unit {0}
 IsComplete (Some (Ok report)) = Unit {0}
 IsComplete (Some (Err e)) = e ≡ status.Memory
 
+-- what publishing commits to the target at this time writes to its folder
+abbrev pub Leaves : TargetFacts → Option Kind → ℕ → Files → List (List ℕ) → Origin → List Commit → Files → Type 0
+Leaves target other now before partition origin commits files = HasWritten target.files.kind other (λ from to. target.writes from partition origin now commits to) before files
+
 -- The commits that were due were published, in this way, and over the view they lead to the last one, which has so many rows, and in full the source's
 -- table; they end at this position. A settled target reads as that last view, and just what publishing them at this time writes has come.
 pub record IsReport (source : SourceMeaning) (target : TargetFacts) (other : Option Kind) (mode : Mode) (now : ℕ) (start : View) (Settled : Type 0) (before files : Files) (report : Report) : Type 0 where
@@ -234,7 +239,7 @@ pub record IsReport (source : SourceMeaning) (target : TargetFacts) (other : Opt
   pub position : report.at ≡ due.head.position
   pub reads : Settled → target.files.reads files last
   pub gained : Settled → Gained target.files (origin_of due) (with_columns due.partition start) before due.commits (length due.commits) files
-  pub written : Settled → HasWritten target.files.kind other (λ from to. target.writes from due.partition (origin_of due) now due.commits to) before files
+  pub written : Settled → Leaves target other now before due.partition (origin_of due) due.commits files
 
 -- ---- one target
 
@@ -242,6 +247,13 @@ abbrev pub IsReported : SourceMeaning → TargetFacts → Option Kind → Mode �
 IsReported source target other mode now start Settled before files None = Unit {0}
 IsReported source target other mode now start Settled before files (Some (Ok report)) = IsReport source target other mode now start Settled before files report
 IsReported source target other mode now start Settled before files (Some (Err e)) = Unit {0}
+
+-- A refusal leaves no file of the target changed, or, after some first commits, just what these write.
+abbrev pub StopsSo : {S : Type 0} → Ghosts S → SourceMeaning → TargetFacts → Option Kind → Mode → ℕ → View → S → S → Answer → Type 0
+StopsSo store source target other mode now start old new None = Unit {0}
+StopsSo store source target other mode now start old new (Some (Ok report)) = Unit {0}
+StopsSo store source target other mode now start old new (Some (Err e)) =
+    IsIdle store other old new ⊎ IsStopped store source target.files (Leaves target other now) mode start (¬ IsContest e) (store.disk old).files new
 
 -- What is told of each target that is done: in full it took one commit, and the command `full` goes no other way.
 abbrev pub IsOneInFull : Mode → Answer → Type 0
@@ -274,10 +286,12 @@ pub record IsSync {S : Type 0} (store : Ghosts S) (source : SourceMeaning) (targ
   pub still : store.tells → mode ≡ modes.Sync → IsDone answer → (start : View) → target.files.reads (store.disk old).files start → GoesOn source.kind start → StandsAtHead source (store.disk old).files start → IsIdle store other old new
   -- Where another writer was in the way, the commits published before stay, and nothing is published behind that writer's.
   pub contested : store.tells → answer ≡ Some (Err (status.Contested target.files.kind)) → (start : View) → IsReady source target (store.disk old).files start (target.files.settled (store.disk old))
-      → IsContested store source target.files mode start (store.disk old).files old new
+      → IsContested store source target.files (Leaves target other now) mode start (store.disk old).files old new
   -- Where a number is passed, the target's files stay, or just the commits before the one that passes it are published.
   pub limited : store.tells → (which : LimitKind) (number : ℕ) → answer ≡ Some (Err (status.Limit (side.Target target.files.kind) which number)) → (start : View) → IsReady source target (store.disk old).files start (target.files.settled (store.disk old))
-      → IsIdle store other old new ⊎ IsLimited source target.files (λ files partition origin. target.passes files partition origin now) mode start (store.disk old).files (store.disk new).files which number
+      → IsIdle store other old new ⊎ IsLimited store source target.files (λ files partition origin. target.passes files partition origin now) (Leaves target other now) mode start (store.disk old).files new which number
+  -- Whatever refuses it, the commits published before left just what they write, and what they reach stays byte for byte.
+  pub stopped : store.tells → (start : View) → IsReady source target (store.disk old).files start (target.files.settled (store.disk old)) → StopsSo store source target other mode now start old new answer
   -- Each refusal is one of a sync, and a target's names this target.
   pub few : IsFew target.files.kind answer
   -- Each refusal has its cause, and comes exactly where it is due.

@@ -17,6 +17,7 @@ use Rattle.target_core.specs.Meaning.{Meaning}
 use Rattle.target_core.specs.Outcome.{Uncontested}
 use Rattle.target_core.specs.Publishing.{Publishes}
 use Rattle.target_core.specs.Views.{IsAdvancedAll, Origin, Standing, View}
+use Rattle.target_core.specs.Written.{StayAfter}
 use Rattle.target_core.specs.declared.target.TargetError.{TargetError}
 use Rattle.target_core.specs.declared.target.TargetError.TheVariants.{Memory, StoreFault, Contested, Limit, Unsupported}
 use Rattle.target_sync.specs.Targets.{IsStart}
@@ -79,23 +80,33 @@ pub record IsTold (target : Meaning) (origin : Origin) (start : View) (commits :
 abbrev pub StayShown : Meaning → Origin → ℕ → List Commit → Files → Files → Type 0
 StayShown target origin count commits files image = (i : ℕ) → CarriesAt target origin count commits i image → CarriesAt target origin count commits i files
 
--- Publishing one of the commits met another writer's. Those before it stand, as does each that a crash would have shown, and nothing is published
--- behind that writer's.
-pub record IsContestedAt {S : Type 0} (store : Ghosts S) (target : Meaning) (origin : Origin) (start : View) (partition : List (List ℕ)) (commits : List Commit) (old new : S) : Type 0 where
+-- Publishing one of the commits met another writer's. Those before it left just what they write, which stays byte for byte, and they stand, as does each
+-- that a crash would have shown. Nothing is published after that writer's.
+pub record IsContestedAt {S : Type 0} (store : Ghosts S) (target : Meaning) (written : List Commit → Files → Type 0) (origin : Origin) (start : View) (partition : List (List ℕ)) (commits : List Commit) (old new : S) : Type 0 where
   pub place : ℕ
   pub within : place < length commits
   pub columns : start.table.partition ≡ partition
   pub published : Carries target origin start.commits commits place (store.disk new).files
+  pub left : StayAfter store target (written (take place commits)) new
   pub newest : target.commits_in (store.disk new).files ≤ start.commits + place + 1
   pub stay : IsEachMoment store old new (StayShown target origin start.commits commits (store.disk new).files)
 
--- Publishing one of the commits passes this number. Those before it are published, and it isn't.
-pub record IsLimitedAt (target : Meaning) (passes : List Commit → LimitKind → ℕ → Type 0) (origin : Origin) (start : View) (partition : List (List ℕ)) (before : Files) (commits : List Commit) (files : Files) (which : LimitKind) (number : ℕ) : Type 0 where
+-- Publishing one of the commits passes this number. Those before it are published and left just what they write, which stays byte for byte, and it isn't.
+pub record IsLimitedAt {S : Type 0} (store : Ghosts S) (target : Meaning) (passes : List Commit → LimitKind → ℕ → Type 0) (written : List Commit → Files → Type 0) (origin : Origin) (start : View) (partition : List (List ℕ)) (commits : List Commit) (old new : S) (which : LimitKind) (number : ℕ) : Type 0 where
   pub place : ℕ
   pub within : place < length commits
   pub columns : start.table.partition ≡ partition
   pub passed : passes (take (place + 1) commits) which number
-  pub gained : Gained target origin start before commits place files
+  pub left : StayAfter store target (written (take place commits)) new
+  pub gained : Gained target origin start (store.disk old).files commits place (store.disk new).files
+
+-- Publishing the commits ended with a refusal. The first so many of them left just what they write, which stays byte for byte, and unless another
+-- writer was in the way at most one more is published.
+pub record IsStoppedAt {S : Type 0} (store : Ghosts S) (target : Meaning) (written : List Commit → Files → Type 0) (Uncontested : Type 0) (origin : Origin) (start : View) (commits : List Commit) (old new : S) : Type 0 where
+  pub place : ℕ
+  pub within : place ≤ length commits
+  pub left : StayAfter store target (written (take place commits)) new
+  pub gained : Uncontested → (n : ℕ) × (place ≤ n) × (n ≤ place + 1) × Gained target origin start (store.disk old).files commits n (store.disk new).files
 
 -- Some first commits of the list pass the number.
 abbrev pub PassesIn : (List Commit → LimitKind → ℕ → Type 0) → List Commit → LimitKind → ℕ → Type 0
@@ -125,7 +136,8 @@ pub record Applies {S : Type 0} (store : Ghosts S) (target : Meaning) (unfit : T
   pub writes : store.tells → Stands → IfOk answer (λ report. written commits (store.disk new).files)
   pub reported : IfOk answer (IsTold target origin start commits full (store.tells × Stands) (store.disk new).files)
   pub refused : store.tells → IfErr answer (IsApplyRefusal (OnlyReads store old new) unfit (PassesIn passes commits))
-  pub contested : store.tells → Stands → IsErrOf answer Contested → IsContestedAt store target origin start partition commits old new
-  pub limited : store.tells → Stands → (which : LimitKind) (number : ℕ) → IsErrOf answer (Limit which number) → OnlyReads store old new ⊎ IsLimitedAt target passes origin start partition (store.disk old).files commits (store.disk new).files which number
+  pub stopped : store.tells → Stands → IfErr answer (λ e. OnlyReads store old new ⊎ IsStoppedAt store target written (e ≡ Contested → ⊥) origin start commits old new)
+  pub contested : store.tells → Stands → IsErrOf answer Contested → IsContestedAt store target written origin start partition commits old new
+  pub limited : store.tells → Stands → (which : LimitKind) (number : ℕ) → IsErrOf answer (Limit which number) → OnlyReads store old new ⊎ IsLimitedAt store target passes written origin start partition commits old new which number
   pub fault : FailsBy store old new (IsErrOf answer StoreFault)
   pub contest : IsContestedBy store old new (IsErrOf answer Contested)

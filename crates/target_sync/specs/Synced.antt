@@ -11,6 +11,7 @@ use Rattle.target_core.specs.Folders.{after_crash, folder_of}
 use Rattle.target_core.specs.Gained.{Carries, Gained, GainedSome, StillCarries}
 use Rattle.target_core.specs.Meaning.{Meaning}
 use Rattle.target_core.specs.Views.{IsUnpublished, Origin, SameView, View}
+use Rattle.target_core.specs.Written.{StayAfter}
 use Rattle.target_sync.specs.Applied.{StayShown, position_at}
 use Rattle.target_sync.specs.Dues.{Due, origin_of}
 use Rattle.target_sync.specs.Sources.{SameSource, SourceMeaning}
@@ -50,25 +51,42 @@ pub record IsAtHead (source : SourceMeaning) (target : Meaning) (mode : Mode) (s
   pub position : position_at gained.view.mark ≡ due.head.position
   pub in_full : due.full ≡ true → HasTable source target before gained.view
 
--- Publishing one of the commits that are due met another writer's. Those before it stand, each with its own change, as does each that a crash at any
--- moment would have shown, and nothing is published behind that writer's.
-pub record IsContested {S : Type 0} (store : Ghosts S) (source : SourceMeaning) (target : Meaning) (mode : Mode) (start : View) (before : Files) (old new : S) : Type 0 where
+-- Over these files, publishing these commits of a source of these partition columns, whose marks say this of it, leaves these files.
+abbrev pub Leaving : Type 1
+Leaving = Files → List (List ℕ) → Origin → List Commit → Files → Type 0
+
+-- Publishing the commits that are due ended with a refusal. The first so many of them left just what they write, and what they reach stays byte for byte
+-- from then on. Unless another writer was in the way at most one more is published.
+pub record IsStopped {S : Type 0} (store : Ghosts S) (source : SourceMeaning) (target : Meaning) (leaves : Leaving) (mode : Mode) (start : View) (Uncontested : Type 0) (before : Files) (new : S) : Type 0 where
+  pub due : Due source mode before start
+  pub columns : (due.partition ≡ start.table.partition) ⊎ IsUnpublished start
+  pub place : ℕ
+  pub within : place ≤ length due.commits
+  pub left : StayAfter store target (leaves before due.partition (origin_of due) (take place due.commits)) new
+  pub gained : Uncontested → (n : ℕ) × (place ≤ n) × (n ≤ place + 1) × Gained target (origin_of due) (with_columns due.partition start) before due.commits n (store.disk new).files
+
+-- Publishing one of the commits that are due met another writer's. Those before it left just what they write, and what they reach stays byte for byte
+-- from then on; they stand, each with its own change, as does each that a crash at any moment would have shown. Nothing is published after that writer's.
+pub record IsContested {S : Type 0} (store : Ghosts S) (source : SourceMeaning) (target : Meaning) (leaves : Leaving) (mode : Mode) (start : View) (before : Files) (old new : S) : Type 0 where
   pub due : Due source mode before start
   pub columns : (due.partition ≡ start.table.partition) ⊎ IsUnpublished start
   pub place : ℕ
   pub within : place < length due.commits
   pub published : Carries target (origin_of due) start.commits due.commits place (store.disk new).files
+  pub left : StayAfter store target (leaves before due.partition (origin_of due) (take place due.commits)) new
   pub newest : target.commits_in (store.disk new).files ≤ start.commits + place + 1
   pub stay : IsEachMoment store old new (StayShown target (origin_of due) start.commits due.commits (store.disk new).files)
 
--- Publishing one of the commits that are due passes this number. The target has gained those before it, and not that one.
-pub record IsLimited (source : SourceMeaning) (target : Meaning) (passes : Files → List (List ℕ) → Origin → List Commit → LimitKind → ℕ → Type 0) (mode : Mode) (start : View) (before files : Files) (which : LimitKind) (number : ℕ) : Type 0 where
+-- Publishing one of the commits that are due passes this number. The target has gained those before it, and not that one. They left just what they
+-- write, and what they reach stays byte for byte from then on.
+pub record IsLimited {S : Type 0} (store : Ghosts S) (source : SourceMeaning) (target : Meaning) (passes : Files → List (List ℕ) → Origin → List Commit → LimitKind → ℕ → Type 0) (leaves : Leaving) (mode : Mode) (start : View) (before : Files) (new : S) (which : LimitKind) (number : ℕ) : Type 0 where
   pub due : Due source mode before start
   pub columns : (due.partition ≡ start.table.partition) ⊎ IsUnpublished start
   pub place : ℕ
   pub within : place < length due.commits
   pub passed : passes before due.partition (origin_of due) (take (place + 1) due.commits) which number
-  pub gained : Gained target (origin_of due) (with_columns due.partition start) before due.commits place files
+  pub left : StayAfter store target (leaves before due.partition (origin_of due) (take place due.commits)) new
+  pub gained : Gained target (origin_of due) (with_columns due.partition start) before due.commits place (store.disk new).files
 
 abbrev pub IsAsBeforeOrUnderway : SourceMeaning → Meaning → Mode → View → Files → Files → Type 0
 IsAsBeforeOrUnderway source target mode start before files = IsAsBefore target start before files ⊎ IsUnderway source target mode start before files

@@ -7,7 +7,7 @@ use Rattle.table_history.specs.declared.table.Commit.{Commit}
 use Rattle.target_core.specs.Meaning.{Meaning}
 use Rattle.target_core.specs.TargetMeanings.{meaning}
 use Rattle.target_core.specs.Views.{IsOfSource, IsUnpublished, Origin, View}
-use Rattle.target_core.specs.Written.{AreWritten}
+use Rattle.target_core.specs.Written.{HaveLeft}
 use Rattle.target_core.specs.declared.target.Target.{Ghosts}
 use Rattle.target_core.specs.declared.target.TargetError.{TargetError}
 
@@ -34,7 +34,7 @@ IsKept target t files partition kept = target.stands_for t kept files × Begins 
 
 -- Over these files, of which this is kept, publishing these commits one behind the other, at this time, leaves these files.
 abbrev pub HaveWritten : {T K : Type 0} → Ghosts T K → T → K → Files → Origin → ℕ → List Commit → Files → Type 0
-HaveWritten {T} {K} target t kept files origin now commits after = (last : K) × AreWritten (target.stands_for t) (λ here before commit next. target.writes t here before origin now commit next) kept files commits last after
+HaveWritten {T} {K} target t kept files origin now commits after = HaveLeft (target.stands_for t) (λ here before commit next. target.writes t here before origin now commit next) kept files commits after
 
 abbrev pub target_facts : {T K : Type 0} → Ghosts T K → T → TargetFacts
 target_facts {T} {K} target t = record {

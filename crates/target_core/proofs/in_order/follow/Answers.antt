@@ -4,6 +4,7 @@ use Rattle.std.proofs.lemmas.Option.{slice_get-get_or}
 use Rattle.std.proofs.lemmas.Result.{err_from_is_err_and}
 use Rattle.std.specs.Prelude.{IfErr, is_ok, slice_get}
 use Rattle.std.specs.Option.{option_copied}
+use Rattle.lake_store.specs.Disk.{Files}
 use Rattle.lake_store.specs.Runs.{IsEachMoment, IsOutside}
 use Rattle.lake_store.proofs.RunLaws.{alone_by_reading, alone_further, reading_begins}
 use Rattle.table_history.specs.declared.table.Commit.{Commit}
@@ -14,7 +15,7 @@ use Rattle.target_core.specs.Publishing.{Publishes}
 use Rattle.target_core.specs.Refusals.{IsCommitRefusal}
 use Rattle.target_core.specs.TargetMeanings.{meaning}
 use Rattle.target_core.specs.Views.{Origin, standing_at}
-use Rattle.target_core.specs.Written.{AreWritten}
+use Rattle.target_core.specs.Written.{AreWritten, HaveLeft}
 use Rattle.target_core.specs.declared.target.TargetError.{TargetError}
 use Rattle.target_core.proofs.Along.{can_here, fits_here, fails_further, more_before, refused_in, uncontested_further}
 use Rattle.target_core.proofs.Same.{same_refl}
@@ -181,7 +182,8 @@ returns-in_err-commit-clause-refusal g c told =
     let exit = err_from_is_err_and c.from_residual.result c.from_residual.ensures.1 in
     let files = (store.disk s).files in
     let Settled : Type 0 = target.stands_for t c.args.kept.now files × target.settled t (store.disk s) in
-    let Refused : TargetError → Type 0 = IsRefusedAt (meaning target t) (target.passes t c.args.kept.now files origin c.args.now_ms) Settled origin start files commits (store.disk c.commit.new.store).files in
+    let left : List Commit → Files → Type 0 = HaveLeft (target.stands_for t) (λ kept before commit after. target.writes t kept before origin c.args.now_ms commit after) c.args.kept.now files in
+    let Refused : TargetError → Type 0 = IsRefusedAt store (meaning target t) (target.passes t c.args.kept.now files origin c.args.now_ms) left Settled origin start commits s c.commit.new.store in
     subst (λ (r : Result ℕ TargetError). IfErr r Refused) (sym exit.1)
     (record {
       place = i;
@@ -195,6 +197,11 @@ returns-in_err-commit-clause-refusal g c told =
           let way = so_far.under_way told was.0 was.1 in
           before_on store (meaning target t) origin start commits i here s c.loop-commit.store c.commit.new.store way commit at _ false
           (c.in_err-commit.ensures.publishes told (so_far.stands told was.0 was.1) way.settled) told (g.met.T.Target.reached_stays t);
+      stay = λ was. record {
+        middle = c.loop-commit.store;
+        left = (c.loop-commit.kept, so_far.written told was.0 was.1);
+        stay = (c.in_err-commit.ensures.publishes told (so_far.stands told was.0 was.1) (so_far.under_way told was.0 was.1).settled).bytes;
+      };
       gained = λ was uncontested.
           let way = so_far.under_way told was.0 was.1 in
           gained_on store (meaning target t) origin start commits i here s c.loop-commit.store c.commit.new.store way commit at _ false

@@ -113,8 +113,8 @@ returns-in_err-published g c =
     (subst (λ (id : Option (List ℕ)). Publishes store (meaning g.T.Target t) (origin_at id) view c.as_slice-commits.result.now (e ≡ Contested → ⊥) false old new) id_is
     (c.in_err-published.ensures.publishes told stands.0 stands.1)))
     (λ told.
-    subst (λ (cs : List Commit). IsRefusedAt (meaning g.T.Target t) (passes_at c.args.plan.table) Stands (origin_at c.args.plan.table) view files cs (store.disk new).files e) commits_is
-    (subst (λ (id : Option (List ℕ)). IsRefusedAt (meaning g.T.Target t) (passes_at id) Stands (origin_at id) view files c.as_slice-commits.result.now (store.disk new).files e) id_is
+    subst (λ (cs : List Commit). IsRefusedAt store (meaning g.T.Target t) (passes_at c.args.plan.table) (written_at c.args.plan.table) Stands (origin_at c.args.plan.table) view cs old new e) commits_is
+    (subst (λ (id : Option (List ℕ)). IsRefusedAt store (meaning g.T.Target t) (passes_at id) (written_at id) Stands (origin_at id) view c.as_slice-commits.result.now old new e) id_is
     (c.in_err-published.ensures.refusal told)))
     (λ told stands.
     subst (λ (cs : List Commit). IsEachMoment store old new (KeepsShown (meaning g.T.Target t) (origin_at c.args.plan.table) view cs (store.disk new).files e)) commits_is
@@ -152,7 +152,11 @@ returns-in_err-report_of g c =
     subst (λ (cs : List Commit). Publishes store (meaning g.T.Target t) (origin_at c.args.plan.table) view cs (Unit {0}) true old new) commits_is
     (subst (λ (id : Option (List ℕ)). Publishes store (meaning g.T.Target t) (origin_at id) view c.as_slice-commits.result.now (Unit {0}) true old new) id_is
     (c.in_ok-published.ensures.publishes told stands.0 stands.1)))
-    c.in_ok-published.ensures.cause c.in_ok-published.ensures.contest)
+    c.in_ok-published.ensures.cause c.in_ok-published.ensures.contest g.met.S.Store.only_now
+    (λ told stands.
+    subst (λ (cs : List Commit). written_at c.args.plan.table cs (store.disk new).files) commits_is
+    (subst (λ (id : Option (List ℕ)). written_at id c.as_slice-commits.result.now (store.disk new).files) id_is
+    (c.follow.new.kept, c.in_ok-published.ensures.written told stands.0 stands.1))))
 
 pub returns : goal.returns
 returns g c =
