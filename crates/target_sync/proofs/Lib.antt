@@ -2,6 +2,7 @@ pub mod Along
 pub mod Applying
 pub mod Beside
 pub mod Counting
+pub mod DueToo
 pub mod Finding
 pub mod Following
 pub mod Histories

@@ -132,6 +132,7 @@ module _ {K : Type 0} (view : K → View) (stands_for : K → Files → Type 0) 
         };
         one = λ full. ap (λ (cs : List Commit). length cs) is.commits;
         way = λ full. is.full;
+        since = λ since. let no : true ≡ false = sym is.full ∙ since in absurd (cc no);
       }
 
   pub full_due : (files : Files) → stands_for kept files → source.is_table files table → IsIdBehind source files (view kept) head.table id → (TakesCommits source mode files (view kept) → ⊥) → IsDuePlan view stands_for source mode files head plan
@@ -171,6 +172,7 @@ module _ {K : Type 0} (view : K → View) (stands_for : K → Files → Type 0) 
         };
         one = λ full. let no : false ≡ true = sym is.full ∙ full in absurd (cc no);
         way = λ full. absurd (cc full);
+        since = λ since. subst (λ (cs : List Commit). CanApplyAll (view plan.kept).table cs) (sym is.commits) (subst (λ (k : K). CanApplyAll (view k).table commits) (sym is.is_kept) can);
       }
 
   pub since_due : (files : Files) → stands_for kept files → IsSinceMark source files (view kept) (Commits commits) → IsDuePlan view stands_for source modes.Sync files head plan

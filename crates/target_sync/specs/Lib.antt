@@ -4,6 +4,7 @@ pub mod Applied
 pub mod Dues
 pub mod Others
 pub mod Plans
+pub mod Shared
 pub mod Sources
 pub mod Statuses
 pub mod Synced

@@ -1,6 +1,7 @@
 -- A plan of what is due to a target.
 use Rattle.std.specs.Prelude.{◌≡◌, ◌⊎◌, ◌<◌, ℕ, true, false, List, [], ◌∷◌, length, Option, Some, None}
 use Rattle.lake_store.specs.Disk.{Files}
+use Rattle.source_core.specs.Since.{CanApplyAll}
 use Rattle.source_core.specs.declared.head.Head.{Head}
 use Rattle.source_core.specs.declared.since.Since.{Since}
 use Rattle.source_core.specs.declared.since.Since.TheVariants.{Commits, NotReached}
@@ -97,11 +98,13 @@ pub record IsFullPlan {K : Type 0} (view : K → View) (head : Head) (table : Ta
   pub id : plan.table ≡ stated
   pub can : (view kept).table.partition ≡ table.partition → CanPublish (view kept) commit
 
--- What is planned may be applied, also where the store tells nothing. In full it is one commit, and by the command `full` it is in full.
+-- What is planned may be applied, also where the store tells nothing. In full it is one commit, and by the command `full` it is in full. Other
+-- commits fit what is kept whatever types a target has.
 pub record IsSoundPlan {K : Type 0} (view : K → View) (image : ColumnTrees → Option ColumnTrees) (source : Kind) (mode : Mode) (plan : Plan K) : Type 0 where
   pub can : CanApplyPlan image source (record { source = source; table = plan.table }) plan.partition plan.commits (view plan.kept)
   pub one : plan.full ≡ true → length plan.commits ≡ 1
   pub way : mode ≡ modes.Full → plan.full ≡ true
+  pub since : plan.full ≡ false → CanApplyAll (view plan.kept).table plan.commits
 
 -- What is planned is what is due, over what is kept of these files.
 pub record IsDuePlan {K : Type 0} (view : K → View) (stands_for : K → Files → Type 0) (source : SourceMeaning) (mode : Mode) (files : Files) (head : Head) (plan : Plan K) : Type 0 where

@@ -1,5 +1,5 @@
 //! What is to be published to a target.
-ghost use Rattle.std.specs.Prelude.{◌≡◌, ◌↔◌, IfErr, IfOk, IsErrOf, IsTrue};
+ghost use Rattle.std.specs.Prelude.{◌≡◌, ◌↔◌, IfErr, IfOk, IfSome, IsErrOf, IsTrue};
 ghost use Rattle.std.specs.Option.{option_copied};
 ghost use Rattle.lake_store.specs.Runs.{FailsBy, IsUncontestedBy, OnlyReads};
 ghost use Rattle.source_core.specs.Answers.{IsReadRefusal};
@@ -20,6 +20,7 @@ ghost use Rattle.target_sync.specs.declared.plan.Mode.TheVariants.{Sync};
 ghost use Rattle.target_sync.specs.declared.status.Status.TheVariants as status;
 
 use crate::cause::status_of_source;
+use crate::copying::copy_texts;
 use crate::status::Status;
 use lake_basics::{Items, Text};
 use lake_store::Store;
@@ -178,7 +179,7 @@ fn id_behind<F: Source, T: Target, S: Store>(
 }
 
 /// Plans these commits since its mark over what is kept of a target.
-fn plan_since<T: Target>(
+pub(crate) fn plan_since<T: Target>(
     alloc: Global,
     head: &Head,
     target: &T,
@@ -196,16 +197,6 @@ fn plan_since<T: Target>(
         full: false,
         table,
     })
-}
-
-fn copy_texts(alloc: Global, texts: &[Text]) -> Result<Items<Text>, AllocError>
-    ensures { IfOk result (λ copies. copies ≡ texts.now) }
-{
-    let mut copies = Vec::with_capacity(alloc, texts.len())?;
-    for text in texts {
-        copies.push(text.copy(alloc)?)?;
-    }
-    Ok(Items::from_vec(copies))
 }
 
 // The whole table.
@@ -256,43 +247,36 @@ fn plan_over<T: Target>(
     target: &T,
     kept: T::Kept,
     head: &Head,
-    table: Table,
+    table: &Table,
     id: Option<Text>,
 ) -> Result<Plan<T::Kept>, AllocError>
-    requires { IsPublishable table }
-    ensures { IfOk result (IsFullPlan (T.view target.now) head.now table id kept) }
+    requires { IsPublishable table.now }
+    ensures { IfOk result (IsFullPlan (T.view target.now) head.now table.now id kept) }
 {
-    let commit = commit_to(alloc, target.table(&kept), head, &table)?;
+    let commit = commit_to(alloc, target.table(&kept), head, table)?;
+    let partition = copy_texts(alloc, table.partition.as_slice())?;
     Ok(Plan {
         kept,
-        partition: table.partition,
+        partition,
         commits: Items::from_vec(vec![in alloc; commit]?),
         full: true,
         table: id,
     })
 }
 
-/// Plans one commit with the source's whole table at its head.
-fn plan_full<F: Source, T: Target, S: Store>(
+/// The source's table at its head, which is read where it wasn't read before.
+fn table_at_head<F: Source, S: Store>(
     alloc: Global,
     source: &F,
     head: &Head,
-    target: &T,
     store: &mut S,
-    found: Option<T::Kept>,
-    mode: Mode,
-) -> Result<Plan<T::Kept>, SourceError>
+    whole: Option<Table>,
+) -> Result<Table, SourceError>
     requires head { S.tells → F.is_head source.now (S.disk store.old).files head.now }
-    requires ours { S.tells → IsFoundOfSource (T.view target.now) (F.kind source.now) found }
-    requires found { S.tells → IsFound (T.reads target.now) (T.stands_for target.now)
-        (S.disk store.old).files found }
-    requires in_full { S.tells → IsFoundInFull (T.view target.now)
-        (source_meaning ⟦<F as Source>⟧ source.now) mode (S.disk store.old).files found }
-    ensures sound { IsFoundOurs (T.view target.now) (F.kind source.now) found
-        → IfOk result (IsSoundPlan (T.view target.now) (T.image target.now) (F.kind source.now)
-        mode) }
-    ensures due { S.tells → IfOk result (IsDuePlan (T.view target.now) (T.stands_for target.now)
-        (source_meaning ⟦<F as Source>⟧ source.now) mode (S.disk store.old).files head.now) }
+    requires whole { S.tells → IfSome whole (F.is_table source.now (S.disk store.old).files) }
+    requires publishable { IfSome whole IsPublishable }
+    ensures table { S.tells → IfOk result (F.is_table source.now (S.disk store.old).files) }
+    ensures sound { IfOk result IsPublishable }
     ensures refused { S.tells → IfErr result
         (IsReadRefusal (F.from_scratch source.now (S.disk store.old).files)) }
     ensures only_reads { S.tells → OnlyReads ⟦<S as Store>⟧ store.old store.new }
@@ -300,10 +284,52 @@ fn plan_full<F: Source, T: Target, S: Store>(
         (IsErrOf result SourceError.StoreFault) }
     ensures contest { IsUncontestedBy ⟦<S as Store>⟧ store.old store.new ⊥ }
 {
-    let table = source.whole(alloc, store, head)?;
+    match whole {
+        Some(table) => Ok(table),
+        None => source.whole(alloc, store, head),
+    }
+}
+
+/// Plans one commit with the source's whole table at its head. `whole` is that table where it was
+/// read before, and after.
+pub(crate) fn plan_full<F: Source, T: Target, S: Store>(
+    alloc: Global,
+    source: &F,
+    head: &Head,
+    target: &T,
+    store: &mut S,
+    found: Option<T::Kept>,
+    mode: Mode,
+    whole: &mut Option<Table>,
+) -> Result<Plan<T::Kept>, SourceError>
+    requires head { S.tells → F.is_head source.now (S.disk store.old).files head.now }
+    requires ours { S.tells → IsFoundOfSource (T.view target.now) (F.kind source.now) found }
+    requires found { S.tells → IsFound (T.reads target.now) (T.stands_for target.now)
+        (S.disk store.old).files found }
+    requires in_full { S.tells → IsFoundInFull (T.view target.now)
+        (source_meaning ⟦<F as Source>⟧ source.now) mode (S.disk store.old).files found }
+    requires whole { S.tells → IfSome whole.old (F.is_table source.now (S.disk store.old).files) }
+    requires whole_publishable { IfSome whole.old IsPublishable }
+    ensures sound { IsFoundOurs (T.view target.now) (F.kind source.now) found
+        → IfOk result (IsSoundPlan (T.view target.now) (T.image target.now) (F.kind source.now)
+        mode) }
+    ensures due { S.tells → IfOk result (IsDuePlan (T.view target.now) (T.stands_for target.now)
+        (source_meaning ⟦<F as Source>⟧ source.now) mode (S.disk store.old).files head.now) }
+    ensures whole { S.tells → IfSome whole.new (F.is_table source.now (S.disk store.old).files) }
+    ensures whole_publishable { IfSome whole.new IsPublishable }
+    ensures refused { S.tells → IfErr result
+        (IsReadRefusal (F.from_scratch source.now (S.disk store.old).files)) }
+    ensures only_reads { S.tells → OnlyReads ⟦<S as Store>⟧ store.old store.new }
+    ensures cause { FailsBy ⟦<S as Store>⟧ store.old store.new
+        (IsErrOf result SourceError.StoreFault) }
+    ensures contest { IsUncontestedBy ⟦<S as Store>⟧ store.old store.new ⊥ }
+{
+    let table = table_at_head(alloc, source, head, store, whole.take())?;
     let kept = start_of(alloc, target, found, table.partition.as_slice())?;
     let id = id_behind(alloc, source, head, target, store, &kept, mode)?;
-    Ok(plan_over(alloc, target, kept, head, table, id)?)
+    let plan = plan_over(alloc, target, kept, head, &table, id)?;
+    *whole = Some(table);
+    Ok(plan)
 }
 
 /// Plans the commits since the mark of what is kept of ours, or the whole table where the history
@@ -315,16 +341,21 @@ fn plan_sync<F: Source, T: Target, S: Store>(
     target: &T,
     store: &mut S,
     kept: T::Kept,
+    whole: &mut Option<Table>,
 ) -> Result<Plan<T::Kept>, SourceError>
     requires head { S.tells → F.is_head source.now (S.disk store.old).files head.now }
     requires publishable { IsPublishable (T.view target.now kept).table }
     requires ours { S.tells → IsOfSource (F.kind source.now) (T.view target.now kept) }
     requires stands { S.tells → T.stands_for target.now kept (S.disk store.old).files }
+    requires whole { S.tells → IfSome whole.old (F.is_table source.now (S.disk store.old).files) }
+    requires whole_publishable { IfSome whole.old IsPublishable }
     ensures sound { IsSeenSound (T.view target.now) (F.kind source.now) (Ours kept)
         → IfOk result (IsSoundPlan (T.view target.now) (T.image target.now) (F.kind source.now)
         Sync) }
     ensures due { S.tells → IfOk result (IsDuePlan (T.view target.now) (T.stands_for target.now)
         (source_meaning ⟦<F as Source>⟧ source.now) Sync (S.disk store.old).files head.now) }
+    ensures whole { S.tells → IfSome whole.new (F.is_table source.now (S.disk store.old).files) }
+    ensures whole_publishable { IfSome whole.new IsPublishable }
     ensures refused { S.tells → IfErr result
         (IsReadRefusal (IsReadFault (source_meaning ⟦<F as Source>⟧ source.now)
         (target_facts ⟦<T as Target>⟧ target.now) Sync (S.disk store.old).files)) }
@@ -336,7 +367,16 @@ fn plan_sync<F: Source, T: Target, S: Store>(
     match commits_since(alloc, source, head, target, store, &kept)? {
         Since::Commits(commits) => Ok(plan_since(alloc, head, target, kept, commits)?),
         Since::NotReached => {
-            plan_full(alloc, source, head, target, store, Some(kept), Mode::Sync)
+            plan_full(
+                alloc,
+                source,
+                head,
+                target,
+                store,
+                Some(kept),
+                Mode::Sync,
+                whole,
+            )
         }
     }
 }
@@ -348,6 +388,50 @@ fn of_source<A: Drop>(planned: Result<A, SourceError>) -> Result<A, Status>
     match planned {
         Ok(plan) => Ok(plan),
         Err(error) => Err(status_of_source(error)),
+    }
+}
+
+/// Plans what is due to a target of which this was found: what is kept of ours, or no commit. It reads
+/// the source and writes nothing. `whole` is the source's table at its head where that was read
+/// before, and after.
+pub fn plan_with<F: Source, T: Target, S: Store>(
+    alloc: Global,
+    source: &F,
+    head: &Head,
+    target: &T,
+    store: &mut S,
+    found: Option<T::Kept>,
+    mode: Mode,
+    whole: &mut Option<Table>,
+) -> Result<Plan<T::Kept>, SourceError>
+    requires head { S.tells → F.is_head source.now (S.disk store.old).files head.now }
+    requires publishable { IsFoundPublishable (T.view target.now) found }
+    requires ours { S.tells → IsFoundOfSource (T.view target.now) (F.kind source.now) found }
+    requires found { S.tells → IsFound (T.reads target.now) (T.stands_for target.now)
+        (S.disk store.old).files found }
+    requires whole { S.tells → IfSome whole.old (F.is_table source.now (S.disk store.old).files) }
+    requires whole_publishable { IfSome whole.old IsPublishable }
+    ensures sound { IsFoundOurs (T.view target.now) (F.kind source.now) found
+        → IfOk result (IsSoundPlan (T.view target.now) (T.image target.now) (F.kind source.now)
+        mode) }
+    ensures due { S.tells → IfOk result (IsDuePlan (T.view target.now) (T.stands_for target.now)
+        (source_meaning ⟦<F as Source>⟧ source.now) mode (S.disk store.old).files head.now) }
+    ensures whole { S.tells → IfSome whole.new (F.is_table source.now (S.disk store.old).files) }
+    ensures whole_publishable { IfSome whole.new IsPublishable }
+    ensures refused { S.tells → IfErr result
+        (IsReadRefusal (IsReadFault (source_meaning ⟦<F as Source>⟧ source.now)
+        (target_facts ⟦<T as Target>⟧ target.now) mode (S.disk store.old).files)) }
+    ensures only_reads { S.tells → OnlyReads ⟦<S as Store>⟧ store.old store.new }
+    ensures cause { FailsBy ⟦<S as Store>⟧ store.old store.new
+        (IsErrOf result SourceError.StoreFault) }
+    ensures contest { IsUncontestedBy ⟦<S as Store>⟧ store.old store.new ⊥ }
+{
+    match found {
+        None => plan_full(alloc, source, head, target, store, None, mode, whole),
+        Some(kept) => match mode {
+            Mode::Sync => plan_sync(alloc, source, head, target, store, kept, whole),
+            Mode::Full => plan_full(alloc, source, head, target, store, Some(kept), mode, whole),
+        },
     }
 }
 
@@ -380,13 +464,8 @@ pub fn plan_found<F: Source, T: Target, S: Store>(
         (IsErrOf result SourceError.StoreFault) }
     ensures contest { IsUncontestedBy ⟦<S as Store>⟧ store.old store.new ⊥ }
 {
-    match found {
-        None => plan_full(alloc, source, head, target, store, None, mode),
-        Some(kept) => match mode {
-            Mode::Sync => plan_sync(alloc, source, head, target, store, kept),
-            Mode::Full => plan_full(alloc, source, head, target, store, Some(kept), mode),
-        },
-    }
+    let mut whole = None;
+    plan_with(alloc, source, head, target, store, found, mode, &mut whole)
 }
 
 /// Plans what is due to a target of which inspecting it has seen this. It reads the source and writes

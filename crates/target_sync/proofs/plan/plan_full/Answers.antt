@@ -25,14 +25,14 @@ returns-in_err-id-clause-refused g c told =
     let e : SourceError = c.in_err-id.field-0.0 in
     subst (λ (r : Result (Plan _) SourceError). IfErr r (IsReadRefusal Fault)) (sym (exit.1 ∙ ap (λ (x : SourceError). Err x) exit.2)) (read_refusal_as (λ e. ⊥) Fault (λ e never. absurd never) e c.in_err-id.ensures.refused)
 
-pub returns-in_err-plan_over-clause-only_reads : goal.returns-in_err-plan_over-clause-only_reads
-returns-in_err-plan_over-clause-only_reads g c = reading_further g.S.Store c.args.store.now c.whole.new.store c.id_behind.new.store c.in_ok-table.ensures.only_reads c.in_ok-id.ensures.only_reads
+pub returns-in_err-plan-clause-only_reads : goal.returns-in_err-plan-clause-only_reads
+returns-in_err-plan-clause-only_reads g c = reading_further g.S.Store c.args.store.now c.table_at_head.new.store c.id_behind.new.store c.in_ok-table.ensures.only_reads c.in_ok-id.ensures.only_reads
 
 pub returns-clause-sound : goal.returns-clause-sound
 returns-clause-sound g c ours =
     let target = g.T.Target in
     let t = c.args.target.now in
-    full_sound (target.view t) (target.stands_for t) (source_meaning g.F.Source c.args.source.now) c.args.mode c.args.head.now c.in_ok-table.table c.in_ok-kept.kept c.in_ok-id.id c.in_ok-plan_over.field-0 c.in_ok-plan_over.ensures
+    full_sound (target.view t) (target.stands_for t) (source_meaning g.F.Source c.args.source.now) c.args.mode c.args.head.now c.in_ok-table.table c.in_ok-kept.kept c.in_ok-id.id c.in_ok-plan.plan c.in_ok-plan.ensures
     (target.image t) (g.F.Source.kind c.args.source.now)
     (subst (λ (names : List (List ℕ)). IsStart (g.F.Source.kind c.args.source.now) names (target.view t c.in_ok-kept.kept)) c.as_slice.ensures
     (start_found (target.view t) (target.reads t) (target.stands_for t) (g.F.Source.kind c.args.source.now) c.args.found c.as_slice.result.now c.in_ok-kept.kept ours c.in_ok-kept.ensures))
@@ -44,11 +44,11 @@ returns-clause-due g c told =
     let t = c.args.target.now in
     let files = (g.S.Store.disk c.args.store.now).files in
     let kept = c.in_ok-kept.kept in
-    full_due (target.view t) (target.stands_for t) source c.args.mode c.args.head.now c.in_ok-table.table kept c.in_ok-id.id c.in_ok-plan_over.field-0 c.in_ok-plan_over.ensures files
+    full_due (target.view t) (target.stands_for t) source c.args.mode c.args.head.now c.in_ok-table.table kept c.in_ok-id.id c.in_ok-plan.plan c.in_ok-plan.ensures files
     (stands_found (target.view t) (target.reads t) (target.stands_for t) files c.args.found c.as_slice.result.now kept (c.requires.found told) c.in_ok-kept.ensures)
     (c.in_ok-table.ensures.table told)
     (subst (λ (d : Disk). IsIdBehind source d.files (target.view t kept) c.args.head.now.table c.in_ok-id.id) (c.in_ok-table.ensures.only_reads told).disk (c.in_ok-id.ensures.id told))
     (not_taken_found (target.view t) (target.reads t) (target.stands_for t) source c.args.mode files c.args.found c.as_slice.result.now kept (c.requires.in_full told) c.in_ok-kept.ensures)
 
 pub returns-clause-only_reads : goal.returns-clause-only_reads
-returns-clause-only_reads g c = reading_further g.S.Store c.args.store.now c.whole.new.store c.id_behind.new.store c.in_ok-table.ensures.only_reads c.in_ok-id.ensures.only_reads
+returns-clause-only_reads g c = reading_further g.S.Store c.args.store.now c.table_at_head.new.store c.id_behind.new.store c.in_ok-table.ensures.only_reads c.in_ok-id.ensures.only_reads

@@ -11,8 +11,8 @@ returns g c =
     let commit : Commit = c.in_ok-commit.commit in
     let change = commit.change in
     let before : Table = (g.T.Target.view c.args.target.now c.args.kept).table in
-    let is_change = subst (λ (t : Table). IsChangeTo t c.args.table change) c.table.ensures c.in_ok-commit.ensures.change in
-    let leads = subst (λ (t : Table). LeadsTo t.rows change.removed change.added c.args.table.rows) c.table.ensures c.in_ok-commit.ensures.leads in
+    let is_change = subst (λ (t : Table). IsChangeTo t c.args.table.now change) c.table.ensures c.in_ok-commit.ensures.change in
+    let leads = subst (λ (t : Table). LeadsTo t.rows change.removed change.added c.args.table.now.rows) c.table.ensures c.in_ok-commit.ensures.leads in
     record {
       is_kept = refl;
       commit = commit;
@@ -20,11 +20,11 @@ returns g c =
       position = c.in_ok-commit.ensures.position;
       change = is_change;
       leads = leads;
-      partition = refl;
+      partition = c.in_ok-partition.ensures ∙ c.as_slice.ensures;
       full = refl;
       id = refl;
       can = λ columns. record {
         change = subst (λ (t : Table). CanApply t change) c.table.ensures c.in_ok-commit.ensures.fits;
-        after = λ t is. publishable_after before c.args.table t change c.requires leads is_change.schema columns is;
+        after = λ t is. publishable_after before c.args.table.now t change c.requires leads is_change.schema columns is;
       };
     }

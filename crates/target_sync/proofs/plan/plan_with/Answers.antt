@@ -8,7 +8,7 @@ use Rattle.target_sync.specs.Sources.{source_meaning}
 use Rattle.target_sync.specs.Targets.{target_facts}
 use Rattle.target_sync.specs.declared.plan.Mode.TheVariants as modes
 use Rattle.target_sync.proofs.Planning.{absent_fault, full_fault, if_err_as, read_refusal_as}
-use Rattle.target_sync.proofs.plan.plan_found.Goals as goal
+use Rattle.target_sync.proofs.plan.plan_with.Goals as goal
 
 pub returns-in-None-clause-refused : goal.returns-in-None-clause-refused
 returns-in-None-clause-refused g c told =
