@@ -6,8 +6,8 @@ use Rattle.std.specs.Prelude.{None, Some, slice_get}
 use Rattle.std.proofs.lemmas.Cmp.{nat_list_cmp_total}
 use Rattle.std.proofs.lemmas.List.Elements.{All-contains}
 use Rattle.std.proofs.lemmas.Map.Views.{All-after_first}
-use Rattle.table_history.specs.Rows.{IsInByteOrder, IsInPathOrder, SameRows, paths_of}
-use Rattle.table_history.specs.Tables.{IsDiff, LeadsTo}
+use Rattle.table_history.specs.Rows.{IsInByteOrder, IsInPathOrder, paths_of}
+use Rattle.table_history.specs.Tables.{IsDiff}
 use Rattle.table_history.specs.declared.row.FileRow.{FileRow}
 use Rattle.table_history.proofs.RowListLemmas.{Contains-cases, Contains-head, Contains-none, Contains-tail}
 use Rattle.sync_driver.specs.Checked.{IsDifference, IsFirstDifference}
@@ -57,12 +57,6 @@ module _ (held rows : List FileRow) (removed : List (List ℕ)) (added : List Fi
 
   new_is : (row : FileRow) → Contains added row → IsDifference held rows row.path
   new_is row there = let new = (diff.added_rows row).0 there in inr (row, new.0, new.1, refl)
-
-pub same_rows : (held rows : List FileRow) (removed : List (List ℕ)) (added : List FileRow) → LeadsTo held removed added rows → removed ≡ [] → added ≡ [] → SameRows held rows
-same_rows held rows removed added leads no_removed no_added row = (
-  λ there. (leads row).0 (inr (there, λ gone. Contains-none row.path (subst (λ (l : List (List ℕ)). Contains l row.path) no_removed gone))),
-  λ there. ⊎_elim (λ (new : Contains added row). absurd (Contains-none row (subst (λ (l : List FileRow). Contains l row) no_added new))) (λ (old : Contains held row × ¬ Contains removed row.path). old.0) ((leads row).1 there),
-)
 
 -- the first of the removed paths, and no added row
 pub first_lost : (held rows : List FileRow) (removed : List (List ℕ)) (added : List FileRow) → IsDiff held rows removed added → (path : List ℕ) (rest : List (List ℕ)) → removed ≡ path ∷ rest

@@ -1,5 +1,6 @@
 //! A sync of two targets with its lines.
-ghost use Rattle.std.specs.Prelude.{◌≡◌, ◌≢◌, ◌<◌, ◌^◌, ◌↔◌, IsTrue, Some};
+ghost use Rattle.std.specs.Prelude.{◌≡◌, ◌≢◌, ◌<◌, ◌^◌, ◌↔◌, IfSome, IsTrue, Some};
+ghost use Rattle.target_core.specs.Conditions.{IsPublishable};
 ghost use Rattle.target_sync.specs.Plans.{IsDuePlan, IsFound, IsFoundOurs, IsFoundPublishable, IsSoundPlan};
 ghost use Rattle.target_sync.specs.Sources.{source_meaning};
 ghost use Rattle.target_sync.specs.Targets.{target_facts};
@@ -10,11 +11,11 @@ use crate::tell::{put_pending, refuse};
 use lake_store::{Sink, Store};
 use source_core::{Head, Source};
 use std::alloc::Global;
-use table_history::Kind;
+use table_history::{Kind, Table};
 use target_core::Target;
 use target_sync::{
-    Mode, Plan, Report, Status, apply_one, found, plan_found, status_of_source, sync_found,
-    sync_from,
+    Mode, Plan, Report, Status, apply_one, found, plan_beside, plan_with, status_of_source,
+    sync_found, sync_from,
 };
 
 /// Whether a command ends at once whose line gave this status.
@@ -64,7 +65,7 @@ fn put_behind<O: Sink>(
 }
 
 /// Brings two targets to the source's head, of which this is planned for the first and this was found
-/// of the second.
+/// of the second. `whole` is the source's table there, where it was read.
 fn sync_planned<F: Source, T: Target, U: Target, S: Store, O: Sink>(
     alloc: Global,
     source: &F,
@@ -73,6 +74,7 @@ fn sync_planned<F: Source, T: Target, U: Target, S: Store, O: Sink>(
     first_plan: Plan<T::Kept>,
     second: &U,
     second_found: Option<U::Kept>,
+    whole: Option<Table>,
     store: &mut S,
     mode: Mode,
     now_ms: u64,
@@ -93,11 +95,24 @@ fn sync_planned<F: Source, T: Target, U: Target, S: Store, O: Sink>(
     requires second_publishable { IsFoundPublishable (U.view second.now) second_found }
     requires second_found { S.tells → IsFound (U.reads second.now) (U.stands_for second.now)
         (S.disk store.old).files second_found }
+    requires whole { S.tells → IfSome whole (F.is_table source.now (S.disk store.old).files) }
+    requires whole_publishable { IfSome whole IsPublishable }
     ensures { GoesBoth ⟦<S as Store>⟧ ⟦<O as Sink>⟧ (source_meaning ⟦<F as Source>⟧ source.now)
         (target_facts ⟦<T as Target>⟧ first.now) (target_facts ⟦<U as Target>⟧ second.now) mode
         now_ms store.old store.new out.old out.new result }
 {
-    let second_plan = match plan_found(alloc, source, head, second, store, second_found, mode) {
+    let second_plan = match plan_beside(
+        alloc,
+        source,
+        head,
+        first,
+        &first_plan,
+        second,
+        store,
+        second_found,
+        mode,
+        whole,
+    ) {
         Ok(plan) => plan,
         Err(error) => return refuse(alloc, out, status_of_source(error)),
     };
@@ -142,7 +157,17 @@ fn sync_found_both<F: Source, T: Target, U: Target, S: Store, O: Sink>(
         (target_facts ⟦<T as Target>⟧ first.now) (target_facts ⟦<U as Target>⟧ second.now) mode
         now_ms store.old store.new out.old out.new result }
 {
-    match plan_found(alloc, source, head, first, store, first_found, mode) {
+    let mut whole = None;
+    match plan_with(
+        alloc,
+        source,
+        head,
+        first,
+        store,
+        first_found,
+        mode,
+        &mut whole,
+    ) {
         Ok(first_plan) => sync_planned(
             alloc,
             source,
@@ -151,6 +176,7 @@ fn sync_found_both<F: Source, T: Target, U: Target, S: Store, O: Sink>(
             first_plan,
             second,
             second_found,
+            whole,
             store,
             mode,
             now_ms,

@@ -2,7 +2,8 @@ use Rattle.std.proofs.Common.{◌≡◌, ◌≢◌, ◌⊎◌, [], ◌∷◌, �
 use Rattle.std.specs.Cmp.Lexicographic.{slice_cmp}
 use Rattle.std.specs.Option.{option_copied}
 use Rattle.sync_driver.specs.Checked.{IsFirstDifference}
-use Rattle.sync_driver.proofs.Differences.{first_lost, first_new, first_none, first_of_both, first_some, same_rows}
+use Rattle.sync_driver.proofs.Differences.{first_lost, first_new, first_none, first_of_both, first_some}
+use Rattle.target_sync.proofs.DueToo.{same_rows}
 use Rattle.sync_driver.proofs.checking.first_difference.Goals as goal
 
 pub returns-in-None-None : goal.returns-in-None-None

@@ -1,4 +1,5 @@
 use Rattle.std.proofs.Common.{◌≡◌, sym, subst}
+use Rattle.std.specs.Prelude.{IfSome}
 use Rattle.lake_store.specs.Disk.{Disk}
 use Rattle.target_sync.specs.Sources.{source_meaning}
 use Rattle.target_sync.specs.Targets.{target_facts}
@@ -70,8 +71,8 @@ pair_laws g f t u far far_second apart = record {
 
 -- ---- the answers
 
-pub plan_found-requires-clause-ours : goal.plan_found-requires-clause-ours
-plan_found-requires-clause-ours g c told = found_of_source (g.T.Target.view c.args.first.now) (g.F.Source.kind c.args.source.now) c.args.first_found c.requires.first_ours
+pub plan_with-requires-clause-ours : goal.plan_with-requires-clause-ours
+plan_with-requires-clause-ours g c told = found_of_source (g.T.Target.view c.args.first.now) (g.F.Source.kind c.args.source.now) c.args.first_found c.requires.first_ours
 
 pub sync_planned-requires-clause-head : goal.sync_planned-requires-clause-head
 sync_planned-requires-clause-head g c told = subst (λ (d : Disk). g.F.Source.is_head c.args.source.now d.files c.args.head.now) (sym (c.in-Ok.ensures.only_reads told).disk) (c.requires.head told)
@@ -87,6 +88,9 @@ sync_planned-requires-clause-first_due g c told =
     let target = g.T.Target in
     let t = c.args.first.now in
     subst (λ (d : Disk). IsDuePlan (target.view t) (target.stands_for t) (source_meaning g.F.Source c.args.source.now) c.args.mode d.files c.args.head.now c.in-Ok.first_plan) (sym (c.in-Ok.ensures.only_reads told).disk) (c.in-Ok.ensures.due told)
+
+pub sync_planned-requires-clause-whole : goal.sync_planned-requires-clause-whole
+sync_planned-requires-clause-whole g c told = subst (λ (d : Disk). IfSome c.plan_with.new.whole (g.F.Source.is_table c.args.source.now d.files)) (sym (c.in-Ok.ensures.only_reads told).disk) (c.in-Ok.ensures.whole told)
 
 pub sync_planned-requires-clause-second_found : goal.sync_planned-requires-clause-second_found
 sync_planned-requires-clause-second_found g c told =
@@ -106,7 +110,7 @@ returns-in-Ok g c =
     let second = target_facts g.U.Target u in
     let laws = pair_laws g f t u c.requires.far c.requires.far_second c.requires.apart in
     let old = c.args.store.now in
-    goes_both_behind store sink source laws.source_laws first laws.first_crash second laws.second_crash c.args.mode c.args.now_ms old c.plan_found.new.store c.sync_planned.new.store
+    goes_both_behind store sink source laws.source_laws first laws.first_crash second laws.second_crash c.args.mode c.args.now_ms old c.plan_with.new.store c.sync_planned.new.store
     c.in-Ok.ensures.only_reads _ _ c.in-Ok.ensures.cause c.in-Ok.ensures.contest c.args.out.now c.sync_planned.new.out c.sync_planned.result c.sync_planned.ensures
 
 pub returns-in-Err : goal.returns-in-Err
@@ -123,8 +127,8 @@ returns-in-Err g c =
     let old = c.args.store.now in
     let e = c.in-Err.error in
     let is = c.in-Err.ensures in
-    first_unread store sink source first second laws c.args.mode c.args.now_ms old c.plan_found.new.store c.args.out.now c.refuse.new.out e c.refuse.result is.only_reads c.requires.there
+    first_unread store sink source first second laws c.args.mode c.args.now_ms old c.plan_with.new.store c.args.out.now c.refuse.new.out e c.refuse.result is.only_reads c.requires.there
     (read_refused store g.met.S.Store.only_now g.F.Source f g.T.Target t (first_laws g f t) (g.met.T.Target.one_path t) c.args.mode c.args.now_ms old old (reading_begins store g.met.S.Store.only_now old)
-    ⊥ ⊥ (fails_never store.faults store.may_fail old ⊥ (λ never. never)) (uncontested_never store.contests store.may_contest old) c.requires.there (λ told. (c.args.head.now, c.requires.head told)) c.plan_found.new.store e is.only_reads is.cause is.contest is.refused)
+    ⊥ ⊥ (fails_never store.faults store.may_fail old ⊥ (λ never. never)) (uncontested_never store.contests store.may_contest old) c.requires.there (λ told. (c.args.head.now, c.requires.head told)) c.plan_with.new.store e is.only_reads is.cause is.contest is.refused)
     (λ told. stands_found g.U.Target u (g.F.Source.kind f) (store.disk old).files c.args.second_found (g.met.U.Target.kept_view u) c.requires.second_ours (c.requires.second_found told))
     (subst (λ (s : Status). Tells sink c.args.out.now c.refuse.new.out (refusal_line s) s c.refuse.result) c.status_of_source.ensures c.refuse.ensures)

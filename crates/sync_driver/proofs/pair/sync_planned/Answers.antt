@@ -74,8 +74,8 @@ pair_laws g f t u far far_second apart = record {
 
 -- ---- the answers
 
-pub plan_found-requires-clause-ours : goal.plan_found-requires-clause-ours
-plan_found-requires-clause-ours g c told = found_of_source (g.U.Target.view c.args.second.now) (g.F.Source.kind c.args.source.now) c.args.second_found c.requires.second_ours
+pub plan_beside-requires-clause-ours : goal.plan_beside-requires-clause-ours
+plan_beside-requires-clause-ours g c told = found_of_source (g.U.Target.view c.args.second.now) (g.F.Source.kind c.args.source.now) c.args.second_found c.requires.second_ours
 
 pub returns-in-Err : goal.returns-in-Err
 returns-in-Err g c =
@@ -91,9 +91,9 @@ returns-in-Err g c =
     let old = c.args.store.now in
     let e = c.in-Err.error in
     let is = c.in-Err.ensures in
-    second_unread store sink source first second laws c.args.mode c.args.now_ms old c.plan_found.new.store c.args.out.now c.refuse.new.out e c.refuse.result is.only_reads c.requires.there
+    second_unread store sink source first second laws c.args.mode c.args.now_ms old c.plan_beside.new.store c.args.out.now c.refuse.new.out e c.refuse.result is.only_reads c.requires.there
     (read_refused store g.met.S.Store.only_now g.F.Source f g.U.Target u (second_laws g f u) (g.met.U.Target.one_path u) c.args.mode c.args.now_ms old old (reading_begins store g.met.S.Store.only_now old)
-    ⊥ ⊥ (fails_never store.faults store.may_fail old ⊥ (λ never. never)) (uncontested_never store.contests store.may_contest old) c.requires.there (λ told. (c.args.head.now, c.requires.head told)) c.plan_found.new.store e is.only_reads is.cause is.contest is.refused)
+    ⊥ ⊥ (fails_never store.faults store.may_fail old ⊥ (λ never. never)) (uncontested_never store.contests store.may_contest old) c.requires.there (λ told. (c.args.head.now, c.requires.head told)) c.plan_beside.new.store e is.only_reads is.cause is.contest is.refused)
     (λ told. stands_planned g.T.Target t (g.F.Source.kind f) (store.disk old).files c.args.mode c.args.first_plan (g.met.T.Target.kept_view t) c.requires.first_sound (c.requires.first_due told).stands)
     (subst (λ (s : Status). Tells sink c.args.out.now c.refuse.new.out (refusal_line s) s c.refuse.result) c.status_of_source.ensures c.refuse.ensures)
 
@@ -102,7 +102,7 @@ apply_one-answer-requires-clause-counted g c told =
     let target = g.T.Target in
     let t = c.args.first.now in
     let kept = c.args.first_plan.kept in
-    g.met.T.Target.kept_counted t kept (g.S.Store.disk c.plan_found.new.store).files (subst (λ (d : Disk). target.stands_for t kept d.files) (sym (c.in-Ok.ensures.only_reads told).disk) (c.requires.first_due told).stands)
+    g.met.T.Target.kept_counted t kept (g.S.Store.disk c.plan_beside.new.store).files (subst (λ (d : Disk). target.stands_for t kept d.files) (sym (c.in-Ok.ensures.only_reads told).disk) (c.requires.first_due told).stands)
 
 pub apply_one-answer-requires-clause-can : goal.apply_one-answer-requires-clause-can
 apply_one-answer-requires-clause-can g c =
@@ -128,7 +128,7 @@ returns-then-ends g c =
     let done = c.apply_one-answer.ensures in
     first_last store sink source first second laws c.args.mode c.args.now_ms old mid c.args.out.now c.put_answer-so_far.new.out done.0 c.put_answer-so_far.result c.requires.there
     (plan_applied store g.met.S.Store.only_now g.F.Source f g.T.Target t (first_laws g f t) (g.met.T.Target.one_path t) c.args.mode c.args.now_ms old old (reading_begins store g.met.S.Store.only_now old) ⊥ ⊥ (fails_never store.faults store.may_fail old ⊥ (λ never. never)) (uncontested_never store.contests store.may_contest old) c.requires.there
-    c.plan_found.new.store mid plan.only_reads _ _ plan.cause plan.contest c.args.head.now c.requires.head c.args.first_plan c.requires.first_sound c.requires.first_due c.kind.result c.kind.ensures done.0 done.2).0
+    c.plan_beside.new.store mid plan.only_reads _ _ plan.cause plan.contest c.args.head.now c.requires.head c.args.first_plan c.requires.first_sound c.requires.first_due c.kind.result c.kind.ensures done.0 done.2).0
     (told_as sink c.args.out.now c.put_answer-so_far.new.out c.kind-2.result first.files.kind c.apply_one-answer.result _ c.put_answer-so_far.result c.kind-2.ensures done.1 c.put_answer-so_far.ensures)
     (c.ends.ensures.0 c.if-ends.true)
     (λ told. stands_found g.U.Target u (g.F.Source.kind f) (store.disk old).files c.args.second_found (g.met.U.Target.kept_view u) c.requires.second_ours (c.requires.second_found told))
@@ -141,7 +141,7 @@ apply_one-answer-requires-2-clause-counted g c told =
     let u = c.args.second.now in
     let mid = c.apply_one-answer.new.store in
     let plan = c.in-Ok.plan in
-    let due = due_beside store (source_meaning g.F.Source f) (source_laws g f) (g.T.Target.kind t) c.requires.far c.args.store.now c.plan_found.new.store mid c.in-Ok.ensures.only_reads c.apply_one-answer.ensures.2.alone
+    let due = due_beside store (source_meaning g.F.Source f) (source_laws g f) (g.T.Target.kind t) c.requires.far c.args.store.now c.plan_beside.new.store mid c.in-Ok.ensures.only_reads c.apply_one-answer.ensures.2.alone
     (g.U.Target.view u) (g.U.Target.stands_for u) (g.U.Target.kind u) (λ is. c.requires.apart (sym is)) (g.met.U.Target.kept_own u) c.args.mode c.args.head.now plan c.in-Ok.ensures.due in
     g.met.U.Target.kept_counted u plan.kept (store.disk mid).files (due told).stands
 
@@ -170,7 +170,7 @@ returns g c =
     let done = c.apply_one-answer.ensures in
     let more = c.apply_one-answer-2.ensures in
     let head = c.args.head.now in
-    let read = c.plan_found.new.store in
+    let read = c.plan_beside.new.store in
     let second_plan = c.in-Ok.plan in
     let own = source_laws g f in
     let both = plan_applied store g.met.S.Store.only_now g.F.Source f g.U.Target u (second_laws g f u) (g.met.U.Target.one_path u) c.args.mode c.args.now_ms mid mid (reading_begins store g.met.S.Store.only_now mid) ⊥ ⊥ (fails_never store.faults store.may_fail mid ⊥ (λ never. never)) (uncontested_never store.contests store.may_contest mid)
@@ -181,7 +181,7 @@ returns g c =
     c.kind-3.result c.kind-3.ensures more.0 more.2 in
     both_applied store sink source first second laws c.args.mode c.args.now_ms old mid new c.args.out.now c.put_answer-so_far.new.out c.put_behind.new.out done.0 more.0 c.put_answer-so_far.result c.put_behind.result
     (plan_applied store g.met.S.Store.only_now g.F.Source f g.T.Target t (first_laws g f t) (g.met.T.Target.one_path t) c.args.mode c.args.now_ms old old (reading_begins store g.met.S.Store.only_now old) ⊥ ⊥ (fails_never store.faults store.may_fail old ⊥ (λ never. never)) (uncontested_never store.contests store.may_contest old) c.requires.there
-    c.plan_found.new.store mid plan.only_reads _ _ plan.cause plan.contest c.args.head.now c.requires.head c.args.first_plan c.requires.first_sound c.requires.first_due c.kind.result c.kind.ensures done.0 done.2).0
+    c.plan_beside.new.store mid plan.only_reads _ _ plan.cause plan.contest c.args.head.now c.requires.head c.args.first_plan c.requires.first_sound c.requires.first_due c.kind.result c.kind.ensures done.0 done.2).0
     (told_as sink c.args.out.now c.put_answer-so_far.new.out c.kind-2.result first.files.kind c.apply_one-answer.result _ c.put_answer-so_far.result c.kind-2.ensures done.1 c.put_answer-so_far.ensures)
     (λ once. one_answer c.ends.result c.if-ends.false (c.ends.ensures.1 once))
     both.0 both.1
