@@ -42,7 +42,7 @@ next_none number n k b is off same = let more = sync_more number n ∙ ap (λ (c
 pub next_some : (number n k : ℕ) (b : Bool) → b ≡ is_sync_point number n → b ≡ true → k ≡ sync_points number n → k + 1 ≡ sync_points number (n + 1)
 next_some number n k b is on same = let more = sync_more number n ∙ ap (λ (c : Bool). sync_points number n + one_if c) (sym is ∙ on) in omega (arith, more, same)
 
--- what is pushed behind a commit, by the answer of a test
+-- what is pushed after a commit, by the answer of a test
 pub no_syncs : (number : ℕ) (stops : Bool) (n : ℕ) (events : List Event) (b : Bool) → b ≡ is_sync_point number n → b ≡ false → events ≡ events ++ syncs_behind number stops n
 no_syncs number stops n events b is off = sym (ap (λ (c : Bool). events ++ (if c then sync_events number stops (sync_points number n) else [])) (sym is ∙ off) ∙ append-nil events)
 

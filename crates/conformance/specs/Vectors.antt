@@ -24,6 +24,6 @@ properties = codes "# c\na\\ b = c\\\n  d\nk:v\n"
 abbrev pub vectors : List (List ℕ)
 vectors = delta_version ∷ hudi_instant ∷ container ∷ unclosed_container ∷ properties ∷ []
 
--- the sample of this number, none behind the last
+-- the sample of this number, none after the last
 abbrev pub vector : ℕ → Option (List ℕ)
 vector index = slice_get vectors index

@@ -95,7 +95,7 @@ fn push_syncs(
     push_sync(alloc, events, number, stops, sync, Kind::Iceberg)
 }
 
-/// Pushes the syncs of this number behind a commit, if there are some.
+/// Pushes the syncs of this number after a commit, if there are some.
 #[tactic(auto, using(crate::proofs::Syncs::no_syncs, crate::proofs::Syncs::some_syncs))]
 fn push_due(
     alloc: Global,
@@ -116,7 +116,7 @@ fn push_due(
     Ok(())
 }
 
-/// The number of the next syncs behind a commit.
+/// The number of the next syncs after a commit.
 fn next_sync(number: u64, commit: u64, sync: u64) -> u64
     requires few { sync ≤ 200 }
     requires sync { sync ≡ sync_points number commit }
@@ -129,7 +129,7 @@ fn next_sync(number: u64, commit: u64, sync: u64) -> u64
     }
 }
 
-/// Pushes a commit, and the syncs of this number behind it, if there are some.
+/// Pushes a commit, and the syncs of this number after it, if there are some.
 fn push_commit(
     alloc: Global,
     events: &mut Vec<Event>,

@@ -25,7 +25,7 @@ const UNCLOSED_CONTAINER: &str =
 /// Properties with a comment, an escaped space and a line that goes on.
 const PROPERTIES: &str = "# c\na\\ b = c\\\n  d\nk:v\n";
 
-/// The text of this number, none behind the last.
+/// The text of this number, none after the last.
 fn text_of(index: u32) -> Option<&'static str>
     ensures { option_copied result ≡ vector index }
 {
@@ -40,7 +40,7 @@ fn text_of(index: u32) -> Option<&'static str>
 }
 
 /// A sample of the files that the formats read, by its number: a Delta version, a Hudi instant, an
-/// Avro container whole and with a wrong marker, and Hudi properties. None behind the last.
+/// Avro container whole and with a wrong marker, and Hudi properties. None after the last.
 pub fn vector(alloc: Global, index: u32) -> Result<Option<Blob>, AllocError>
     ensures { IfOk result (λ bytes. bytes ≡ vector index) }
 {
