@@ -1,6 +1,5 @@
 -- The commits that are planned for one target are due to another one of the same table at the same position.
-use Rattle.std.proofs.Common.{◌≡◌, ◌⊎◌, inl, inr, ⊎_elim, ◌<◌, ℕ, Bool, true, false, List, [], Contains, Option, Some, None, refl, sym, ap, subst, ◌∙◌}
-use Rattle.std.specs.Prelude.{IfOk, Result, Ok, Err}
+use Rattle.std.proofs.Common.{◌≡◌, inl, inr, ⊎_elim, ◌<◌, ℕ, true, false, List, [], Contains, Option, Some, None, sym, ap, subst, ◌∙◌}
 use Rattle.lake_store.specs.Disk.{Files}
 use Rattle.source_core.specs.Histories.{SameTable}
 use Rattle.source_core.specs.declared.head.Head.{Head}
@@ -14,7 +13,7 @@ use Rattle.table_history.specs.declared.table.Table.{Table}
 use Rattle.table_history.proofs.RowListLemmas.{Contains-none}
 use Rattle.target_core.specs.Conditions.{IsPublishable}
 use Rattle.target_core.specs.Views.{IsOfSource, Standing, View}
-use Rattle.target_sync.specs.Dues.{AreSinceMark, IsIdBehind, IsInFull, IsMarked, IsWhole, TakesCommits}
+use Rattle.target_sync.specs.Dues.{AreSinceMark, IsIdBehind, IsInFull, IsWhole, TakesCommits}
 use Rattle.target_sync.specs.Plans.{IsDuePlan, IsSincePlan, IsSoundPlan}
 use Rattle.target_sync.specs.Shared.{IsDueToo, IsNotReachedToo}
 use Rattle.target_sync.specs.Sources.{SourceMeaning}
@@ -25,10 +24,6 @@ use Rattle.target_sync.specs.declared.plan.Plan.{Plan}
 use Rattle.target_sync.proofs.Histories.{id_whole, one_standing, unmarked}
 use Rattle.target_sync.proofs.Planning.{since_sound}
 use Rattle.target_sync.proofs.Running.{can_apply_same}
-
-pub if_ok_as : {X E : Type 0} (P Q : X → Type 0) → ((x : X) → P x → Q x) → (r : Result X E) → IfOk r P → IfOk r Q
-if_ok_as P Q from (Ok value) is = from value is
-if_ok_as P Q from (Err e) is = is
 
 -- what changes nothing leads to the same rows
 pub same_rows : (held rows : List FileRow) (removed : List (List ℕ)) (added : List FileRow) → LeadsTo held removed added rows → removed ≡ [] → added ≡ [] → SameRows held rows

@@ -1,8 +1,7 @@
 -- What two targets need of the source alike.
-use Rattle.std.specs.Prelude.{◌≡◌, true, false, List, Option, Some}
+use Rattle.std.specs.Prelude.{◌≡◌, true, false, Some}
 use Rattle.source_core.specs.Histories.{SameTable}
 use Rattle.source_core.specs.declared.head.Head.{Head}
-use Rattle.table_history.specs.declared.table.Commit.{Commit}
 use Rattle.target_core.specs.Views.{Standing, View}
 use Rattle.target_sync.specs.Dues.{MayBeSame}
 use Rattle.target_sync.specs.declared.plan.Mode.{Mode}

@@ -1,4 +1,4 @@
-use Rattle.std.proofs.Common.{inr, List, Option, Some, subst}
+use Rattle.std.proofs.Common.{inr, List, Option, subst}
 use Rattle.lake_store.proofs.RunLaws.{reading_begins}
 use Rattle.source_core.specs.Answers.{IsReadRefusal}
 use Rattle.source_core.specs.declared.error.SourceError.{SourceError}
