@@ -42,6 +42,12 @@ Tells (error.Missing path) e = e ≡ Malformed path
 Tells (error.Large path) e = e ≡ Limit limit.File MAX_FILE_BYTES
 Tells (error.Refused path cause) e = TellsFile path cause e
 
+-- Memory ran out in the reading of the timeline.
+abbrev pub IsOfMemory : TimelineError → Type 0
+IsOfMemory error.Memory = Unit {0}
+IsOfMemory (error.Refused path cause) = cause ≡ hudi.Memory
+IsOfMemory _ = ⊥
+
 -- ---- causes
 
 -- The folder has more names than are listed.

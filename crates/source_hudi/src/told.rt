@@ -4,11 +4,12 @@ ghost use Rattle.std.specs.Prelude.{◌≡◌, ◌≢◌, ◌⊎◌, List, ℕ, 
 ghost use Rattle.table_history.specs.Words.{limit_number};
 ghost use Rattle.table_history.specs.declared.feature.Feature.TheVariants.{PartitionChange};
 ghost use Rattle.table_history.specs.declared.kind.Kind.TheVariants.{Hudi};
+ghost use Rattle.hudi_names.specs.declared.error.HudiError.TheVariants as hudi;
 ghost use Rattle.hudi_table.specs.Instants.{path_of};
 ghost use Rattle.hudi_table.specs.declared.error.TimelineError.TheVariants as timeline;
 ghost use Rattle.source_core.specs.Answers.{IsReadRefusal};
 ghost use Rattle.source_core.specs.declared.error.SourceError.TheVariants.{Limit, Memory, StoreFault, Unsupported};
-ghost use Rattle.source_hudi.specs.Reading.{Tells, TellsFile};
+ghost use Rattle.source_hudi.specs.Reading.{IsOfMemory, Tells, TellsFile};
 
 use hudi_names::HudiError;
 use hudi_table::{TimelineError, timeline_path};
@@ -31,6 +32,7 @@ pub(crate) fn limit(which: LimitKind) -> SourceError
 fn file_error(path: Text, error: HudiError) -> SourceError
     ensures told { IsReadRefusal (TellsFile path error) result }
     ensures fault { result ≢ StoreFault }
+    ensures memory { result ≡ Memory → error ≡ hudi.Memory }
 {
     match error {
         HudiError::Memory => SourceError::Memory,
@@ -44,6 +46,7 @@ fn file_error(path: Text, error: HudiError) -> SourceError
 pub(crate) fn source_error(error: TimelineError) -> SourceError
     ensures told { IsReadRefusal (Tells error) result }
     ensures fault { result ≡ StoreFault → error ≡ timeline.StoreFault }
+    ensures memory { result ≡ Memory → IsOfMemory error }
 {
     match error {
         TimelineError::Memory => SourceError::Memory,
