@@ -13,6 +13,7 @@ use Rattle.lake_store.specs.declared.store.StoreError.{StoreError}
 use Rattle.lake_store.specs.declared.store.StoreError.TheVariants.{Taken}
 use Rattle.lake_store.specs.declared.store.StoreError.TheVariants as errors
 use Rattle.lake_store.proofs.DiskLaws.{path_cases}
+use Rattle.table_history.specs.declared.limit.LimitKind.{LimitKind}
 use Rattle.table_history.specs.declared.limit.LimitKind.TheVariants.{File}
 use Rattle.lake_store.proofs.MomentLaws.{both, started, weaker}
 use Rattle.lake_store.proofs.RunLaws.{NowOnly, alone_by_reading, reading_begins}
@@ -28,7 +29,7 @@ use Rattle.target_core.specs.Publishing.{Publishes}
 use Rattle.target_core.specs.Step.{IsBefore, IsBeforeOrBehind}
 use Rattle.target_core.specs.Views.{Origin}
 use Rattle.target_core.specs.declared.target.TargetError.{TargetError}
-use Rattle.target_core.specs.declared.target.TargetError.TheVariants.{Contested}
+use Rattle.target_core.specs.declared.target.TargetError.TheVariants.{Contested, Limit}
 use Rattle.target_core.proofs.OneStep.{publishes_none, publishes_one}
 use Rattle.target_delta.specs.DeltaMeaning.{delta_meaning}
 use Rattle.target_delta.specs.Fitting.{Unfit}
@@ -83,6 +84,21 @@ contested_by (Err x) e s is gives contested =
     let same : x ≡ e = cc in
     let is_contested : x ≡ Contested = cc in
     only_taken s (sym gives ∙ sym same ∙ is_contested)
+
+only_limit : (s : StoreError) (which : LimitKind) (number : ℕ) → answer_of File MAX_FILE_BYTES s ≡ Limit which number → (length : ℕ) × (s ≡ errors.TooLong length)
+only_limit errors.Memory which number is = absurd (cc)
+only_limit errors.Failed which number is = absurd (cc)
+only_limit (errors.TooLong n) which number is = (n, refl)
+only_limit errors.Taken which number is = absurd (cc)
+
+-- publishing tells of no number
+pub unlimited_by : {T : Type 0} (r : Result T TargetError) (e : TargetError) (s : StoreError) (which : LimitKind) (number : ℕ) → r ≡ Err e → e ≡ answer_of File MAX_FILE_BYTES s → ((n : ℕ) → s ≡ errors.TooLong n → ⊥) → IsErrOf r (Limit which number) → ⊥
+unlimited_by (Ok v) e s which number is gives short limited = ok_err v e is
+unlimited_by (Err x) e s which number is gives short limited =
+    let same : x ≡ e = cc in
+    let is_limit : x ≡ Limit which number = cc in
+    let long = only_limit s which number (sym gives ∙ sym same ∙ is_limit) in
+    short long.0 long.1
 
 pub err_same : {T : Type 0} (s : StoreError) → IsErrOf {T = T} (Err s) Taken → s ≡ Taken
 err_same s is = cc

@@ -2,7 +2,7 @@
 
 ghost use Rattle.std.specs.Prelude.{◌≡◌, ◌≤◌, ◌+◌, ◌∷◌, [], IfErr, IsErrOf, List, OnOk, is_ok, ℕ};
 ghost use Rattle.std.specs.Option.{option_copied};
-ghost use Rattle.lake_store.specs.Runs.{ChangesOnlyIn, FailsBy, IsContestedBy, IsEachMoment};
+ghost use Rattle.lake_store.specs.Runs.{ChangesOnlyIn, FailsBy, IsContestedBy, IsEachMoment, OnlyReads};
 ghost use Rattle.delta_table.specs.Versions.{log_folder};
 ghost use Rattle.table_history.specs.declared.limit.LimitKind.{LimitKind};
 ghost use Rattle.table_history.specs.declared.table.Commit.{Commit};
@@ -17,7 +17,7 @@ ghost use Rattle.target_delta.specs.Fitting.{Unfit};
 ghost use Rattle.target_delta.specs.Kept.{StandsFor, end_of, view_of};
 ghost use Rattle.target_delta.specs.Names.{HasVersions, IsSettled};
 ghost use Rattle.target_delta.specs.NewVersion.{Writes};
-ghost use Rattle.target_delta.specs.Reading.{Reads, commits_in};
+ghost use Rattle.target_delta.specs.Reading.{commits_in};
 ghost use Rattle.target_delta.specs.Writing.{Passes};
 
 use crate::kept::DeltaKept;
@@ -73,10 +73,10 @@ pub(crate) fn publish_commit<S: Store>(
     ensures refusal { IfErr result (IsCommitRefusal (Passes (end_of kept.old)
         (record { source = source; table = option_copied table.entry }) now_ms
         (commit.now ∷ []))) }
-    ensures limited { S.tells → (id : List ℕ) → StandsFor id kept.old (S.disk store.old).files
-        → IsSettled (S.disk store.old) → (which : LimitKind) (number : ℕ)
+    // The text is whole before the first file is written.
+    ensures limited { S.tells → (which : LimitKind) (number : ℕ)
         → IsErrOf result (TargetError.Limit which number)
-        → Reads (S.disk store.new).files (view_of kept.old) }
+        → OnlyReads ⟦<S as Store>⟧ store.old store.new }
     ensures ahead { OnOk result ((commits : List Commit) (which : LimitKind) (number : ℕ)
         → Passes (end_of kept.new)
         (record { source = source; table = option_copied table.entry }) now_ms

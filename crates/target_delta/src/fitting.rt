@@ -1,9 +1,12 @@
 //! Whether commits can be published over what is kept.
 
-ghost use Rattle.std.specs.Prelude.{◌≡◌, ◌↔◌, ◌<◌, IfErr, IfOk, IsTrue, OnOk};
+ghost use Rattle.std.specs.Prelude.{◌≡◌, ◌↔◌, ◌<◌, IfErr, IfOk, IsErrOf, IsTrue, OnOk, length};
+ghost use Rattle.lake_basics.specs.declared.limits.TheConstants.{MAX_PUBLISHED_COMMITS};
+ghost use Rattle.table_history.specs.declared.limit.LimitKind.TheVariants.{Publish};
 ghost use Rattle.partition_map.specs.DeltaText.{HasNoDeltaText};
 ghost use Rattle.target_core.specs.Conditions.{Fits};
 ghost use Rattle.target_core.specs.Refusals.{IsFitsRefusal};
+ghost use Rattle.target_core.specs.declared.target.TargetError.TheVariants.{Limit};
 ghost use Rattle.target_delta.specs.Fitting.{ChangesKinds, ChangesPartition, EndsWith, HasValueForm, IsFormOf, Unfit, added_rows};
 ghost use Rattle.target_delta.specs.Kept.{end_of};
 ghost use Rattle.target_delta.specs.Writing.{LogEnd};
@@ -137,6 +140,8 @@ pub(crate) fn fits(
     ensures fits { OnOk result (Fits (Unfit (end_of kept.now)) partition.now commits.now) }
     ensures refusal { IfErr result
         (IsFitsRefusal (Unfit (end_of kept.now) partition.now commits.now)) }
+    ensures many { MAX_PUBLISHED_COMMITS < length commits.now
+        → IsErrOf result (Limit Publish MAX_PUBLISHED_COMMITS) }
 {
     if commits.len() as u64 > MAX_PUBLISHED_COMMITS {
         return Err(TargetError::Limit {

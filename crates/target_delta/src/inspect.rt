@@ -7,6 +7,7 @@ ghost use Rattle.std.specs.List.{list_all, list_any};
 ghost use Rattle.std.specs.Str.{bytes_eq};
 ghost use Rattle.lake_basics.specs.declared.limits.TheConstants.{MAX_COMMITS, MAX_DELTA_VERSION};
 ghost use Rattle.lake_store.specs.Runs.{FailsBy, IsUncontestedBy, OnlyReads};
+ghost use Rattle.table_history.specs.declared.limit.LimitKind.TheVariants.{Commits};
 ghost use Rattle.delta_change.specs.Change.{IsTableOfLog};
 ghost use Rattle.delta_log.specs.VersionName.{IsVersionName};
 ghost use Rattle.delta_table.specs.Refusals.{TellsOf};
@@ -176,6 +177,7 @@ fn seen_in(
     ensures gap { MAX_COMMITS ≤ newest → IfOk result (IsGapBehind longer) }
     ensures sound { IfOk result (IsSeenSound view_of source) }
     ensures refusal { IfErr result (IsRefusalBehind newest longer) }
+    ensures many { MAX_COMMITS ≤ newest → IsTrue longer → IsErrOf result (limit_of Commits) }
 {
     if newest < MAX_COMMITS {
         return Ok(seen_of(alloc, log, newest, source)?);

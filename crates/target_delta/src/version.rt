@@ -1,6 +1,6 @@
 //! The version that a commit is written as.
 
-ghost use Rattle.std.specs.Prelude.{◌≡◌, ◌<◌, ◌≤◌, ◌^◌, ◌∷◌, [], Contains, IfErr, IfOk, List, ℕ, length};
+ghost use Rattle.std.specs.Prelude.{◌≡◌, ◌<◌, ◌≤◌, ◌^◌, ◌∷◌, [], Contains, IfErr, IfOk, IsErrOf, List, ℕ, length};
 ghost use Rattle.std.specs.List.{IsDistinct};
 ghost use Rattle.std.specs.Option.{option_copied};
 ghost use Rattle.std.specs.Str.{bytes_eq};
@@ -8,12 +8,14 @@ ghost use Rattle.lake_basics.specs.declared.limits.TheConstants.{MAX_DELTA_VERSI
 ghost use Rattle.table_history.specs.Path.{IsPath};
 ghost use Rattle.table_history.specs.Row.{Row};
 ghost use Rattle.table_history.specs.Rows.{HasDistinctPaths};
+ghost use Rattle.table_history.specs.declared.limit.LimitKind.TheVariants.{Versions};
 ghost use Rattle.delta_log.specs.Readable.{IsReadableCommit};
 ghost use Rattle.delta_log.specs.Sound.{IsWritable};
 ghost use Rattle.delta_text.specs.Writing.{SameCommit, commit_text};
 ghost use Rattle.delta_log.specs.declared.commit.DeltaCommit.{DeltaCommit};
 ghost use Rattle.delta_table.specs.Versions.{IsVersionPath};
 ghost use Rattle.target_core.specs.Conditions.{CanPublish, Fits};
+ghost use Rattle.target_core.specs.declared.target.TargetError.TheVariants.{Limit};
 ghost use Rattle.target_delta.specs.Fitting.{Unfit};
 ghost use Rattle.target_delta.specs.Kept.{end_of, view_of};
 ghost use Rattle.target_delta.specs.Names.{IsStagedPath};
@@ -118,6 +120,8 @@ pub(crate) fn new_version(
     ensures refusal { IfErr result (IsVersionRefusal (Passes (end_of kept.old)
         (record { source = source; table = option_copied table.entry }) now_ms
         (commit.now ∷ []))) }
+    ensures many { MAX_DELTA_VERSION < kept.old.commits
+        → IsErrOf result (Limit Versions MAX_DELTA_VERSION) }
 {
     let version = kept.commits;
     if version > MAX_DELTA_VERSION {

@@ -2,6 +2,7 @@ use Rattle.std.proofs.Common.{◌≡◌, ℕ, suc, Bool, true, [], ◌∷◌, Er
 use Rattle.std.specs.Prelude.{is_ok}
 use Rattle.std.specs.Option.{option_copied}
 use Rattle.std.proofs.lemmas.Result.{err_from_is_err_and}
+use Rattle.lake_store.proofs.RunLaws.{reading_begins}
 use Rattle.delta_table.specs.Versions.{IsVersionPath}
 use Rattle.target_core.specs.Outcome.{Uncontested}
 use Rattle.target_core.specs.Publishing.{Publishes}
@@ -12,7 +13,7 @@ use Rattle.target_delta.specs.Names.{HasVersions, IsStagedPath}
 use Rattle.target_delta.specs.NewVersion.{IsNewVersion}
 use Rattle.target_delta.specs.Writing.{LogEnd}
 use Rattle.target_delta.proofs.CommitLemmas.{fits_behind, free_path, stands_now}
-use Rattle.target_delta.proofs.StoreLemmas.{alone_staged, beside_now, contested_by, count_taken, counted_now, err_same, kept_taken, not_ok, ok_taken, publishes_nothing, publishes_staged, untaken_by, writes_now}
+use Rattle.target_delta.proofs.StoreLemmas.{alone_staged, beside_now, contested_by, count_taken, counted_now, err_same, kept_taken, not_ok, ok_taken, publishes_nothing, publishes_staged, unlimited_by, untaken_by, writes_now}
 use Rattle.target_delta.proofs.commit.publish_commit.Goals as goal
 
 pub returns-in_err-version-clause-publishes : goal.returns-in_err-version-clause-publishes
@@ -23,6 +24,9 @@ returns-in_err-version-clause-publishes g c told id stands settled =
     let exit = err_from_is_err_and c.from_residual.result c.from_residual.ensures.1 in
     subst (λ (done : Bool). Publishes g.S.Store (delta_meaning id) origin (view_of kept) (c.args.commit.now ∷ []) (Uncontested c.from_residual.result) done s s) (sym (ap is_ok exit.1))
     (publishes_nothing g.S.Store g.met.S.Store.only_now s told id origin kept c.args.commit.now stands settled (Uncontested c.from_residual.result))
+
+pub returns-in_err-version-clause-limited : goal.returns-in_err-version-clause-limited
+returns-in_err-version-clause-limited g c told which number is = reading_begins g.S.Store g.met.S.Store.only_now c.args.store.now told
 
 pub stage_and_publish-requires-clause-free : goal.stage_and_publish-requires-clause-free
 stage_and_publish-requires-clause-free g c told =
@@ -65,6 +69,13 @@ returns-in_err-stage_and_publish-clause-publishes g c told id stands settled =
     let error = c.in_err-stage_and_publish.field-0.0 in
     publishes_staged store old new told staged name bytes kept.commits is_staged named _ (c.in_err-stage_and_publish.ensures.left told) c.in_err-stage_and_publish.ensures.any_moment id origin c.args.now_ms kept next c.args.commit.now refl v c.requires.can c.requires.fits stands settled
     (Uncontested result) (λ u taken. untaken_by result exit.0 error exit.1 exit.2 u (err_same error taken)) (is_ok result) (λ ok. absurd (not_ok result exit.0 exit.1 ok))
+
+pub returns-in_err-stage_and_publish-clause-limited : goal.returns-in_err-stage_and_publish-clause-limited
+returns-in_err-stage_and_publish-clause-limited g c told which number is =
+    let result = c.from_residual-in_err-stage_and_publish.result in
+    let exit = err_from_is_err_and result c.from_residual-in_err-stage_and_publish.ensures.1 in
+    let error = c.in_err-stage_and_publish.field-0.0 in
+    absurd (unlimited_by result exit.0 error which number exit.1 exit.2 (λ n long. c.in_err-stage_and_publish.ensures.not_too_long n (ap (λ e. Err e) long)) is)
 
 pub returns-in_err-stage_and_publish-clause-contested : goal.returns-in_err-stage_and_publish-clause-contested
 returns-in_err-stage_and_publish-clause-contested g c told id stands settled contested =

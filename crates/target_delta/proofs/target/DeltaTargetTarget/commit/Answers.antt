@@ -1,3 +1,7 @@
+use Rattle.std.proofs.Common.{sym, subst}
+use Rattle.lake_store.specs.Disk.{Disk}
+use Rattle.target_delta.specs.Kept.{view_of}
+use Rattle.target_delta.specs.Reading.{Reads}
 use Rattle.target_delta.proofs.target.DeltaTargetTarget.commit.Goals as goal
 
 pub returns-clause-publishes : goal.returns-clause-publishes
@@ -10,4 +14,6 @@ pub returns-clause-kept : goal.returns-clause-kept
 returns-clause-kept g c told stands settled is = c.publish_commit.ensures.kept told c.args.self.now.id stands settled is
 
 pub returns-clause-limited : goal.returns-clause-limited
-returns-clause-limited g c told stands settled which number is = c.publish_commit.ensures.limited told c.args.self.now.id stands settled which number is
+returns-clause-limited g c told stands settled which number is =
+    let only = c.publish_commit.ensures.limited told which number is in
+    subst (λ (d : Disk). Reads d.files (view_of c.args.kept.now)) (sym only.disk) stands.reads
