@@ -8,6 +8,7 @@ use crate::running::{answer, report};
 use crate::setting::{Setting, clock_at, numbers_of};
 use crate::standing::{kinds_of, standing};
 use crate::trouble::{Trial, trouble_of};
+use crate::versions::{Versions, path_of};
 use lake_store::{FuseStore, MemoryStore};
 use rows::{Step, Steps};
 use std::alloc::{AllocError, Global};
@@ -47,6 +48,7 @@ impl Commands {
         };
         match verb {
             "file" | "bytes" | "container" => self.put(verb, rest, step),
+            "versions" => self.put_versions(rest, step.lines()),
             "cut" | "copy" | "remove" => self.change(verb, rest),
             "place" | "clock" | "puts" | "calls" => self.set(verb, rest),
             "run" | "report" | "at" => self.run(verb, rest),
@@ -94,6 +96,24 @@ impl Commands {
         }
     }
 
+    fn put_versions(&mut self, rest: &str, lines: &[&str]) -> Shown {
+        let words: Vec<&str> = rest.split(' ').collect(self.alloc)?;
+        let [first, last, files] = words.as_slice() else {
+            return Ok(None);
+        };
+        let Some(versions) = Versions::from_words(first, last, files) else {
+            return Ok(None);
+        };
+        for version in versions.first..versions.last.saturating_add(1) {
+            let path = path_of(self.alloc, version)?;
+            let text = versions.text(self.alloc, version, lines)?;
+            self.store
+                .inner()
+                .put(path.as_str(), text.as_str().as_bytes())?;
+        }
+        self.done()
+    }
+
     fn change(&mut self, verb: &str, rest: &str) -> Shown {
         match (verb, rest.split_once(' ')) {
             ("cut", None) => cut_file(self.alloc, &mut self.store, rest)?,
@@ -124,7 +144,21 @@ impl Commands {
                 }
                 None => Ok(None),
             },
+            "calls" => match rest.strip_prefix("stop ") {
+                Some(call) => self.set_stop(call),
+                None => self.set_failing(verb, rest),
+            },
             _ => self.set_failing(verb, rest),
+        }
+    }
+
+    fn set_stop(&mut self, call: &str) -> Shown {
+        match call.parse::<u64>() {
+            Ok(call) => {
+                self.store.set_stop(Some(call));
+                self.done()
+            }
+            Err(_) => Ok(None),
         }
     }
 

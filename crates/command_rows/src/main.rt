@@ -6,14 +6,18 @@
 //! - `bytes PATH` puts the bytes whose hexadecimal digits are below it;
 //! - `container PATH CODEC COUNT` puts an Avro container of one block of so many objects: below it are the
 //!   schema on a line, and the digits of the objects;
+//! - `versions FIRST LAST COUNT` puts a Delta version for each of these numbers: the lines below it, and one
+//!   with `FILE` so many times, where `FILE`, `VERSION` and `EARLIER` stand for the file's number, the version's,
+//!   and the number of versions that the step puts before it;
 //! - `cut PATH` takes off a file's last byte, `copy FROM TO` copies a file, and `remove PATH ..` removes files;
 //! - `place PLACE` and `clock MILLISECONDS` say where and when commands are run, and `puts fail NUMBER ..`
 //!   which of their lines can't be put out;
-//! - `calls fail NUMBER ..` says which calls of the store fail, counted from this step on;
+//! - `calls fail NUMBER ..` says which calls of the store fail, counted from this step on, and `calls stop
+//!   NUMBER` from which call on all do;
 //! - `run WORDS` runs a command, and shows its status and its lines;
 //! - `at each call TROUBLE: WORDS` runs a command with a trouble at each of its calls of the store in turn,
-//!   each time over a copy of the store, then the command again, and shows each outcome that came. TROUBLE is
-//!   `fail`, `contest`, or `stop and crash CHOICE ..`;
+//!   each time over a copy of the store, then the command again, and shows each outcome that came, with what
+//!   each of its targets stands at. TROUBLE is `fail`, `contest`, or `stop and crash CHOICE ..`;
 //! - `report SOURCE TARGET` shows what the call below a sync answers;
 //! - `show PATH`, `list FOLDER ..` and `files FOLDER ..` show a text, names, and names and texts;
 //! - `has PATH` shows whether the text below it stands in a file;
@@ -30,6 +34,7 @@ mod running;
 mod setting;
 mod standing;
 mod trouble;
+mod versions;
 
 use crate::commands::Commands;
 use rows::play_files;

@@ -5,10 +5,6 @@ use crate::setting::{Setting, numbers_of};
 use crate::standing::{kinds_of, standing};
 use lake_store::{FuseStore, Script};
 use std::alloc::{AllocError, Global};
-use table_history::Kind;
-
-/// What a command answers where the store fails.
-const FAULT: &str = "9\nstatus 9: StoreFault\n";
 
 /// The most calls of a command at which troubles are tried.
 const MOST_CALLS: u64 = 1000;
@@ -65,23 +61,21 @@ fn end_trouble(alloc: Global, store: &mut FuseStore, trouble: &Trouble) -> Resul
     }
 }
 
-/// The target and the source of a command, if it has both.
-fn sides_of(line: &str) -> Option<(Kind, Kind)> {
+/// What each target of a command stands at, in the order of the words.
+fn standings(alloc: Global, store: &mut FuseStore, line: &str) -> Result<String, AllocError> {
+    let mut told = String::new(alloc);
     let mut words = line.split(' ').skip(1);
-    let source = words.next()?;
-    let target = words.next()?;
-    kinds_of(target, source)
-}
-
-/// What the command's target stands at, where it has one.
-fn target_standing(alloc: Global, store: &mut FuseStore, line: &str) -> Result<String, AllocError> {
-    match sides_of(line) {
-        Some((target, source)) => {
+    let Some(source) = words.next() else {
+        return Ok(told);
+    };
+    for target in words {
+        if let Some((target, source)) = kinds_of(target, source) {
             let standing = standing(alloc, store, target, source)?;
-            format!(in alloc; "standing\n{standing}")
+            told.push_str("standing\n")?;
+            told.push_str(standing.as_str())?;
         }
-        None => Ok(String::new(alloc)),
     }
+    Ok(told)
 }
 
 /// A command that is run again and again, each time over a copy of a store.
@@ -93,14 +87,19 @@ pub(crate) struct Trial<'a> {
 }
 
 impl Trial<'_> {
-    /// How many calls of the store the command makes.
+    /// What the command answers over a copy of the store all of whose calls from this one on fail.
+    fn stopped(&self, store: &mut FuseStore, call: Option<u64>) -> Result<String, AllocError> {
+        let mut script = no_trouble(self.alloc);
+        script.stop = call;
+        let mut copy = copy_of(self.alloc, store, script)?;
+        answer(self.alloc, self.setting, &mut copy, self.line)
+    }
+
+    /// How many calls of the store the command makes: a stop after them changes no answer.
     fn calls(&self, store: &mut FuseStore) -> Result<u64, AllocError> {
+        let whole = self.stopped(store, None)?;
         for call in 0..MOST_CALLS {
-            let mut script = no_trouble(self.alloc);
-            script.stop = Some(call);
-            let mut copy = copy_of(self.alloc, store, script)?;
-            let told = answer(self.alloc, self.setting, &mut copy, self.line)?;
-            if told.as_str() != FAULT {
+            if self.stopped(store, Some(call))? == whole {
                 return Ok(call);
             }
         }
@@ -119,9 +118,9 @@ impl Trial<'_> {
         let mut copy = copy_of(self.alloc, store, script)?;
         let first = answer(self.alloc, self.setting, &mut copy, self.line)?;
         end_trouble(self.alloc, &mut copy, trouble)?;
-        let between = target_standing(self.alloc, &mut copy, self.line)?;
+        let between = standings(self.alloc, &mut copy, self.line)?;
         let again = answer(self.alloc, self.setting, &mut copy, self.line)?;
-        let after = target_standing(self.alloc, &mut copy, self.line)?;
+        let after = standings(self.alloc, &mut copy, self.line)?;
         format!(in self.alloc; "first {first}{between}again {again}{after}")
     }
 
