@@ -33,9 +33,11 @@ impl Model for Text {
 }
 
 /// Why bytes are no `Text`.
-#[derive(Clone, Copy, Debug, PartialEq, Eq)]
+#[derive(Clone, Copy, Debug, PartialEq, Eq, thiserror::Error)]
 pub enum TextError {
+    #[error("out of memory")]
     Memory,
+    #[error("the bytes aren't UTF-8")]
     BadText,
 }
 

@@ -5,9 +5,11 @@ ghost use Rattle.lake_store.specs.Cause.{HasFault};
 use std::alloc::{AllocError, Global};
 
 /// Why bytes weren't put out.
-#[derive(Clone, Copy, Debug, PartialEq, Eq)]
+#[derive(Clone, Copy, Debug, PartialEq, Eq, thiserror::Error)]
 pub enum SinkError {
+    #[error("out of memory")]
     Memory,
+    #[error("the sink failed")]
     Failed,
 }
 

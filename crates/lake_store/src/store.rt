@@ -16,14 +16,18 @@ use lake_basics::limits::{MAX_FILE_BYTES, MAX_NAMES};
 use std::alloc::{AllocError, AllocFailed, Global};
 
 /// Why a store refused a call.
-#[derive(Clone, Copy, Debug, PartialEq, Eq)]
+#[derive(Clone, Copy, Debug, PartialEq, Eq, thiserror::Error)]
 pub enum StoreError {
+    #[error("out of memory")]
     Memory,
     /// The store failed, and counted it.
+    #[error("the store failed")]
     Failed,
     /// A file or a list is too long to be given: it has so many bytes or names.
+    #[error("{length} bytes or names are too many")]
     TooLong { length: u64 },
     /// Another writer's file came to the path, and was counted.
+    #[error("another writer's file is there")]
     Taken,
 }
 

@@ -26,16 +26,21 @@ pub const DEPTH: ReadError<Fault> = ReadError::Fault(Fault::Depth);
 
 /// Why a schema was not read or written. A type or a name at fault is told by the top-level column
 /// that has it.
-#[derive(Debug, Drop)]
+#[derive(Debug, Drop, thiserror::Error)]
 pub enum MapError {
+    #[error("out of memory")]
     Memory,
     /// Not in the grammar, or two columns of one name in one struct.
+    #[error("the text is no schema")]
     BadSchema,
     /// A type that the other side can't spell.
+    #[error("a column has a type that has no counterpart")]
     SchemaType { column: Text },
     /// A name that isn't an Avro name.
+    #[error("a column has a name that isn't an Avro name")]
     AvroName { column: Text },
     /// Too many columns, too many levels, or no field id left.
+    #[error("more {which:?} than are read")]
     Limit { which: LimitKind },
 }
 

@@ -37,17 +37,22 @@ use std::alloc::{AllocError, AllocFailed, Global};
 use table_history::{Commit, Feature, Kind, LimitKind, Table};
 
 /// Why a target refused a call.
-#[derive(Debug, Drop)]
+#[derive(Debug, Drop, thiserror::Error)]
 pub enum TargetError {
+    #[error("out of memory")]
     Memory,
     /// The store failed, and counted it.
+    #[error("the store failed")]
     StoreFault,
     /// Another writer published first.
+    #[error("another writer published first")]
     Contested,
     /// A number would be passed.
+    #[error("more {which:?} than {number}")]
     Limit { which: LimitKind, number: u64 },
     /// The target's format can't hold the commit. The path is the row's or the top-level column's
     /// name, and empty where the partition columns are others.
+    #[error("a commit needs {feature:?}, which isn't supported")]
     Unsupported { feature: Feature, path: Text },
 }
 
