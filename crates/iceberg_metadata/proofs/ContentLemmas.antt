@@ -3,9 +3,8 @@ use Rattle.std.proofs.Common.{◌≡◌, ℤ, pos, List, Bool, true, false, cond
 use Rattle.std.specs.Ordering.{int_eq}
 use Rattle.std.proofs.lemmas.Bool.Decides.{Decides-int_eq}
 use Rattle.serde_json.specs.Data.{Data, Items}
-use Rattle.serde_json.specs.Find.{get}
 use Rattle.lake_basics.specs.Outcome.{each}
-use Rattle.json_reading.specs.Json.{items}
+use Rattle.json_reading.specs.Json.{items, present}
 use Rattle.iceberg_metadata.specs.declared.error.MetadataError.{MetadataError}
 use Rattle.iceberg_metadata.specs.declared.error.MetadataError.TheVariants.{FormatVersion, Malformed}
 use Rattle.iceberg_metadata.specs.declared.metadata.Metadata.{Metadata}
@@ -36,9 +35,9 @@ record AreMembers (d : Data) (ss : List HeldSchema) (m : Metadata) : Type 0 wher
   specs : each spec (items spec_list) ≡ Ok m.specs
   default_spec : int_in (codes "default-spec-id") d ≡ Ok m.default_spec
   last_partition_id : int_in (codes "last-partition-id") d ≡ Ok m.last_partition_id
-  properties : properties (get (codes "properties") d) ≡ Ok m.properties
-  current_snapshot : current_snapshot (get (codes "current-snapshot-id") d) ≡ Ok m.current_snapshot
-  snapshots : snapshots (get (codes "snapshots") d) ≡ Ok m.snapshots
+  properties : properties (present (codes "properties") d) ≡ Ok m.properties
+  current_snapshot : current_snapshot (present (codes "current-snapshot-id") d) ≡ Ok m.current_snapshot
+  snapshots : snapshots (present (codes "snapshots") d) ≡ Ok m.snapshots
 
 members_found : (d : Data) (ss : List HeldSchema) (m : Metadata) → members d ss ≡ Ok m → AreMembers d ss m
 unfolding members
@@ -53,9 +52,9 @@ members_found d ss m is =
     let j = bind_ok (each spec (items h.0)) _ m h.2 in
     let k = bind_ok (int_in (codes "default-spec-id") d) _ m j.2 in
     let l = bind_ok (int_in (codes "last-partition-id") d) _ m k.2 in
-    let n = bind_ok (properties (get (codes "properties") d)) _ m l.2 in
-    let o = bind_ok (current_snapshot (get (codes "current-snapshot-id") d)) _ m n.2 in
-    let p = bind_ok (snapshots (get (codes "snapshots") d)) _ m o.2 in
+    let n = bind_ok (properties (present (codes "properties") d)) _ m l.2 in
+    let o = bind_ok (current_snapshot (present (codes "current-snapshot-id") d)) _ m n.2 in
+    let p = bind_ok (snapshots (present (codes "snapshots") d)) _ m o.2 in
     subst (AreMembers d ss) (ok_is _ m p.2)
     (record {
       uuid = a.1;
@@ -88,9 +87,9 @@ members_are d ss m a =
     (bind_by (each spec (items a.spec_list)) _ _ _ a.specs
     (bind_by (int_in (codes "default-spec-id") d) _ _ _ a.default_spec
     (bind_by (int_in (codes "last-partition-id") d) _ _ _ a.last_partition_id
-    (bind_by (properties (get (codes "properties") d)) _ _ _ a.properties
-    (bind_by (current_snapshot (get (codes "current-snapshot-id") d)) _ _ _ a.current_snapshot
-    (bind_by (snapshots (get (codes "snapshots") d)) _ _ _ a.snapshots (ap (λ xs. Ok (record m { schemas = xs })) (sym a.held))))))))))))))
+    (bind_by (properties (present (codes "properties") d)) _ _ _ a.properties
+    (bind_by (current_snapshot (present (codes "current-snapshot-id") d)) _ _ _ a.current_snapshot
+    (bind_by (snapshots (present (codes "snapshots") d)) _ _ _ a.snapshots (ap (λ xs. Ok (record m { schemas = xs })) (sym a.held))))))))))))))
 
 -- ---- the others
 
@@ -152,7 +151,7 @@ contents_found d m others is =
         sort_orders = orders.1;
         order = order.0;
         default_sort_order = order.1;
-        refs = taken (refs_fit (get (codes "refs") d)) order.2;
+        refs = taken (refs_fit (present (codes "refs") d)) order.2;
       };
       consistent = taken (is_consistent e.0 (schema_ids c.0)) g.1;
       others_are = refl;

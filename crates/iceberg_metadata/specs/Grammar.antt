@@ -3,9 +3,8 @@ use Rattle.std.specs.Prelude.{◌≡◌, ℕ, ℤ, pos, List, map, true, Ok, Som
 use Rattle.std.specs.List.{IsDistinct}
 use Rattle.std.specs.Ordering.{int_eq}
 use Rattle.serde_json.specs.Data.{Data, Items}
-use Rattle.serde_json.specs.Find.{get}
 use Rattle.lake_basics.specs.Outcome.{each}
-use Rattle.json_reading.specs.Json.{json, items}
+use Rattle.json_reading.specs.Json.{json, items, present}
 use Rattle.iceberg_metadata.specs.declared.metadata.Metadata.{Metadata}
 use Rattle.iceberg_metadata.specs.declared.metadata.Snapshot.{Snapshot}
 use Rattle.iceberg_metadata.specs.Members.{format_version, text_in, whole_in, int_in, list_in, spec, snapshots, properties, current_snapshot, refs_fit}
@@ -32,15 +31,15 @@ pub record Says (d : Data) (readings : List SchemaReading) (m : Metadata) : Type
   pub specs : each spec (items spec_list) ≡ Ok m.specs
   pub default_spec : int_in (codes "default-spec-id") d ≡ Ok m.default_spec
   pub last_partition_id : int_in (codes "last-partition-id") d ≡ Ok m.last_partition_id
-  pub properties : properties (get (codes "properties") d) ≡ Ok m.properties
-  pub current_snapshot : current_snapshot (get (codes "current-snapshot-id") d) ≡ Ok m.current_snapshot
-  pub snapshots : snapshots (get (codes "snapshots") d) ≡ Ok m.snapshots
+  pub properties : properties (present (codes "properties") d) ≡ Ok m.properties
+  pub current_snapshot : current_snapshot (present (codes "current-snapshot-id") d) ≡ Ok m.current_snapshot
+  pub snapshots : snapshots (present (codes "snapshots") d) ≡ Ok m.snapshots
   -- what isn't kept
   pub order_list : Items
   pub sort_orders : list_in (codes "sort-orders") d ≡ Ok order_list
   pub order : ℤ
   pub default_sort_order : int_in (codes "default-sort-order-id") d ≡ Ok order
-  pub refs : refs_fit (get (codes "refs") d) ≡ true
+  pub refs : refs_fit (present (codes "refs") d) ≡ true
 
 -- ---- references
 

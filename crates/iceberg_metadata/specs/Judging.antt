@@ -5,10 +5,9 @@ use Rattle.std.specs.List.{list_any, list_all}
 use Rattle.std.specs.Ordering.{int_eq}
 use Rattle.std.specs.Str.{bytes_eq}
 use Rattle.serde_json.specs.Data.{Data}
-use Rattle.serde_json.specs.Find.{get}
 use Rattle.lake_basics.specs.Outcome.{◌>>=◌, required, each}
 use Rattle.lake_basics.specs.declared.limits.TheConstants.{MAX_PARTITION_COLUMNS}
-use Rattle.json_reading.specs.Json.{json, items}
+use Rattle.json_reading.specs.Json.{json, items, present}
 use Rattle.schema_map.specs.Paths.{Path, known_id}
 use Rattle.table_history.specs.declared.limit.LimitKind.{LimitKind}
 use Rattle.table_history.specs.declared.limit.LimitKind.TheVariants as limit
@@ -62,9 +61,9 @@ members d schemas = do
   specs ← each spec (items listed)
   default_spec ← int_in (codes "default-spec-id") d
   last_partition_id ← int_in (codes "last-partition-id") d
-  stated ← properties (get (codes "properties") d)
-  current ← current_snapshot (get (codes "current-snapshot-id") d)
-  held ← snapshots (get (codes "snapshots") d)
+  stated ← properties (present (codes "properties") d)
+  current ← current_snapshot (present (codes "current-snapshot-id") d)
+  held ← snapshots (present (codes "snapshots") d)
   Ok (record { uuid = uuid; location = location; last_sequence = last_sequence; last_updated = last_updated; last_column_id = last_column_id; schemas = schemas; current_schema = schema; specs = specs; default_spec = default_spec; last_partition_id = last_partition_id; properties = stated; current_snapshot = current; snapshots = held })
 
 -- the members that aren't
@@ -72,7 +71,7 @@ unfoldable pub unkept : Data → Result (Unit {0}) MetadataError
 unkept d = do
   orders ← list_in (codes "sort-orders") d
   order ← int_in (codes "default-sort-order-id") d
-  if refs_fit (get (codes "refs") d) then Ok tt else Err Malformed
+  if refs_fit (present (codes "refs") d) then Ok tt else Err Malformed
 
 abbrev pub consistent : Metadata → List ℤ → Result (Unit {0}) MetadataError
 consistent m schemas = if is_consistent m schemas then Ok tt else Err Malformed

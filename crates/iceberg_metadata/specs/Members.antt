@@ -1,10 +1,10 @@
 -- The members of table metadata by their kinds (Iceberg specification, "Table Metadata Fields", "Snapshots", "Partition Specs").
 use Rattle.std.specs.Prelude.{ℕ, ℤ, pos, negsuc, List, [], Bool, true, Option, Some, None, is_some, option_and_then, Result, Ok, Err, if◌then◌else◌, codes}
 use Rattle.std.specs.Ordering.{int_eq}
-use Rattle.serde_json.specs.Data.{Data, null, boolean, number, string, array, object, Items}
+use Rattle.serde_json.specs.Data.{Data, Items}
 use Rattle.serde_json.specs.Find.{get, as_number, as_integer, as_array, as_object}
 use Rattle.lake_basics.specs.Outcome.{◌>>=◌, required, each}
-use Rattle.json_reading.specs.Json.{whole, int, text, text_member, bool_member, whole_member, int_member, list_member, items, pairs}
+use Rattle.json_reading.specs.Json.{whole, int, text, text_member, bool_member, whole_member, int_member, list_member, items, pairs, present}
 use Rattle.iceberg_metadata.specs.declared.error.MetadataError.{MetadataError}
 use Rattle.iceberg_metadata.specs.declared.error.MetadataError.TheVariants.{Malformed}
 use Rattle.iceberg_metadata.specs.declared.metadata.Snapshot.{Snapshot}
@@ -42,7 +42,7 @@ bool_in name d = required Malformed (bool_member name d)
 abbrev pub member_in : List ℕ → Data → Result Data MetadataError
 member_in name d = required Malformed (get name d)
 
--- ---- members that may be absent, but are of their kind where they are there
+-- ---- members that may be absent or null, which is the same, and else are of their kind
 
 abbrev pub whole_if_any : Option Data → Result (Option ℤ) MetadataError
 whole_if_any None = Ok None
@@ -64,7 +64,7 @@ sequence (Some d) = required Malformed (whole d)
 -- the operation that a summary states, where there is one
 abbrev pub operation : Option Data → Result (Option (List ℕ)) MetadataError
 operation None = Ok None
-operation (Some summary) = required Malformed (as_object summary) >>= λ members. text_if_any (get (codes "operation") summary)
+operation (Some summary) = required Malformed (as_object summary) >>= λ members. text_if_any (present (codes "operation") summary)
 
 abbrev pub unless_minus_one : ℤ → Option ℤ
 unless_minus_one id = if int_eq id (negsuc 0) then None else Some id
@@ -72,12 +72,7 @@ unless_minus_one id = if int_eq id (negsuc 0) then None else Some id
 -- Absent, null and -1 say that there is no current snapshot.
 abbrev pub current_snapshot : Option Data → Result (Option ℤ) MetadataError
 current_snapshot None = Ok None
-current_snapshot (Some null) = Ok None
-current_snapshot (Some (boolean b)) = Err Malformed
-current_snapshot (Some (number n)) = required Malformed (whole (number n)) >>= λ id. Ok (unless_minus_one id)
-current_snapshot (Some (string s)) = Err Malformed
-current_snapshot (Some (array ds)) = Err Malformed
-current_snapshot (Some (object ms)) = Err Malformed
+current_snapshot (Some d) = required Malformed (whole d) >>= λ id. Ok (unless_minus_one id)
 
 -- ---- partition specs
 
@@ -101,12 +96,12 @@ spec d = do
 unfoldable pub snapshot : Data → Result Snapshot MetadataError
 snapshot d = do
   id ← whole_in (codes "snapshot-id") d
-  parent ← whole_if_any (get (codes "parent-snapshot-id") d)
-  order ← sequence (get (codes "sequence-number") d)
+  parent ← whole_if_any (present (codes "parent-snapshot-id") d)
+  order ← sequence (present (codes "sequence-number") d)
   timestamp ← whole_in (codes "timestamp-ms") d
   manifests ← text_in (codes "manifest-list") d
-  schema_id ← int_if_any (get (codes "schema-id") d)
-  stated ← operation (get (codes "summary") d)
+  schema_id ← int_if_any (present (codes "schema-id") d)
+  stated ← operation (present (codes "summary") d)
   Ok (record { id = id; parent = parent; sequence = order; timestamp = timestamp; list = manifests; schema_id = schema_id; operation = stated })
 
 abbrev pub snapshots : Option Data → Result (List Snapshot) MetadataError

@@ -11,13 +11,12 @@ use Rattle.std.specs.List.Sorted.{IsStrictlySortedBy}
 use Rattle.std.specs.Ordering.{int_eq}
 use Rattle.std.specs.Str.{bytes_eq}
 use Rattle.std.specs.String.{string_cmp}
-use Rattle.serde_json.specs.Data.{Data, null, boolean, number, string, array, object}
-use Rattle.serde_json.specs.Find.{get}
+use Rattle.serde_json.specs.Data.{Data}
 use Rattle.serde_json.specs.View.{view, members_view}
 use Rattle.serde_json.specs.declared.value.Value.{Value}
 use Rattle.lake_basics.specs.Outcome.{each, required, with_fault, with_front}
 use Rattle.lake_basics.proofs.Each.{with_front-push}
-use Rattle.json_reading.specs.Json.{whole, items, pairs, text}
+use Rattle.json_reading.specs.Json.{whole, items, pairs, text, present}
 use Rattle.schema_iceberg.specs.Iceberg.{iceberg_schema}
 use Rattle.schema_map.specs.declared.fault.MapError.{MapError}
 use Rattle.schema_map.specs.declared.fault.MapError.TheVariants as map_errors
@@ -92,13 +91,8 @@ none_is c is same = absurd (cc)
 
 current_is : (o : Option Data) (c : Option ℤ) → current_snapshot o ≡ Ok c → c ≢ Some (negsuc 0)
 current_is None c is = none_is c is
-current_is (Some null) c is = none_is c is
-current_is (Some (boolean b)) c is = absurd (cc)
-current_is (Some (string s)) c is = absurd (cc)
-current_is (Some (array ds)) c is = absurd (cc)
-current_is (Some (object ms)) c is = absurd (cc)
-current_is (Some (number n)) c is =
-    let a = bind_ok (required Malformed (whole (number n))) _ c is in
+current_is (Some d) c is =
+    let a = bind_ok (required Malformed (whole d)) _ c is in
     subst (λ (x : Option ℤ). x ≢ Some (negsuc 0)) (ok_is (unless_minus_one a.0) c a.2) (unless_is (int_eq a.0 (negsuc 0)) a.0 refl)
 
 -- ---- properties
@@ -164,7 +158,7 @@ read_writable bytes m is none own =
       schemas = subst (All CanBeHeld) (sym says.held) held.all;
       consistent = subst (IsConsistent m) (sym ids) is.text.consistent;
       properties = own;
-      current = current_is (get (codes "current-snapshot-id") is.text.value) m.current_snapshot says.current_snapshot;
+      current = current_is (present (codes "current-snapshot-id") is.text.value) m.current_snapshot says.current_snapshot;
       shown = (λ x. x, (λ x. x, (λ s. later.0 (told (Shows SchemaType) s), (λ s. later.1.0 (told (Shows Transform) s), (λ s. later.1.1.0 (told (Shows Renamed) s), (λ s. later.1.1.1.0 (told (Shows PartitionType) s), (λ s. later.1.1.1.1.0 (told (Shows (Limit Columns)) s), (λ s. later.1.1.1.1.1.0 (told (Shows (Limit Depth)) s), (λ s. later.1.1.1.1.1.1.0 (told (Shows (Limit PartitionColumns)) s), tt)))))))));
     }
 

@@ -3,10 +3,10 @@ use Rattle.std.proofs.Common.{◌≡◌, ◌⊎◌, ℕ, ℤ, pos, List, [], Boo
 use Rattle.std.specs.Ordering.{int_eq}
 use Rattle.std.proofs.lemmas.Bool.{false≢true}
 use Rattle.std.proofs.lemmas.Bool.Decides.{Decides-int_eq}
-use Rattle.serde_json.specs.Data.{Data, null, boolean, number, string, array, object}
-use Rattle.serde_json.specs.Find.{get, as_object, as_array, as_str}
+use Rattle.serde_json.specs.Data.{Data}
+use Rattle.serde_json.specs.Find.{as_object, as_array, as_str}
 use Rattle.lake_basics.specs.Outcome.{◌>>=◌, required, each}
-use Rattle.json_reading.specs.Json.{whole_member, whole, int, text, items, pairs}
+use Rattle.json_reading.specs.Json.{whole_member, whole, int, text, items, pairs, present}
 use Rattle.iceberg_metadata.specs.declared.error.MetadataError.{MetadataError}
 use Rattle.iceberg_metadata.specs.declared.error.MetadataError.TheVariants.{FormatVersion, Malformed}
 use Rattle.iceberg_metadata.specs.declared.metadata.Metadata.{Metadata}
@@ -56,12 +56,7 @@ operation_any (Some d) = chain (required Malformed (as_object d)) _ (must (as_ob
 
 current_any : (o : Option Data) → Faulty (current_snapshot o)
 current_any None = good None
-current_any (Some null) = good None
-current_any (Some (boolean b)) = bad
-current_any (Some (number n)) = chain (required Malformed (whole (number n))) _ (must (whole (number n))) (λ id. good _)
-current_any (Some (string s)) = bad
-current_any (Some (array ds)) = bad
-current_any (Some (object ms)) = bad
+current_any (Some d) = chain (required Malformed (whole d)) _ (must (whole d)) (λ id. good _)
 
 -- ---- specs, snapshots and properties
 
@@ -81,12 +76,12 @@ snapshot_any : (d : Data) → Faulty (snapshot d)
 unfolding snapshot
 snapshot_any d =
     chain (whole_in (codes "snapshot-id") d) _ (must (whole_member (codes "snapshot-id") d))
-    (λ a. chain (whole_if_any (get (codes "parent-snapshot-id") d)) _ (whole_any (get (codes "parent-snapshot-id") d))
-    (λ b. chain (sequence (get (codes "sequence-number") d)) _ (sequence_any (get (codes "sequence-number") d))
+    (λ a. chain (whole_if_any (present (codes "parent-snapshot-id") d)) _ (whole_any (present (codes "parent-snapshot-id") d))
+    (λ b. chain (sequence (present (codes "sequence-number") d)) _ (sequence_any (present (codes "sequence-number") d))
     (λ c. chain (whole_in (codes "timestamp-ms") d) _ (must (whole_member (codes "timestamp-ms") d))
     (λ e. chain (text_in (codes "manifest-list") d) _ (must _)
-    (λ f. chain (int_if_any (get (codes "schema-id") d)) _ (int_any (get (codes "schema-id") d))
-    (λ g. chain (operation (get (codes "summary") d)) _ (operation_any (get (codes "summary") d)) (λ h. good _)))))))
+    (λ f. chain (int_if_any (present (codes "schema-id") d)) _ (int_any (present (codes "schema-id") d))
+    (λ g. chain (operation (present (codes "summary") d)) _ (operation_any (present (codes "summary") d)) (λ h. good _)))))))
 
 snapshots_any : (o : Option Data) → Faulty (snapshots o)
 snapshots_any None = good []
@@ -114,8 +109,8 @@ members_any d ss =
     (λ h. chain (each spec (items h)) _ (refuses_each IsFault spec (items h) spec_any)
     (λ j. chain (int_in (codes "default-spec-id") d) _ (must _)
     (λ k. chain (int_in (codes "last-partition-id") d) _ (must _)
-    (λ l. chain (properties (get (codes "properties") d)) _ (properties_any (get (codes "properties") d))
-    (λ n. chain (current_snapshot (get (codes "current-snapshot-id") d)) _ (current_any (get (codes "current-snapshot-id") d)) (λ o. chain (snapshots (get (codes "snapshots") d)) _ (snapshots_any (get (codes "snapshots") d)) (λ p. good _)))))))))))))
+    (λ l. chain (properties (present (codes "properties") d)) _ (properties_any (present (codes "properties") d))
+    (λ n. chain (current_snapshot (present (codes "current-snapshot-id") d)) _ (current_any (present (codes "current-snapshot-id") d)) (λ o. chain (snapshots (present (codes "snapshots") d)) _ (snapshots_any (present (codes "snapshots") d)) (λ p. good _)))))))))))))
 
 taken_any : (b : Bool) → Faulty (cond b done (fails Malformed))
 taken_any true = good tt
@@ -123,7 +118,7 @@ taken_any false = bad
 
 unkept_any : (d : Data) → Faulty (unkept d)
 unfolding unkept
-unkept_any d = chain (list_in (codes "sort-orders") d) _ (must _) (λ a. chain (int_in (codes "default-sort-order-id") d) _ (must _) (λ b. taken_any (refs_fit (get (codes "refs") d))))
+unkept_any d = chain (list_in (codes "sort-orders") d) _ (must _) (λ a. chain (int_in (codes "default-sort-order-id") d) _ (must _) (λ b. taken_any (refs_fit (present (codes "refs") d))))
 
 abbrev OtherFault : Data → MetadataError → Type 0
 OtherFault d e = (e ≡ FormatVersion) × (v : ℤ) × (format_version d ≡ Some v) × (v ≡ pos 2 → ⊥)

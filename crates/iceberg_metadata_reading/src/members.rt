@@ -1,10 +1,9 @@
 //! The members of table metadata by their kinds.
 
 ghost use Rattle.std.specs.Prelude.{◌≡◌, codes, Some, IfOk};
-ghost use Rattle.serde_json.specs.Find.{get};
 ghost use Rattle.serde_json.specs.View.{view, items_view, members_view};
 ghost use Rattle.lake_basics.specs.Outcome.{each};
-ghost use Rattle.json_reading.specs.Json.{items, pairs, text};
+ghost use Rattle.json_reading.specs.Json.{items, pairs, present, text};
 ghost use Rattle.iceberg_metadata.specs.declared.error.MetadataError.TheVariants.{Malformed};
 ghost use Rattle.iceberg_metadata.specs.Errors.{Gives, GivesBy};
 ghost use Rattle.iceberg_metadata.specs.Members as read;
@@ -12,26 +11,26 @@ ghost use Rattle.iceberg_metadata.specs.Writing.{HaveOwnNames};
 
 use iceberg_metadata::{MALFORMED, MetadataError, Snapshot, Snapshots, Spec, SpecField};
 use iceberg_schemas::{required_int, required_list, required_text, required_whole};
-use json_reading::{int_in, whole_in};
+use json_reading::{int_in, present_of, whole_in};
 use lake_basics::{Items, Text};
 use serde_json::{Map, Value};
 use std::alloc::Global;
 
-// ---- members that may be absent
+// ---- members that may be absent or null
 
 fn whole_if_any(value: &Value, name: &str) -> Result<Option<i64>, MetadataError>
-    ensures { Gives result (read.whole_if_any (get name.now (view value.now))) }
+    ensures { Gives result (read.whole_if_any (present name.now (view value.now))) }
 {
-    match value.get(name) {
+    match present_of(value, name) {
         None => Ok(None),
         Some(member) => Ok(Some(whole_in(member).ok_or(MALFORMED)?)),
     }
 }
 
 fn int_if_any(value: &Value, name: &str) -> Result<Option<i32>, MetadataError>
-    ensures { Gives result (read.int_if_any (get name.now (view value.now))) }
+    ensures { Gives result (read.int_if_any (present name.now (view value.now))) }
 {
-    match value.get(name) {
+    match present_of(value, name) {
         None => Ok(None),
         Some(member) => Ok(Some(int_in(member).ok_or(MALFORMED)?)),
     }
@@ -45,27 +44,27 @@ fn text_from(alloc: Global, value: &Value) -> Result<Text, MetadataError>
 }
 
 fn text_if_any(alloc: Global, value: &Value, name: &str) -> Result<Option<Text>, MetadataError>
-    ensures { Gives result (read.text_if_any (get name.now (view value.now))) }
+    ensures { Gives result (read.text_if_any (present name.now (view value.now))) }
 {
-    match value.get(name) {
+    match present_of(value, name) {
         None => Ok(None),
         Some(member) => Ok(Some(text_from(alloc, member)?)),
     }
 }
 
 fn sequence_of(value: &Value) -> Result<i64, MetadataError>
-    ensures { Gives result (read.sequence (get (codes "sequence-number") (view value.now))) }
+    ensures { Gives result (read.sequence (present (codes "sequence-number") (view value.now))) }
 {
-    match value.get("sequence-number") {
+    match present_of(value, "sequence-number") {
         None => Ok(0),
         Some(member) => whole_in(member).ok_or(MALFORMED),
     }
 }
 
 fn operation_of(alloc: Global, value: &Value) -> Result<Option<Text>, MetadataError>
-    ensures { Gives result (read.operation (get (codes "summary") (view value.now))) }
+    ensures { Gives result (read.operation (present (codes "summary") (view value.now))) }
 {
-    let Some(summary) = value.get("summary") else {
+    let Some(summary) = present_of(value, "summary") else {
         return Ok(None);
     };
     if !summary.is_object() {
@@ -77,21 +76,15 @@ fn operation_of(alloc: Global, value: &Value) -> Result<Option<Text>, MetadataEr
 fn snapshot_id_in(value: &Value) -> Result<Option<i64>, MetadataError>
     ensures { Gives result (read.current_snapshot (Some (view value.now))) }
 {
-    match value {
-        Value::Null => Ok(None),
-        Value::Number(_) => {
-            let id = whole_in(value).ok_or(MALFORMED)?;
-            Ok(if id == -1 { None } else { Some(id) })
-        }
-        _ => Err(MALFORMED),
-    }
+    let id = whole_in(value).ok_or(MALFORMED)?;
+    Ok(if id == -1 { None } else { Some(id) })
 }
 
 pub(crate) fn current_snapshot_of(value: &Value) -> Result<Option<i64>, MetadataError>
     ensures { Gives result
-        (read.current_snapshot (get (codes "current-snapshot-id") (view value.now))) }
+        (read.current_snapshot (present (codes "current-snapshot-id") (view value.now))) }
 {
-    match value.get("current-snapshot-id") {
+    match present_of(value, "current-snapshot-id") {
         None => Ok(None),
         Some(member) => snapshot_id_in(member),
     }
@@ -180,9 +173,9 @@ fn snapshots_in(alloc: Global, values: &Vec<Value>) -> Result<Snapshots, Metadat
 }
 
 pub(crate) fn snapshots_of(alloc: Global, value: &Value) -> Result<Snapshots, MetadataError>
-    ensures { Gives result (read.snapshots (get (codes "snapshots") (view value.now))) }
+    ensures { Gives result (read.snapshots (present (codes "snapshots") (view value.now))) }
 {
-    match value.get("snapshots") {
+    match present_of(value, "snapshots") {
         None => Ok(Items::new(alloc)),
         Some(member) => snapshots_in(alloc, member.as_array().ok_or(MALFORMED)?),
     }
@@ -210,20 +203,20 @@ pub(crate) fn properties_of(
     alloc: Global,
     value: &Value,
 ) -> Result<Items<(Text, Text)>, MetadataError>
-    ensures read { Gives result (read.properties (get (codes "properties") (view value.now))) }
+    ensures read { Gives result (read.properties (present (codes "properties") (view value.now))) }
     ensures own { IfOk result HaveOwnNames }
 {
-    match value.get("properties") {
+    match present_of(value, "properties") {
         None => Ok(Items::new(alloc)),
         Some(member) => properties_in(alloc, member.as_object().ok_or(MALFORMED)?),
     }
 }
 
-/// Whether `refs`, where it is there, is an object.
+/// Whether `refs`, where it is there and not null, is an object.
 pub(crate) fn refs_fit(value: &Value) -> bool
-    ensures { result ≡ read.refs_fit (get (codes "refs") (view value.now)) }
+    ensures { result ≡ read.refs_fit (present (codes "refs") (view value.now)) }
 {
-    match value.get("refs") {
+    match present_of(value, "refs") {
         None => true,
         Some(member) => member.is_object(),
     }

@@ -9,19 +9,19 @@ use Rattle.std.proofs.lemmas.List.Sorted.{IsPermutation-cons, IsPermutation-tran
 use Rattle.std.proofs.lemmas.Map.Keys.{IsDistinct-head, IsDistinct-tail}
 use Rattle.std.proofs.lemmas.Map.Text.{is_eq-slice_cmp}
 use Rattle.std.proofs.lemmas.Cmp.{nat_list_eq_equiv}
-use Rattle.std.specs.Prelude.{◌||◌, unwrap_or, IfSome}
+use Rattle.std.specs.Prelude.{◌||◌, codes, unwrap_or, IfSome}
 use Rattle.std.specs.Bool.{Decides}
 use Rattle.std.specs.Cmp.Lexicographic.{slice_cmp}
 use Rattle.std.specs.List.{AllByRecursion, list_any}
 use Rattle.std.specs.List.Sorted.{IsPermutation}
 use Rattle.std.specs.Ordering.{int_eq, match_ordering}
 use Rattle.std.specs.Str.{bytes_eq}
-use Rattle.serde_json.specs.Data.{Data, string, Members, no_members, member, put}
+use Rattle.serde_json.specs.Data.{Data, object, string, Members, no_members, member, put}
 use Rattle.serde_json.specs.View.{items_of}
 use Rattle.lake_basics.specs.Outcome.{each}
 use Rattle.lake_basics.specs.declared.limits.TheConstants.{MAX_PARTITION_COLUMNS}
 use Rattle.json_reading.specs.Json as json_values
-use Rattle.json_reading.specs.Json.{json, whole, int, items, pairs, members_with, IsReadAgain}
+use Rattle.json_reading.specs.Json.{json, whole, int, items, pairs, present, members_with, IsReadAgain}
 use Rattle.table_history.specs.First.{NoneOf}
 use Rattle.iceberg_metadata.specs.declared.error.MetadataError.TheVariants.{Malformed}
 use Rattle.iceberg_metadata.specs.declared.metadata.Metadata.{Metadata}
@@ -219,7 +219,7 @@ current_again None fits other = refl
 current_again (Some (pos n)) fits other = rw (whole_again (pos n) fits) refl
 current_again (Some (negsuc n)) fits other = rw (not_minus_one (negsuc n) (int_eq (negsuc n) (negsuc 0)) refl other) refl
 
-refs_again : (o : Option ℤ) → refs_fit (Some (refs_data o)) ≡ true
+refs_again : (o : Option ℤ) → refs_fit (present (codes "refs") (object (member (codes "refs") (refs_data o) no_members))) ≡ true
 refs_again None = refl
 refs_again (Some id) = refl
 
