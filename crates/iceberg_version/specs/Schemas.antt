@@ -5,6 +5,8 @@ use Rattle.std.specs.List.{flat_map}
 use Rattle.schema_map.specs.Paths.{column_paths, known_id}
 use Rattle.iceberg_field_ids.specs.Ids.{PassesGreatest, ids_for}
 use Rattle.schema_map.specs.Image.{wide_columns}
+use Rattle.schema_map.specs.declared.fault.MapError.{MapError}
+use Rattle.schema_map.specs.declared.fault.MapError.TheVariants as map_errors
 use Rattle.table_history.specs.TypeTree.{ColumnTrees}
 use Rattle.iceberg_metadata.specs.Paths.{PathId, current_schema, path_ids}
 use Rattle.iceberg_metadata.specs.Schemas.{HeldSchema}
@@ -52,6 +54,11 @@ AreNextSchemas m stated next = KeepsSchemas m stated next ⊎ (((current : HeldS
 -- the metadata with these schemas
 abbrev pub with_schemas : Metadata → Schemas → Metadata
 with_schemas m next = record m { schemas = next.held; current_schema = next.current.0; last_column_id = next.last_id }
+
+-- what a target answers where a schema's column paths get no field ids
+abbrev pub error_of_ids : MapError → TargetError
+error_of_ids (map_errors.Limit which) = Limit Versions MAX_ICEBERG_VERSION
+error_of_ids _ = Memory
 
 -- No schema is added where a new field id would pass the greatest. Memory may run out instead.
 abbrev pub IsSchemaRefusal : Metadata → ColumnTrees → TargetError → Type 0

@@ -11,7 +11,7 @@ ghost use Rattle.schema_map.specs.IcebergFits.{FitsIceberg};
 ghost use Rattle.schema_map.specs.Image.{wide_columns};
 ghost use Rattle.table_history.specs.SchemaSize.{IsWithinLimits};
 ghost use Rattle.table_history.specs.Sound.{IsSound};
-ghost use Rattle.iceberg_version.specs.Schemas.{AreNextSchemas, IsSchemaRefusal, Schemas, known_ids as known_pairs, with_schemas};
+ghost use Rattle.iceberg_version.specs.Schemas.{AreNextSchemas, IsSchemaRefusal, Schemas, error_of_ids, known_ids as known_pairs, with_schemas};
 
 use iceberg_field_ids::{KnownIds, to_iceberg};
 use iceberg_metadata::Metadata;
@@ -67,6 +67,20 @@ fn known_ids(alloc: Global, metadata: &Metadata) -> Result<KnownIds, AllocError>
     })
 }
 
+/// Why a schema's column paths get no field ids: `Limit` where a new one would pass the greatest, and
+/// else want of memory.
+fn error_of_ids(error: MapError) -> TargetError
+    ensures { result ≡ error_of_ids error }
+{
+    match error {
+        MapError::Limit { .. } => TargetError::Limit {
+            which: LimitKind::Versions,
+            number: MAX_ICEBERG_VERSION,
+        },
+        _ => TargetError::Memory,
+    }
+}
+
 /// The Image of a schema in Iceberg's types with its field ids: those of the held schemas, and new
 /// ones behind the last that was given. `Limit` where a new one would pass the greatest.
 fn image_of(
@@ -84,11 +98,7 @@ fn image_of(
     let known = known_ids(alloc, metadata)?;
     match to_iceberg(alloc, schema, &known) {
         Ok(image) => Ok(image),
-        Err(MapError::Limit { .. }) => Err(TargetError::Limit {
-            which: LimitKind::Versions,
-            number: MAX_ICEBERG_VERSION,
-        }),
-        Err(_) => Err(TargetError::Memory),
+        Err(error) => Err(error_of_ids(error)),
     }
 }
 
