@@ -1,20 +1,15 @@
 -- What metadata names by an id is held, and its manifest lists have paths: tests and facts.
-use Rattle.std.proofs.Common.{◌≡◌, ℕ, ℤ, List, [], ◌∷◌, ◌++◌, Bool, true, false, ◌&&◌, cond, Option, Some, None, IfSome, Contains, length, take, drop, refl, sym, ap, ◌∙◌}
+use Rattle.std.proofs.Common.{◌≡◌, ℕ, ℤ, List, [], ◌∷◌, Bool, true, ◌&&◌, Option, Some, None, IfSome, Contains, refl}
 use Rattle.std.specs.Bool.{Decides}
 use Rattle.std.specs.List.{list_all}
-use Rattle.std.specs.Str.{bytes_eq}
-use Rattle.std.proofs.Math.Seq.{take-append_seam, drop-append_seam}
-use Rattle.std.proofs.lemmas.List.{take-append-drop}
-use Rattle.std.proofs.lemmas.Slice.Eq.{bytes_eq-Decides}
-use Rattle.table_history.proofs.PathTests.{path_decided}
 use Rattle.table_history.proofs.RowListLemmas.{Contains-head, Contains-tail}
-use Rattle.table_history.specs.Path.{IsPath}
 use Rattle.iceberg_metadata.specs.declared.metadata.Metadata.{Metadata}
 use Rattle.iceberg_metadata.specs.declared.metadata.Snapshot.{Snapshot}
 use Rattle.iceberg_metadata.specs.Grammar.{IsConsistent, spec_ids, snapshot_ids}
 use Rattle.iceberg_metadata.specs.Judging.{is_among, is_among_if_any, are_distinct, have_own_ids, are_held, is_consistent}
-use Rattle.iceberg_metadata.specs.Location.{front_of, NamesPath, behind, is_path_behind, names_path}
+use Rattle.iceberg_metadata.specs.Location.{front_of, NamesPath, names_path}
 use Rattle.iceberg_metadata.proofs.ListLemmas.{both_true, both_are, all_from, among_Decides, distinct_Decides}
+use Rattle.iceberg_metadata.proofs.LocationLemmas.{names_Decides}
 
 -- ---- tests of lists
 
@@ -31,24 +26,6 @@ module _ {X : Type 0} (p : X → Bool) (P : X → Type 0) (same : (x : X) → De
 among_if_any : (ids : List ℤ) (id : Option ℤ) → Decides (is_among_if_any ids id) (IfSome id (λ i. Contains ids i))
 among_if_any ids None = (λ h. tt, λ h. refl)
 among_if_any ids (Some id) = among_Decides ids id
-
--- ---- paths
-
-behind_given : (front rest : List ℕ) → behind front (front ++ rest) ≡ Some rest
-behind_given front rest =
-    let same : bytes_eq (take (length front) (front ++ rest)) front ≡ true = (bytes_eq-Decides (take (length front) (front ++ rest)) front).1 (take-append_seam front rest) in
-    ap (λ b. cond b (Some (drop (length front) (front ++ rest))) None) same ∙ ap Some (drop-append_seam front rest)
-
-names_by : (front file : List ℕ) (b : Bool) → bytes_eq (take (length front) file) front ≡ b → ((rest : List ℕ) → file ≡ front ++ rest → IsPath rest) → is_path_behind (cond b (Some (drop (length front) file)) None) ≡ true
-names_by front file true is names =
-    let start : take (length front) file ≡ front = (bytes_eq-Decides (take (length front) file) front).0 is in
-    (path_decided (drop (length front) file)).1 (names (drop (length front) file) (sym (take-append-drop (length front) file) ∙ ap (λ s. s ++ drop (length front) file) start))
-names_by front file false is names = refl
-
-names_Decides : (location file : List ℕ) → Decides (names_path (front_of location) file) (NamesPath location file)
-names_Decides location file =
-    let front = front_of location in
-    (λ h rest is. (path_decided rest).0 (sym (ap (λ f. is_path_behind (behind front f)) is ∙ ap is_path_behind (behind_given front rest)) ∙ h), λ names. names_by front file (bytes_eq (take (length front) file) front) refl names)
 
 -- ---- all of it
 

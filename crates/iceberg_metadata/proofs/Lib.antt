@@ -3,6 +3,7 @@ pub mod ContentLemmas
 pub mod IdSetLemmas
 pub mod JudgedLemmas
 pub mod ListLemmas
+pub mod LocationLemmas
 pub mod NameLemmas
 pub mod PathLemmas
 pub mod StepLemmas

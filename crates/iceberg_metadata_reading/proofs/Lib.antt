@@ -1,4 +1,3 @@
 pub mod AgainLemmas
-pub mod LocationLemmas
 pub mod MalformedLemmas
 pub mod ReadLemmas

@@ -1,12 +1,12 @@
 //! What metadata names by an id, and the paths of its manifest lists.
 
-ghost use Rattle.std.specs.Prelude.{◌≡◌, map, option_map, IfOk};
+ghost use Rattle.std.specs.Prelude.{◌≡◌, map, IfOk};
 ghost use Rattle.std.specs.List.{list_all};
-ghost use Rattle.iceberg_metadata.specs.Location.{without_slash, front_of, behind, names_path};
+ghost use Rattle.iceberg_metadata.specs.Location.{names_path};
 ghost use Rattle.iceberg_metadata.specs.IdSets.{HoldsIds};
 ghost use Rattle.iceberg_metadata.specs.Judging.{is_among, is_among_if_any, are_held, is_consistent};
 
-use iceberg_metadata::{Metadata, Snapshot, Spec, id_set};
+use iceberg_metadata::{Metadata, Snapshot, Spec, after_front, id_set, location_front};
 use std::alloc::{AllocError, Global};
 use std::collections::BTreeSet;
 use table_history::path_form;
@@ -57,33 +57,10 @@ fn has_schemas(snapshots: &[Snapshot], schemas: &BTreeSet<i64>, ids: &[i64]) -> 
 
 // ---- paths
 
-/// The location without the slash at its end.
-fn without_slash(location: &[u8]) -> &[u8]
-    ensures { result.now ≡ without_slash location.now }
-{
-    location.strip_suffix(b"/").unwrap_or(location)
-}
-
-/// What each path in the table begins with.
-fn front(alloc: Global, location: &str) -> Result<Vec<u8>, AllocError>
-    ensures { IfOk result (λ f. f.items ≡ front_of location.now) }
-{
-    let mut front = Vec::from_slice(alloc, without_slash(location.as_bytes()))?;
-    front.push(b'/')?;
-    Ok(front)
-}
-
-/// What is left of a path behind a front that it begins with.
-fn behind<'a>(front: &[u8], path: &'a [u8]) -> Option<&'a [u8]>
-    ensures { option_map (λ r. r.now) result ≡ behind front.now path.now }
-{
-    path.strip_prefix(front)
-}
-
 fn names_path(front: &[u8], list: &str) -> bool
     ensures { result ≡ names_path front.now list.now }
 {
-    match behind(front, list.as_bytes()) {
+    match after_front(front, list.as_bytes()) {
         None => true,
         Some(rest) => path_form(rest),
     }
@@ -124,7 +101,7 @@ pub(crate) fn is_consistent(
     if !has_schemas(snapshots, &schema_set, schemas) {
         return Ok(false);
     }
-    let front = front(alloc, metadata.location.as_str())?;
+    let front = location_front(alloc, metadata.location.as_str())?;
     Ok(name_paths(front.as_slice(), snapshots))
 }
 
