@@ -19,10 +19,9 @@ use Rattle.table_history.specs.Path.{IsPath}
 use Rattle.table_history.specs.TypeTree.{ColumnTrees}
 use Rattle.table_history.specs.declared.table.Change.{Change}
 use Rattle.table_history.proofs.RowListLemmas.{Contains-cases, Contains-head, Contains-none, Contains-tail}
-use Rattle.iceberg_manifest.specs.Location.{front_of}
 use Rattle.iceberg_metadata.specs.Grammar.{IsConsistent, snapshot_ids, spec_ids}
 use Rattle.iceberg_metadata.specs.Judging.{are_distinct}
-use Rattle.iceberg_metadata.specs.Location.{NamesPath}
+use Rattle.iceberg_metadata.specs.Location.{NamesPath, front_of}
 use Rattle.iceberg_metadata.specs.Paths.{HasOtherPartition, HasOtherTransform, IsRenamed, current_kinds, current_schema, default_fields, held_schema, kinds_of, path_ids, source_kind, sources}
 use Rattle.iceberg_metadata.specs.Reading.{Shows, causes}
 use Rattle.iceberg_metadata.specs.Schemas.{HeldSchema}

@@ -1,20 +1,15 @@
 -- Sound metadata, as a test and as facts.
-use Rattle.std.proofs.Common.{◌≡◌, ℕ, ℤ, pos, List, [], ◌∷◌, ◌++◌, Bool, true, false, not, cond, Contains, Option, Some, None, Result, Ok, Err, length, take, drop, refl, sym, ap, subst, ◌∙◌, arith}
+use Rattle.std.proofs.Common.{◌≡◌, ℕ, ℤ, pos, List, [], ◌∷◌, Bool, true, false, not, Contains, Option, Some, None, Result, Ok, Err, refl, sym, ap, ◌∙◌, arith}
 use Rattle.std.specs.Prelude.{◌≤ℤ◌, ◌&&◌, int_lt, flat_map, IfSome}
 use Rattle.std.specs.Bool.{Decides}
 use Rattle.std.specs.Cmp.Lexicographic.{pointwise}
 use Rattle.std.specs.List.{list_all}
 use Rattle.std.specs.Ordering.{int_eq}
-use Rattle.std.specs.Str.{bytes_eq}
-use Rattle.std.proofs.Math.Seq.{drop-append_seam, take-append_seam}
 use Rattle.std.proofs.lemmas.Bool.{false≢true}
 use Rattle.std.proofs.lemmas.Bool.Decides.{Decides-int_eq}
 use Rattle.std.proofs.lemmas.Int.{ints}
-use Rattle.std.proofs.lemmas.List.{take-append-drop}
-use Rattle.std.proofs.lemmas.Slice.Eq.{bytes_eq-Decides, slice_eq-Decides}
-use Rattle.table_history.proofs.PathTests.{path_decided}
+use Rattle.std.proofs.lemmas.Slice.Eq.{slice_eq-Decides}
 use Rattle.table_history.proofs.RowListLemmas.{Contains-head, Contains-tail}
-use Rattle.table_history.specs.Path.{IsPath}
 use Rattle.table_history.specs.TypeEq.{columns_eq}
 use Rattle.table_history.specs.TypeEqLaws.{columns_eq-Decides}
 use Rattle.table_history.specs.TypeTree.{ColumnTrees}
@@ -23,13 +18,14 @@ use Rattle.schema_map.specs.declared.fault.MapError.{MapError}
 use Rattle.schema_iceberg.proofs.IcebergSound.{read_again}
 use Rattle.iceberg_metadata.specs.Grammar.{snapshot_ids}
 use Rattle.iceberg_metadata.specs.Judging.{are_distinct, is_among_if_any, is_renamed}
-use Rattle.iceberg_metadata.specs.Location.{NamesPath, behind, front_of, is_path_behind, names_path}
+use Rattle.iceberg_metadata.specs.Location.{front_of, names_path}
 use Rattle.iceberg_metadata.specs.Paths.{IsRenamed, path_ids}
 use Rattle.iceberg_metadata.specs.Schemas.{HeldSchema}
 use Rattle.iceberg_metadata.specs.Writing.{CanBeHeld, schema_data}
 use Rattle.iceberg_metadata.specs.declared.metadata.Metadata.{Metadata}
 use Rattle.iceberg_metadata.specs.declared.metadata.Snapshot.{Snapshot}
 use Rattle.iceberg_metadata.proofs.ListLemmas.{all_from, among_Decides, both_are, both_true, distinct_Decides, not_true}
+use Rattle.iceberg_metadata.proofs.LocationLemmas.{names_Decides}
 use Rattle.iceberg_metadata.proofs.PathLemmas.{renamed_Decides}
 use Rattle.iceberg_version.specs.Sound.{IsSoundMetadata, held_field_ids, held_schema_ids, is_read_again, is_same_schema, is_sound_metadata, is_sound_snapshot, is_upto}
 
@@ -80,22 +76,6 @@ upto_Decides last id = (
 among_if_any : (ids : List ℤ) (id : Option ℤ) → Decides (is_among_if_any ids id) (IfSome id (λ i. Contains ids i))
 among_if_any ids None = (λ h. tt, λ h. refl)
 among_if_any ids (Some id) = among_Decides ids id
-
-behind_given : (front rest : List ℕ) → behind front (front ++ rest) ≡ Some rest
-behind_given front rest =
-    let same : bytes_eq (take (length front) (front ++ rest)) front ≡ true = (bytes_eq-Decides (take (length front) (front ++ rest)) front).1 (take-append_seam front rest) in
-    ap (λ b. cond b (Some (drop (length front) (front ++ rest))) None) same ∙ ap Some (drop-append_seam front rest)
-
-names_by : (front file : List ℕ) (b : Bool) → bytes_eq (take (length front) file) front ≡ b → ((rest : List ℕ) → file ≡ front ++ rest → IsPath rest) → is_path_behind (cond b (Some (drop (length front) file)) None) ≡ true
-names_by front file true is names =
-    let start : take (length front) file ≡ front = (bytes_eq-Decides (take (length front) file) front).0 is in
-    (path_decided (drop (length front) file)).1 (names (drop (length front) file) (sym (take-append-drop (length front) file) ∙ ap (λ s. s ++ drop (length front) file) start))
-names_by front file false is names = refl
-
-names_Decides : (location file : List ℕ) → Decides (names_path (front_of location) file) (NamesPath location file)
-names_Decides location file =
-    let front = front_of location in
-    (λ h rest is. (path_decided rest).0 (sym (ap (λ f. is_path_behind (behind front f)) is ∙ ap is_path_behind (behind_given front rest)) ∙ h), λ names. names_by front file (bytes_eq (take (length front) file) front) refl names)
 
 -- ---- all of it
 

@@ -14,7 +14,7 @@ use Rattle.iceberg_manifest.specs.Containers.{StandsFor}
 use Rattle.iceberg_manifest.specs.Entry.{EntryData}
 use Rattle.iceberg_manifest.specs.Lists.{AreEach}
 use Rattle.iceberg_manifest.specs.ListWriting.{info_tree, list_meta, marker}
-use Rattle.iceberg_manifest.specs.Location.{front_of}
+use Rattle.iceberg_metadata.specs.Location.{front_of}
 use Rattle.iceberg_manifest.specs.Scans.{entries_of, infos_of}
 use Rattle.iceberg_manifest.specs.WrittenTypes.{list_type}
 use Rattle.iceberg_manifest.specs.declared.info.ManifestInfo.{ManifestInfo}

@@ -1,4 +1,3 @@
 pub mod EachLaws
-pub mod LocationLemmas
 pub mod LiveLaws
 pub mod MetadataPathLaws

@@ -9,7 +9,7 @@ use Rattle.table_history.specs.Path.{IsPath, IsPathOfAnyLength, is_path_of_any_l
 use Rattle.table_history.proofs.PathTests.{path_of_any_length_decided}
 use Rattle.iceberg_manifest.specs.Entry.{EntryData}
 use Rattle.iceberg_manifest.specs.Errors.{is_memory, error_of}
-use Rattle.iceberg_manifest.specs.Location.{front_of, behind}
+use Rattle.iceberg_metadata.specs.Location.{front_of, behind}
 use Rattle.iceberg_live.specs.Live.{IsInherited, IsRowOf, path_within, row_path, inherited, live_row, rows_in}
 use Rattle.iceberg_manifest.specs.Entry.{is_live}
 use Rattle.iceberg_live.specs.LiveRows.{AreLiveRows, LacksNumber, HasFault, IsFirstFault, live_rows_of}
@@ -19,7 +19,7 @@ use Rattle.iceberg_manifest.specs.declared.error.ManifestError.{ManifestError}
 use Rattle.iceberg_manifest.specs.declared.error.ManifestError.TheVariants as errors
 use Rattle.iceberg_manifest.specs.declared.info.ManifestInfo.{ManifestInfo}
 use Rattle.iceberg_live.specs.declared.live.LiveRow.{LiveRow}
-use Rattle.iceberg_live.proofs.LocationLemmas.{behind_found, behind_given}
+use Rattle.iceberg_metadata.proofs.LocationLemmas.{behind_found, behind_given}
 use Rattle.iceberg_live.proofs.EachLaws.{filter_passes, each_found, each_given, each_stops}
 
 -- ---- numbers

@@ -4,12 +4,12 @@ use Rattle.lake_basics.specs.Outcome.{GivesUnlessMemory}
 use Rattle.table_history.specs.Path.{IsPath, is_path}
 use Rattle.table_history.proofs.PathTests.{path_decided}
 use Rattle.iceberg_manifest.specs.Errors.{is_memory}
-use Rattle.iceberg_manifest.specs.Location.{front_of, NamesPath, behind}
+use Rattle.iceberg_metadata.specs.Location.{front_of, NamesPath, behind}
 use Rattle.iceberg_live.specs.MetadataPaths.{LiesInMetadata, IsMetadataPath, HasPathFault, in_table, metadata_path_of}
 use Rattle.iceberg_manifest.specs.declared.error.ManifestError.{ManifestError}
 use Rattle.iceberg_manifest.specs.declared.error.ManifestError.TheVariants as errors
 use Rattle.iceberg_manifest.proofs.ContainerLaws.{fails, same_ok, clash}
-use Rattle.iceberg_live.proofs.LocationLemmas.{behind_found, behind_given}
+use Rattle.iceberg_metadata.proofs.LocationLemmas.{behind_found, behind_given}
 
 -- ---- the folder `metadata`
 

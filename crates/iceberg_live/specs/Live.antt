@@ -5,7 +5,7 @@ use Rattle.lake_basics.specs.Outcome.{◌>>=◌, each}
 use Rattle.lake_basics.specs.declared.limits.TheConstants.{MAX_PATH_BYTES}
 use Rattle.table_history.specs.Path.{IsPath, is_path_of_any_length}
 use Rattle.iceberg_manifest.specs.Entry.{EntryData, is_live}
-use Rattle.iceberg_manifest.specs.Location.{front_of, behind}
+use Rattle.iceberg_metadata.specs.Location.{front_of, behind}
 use Rattle.iceberg_manifest.specs.declared.error.Fault.{Fault}
 use Rattle.iceberg_manifest.specs.declared.error.Fault.TheVariants.{Malformed, OutsideTable, LongPath}
 use Rattle.iceberg_manifest.specs.declared.info.ManifestInfo.{ManifestInfo}

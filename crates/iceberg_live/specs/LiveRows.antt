@@ -10,7 +10,7 @@ use Rattle.iceberg_manifest.specs.Errors.{error_of}
 use Rattle.iceberg_manifest.specs.Lists.{AreEach}
 use Rattle.iceberg_live.specs.Live.{IsRowOf, rows_in}
 use Rattle.iceberg_manifest.specs.Entry.{is_live}
-use Rattle.iceberg_manifest.specs.Location.{front_of}
+use Rattle.iceberg_metadata.specs.Location.{front_of}
 use Rattle.iceberg_manifest.specs.declared.error.ManifestError.{ManifestError}
 use Rattle.iceberg_manifest.specs.declared.error.ManifestError.TheVariants as errors
 use Rattle.iceberg_manifest.specs.declared.info.ManifestInfo.{ManifestInfo}

@@ -1,7 +1,7 @@
 -- The path in the table of a manifest list or a manifest (Iceberg specification, "Snapshots", `manifest-list`, and "Manifest Lists", `manifest_path`).
 use Rattle.std.specs.Prelude.{◌≡◌, ℕ, List, ◌++◌, codes, Option, None, Some, is_some, Result, Ok, Err, if◌then◌else◌}
 use Rattle.table_history.specs.Path.{IsPath, is_path}
-use Rattle.iceberg_manifest.specs.Location.{front_of, NamesPath, behind}
+use Rattle.iceberg_metadata.specs.Location.{front_of, NamesPath, behind}
 use Rattle.iceberg_manifest.specs.declared.error.ManifestError.{ManifestError}
 use Rattle.iceberg_manifest.specs.declared.error.ManifestError.TheVariants as errors
 

@@ -3,8 +3,8 @@
 #![tactic(auto)]
 
 mod live;
-mod location;
 mod metadata_file;
+mod text;
 
 pub use live::{LiveRow, Rows, live_rows};
 pub use metadata_file::metadata_path;

@@ -4,11 +4,12 @@ ghost use Rattle.std.specs.Prelude.{◌≡◌, List, ◌⊎◌, Ok, IfOk, IfErr,
 ghost use Rattle.lake_basics.specs.Outcome.{Gives, GivesUnlessMemory};
 ghost use Rattle.iceberg_manifest.specs.Errors.{is_memory, error_of};
 ghost use Rattle.iceberg_live.specs.LiveRows.{AreLiveRows, IsFirstFault, live_rows_of};
-ghost use Rattle.iceberg_manifest.specs.Location.{front_of};
+ghost use Rattle.iceberg_metadata.specs.Location.{front_of};
 ghost use Rattle.iceberg_live.specs.Live.{path_in_table as path_in_table_of, row_path as row_path_of, inherited as inherited_from, live_row as live_row_of, rows_in};
 
-use crate::location::{behind, front, text_of};
+use crate::text::text_of;
 use iceberg_manifest::{Entry, Fault, ManifestError, ManifestInfo};
+use iceberg_metadata::{after_front, location_front};
 use lake_basics::limits::MAX_PATH_BYTES;
 use lake_basics::{Items, ReadError, Text};
 use std::alloc::{AllocError, Global};
@@ -43,7 +44,7 @@ fn path_in_table(alloc: Global, rest: &[u8]) -> Result<Text, ReadError<Fault>>
 fn row_path(alloc: Global, front: &[u8], path: &Text) -> Result<Text, ReadError<Fault>>
     ensures { Gives (λ p. p) result (row_path_of front.now path.now) }
 {
-    match behind(front, path.as_bytes()) {
+    match after_front(front, path.as_bytes()) {
         None => Err(ReadError::Fault(Fault::OutsideTable)),
         Some(rest) => path_in_table(alloc, rest),
     }
@@ -145,7 +146,7 @@ fn found_rows(
 ) -> Result<Vec<LiveRow>, ReadError<Fault>>
     ensures { Gives (λ rs. rs.items) result (rows_in (front_of location.now) info.now entries.now) }
 {
-    let front = front(alloc, location)?;
+    let front = location_front(alloc, location)?;
     rows(alloc, front.as_slice(), info, entries)
 }
 

@@ -3,11 +3,12 @@
 ghost use Rattle.std.specs.Prelude.{◌≡◌, ℕ, List, ◌⊎◌, Err, IfOk, IfErr, MatchResult};
 ghost use Rattle.lake_basics.specs.Outcome.{GivesUnlessMemory};
 ghost use Rattle.iceberg_manifest.specs.Errors.{is_memory};
-ghost use Rattle.iceberg_manifest.specs.Location.{behind as behind_of};
+ghost use Rattle.iceberg_metadata.specs.Location.{behind};
 ghost use Rattle.iceberg_live.specs.MetadataPaths.{IsMetadataPath, HasPathFault, in_metadata as in_metadata_of, in_table as in_table_of, metadata_path_of};
 
-use crate::location::{behind, front, text_of};
+use crate::text::text_of;
 use iceberg_manifest::ManifestError;
+use iceberg_metadata::{after_front, location_front};
 use lake_basics::Text;
 use std::alloc::Global;
 use table_history::path_form;
@@ -18,7 +19,7 @@ fn in_metadata(alloc: Global, path: &[u8]) -> Result<Text, ManifestError>
     if !path_form(path) {
         return Err(ManifestError::Malformed);
     }
-    if behind(b"metadata/", path).is_none() {
+    if after_front(b"metadata/", path).is_none() {
         return Err(ManifestError::OutsideTable);
     }
     Ok(text_of(alloc, path)?)
@@ -26,9 +27,9 @@ fn in_metadata(alloc: Global, path: &[u8]) -> Result<Text, ManifestError>
 
 fn in_table(alloc: Global, front: &[u8], file: &Text) -> Result<Text, ManifestError>
     ensures { GivesUnlessMemory is_memory (λ p. p) result
-        (in_table_of (behind_of front.now file.now)) }
+        (in_table_of (behind front.now file.now)) }
 {
-    match behind(front, file.as_bytes()) {
+    match after_front(front, file.as_bytes()) {
         None => Err(ManifestError::OutsideTable),
         Some(path) => in_metadata(alloc, path),
     }
@@ -37,7 +38,7 @@ fn in_table(alloc: Global, front: &[u8], file: &Text) -> Result<Text, ManifestEr
 fn answer(alloc: Global, location: &str, file: &Text) -> Result<Text, ManifestError>
     ensures { GivesUnlessMemory is_memory (λ p. p) result (metadata_path_of location.now file.now) }
 {
-    let front = front(alloc, location)?;
+    let front = location_front(alloc, location)?;
     in_table(alloc, front.as_slice(), file)
 }
 

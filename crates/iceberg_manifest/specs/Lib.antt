@@ -11,5 +11,4 @@ pub mod ManifestWriting
 pub mod Containers
 pub mod Scans
 pub mod Lists
-pub mod Location
 pub mod Kinds

@@ -8,7 +8,7 @@ use Rattle.lake_store.specs.Disk.{Files}
 use Rattle.avro_value.specs.declared.api.TheConstants.{MAX_VALUES}
 use Rattle.iceberg_manifest.specs.Containers.{IsRefusedBy}
 use Rattle.iceberg_manifest.specs.Lists.{AreEach}
-use Rattle.iceberg_manifest.specs.Location.{front_of}
+use Rattle.iceberg_metadata.specs.Location.{front_of}
 use Rattle.iceberg_live.specs.MetadataPaths.{IsMetadataPath}
 use Rattle.iceberg_manifest.specs.Scans.{infos_of}
 use Rattle.iceberg_manifest.specs.declared.error.ManifestError.{ManifestError}

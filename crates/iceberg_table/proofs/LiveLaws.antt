@@ -8,7 +8,7 @@ use Rattle.std.proofs.lemmas.List.Elements.{Contains-append_cases, Contains-appe
 use Rattle.table_history.specs.Row.{Row}
 use Rattle.table_history.proofs.RowListLemmas.{Contains-cases, Contains-filter, Contains-head, Contains-none, Contains-tail}
 use Rattle.iceberg_manifest.specs.Entry.{EntryData}
-use Rattle.iceberg_manifest.specs.Location.{front_of}
+use Rattle.iceberg_metadata.specs.Location.{front_of}
 use Rattle.iceberg_live.specs.Live.{IsRowOf}
 use Rattle.iceberg_manifest.specs.Entry.{is_live}
 use Rattle.iceberg_manifest.specs.declared.info.ManifestInfo.{ManifestInfo}

@@ -19,7 +19,7 @@ use Rattle.table_history.specs.declared.table.Change.{Change}
 use Rattle.table_history.specs.declared.table.Commit.{Commit}
 use Rattle.iceberg_manifest.specs.Entry.{EntryData}
 use Rattle.iceberg_manifest.specs.Lists.{AreEach}
-use Rattle.iceberg_manifest.specs.Location.{front_of}
+use Rattle.iceberg_metadata.specs.Location.{front_of}
 use Rattle.iceberg_manifest.specs.ListWriting.{info_tree, list_meta, marker}
 use Rattle.iceberg_manifest.specs.ManifestWriting.{entry_tree, manifest_meta}
 use Rattle.iceberg_manifest.specs.WrittenTypes.{list_type, manifest_type}

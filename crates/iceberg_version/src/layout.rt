@@ -2,7 +2,7 @@
 
 ghost use Rattle.std.specs.Prelude.{◌≡◌, Contains, IfOk, IsSome, List, length, ℕ};
 ghost use Rattle.partition_map.specs.Columns.{column_kind};
-ghost use Rattle.iceberg_manifest.specs.Location.{front_of as front_at};
+ghost use Rattle.iceberg_metadata.specs.Location.{front_of as front_at};
 ghost use Rattle.iceberg_version.specs.Writing.{AreColumns, schema_json as json_of_schema, spec_json as json_of_fields};
 
 use crate::columns::part_columns;

@@ -1,11 +1,12 @@
 //! The names of the files that a commit writes.
 
 ghost use Rattle.std.specs.Prelude.{◌≡◌, ◌++◌, IfOk};
-ghost use Rattle.iceberg_manifest.specs.Location.{front_of as front_at, without_slash as without_slash_of};
+ghost use Rattle.iceberg_metadata.specs.Location.{front_of as front_at};
 ghost use Rattle.iceberg_version.specs.Manifests.{file_at as name_of_file};
 ghost use Rattle.iceberg_table.specs.Folder.{path_of};
 ghost use Rattle.iceberg_version.specs.Names.{list_name, manifest_name, staged_name};
 
+use iceberg_metadata::location_front;
 use lake_basics::Text;
 use std::alloc::{AllocError, Global};
 
@@ -30,19 +31,11 @@ pub fn manifest_path(alloc: Global, version: u32, number: u32) -> Result<Text, A
     Ok(Text::from_string(format!(in alloc; "metadata/lb-m-{version}-{number}.avro")?))
 }
 
-/// The location without the slash at its end.
-fn without_slash(location: &[u8]) -> &[u8]
-    ensures { result.now ≡ without_slash_of location.now }
-{
-    location.strip_suffix(b"/").unwrap_or(location)
-}
-
 /// What the names of the files of a table at this location begin with.
 pub(crate) fn front_of(alloc: Global, location: &Text) -> Result<Text, AllocError>
     ensures { IfOk result (λ front. front ≡ front_at location.now) }
 {
-    let mut front = Vec::from_slice(alloc, without_slash(location.as_bytes()))?;
-    front.push(b'/')?;
+    let front = location_front(alloc, location.as_str())?;
     match Text::from_bytes(alloc, front.as_slice()) {
         Ok(front) => Ok(front),
         Err(_) => Err(AllocError),

@@ -10,7 +10,7 @@ use Rattle.table_history.proofs.RowListLemmas.{Contains-filter, Contains-head, C
 use Rattle.iceberg_manifest.specs.Entry.{EntryData}
 use Rattle.iceberg_live.specs.Live.{IsRowOf}
 use Rattle.iceberg_manifest.specs.Entry.{is_live}
-use Rattle.iceberg_manifest.specs.Location.{front_of}
+use Rattle.iceberg_metadata.specs.Location.{front_of}
 use Rattle.iceberg_manifest.specs.declared.info.ManifestInfo.{ManifestInfo}
 use Rattle.iceberg_live.specs.declared.live.LiveRow.{LiveRow}
 use Rattle.iceberg_manifest.specs.declared.partition.PartColumn.{PartColumn}

@@ -15,7 +15,7 @@ use Rattle.iceberg_manifest.specs.ListReading.{infos_in, list_plan, list_row, li
 use Rattle.iceberg_manifest.specs.Lists.{AreEach}
 use Rattle.iceberg_live.specs.Live.{IsRowOf}
 use Rattle.iceberg_manifest.specs.Entry.{is_live}
-use Rattle.iceberg_manifest.specs.Location.{front_of}
+use Rattle.iceberg_metadata.specs.Location.{front_of}
 use Rattle.iceberg_manifest.specs.Scans.{flaw_error}
 use Rattle.iceberg_manifest.specs.declared.info.ManifestInfo.{ManifestInfo}
 use Rattle.iceberg_live.specs.declared.live.LiveRow.{LiveRow}

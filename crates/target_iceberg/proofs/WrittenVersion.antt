@@ -19,7 +19,7 @@ use Rattle.table_history.specs.TypeTree.{ColumnTrees, TypeTree, column, no_colum
 use Rattle.table_history.specs.declared.limit.LimitKind.{LimitKind}
 use Rattle.table_history.specs.declared.limit.LimitKind.TheVariants.{File, Versions}
 use Rattle.table_history.specs.declared.table.Commit.{Commit}
-use Rattle.iceberg_manifest.specs.Location.{front_of}
+use Rattle.iceberg_metadata.specs.Location.{front_of}
 use Rattle.iceberg_manifest.specs.declared.partition.PartColumn.{PartColumn}
 use Rattle.iceberg_ancestry.specs.Ancestry.{FormsCycle}
 use Rattle.iceberg_metadata.specs.Judging.{metadata_of}

@@ -14,7 +14,7 @@ use Rattle.iceberg_manifest.specs.Lists.{AreEach}
 use Rattle.iceberg_live.specs.Live.{IsInherited, IsRowOf}
 use Rattle.iceberg_manifest.specs.Entry.{is_live}
 use Rattle.iceberg_live.specs.LiveRows.{AreLiveRows, HasFault, IsFirstFault, LacksNumber}
-use Rattle.iceberg_manifest.specs.Location.{front_of}
+use Rattle.iceberg_metadata.specs.Location.{front_of}
 use Rattle.iceberg_live.specs.MetadataPaths.{HasPathFault, IsMetadataPath}
 use Rattle.iceberg_manifest.specs.Scans.{entries_of, infos_of}
 use Rattle.iceberg_manifest.specs.declared.error.ManifestError.{ManifestError}

@@ -1,5 +1,0 @@
-use Rattle.iceberg_live.proofs.LocationLemmas.{strip_is}
-use Rattle.iceberg_live.proofs.location.behind.Goals as goal
-
-pub returns : goal.returns
-returns c = strip_is c.args.front.now c.args.path.now c.strip_prefix.result c.strip_prefix.ensures.cases
