@@ -109,6 +109,7 @@ module _ {S : Type 0} (store : Ghosts S) (source : SourceMeaning) (target : Targ
     refusal_ends not_foreign files readable served roomy status.SinkFault is fault = absurd is
     refusal_ends not_foreign files readable served roomy (status.Behind kind at head) is fault = tt
     refusal_ends not_foreign files readable served roomy (status.Differs kind path) is fault = tt
+    refusal_ends not_foreign files readable served roomy (status.Stale path) is fault = absurd is
 
     given_ends : (line : List ℕ) (due : Status) → IsCheckEnd due → Tells sink out_old out_new line due given → (Rose (sink.faults out_old) (sink.faults out_new) → ⊥) → IsCheckEnd given
     given_ends line due end told no_sink = ⊎_elim (λ is. subst IsCheckEnd (sym is) end) (λ other. ⊎_elim (λ memory. subst IsCheckEnd (sym memory) tt) (λ failed. absurd (no_sink failed.1.1.0)) other) told.status

@@ -63,6 +63,7 @@ few_of_seen view kind head seen (status.Contested other) why = absurd why
 few_of_seen view kind head seen status.StoreFault why = absurd why
 few_of_seen view kind head seen status.SinkFault why = absurd why
 few_of_seen view kind head seen (status.Differs other path) why = absurd why
+few_of_seen view kind head seen (status.Stale path) why = absurd why
 
 few_of_compared : (kind : Kind) (view : View) (table : Table) (r : Result Same Status) → IsCompared kind view table r → IsFewOfCheck kind (Some r)
 few_of_compared kind view table (Ok same) is = tt
@@ -78,6 +79,7 @@ few_of_compared kind view table (Err (status.Foreign other path)) is = absurd is
 few_of_compared kind view table (Err (status.Contested other)) is = absurd is
 few_of_compared kind view table (Err status.StoreFault) is = absurd is
 few_of_compared kind view table (Err status.SinkFault) is = absurd is
+few_of_compared kind view table (Err (status.Stale path)) is = absurd is
 few_of_compared kind view table (Err (status.Behind other at position)) is = absurd is
 
 module _ {S F T K : Type 0} (store : Ghosts S) (source : sources.Ghosts F) (f : F) (target : targets.Ghosts T K) (t : T) (laws : Laws source f target t)
@@ -114,6 +116,7 @@ module _ {S F T K : Type 0} (store : Ghosts S) (source : sources.Ghosts F) (f : 
     seen_checked status.StoreFault why = absurd why
     seen_checked status.SinkFault why = absurd why
     seen_checked (status.Differs kind path) why = absurd why
+    seen_checked (status.Stale path) why = absurd why
 
     pub seen_foreign : (e : Status) → IsSeenRefusal (target.kind t) (target.view t) head seen e → (path : List ℕ) → target.is_foreign t (source.kind f) files path → Before (status.Foreign (target.kind t) path) (Some (Err e))
     seen_foreign status.Memory why path foreign = inr tt
@@ -129,6 +132,7 @@ module _ {S F T K : Type 0} (store : Ghosts S) (source : sources.Ghosts F) (f : 
     seen_foreign status.StoreFault why path foreign = absurd why
     seen_foreign status.SinkFault why path foreign = absurd why
     seen_foreign (status.Differs kind other) why path foreign = absurd why
+    seen_foreign (status.Stale other) why path foreign = absurd why
 
     pub seen_behind : (e : Status) → IsSeenRefusal (target.kind t) (target.view t) head seen e → (other : Head) (at : Option (List ℕ)) → StandsBehind (source_meaning source f) (target_facts target t) files other at → Before (status.Behind (target.kind t) at other.position) (Some (Err e))
     seen_behind status.Memory why other at stands = inr tt
@@ -149,6 +153,7 @@ module _ {S F T K : Type 0} (store : Ghosts S) (source : sources.Ghosts F) (f : 
     seen_behind status.StoreFault why other at stands = absurd why
     seen_behind status.SinkFault why other at stands = absurd why
     seen_behind (status.Differs kind path) why other at stands = absurd why
+    seen_behind (status.Stale path) why other at stands = absurd why
 
   -- a run that only read, and answered so
   pub check_of : (old new : S) (answer : CheckAnswer) → (store.tells → OnlyReads store old new) → FailsBy store old new (answer ≡ Some (Err status.StoreFault)) → (B : Type 0) → IsUncontestedBy store old new B → IsFewOfCheck (target.kind t) answer
@@ -223,6 +228,7 @@ module _ {S F T K : Type 0} (store : Ghosts S) (source : sources.Ghosts F) (f : 
       compared_checked (Err (status.Contested kind)) is = absurd is
       compared_checked (Err status.StoreFault) is = absurd is
       compared_checked (Err status.SinkFault) is = absurd is
+      compared_checked (Err (status.Stale path)) is = absurd is
       compared_checked (Err (status.Behind kind at position)) is = absurd is
 
   compared_no_fault : (view : View) (table : Table) (r : Result Same Status) → IsCompared (target.kind t) view table r → ◌≡◌ {A = CheckAnswer} (Some r) (Some (Err status.StoreFault)) → ⊥

@@ -57,6 +57,7 @@ not_sink_first status.StoreFault next never other = tt
 not_sink_first status.SinkFault next never other = never
 not_sink_first (status.Behind kind at head) next never other = tt
 not_sink_first (status.Differs kind path) next never other = tt
+not_sink_first (status.Stale path) next never other = tt
 
 not_sink_behind : (so_far last : Status) → IsNotSink so_far → IsNotSink last → IsNotSink (status_behind so_far last)
 not_sink_behind so_far status.Done never other = not_sink_first so_far status.Done never other
@@ -72,6 +73,7 @@ not_sink_behind so_far status.StoreFault never other = tt
 not_sink_behind so_far status.SinkFault never other = other
 not_sink_behind so_far (status.Behind kind at head) never other = not_sink_first so_far (status.Behind kind at head) never other
 not_sink_behind so_far (status.Differs kind path) never other = not_sink_first so_far (status.Differs kind path) never other
+not_sink_behind so_far (status.Stale path) never other = not_sink_first so_far (status.Stale path) never other
 
 not_sink : (target : Kind) (e : Status) → IsOfSync target e → IsNotSink e
 not_sink target status.Done few = tt
@@ -87,6 +89,7 @@ not_sink target status.StoreFault few = tt
 not_sink target status.SinkFault few = few
 not_sink target (status.Behind kind at head) few = tt
 not_sink target (status.Differs kind path) few = tt
+not_sink target (status.Stale path) few = tt
 
 not_sink_answer : (target : Kind) (answer : Answer) → IsFew target answer → IsNotSink (answer_status answer)
 not_sink_answer target None few = tt
@@ -112,6 +115,7 @@ memory_first target status.StoreFault few never = absurd (never refl)
 memory_first target status.SinkFault few never = absurd few
 memory_first target (status.Behind kind at head) few never = refl
 memory_first target (status.Differs kind path) few never = refl
+memory_first target (status.Stale path) few never = refl
 
 memory_before : (target : Kind) (answer : Answer) → IsFew target answer → ¬ (answer ≡ Some (Err status.StoreFault)) → status_behind status.Memory (answer_status answer) ≡ status.Memory
 memory_before target None few never = refl
@@ -133,6 +137,7 @@ done_but target status.StoreFault few complete = inl (complete (λ is. cc is))
 done_but target status.SinkFault few complete = inl (complete (λ is. cc is))
 done_but target (status.Behind kind at head) few complete = inl (complete (λ is. cc is))
 done_but target (status.Differs kind path) few complete = inl (complete (λ is. cc is))
+done_but target (status.Stale path) few complete = inl (complete (λ is. cc is))
 
 done_status : (answer : Answer) → IsDone answer → answer_status answer ≡ status.Done
 done_status None done = absurd done
@@ -161,6 +166,7 @@ other_ends Idle source first second mode now files can read status.StoreFault en
 other_ends Idle source first second mode now files can read status.SinkFault end is = absurd end
 other_ends Idle source first second mode now files can read (status.Behind kind at head) end is = absurd end
 other_ends Idle source first second mode now files can read (status.Differs kind path) end is = absurd end
+other_ends Idle source first second mode now files can read (status.Stale path) end is = absurd end
 
 -- What can be done of a target is done, by its answer, by that of the other and by the status that is due.
 one_done : (Idle : Type 0) (source : SourceMeaning) (target other : TargetFacts) (mode : Mode) (now : ℕ) (files : Files) (answer beside : Answer) (due given : Status)

@@ -61,6 +61,7 @@ early_reads source target files status.StoreFault early is = is
 early_reads source target files status.SinkFault early is = is
 early_reads source target files (status.Behind kind at head) early is = is
 early_reads source target files (status.Differs kind path) early is = is
+early_reads source target files (status.Stale path) early is = is
 
 look_reads : (target : Kind) (e : Status) → IsOfLook target e → IsOfSource e → ⊥
 look_reads target status.Done look is = is
@@ -78,6 +79,7 @@ look_reads target status.StoreFault look is = is
 look_reads target status.SinkFault look is = is
 look_reads target (status.Behind kind at head) look is = is
 look_reads target (status.Differs kind path) look is = is
+look_reads target (status.Stale path) look is = is
 
 -- nor is what applying a plan refuses
 pub applied_reads : (kind : Kind) (r : Result Report TargetError) → IsRefused IsOfSource (Some (answer_of_target kind r)) → ⊥
@@ -111,6 +113,7 @@ done_behind status.StoreFault = refl
 done_behind status.SinkFault = refl
 done_behind (status.Behind kind at head) = refl
 done_behind (status.Differs kind path) = refl
+done_behind (status.Stale path) = refl
 
 -- no file changed where the source was refused
 idle_of_source : (Idle : Type 0) (source : SourceMeaning) (target : TargetFacts) (mode : Mode) (now : ℕ) (files : Files) (answer : Answer) → IsCaused Idle source target mode now files answer → IsRefused IsOfSource answer → Idle
@@ -134,6 +137,7 @@ idle_of_source Idle source target mode now files (Some (Err e)) caused is = by_s
     by_status status.SinkFault caused is = absurd is
     by_status (status.Behind kind at head) caused is = absurd is
     by_status (status.Differs kind path) caused is = absurd is
+    by_status (status.Stale path) caused is = absurd is
 
 late_answer : (source : SourceMeaning) (target : TargetFacts) (mode : Mode) (now : ℕ) (files : Files) (r : Result Report Status) → IfErr r (IsLate source target mode now files) → CameLate source target mode now files (Some r)
 late_answer source target mode now files (Ok report) late = tt
@@ -181,6 +185,7 @@ late_own source target mode now a b unfit passed status.StoreFault late = tt
 late_own source target mode now a b unfit passed status.SinkFault late = tt
 late_own source target mode now a b unfit passed (status.Behind kind at head) late = tt
 late_own source target mode now a b unfit passed (status.Differs kind path) late = tt
+late_own source target mode now a b unfit passed (status.Stale path) late = tt
 
 -- a line by what its target and its answer are
 pub told_as : {O : Type 0} (sink : sinks.Ghosts O) (old new : O) (kind is : Kind) (answer given : Result Report Status) (status : Status) → kind ≡ is → answer ≡ given → Tells sink old new (answer_line kind (Some answer)) (answer_status (Some answer)) status

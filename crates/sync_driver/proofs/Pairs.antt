@@ -49,6 +49,7 @@ said_on status.StoreFault never = tt
 said_on status.SinkFault never = absurd (never tt)
 said_on (status.Behind kind at head) never = tt
 said_on (status.Differs kind path) never = tt
+said_on (status.Stale path) never = tt
 
 -- a line less
 said_before : (so_far last : Status) → IsSaid (status_behind so_far last) → IsSaid last
@@ -65,6 +66,7 @@ said_before so_far status.StoreFault said = tt
 said_before so_far status.SinkFault said = said
 said_before so_far (status.Behind kind at head) said = tt
 said_before so_far (status.Differs kind path) said = tt
+said_before so_far (status.Stale path) said = tt
 
 behind_done : (so_far : Status) → status_behind so_far status.Done ≡ so_far
 behind_done status.Done = refl
@@ -80,6 +82,7 @@ behind_done status.StoreFault = refl
 behind_done status.SinkFault = refl
 behind_done (status.Behind kind at head) = refl
 behind_done (status.Differs kind path) = refl
+behind_done (status.Stale path) = refl
 
 module _ {O : Type 0} (sink : sinks.Ghosts O) where
   -- with no line behind it
@@ -141,6 +144,7 @@ module _ {O : Type 0} (sink : sinks.Ghosts O) where
       by_status status.SinkFault is at = inr (inr is)
       by_status (status.Behind kind position head) is at = absurd at
       by_status (status.Differs kind path) is at = absurd at
+      by_status (status.Stale path) is at = absurd at
 
       by_answer : (a : Answer) → given ≡ answer_status a → IsAtOnce (answer_status a) → IsRefused IsEnd a ⊎ IsCut given
       by_answer None is at = absurd at

@@ -9,7 +9,7 @@ use Rattle.sync_driver.specs.declared.checking.Same.{Same}
 use Rattle.target_sync.specs.declared.status.Side.{Side}
 use Rattle.target_sync.specs.declared.status.Side.TheVariants.{Source, Target}
 use Rattle.target_sync.specs.declared.status.Status.{Status}
-use Rattle.target_sync.specs.declared.status.Status.TheVariants.{Done, Memory, Usage, Absent, Malformed, Unsupported, Limit, Foreign, Contested, StoreFault, SinkFault, Behind, Differs}
+use Rattle.target_sync.specs.declared.status.Status.TheVariants.{Done, Memory, Usage, Absent, Malformed, Unsupported, Limit, Foreign, Contested, StoreFault, SinkFault, Behind, Differs, Stale}
 
 abbrev pub side_word : Side → List ℕ
 side_word Source = codes "source"
@@ -38,6 +38,7 @@ refusal_line StoreFault = line (codes "status 9: StoreFault")
 refusal_line SinkFault = []
 refusal_line (Behind target at head) = line (kind_word target ++ (codes ": status 11: Behind " ++ (position_word at ++ (codes " of " ++ head))))
 refusal_line (Differs target path) = line (kind_word target ++ (codes ": status 12: Differs " ++ path))
+refusal_line (Stale path) = line (codes "delta: status 14: Stale " ++ path)
 
 -- the line of a commit that is pending behind the source's head, where there is one
 abbrev pub pending_line : Option (List ℕ) → List ℕ

@@ -118,6 +118,14 @@ fn differs_line(alloc: Global, target: Kind, path: &Text) -> Result<Vec<u8>, All
     line_of_text(alloc, text.as_str())
 }
 
+fn stale_line(alloc: Global, path: &Text) -> Result<Vec<u8>, AllocError>
+    ensures { IfOk result (λ bytes. bytes.items ≡ line (codes "delta: status 14: Stale " ++ path.now)) }
+{
+    let path = path.as_str();
+    let text = format!(in alloc; "delta: status 14: Stale {path}")?;
+    line_of_text(alloc, text.as_str())
+}
+
 /// The line of a command that ends so, where it isn't done. Want of memory and a fault of the output have none.
 pub(crate) fn line_of_refusal(alloc: Global, status: &Status) -> Result<Vec<u8>, AllocError>
     ensures { IfOk result (λ bytes. bytes.items ≡ refusal_line status.now) }
@@ -144,6 +152,7 @@ pub(crate) fn line_of_refusal(alloc: Global, status: &Status) -> Result<Vec<u8>,
         Status::StoreFault => line_of_text(alloc, "status 9: StoreFault"),
         Status::Behind { target, at, head } => behind_line(alloc, *target, at, head),
         Status::Differs { target, path } => differs_line(alloc, *target, path),
+        Status::Stale { path } => stale_line(alloc, path),
     }
 }
 

@@ -46,6 +46,7 @@ refusal_as Idle Other from source target mode now files status.StoreFault is = i
 refusal_as Idle Other from source target mode now files status.SinkFault is = is
 refusal_as Idle Other from source target mode now files (status.Behind kind at head) is = is
 refusal_as Idle Other from source target mode now files (status.Differs kind path) is = is
+refusal_as Idle Other from source target mode now files (status.Stale path) is = is
 
 pub caused_as : (Idle Other : Type 0) → (Idle → Other) → (source : SourceMeaning) (target : TargetFacts) (mode : Mode) (now : ℕ) (files : Files) (answer : Answer) → IsCaused Idle source target mode now files answer → IsCaused Other source target mode now files answer
 caused_as Idle Other from source target mode now files None is = from is

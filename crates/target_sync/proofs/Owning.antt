@@ -264,6 +264,7 @@ module _ (source : SourceMeaning) (laws : SourceLaws source) (faults : FaultLaws
   refusal_own Idle status.SinkFault is = is
   refusal_own Idle (status.Behind kind at head) is = is
   refusal_own Idle (status.Differs kind path) is = is
+  refusal_own Idle (status.Stale path) is = is
 
   pub caused_own : (Idle : Type 0) (answer : Answer) → IsCaused Idle source target mode now a answer → IsCaused Idle source target mode now b answer
   caused_own Idle None is = is
@@ -286,6 +287,7 @@ module _ (source : SourceMeaning) (laws : SourceLaws source) (faults : FaultLaws
   came_before_own status.SinkFault is = absurd is
   came_before_own (status.Behind kind at head) is = absurd is
   came_before_own (status.Differs kind path) is = absurd is
+  came_before_own (status.Stale path) is = absurd is
 
   pub status_own : (due : Status) (answer : Answer) → IsStatus source target a due answer → IsStatus source target b due answer
   status_own due None is = is
@@ -308,6 +310,7 @@ module _ (source : SourceMeaning) (laws : SourceLaws source) (faults : FaultLaws
   absence_own status.SinkFault is = absurd is
   absence_own (status.Behind kind at head) is = absurd is
   absence_own (status.Differs kind path) is = absurd is
+  absence_own (status.Stale path) is = absurd is
 
   pub absent_own : (answer : Answer) → IsAbsent None source a answer → IsAbsent None source b answer
   absent_own None is = is

@@ -70,6 +70,7 @@ module _ (source : SourceMeaning) (target : TargetFacts) (mode : Mode) (now : �
   refusal_of_early has status.SinkFault is = absurd is
   refusal_of_early has (status.Behind kind at head) is = absurd is
   refusal_of_early has (status.Differs kind path) is = absurd is
+  refusal_of_early has (status.Stale path) is = absurd is
 
   -- the answer of inspecting is that the target is foreign, where it is so, or it comes before
   pub foreign_of_early : HasHead source files → ((p q : List ℕ) → target.is_foreign source.kind files p → target.is_foreign source.kind files q → p ≡ q) → (at : List ℕ) → target.is_foreign source.kind files at
@@ -89,6 +90,7 @@ module _ (source : SourceMeaning) (target : TargetFacts) (mode : Mode) (now : �
   foreign_of_early has one_path at foreign status.SinkFault is = absurd is
   foreign_of_early has one_path at foreign (status.Behind kind position head) is = absurd is
   foreign_of_early has one_path at foreign (status.Differs kind path) is = absurd is
+  foreign_of_early has one_path at foreign (status.Stale path) is = absurd is
 
   -- what is read of the source has no fault, so only memory or the store
   pub before_of_read : ((e : SourceError) → IsReadFault source target mode files e → ⊥) → (e : SourceError) → IsReadRefusal (IsReadFault source target mode files) e → CameBefore source target files (status_of_source e)
@@ -164,6 +166,7 @@ module _ (source : SourceMeaning) (target : TargetFacts) (mode : Mode) (now : �
   only_memory Idle status.SinkFault is fault contest = absurd is
   only_memory Idle (status.Behind kind at head) is fault contest = absurd is
   only_memory Idle (status.Differs kind path) is fault contest = absurd is
+  only_memory Idle (status.Stale path) is fault contest = absurd is
 
 -- ---- refusals that come behind inspecting
 

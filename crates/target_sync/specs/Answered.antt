@@ -81,6 +81,7 @@ IsRefusal Idle source target mode now files status.StoreFault = Unit {0}
 IsRefusal Idle source target mode now files status.SinkFault = ⊥
 IsRefusal Idle source target mode now files (status.Behind kind at head) = ⊥
 IsRefusal Idle source target mode now files (status.Differs kind path) = ⊥
+IsRefusal Idle source target mode now files (status.Stale path) = ⊥
 
 -- a refusal of a sync with a target of this format, also where the store tells nothing
 abbrev pub IsOfSync : Kind → Status → Type 0

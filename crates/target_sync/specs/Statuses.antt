@@ -1,7 +1,7 @@
 -- The exit status of each answer.
 use Rattle.std.specs.Prelude.{ℕ}
 use Rattle.target_sync.specs.declared.status.Status.{Status}
-use Rattle.target_sync.specs.declared.status.Status.TheVariants.{Done, Memory, Usage, Absent, Malformed, Unsupported, Limit, Foreign, Contested, StoreFault, SinkFault, Behind, Differs}
+use Rattle.target_sync.specs.declared.status.Status.TheVariants.{Done, Memory, Usage, Absent, Malformed, Unsupported, Limit, Foreign, Contested, StoreFault, SinkFault, Behind, Differs, Stale}
 
 abbrev pub number_of : Status → ℕ
 number_of Done = 0
@@ -17,3 +17,4 @@ number_of StoreFault = 9
 number_of SinkFault = 10
 number_of (Behind target at head) = 11
 number_of (Differs target path) = 12
+number_of (Stale path) = 14

@@ -63,6 +63,10 @@ pub enum Status {
         target: Kind,
         path: Text,
     },
+    /// The log compaction at the path doesn't say what its commits say.
+    Stale {
+        path: Text,
+    },
 }
 
 impl Status {
@@ -84,6 +88,7 @@ impl Status {
             Status::SinkFault => 10,
             Status::Behind { .. } => 11,
             Status::Differs { .. } => 12,
+            Status::Stale { .. } => 14,
         }
     }
 }
