@@ -11,14 +11,12 @@ use Rattle.table_history.specs.TypeTree.{ColumnTrees}
 use Rattle.std.specs.Int.{int_max}
 use Rattle.schema_map.specs.IcebergFits.{FitsIceberg}
 use Rattle.schema_map.specs.Paths.{column_paths}
-use Rattle.schema_map.specs.declared.fault.MapError.{MapError}
-use Rattle.schema_map.specs.declared.fault.MapError.TheVariants as map_errors
-use Rattle.iceberg_field_ids.specs.Ids.{HasNoIds, PassesGreatest, ids_for}
+use Rattle.iceberg_field_ids.specs.Ids.{ids_for}
 use Rattle.schema_map.specs.Image.{wide_columns}
-use Rattle.iceberg_metadata.specs.Paths.{PathId, current_schema, held_schema}
+use Rattle.iceberg_metadata.specs.Paths.{current_schema, held_schema}
 use Rattle.iceberg_metadata.specs.Schemas.{HeldSchema}
 use Rattle.iceberg_metadata.specs.declared.metadata.Metadata.{Metadata}
-use Rattle.iceberg_version.specs.Schemas.{AreNextSchemas, IsSchemaRefusal, Schemas, error_of_ids, known_ids, with_schemas}
+use Rattle.iceberg_version.specs.Schemas.{AreNextSchemas, Schemas, known_ids, with_schemas}
 
 pub found_at : (schemas : List HeldSchema) (place : ℕ) (id : ℤ) (held : HeldSchema) → place < length schemas → held ≡ get_or schemas place held → int_eq held.0 id ≡ true → held_schema (drop place schemas) id ≡ held_schema schemas id → slice_get schemas place ≡ held_schema schemas id
 found_at schemas place id held within is named before =
@@ -29,15 +27,6 @@ found_at schemas place id held within is named before =
 
 pub same_columns : (a b : ColumnTrees) (found : Bool) → found ≡ columns_eq a b → (IsTrue found → a ≡ b) × (a ≡ b → IsTrue found)
 same_columns a b found is = let d = columns_eq-Decides a b in (λ t. d.0 (sym is ∙ t), λ e. is ∙ d.1 e)
-
--- Without field ids a schema is refused, and where a new id would pass the greatest for no other cause.
-pub refusal_is : (m : Metadata) (stated : ColumnTrees) (pairs : List PathId) (last : ℤ) (e : MapError) → pairs ≡ known_ids m → last ≡ m.last_column_id → HasNoIds pairs last (column_paths stated) e → IsSchemaRefusal m stated (error_of_ids e)
-refusal_is m stated pairs last map_errors.Memory are is none = tt
-refusal_is m stated pairs last map_errors.BadSchema are is none = absurd none
-refusal_is m stated pairs last (map_errors.SchemaType name) are is none = absurd none
-refusal_is m stated pairs last (map_errors.AvroName name) are is none = absurd none
-refusal_is m stated pairs last (map_errors.Limit which) are is none =
-    (refl, refl, subst (λ (k : List PathId). PassesGreatest k m.last_column_id (column_paths stated)) are (subst (λ (l : ℤ). PassesGreatest pairs l (column_paths stated)) is none.1))
 
 -- ---- the schemas behind a commit
 
