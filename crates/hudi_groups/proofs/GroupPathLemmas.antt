@@ -13,7 +13,7 @@ use Rattle.std.specs.declared.alloc.Global.{Global}
 use Rattle.table_history.specs.RowMap.{Key, key_eq}
 use Rattle.table_history.specs.Rows.{HasDistinctPaths, SameRows, row_at}
 use Rattle.table_history.specs.declared.row.FileRow.{FileRow}
-use Rattle.table_history.proofs.RowListLemmas.{Contains-none, Contains-head, Contains-one, Contains-tail, Contains-cases, Contains-filter, filter_contains, distinct_filter, row_at-found, row_at-itself, all_at}
+use Rattle.table_history.proofs.RowListLemmas.{Contains-none, Contains-head, Contains-one, Contains-tail, Contains-cases, Contains-filter, filter_contains, row_at-found, row_at-itself, all_at}
 use Rattle.hudi_groups.specs.declared.form.Form.{Form}
 use Rattle.hudi_groups.specs.declared.form.Form.TheVariants.{External}
 use Rattle.hudi_groups.specs.Files.{group_name}
@@ -63,7 +63,7 @@ module _ (form : Form) (rows : List FileRow) where
   one_distinct None = distinct_none
   one_distinct (Some r) = distinct_cons r [] (λ s there same. Contains-none s there) distinct_none
 
-  row_in_group-is : (q path : List ℕ) (row : FileRow) → Contains (row_in_group form rows q path) row → IsRowAt q path row
+  pub row_in_group-is : (q path : List ℕ) (row : FileRow) → Contains (row_in_group form rows q path) row → IsRowAt q path row
   row_in_group-is q path row h =
       ⊎_elim
       (λ t.
@@ -73,13 +73,13 @@ module _ (form : Form) (rows : List FileRow) where
       (λ n. absurd (Contains-none row (subst (λ l. Contains l row) (cond-false (bytes_eq (group_name form path) q) (one_or_none (row_at rows path)) [] n) h)))
       (cases_Bool (bytes_eq (group_name form path) q))
 
-  row_in_group-has : (q path : List ℕ) (row : FileRow) → HasDistinctPaths rows → IsRowAt q path row → Contains (row_in_group form rows q path) row
+  pub row_in_group-has : (q path : List ℕ) (row : FileRow) → HasDistinctPaths rows → IsRowAt q path row → Contains (row_in_group form rows q path) row
   row_in_group-has q path row distinct h =
       let at : row_at rows path ≡ Some row = ap (row_at rows) (sym h.1) ∙ row_at-itself rows row distinct h.0 in
       let t : bytes_eq (group_name form path) q ≡ true = (bytes_eq-Decides (group_name form path) q).1 (ap (group_name form) (sym h.1) ∙ h.2) in
       subst (λ l. Contains l row) (sym (cond-true (bytes_eq (group_name form path) q) (one_or_none (row_at rows path)) [] t)) (subst (λ o. Contains (one_or_none o) row) (sym at) (Contains-head row []))
 
-  row_in_group-distinct : (q path : List ℕ) → HasDistinctPaths (row_in_group form rows q path)
+  pub row_in_group-distinct : (q path : List ℕ) → HasDistinctPaths (row_in_group form rows q path)
   row_in_group-distinct q path =
       ⊎_elim
       (λ t. subst HasDistinctPaths (sym (cond-true (bytes_eq (group_name form path) q) (one_or_none (row_at rows path)) [] t)) (one_distinct (row_at rows path)))
@@ -163,9 +163,3 @@ module _ (time : List ℕ) (form : Form) (named : form ≡ External time) (rows 
       → IfOk r (λ _. IsDistinct key_eq groups.keys) → IfOk r (λ v. HasDistinctPaths v.items)
   at_paths_apart (Ok v) is unique = subst HasDistinctPaths (sym is) (at_paths-distinct form rows groups.keys unique)
   at_paths_apart (Err e) is unique = tt
-
--- ---- the answer of a search of all rows
-pub filter_apart : {E : Type 0} (p : FileRow → Bool) (rows : List FileRow) (r : Result (Vec FileRow Global) E) → IfOk r (λ v. v.items ≡ filter p rows)
-    → HasDistinctPaths rows → IfOk r (λ v. HasDistinctPaths v.items)
-filter_apart p rows (Ok v) is distinct = subst HasDistinctPaths (sym is) (distinct_filter p rows distinct)
-filter_apart p rows (Err e) is distinct = tt

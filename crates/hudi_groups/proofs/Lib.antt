@@ -1,5 +1,6 @@
 pub mod AnyLemmas
 pub mod GroupChangeLemmas
+pub mod GroupIndexLemmas
 pub mod GroupLemmas
 pub mod GroupPathLemmas
 pub mod GroupSetLemmas

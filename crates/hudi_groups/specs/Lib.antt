@@ -1,3 +1,4 @@
 pub mod Files
 pub mod Group
+pub mod GroupIndex
 pub mod GroupSets

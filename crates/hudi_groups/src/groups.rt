@@ -1,11 +1,9 @@
 //! The file groups that an instant writes and replaces.
 
-ghost use Rattle.std.specs.Prelude.{◌≡◌, ◌||◌, ◌++◌, ℕ, List, filter, reverse, IfOk, OnOk};
+ghost use Rattle.std.specs.Prelude.{◌≡◌, ◌||◌, ◌++◌, ℕ, List, reverse, IfOk};
 ghost use Rattle.std.specs.List.{list_any, IsDistinct};
-ghost use Rattle.std.specs.Str.{bytes_eq};
 ghost use Rattle.table_history.specs.Path.{is_slash};
 ghost use Rattle.table_history.specs.RowMap.{key_eq};
-ghost use Rattle.table_history.specs.Rows.{HasDistinctPaths, SameRows};
 ghost use Rattle.hudi_groups.specs.Group.{joined};
 ghost use Rattle.hudi_groups.specs.Files.{group_name};
 ghost use Rattle.hudi_groups.specs.GroupSets.{has_group, is_row_of_group, names_group, newest_rows, row_in_group, rows_at_group, rows_at_paths, is_touched};
@@ -117,45 +115,8 @@ pub fn touched(
     })
 }
 
-/// The rows of these groups, among rows with distinct paths. It fails for want of memory alone.
-pub fn rows_of_groups(
-    alloc: Global,
-    form: &Form,
-    groups: &Groups,
-    rows: &FileRows,
-) -> Result<Vec<FileRow>, AllocError>
-    ensures rows { HasDistinctPaths rows.now → IfOk result (λ v. SameRows v.items
-        (filter (λ r. has_group groups.now (group_name form.now r.path)) rows.now)) }
-    ensures distinct { HasDistinctPaths rows.now → IfOk result (λ v. HasDistinctPaths v.items) }
-{
-    match form {
-        Form::Base => rows_of_file_ids(alloc, form, groups, rows),
-        Form::External { .. } => rows_at_paths(alloc, form, groups, rows),
-    }
-}
-
-/// The rows of groups that are named by file ids, each of which may stand in many paths.
-fn rows_of_file_ids(
-    alloc: Global,
-    form: &Form,
-    groups: &Groups,
-    rows: &FileRows,
-) -> Result<Vec<FileRow>, AllocError>
-    ensures { IfOk result (λ v. v.items
-        ≡ filter (λ r. has_group groups.now (group_name form.now r.path)) rows.now) }
-{
-    let mut found = Vec::new(alloc);
-    for place in 0..rows.len() {
-        let row = rows.at(place).unwrap();
-        if groups.contains(group_name(form, row.path.as_bytes())) {
-            found.push(row.copy(alloc)?)?;
-        }
-    }
-    Ok(found)
-}
-
 /// The rows of groups that are named by their files' paths, found by these.
-fn rows_at_paths(
+pub(crate) fn rows_at_paths(
     alloc: Global,
     form: &Form,
     groups: &Groups,
@@ -190,7 +151,7 @@ fn with_rows_at(
 }
 
 /// The rows found, and that at the path where it is of the group.
-fn with_row_at(
+pub(crate) fn with_row_at(
     alloc: Global,
     form: &Form,
     group: &[u8],

@@ -4,8 +4,11 @@
 
 mod form;
 mod group;
+mod grouped_table;
 mod groups;
+mod index;
 
 pub use form::{Form, file_id_in, suffix_of, without_end};
 pub use group::{folder_of, group_of};
-pub use groups::{Groups, Newest, rows_of_groups, touched};
+pub use grouped_table::GroupedTable;
+pub use groups::{Groups, Newest, touched};

@@ -1,5 +1,5 @@
 //! Instants from lines, and the changes that they make.
-use hudi_groups::Form;
+use hudi_groups::{Form, GroupedTable};
 use hudi_instant::{Instant, Stat};
 use hudi_names::HudiError;
 use hudi_properties::HudiTable;
@@ -149,7 +149,8 @@ pub(crate) fn tell_next(
     base: &Table,
     shown: &mut String,
 ) -> Result<(), AllocError> {
-    match change_of(alloc, instant, form, table, Some(base)) {
+    let before = GroupedTable::by_paths(base.copy(alloc)?);
+    match change_of(alloc, instant, form, table, Some(&before)) {
         Ok(change) => show_made(alloc, &change, shown),
         Err(error) => show_error(alloc, error, shown),
     }

@@ -67,7 +67,7 @@ pub(crate) fn tell_latest(
 ) -> Result<(), AllocError> {
     match latest(alloc, store, naming, table) {
         Ok(Some(latest)) => {
-            show_table(alloc, &latest.table, shown)?;
+            show_table(alloc, latest.table.table(), shown)?;
             show_mark(alloc, latest.mark.as_ref(), shown)
         }
         Ok(None) => show_line(shown, "no instant"),

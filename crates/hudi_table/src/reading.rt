@@ -19,7 +19,7 @@ ghost use Rattle.hudi_table.specs.declared.error.TimelineError.TheVariants.{Stor
 use crate::error::TimelineError;
 use crate::file::{read_file, refusal};
 use crate::instants::CompletedInstant;
-use hudi_groups::Form;
+use hudi_groups::{Form, GroupedTable};
 use hudi_instant::{Instant, read_instant};
 use hudi_names::HudiError;
 use hudi_properties::HudiTable;
@@ -48,7 +48,7 @@ pub struct InstantChange {
 /// The table after some instants, and the mark of the newest of them.
 #[derive(Drop)]
 pub struct Latest {
-    pub table: Table,
+    pub table: GroupedTable,
     pub mark: Option<Text>,
 }
 
@@ -98,7 +98,7 @@ pub fn instant_change(
     instant: &CompletedInstant,
     naming: Naming,
     table: &HudiTable,
-    base: Option<&Table>,
+    base: Option<&GroupedTable>,
 ) -> Result<Change, TimelineError>
     ensures found { IfOk result
         (IsChangeOf (completed (form_of naming instant.now.time) said.now) table.now
@@ -123,7 +123,7 @@ pub fn read_change<S: Store>(
     instant: &CompletedInstant,
     naming: Naming,
     table: &HudiTable,
-    base: Option<&Table>,
+    base: Option<&GroupedTable>,
 ) -> Result<InstantChange, TimelineError>
     ensures found { S.tells → IfOk result
         (IsChangeHere (S.disk store.old).files naming table.now instant.now
@@ -146,17 +146,35 @@ pub fn read_change<S: Store>(
     })
 }
 
+/// The table, with an index of its groups where these are named by file ids.
+fn grouped(alloc: Global, naming: Naming, table: Table) -> Result<GroupedTable, AllocError>
+    ensures { IfOk result (λ grouped. grouped ≡ table) }
+{
+    match naming {
+        Naming::Base => GroupedTable::by_file_ids(alloc, table),
+        Naming::External => Ok(GroupedTable::by_paths(table)),
+    }
+}
+
 /// The table after the first instant.
-fn first_table(alloc: Global, table: &HudiTable, made: InstantChange) -> Result<Latest, AllocError>
+fn first_table(
+    alloc: Global,
+    naming: Naming,
+    table: &HudiTable,
+    made: InstantChange,
+) -> Result<Latest, AllocError>
     requires { GoesOn table.now None made.change }
     ensures after { IfOk result
         (λ next. IsAfter (table_before table.now None) made.change next.table) }
     ensures mark { IfOk result (λ next. next.mark ≡ made.mark) }
 {
-    let mut first = Table::empty(alloc, table.partition.as_slice())?;
-    first.apply(alloc, &made.change)?;
+    let none = grouped(
+        alloc,
+        naming,
+        Table::empty(alloc, table.partition.as_slice())?,
+    )?;
     Ok(Latest {
-        table: first,
+        table: none.with_change(alloc, &made.change)?,
         mark: made.mark,
     })
 }
@@ -167,10 +185,8 @@ fn further_table(alloc: Global, latest: Latest, made: InstantChange) -> Result<L
     ensures after { IfOk result (λ next. IsAfter latest.table made.change next.table) }
     ensures mark { IfOk result (λ next. next.mark ≡ made.mark) }
 {
-    let mut next = latest.table;
-    next.apply(alloc, &made.change)?;
     Ok(Latest {
-        table: next,
+        table: latest.table.with_change(alloc, &made.change)?,
         mark: made.mark,
     })
 }
@@ -193,7 +209,7 @@ fn read_first<S: Store>(
     ensures contest { IsUncontestedBy ⟦<S as Store>⟧ store.old store.new ⊥ }
 {
     let made = read_change(alloc, store, instant, naming, table, None)?;
-    Ok(first_table(alloc, table, made)?)
+    Ok(first_table(alloc, naming, table, made)?)
 }
 
 fn read_further<S: Store>(

@@ -24,6 +24,7 @@ ghost use Rattle.source_hudi.specs.Since.{AreCommitsOf, AreCommitsUpTo, AreTaken
 
 use crate::instants::{count_up_to, first_unread_after, unread};
 use crate::told::{limit, partition_change, source_error};
+use hudi_groups::GroupedTable;
 use hudi_instant::Instant;
 use hudi_properties::HudiTable;
 use hudi_table::{
@@ -40,7 +41,7 @@ use table_history::{Change, Commit, LimitKind, Table};
 #[derive(Drop)]
 struct Taken {
     commits: Items<Commit>,
-    last: Table,
+    last: GroupedTable,
     actions: u64,
 }
 
@@ -83,7 +84,7 @@ fn change_over(
     said: &Instant,
     instant: &CompletedInstant,
     table: &HudiTable,
-    before: &Table,
+    before: &GroupedTable,
 ) -> Result<Change, SourceError>
     ensures found { IfOk result (IsChangeOf (completed Base said.now) table.now (Some before.now)) }
     ensures goes_on { IfOk result (GoesOn table.now (Some before.now)) }
@@ -111,8 +112,7 @@ fn with_change(
     ensures last { IfOk result (λ next. IsAfter taken.last change next.last) }
     ensures actions { IfOk result (λ next. next.actions ≡ actions) }
 {
-    let mut last = taken.last;
-    last.apply(alloc, &change)?;
+    let last = taken.last.with_change(alloc, &change)?;
     let mut commits = taken.commits;
     let position = instant.time.copy(alloc)?;
     commits.push(Commit { position, change })?;
@@ -159,7 +159,7 @@ fn take_each<S: Store>(
     store: &mut S,
     table: &HudiTable,
     instants: &[CompletedInstant],
-    base: Table,
+    base: GroupedTable,
 ) -> Result<Items<Commit>, SourceError>
     requires { table.now.partition ≡ base.partition }
     ensures taken { S.tells → IfOk result (λ commits. (last : Table) × (actions : ℕ)
@@ -209,7 +209,7 @@ fn commits_of<S: Store>(
     if instants.is_empty() {
         return Ok(Items::new(alloc));
     }
-    let copy = base.copy(alloc)?;
+    let copy = GroupedTable::by_file_ids(alloc, base.copy(alloc)?)?;
     take_each(alloc, store, table, instants, copy)
 }
 

@@ -113,7 +113,7 @@ fn table_of<S: Store>(
     ensures contest { IsUncontestedBy ⟦<S as Store>⟧ store.old store.new ⊥ }
 {
     match read_timeline(alloc, store, instants, Naming::Base, table) {
-        Ok(Some(latest)) => Ok(latest.table),
+        Ok(Some(latest)) => Ok(latest.table.into_table()),
         Ok(None) => Err(SourceError::Absent),
         Err(error) => Err(source_error(error)),
     }

@@ -195,7 +195,7 @@ fn kept_of(newest: Newest, commits: u64, time: Text) -> HudiKept
 {
     let Newest { latest, mark } = newest;
     HudiKept {
-        table: latest.table,
+        table: latest.table.into_table(),
         mark: Some(mark),
         commits,
         newest: Some(time),

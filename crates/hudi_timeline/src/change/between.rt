@@ -1,19 +1,23 @@
 //! The change that the rows of an instant make of the rows before.
 
-ghost use Rattle.std.specs.Prelude.{◌≡◌, IfOk, IfErr, List};
+ghost use Rattle.std.specs.Prelude.{◌≡◌, IfOk, IfErr, List, filter, length};
 ghost use Rattle.std.specs.List.{list_any};
+ghost use Rattle.std.specs.Option.{option_copied};
+ghost use Rattle.hudi_groups.specs.Files.{group_name};
+ghost use Rattle.hudi_groups.specs.GroupSets.{has_group};
+ghost use Rattle.hudi_timeline.specs.Causes.{rows_before};
 ghost use Rattle.table_history.specs.Rows.{HasDistinctPaths, SameRows};
 ghost use Rattle.table_history.specs.Tables.{IsDiff};
 ghost use Rattle.hudi_timeline.specs.GroupChange.{is_long, limit_passed, row_limit, IsGroupChange, PassesLimitAfter};
 
-use hudi_groups::{Form, rows_of_groups, touched};
+use hudi_groups::{Form, GroupedTable, Groups, touched};
 use hudi_names::HudiError;
 use hudi_properties::HudiTable;
 use lake_basics::limits::{MAX_LIVE_FILES, MAX_PARTITION_COLUMNS, MAX_PATH_BYTES};
 use lake_basics::{Items, Text};
 use schema_map::schema_limit;
 use std::alloc::{AllocError, Global};
-use table_history::{Change, FileRow, FileRows, LimitKind, Schema, Table};
+use table_history::{Change, FileRow, LimitKind, Schema, Table};
 
 /// The first number that is passed, of so many live rows.
 fn limit_passed(
@@ -51,6 +55,39 @@ fn is_any_long(rows: &[FileRow]) -> bool
         .any(|row| row.path.as_bytes().len() as u64 > MAX_PATH_BYTES)
 }
 
+/// How many rows are there before the instant.
+#[tactic(auto, using(hudi_groups::proofs::GroupChangeLemmas::distinct_none))]
+fn count_before(base: Option<&GroupedTable>) -> usize
+    ensures len { result ≡ length (rows_before (option_copied base.entry)) }
+    ensures distinct { HasDistinctPaths (rows_before (option_copied base.entry)) }
+{
+    match base {
+        None => 0,
+        Some(before) => before.table().rows.len(),
+    }
+}
+
+/// The rows of these groups before the instant.
+#[tactic(auto, using(hudi_groups::proofs::GroupChangeLemmas::distinct_none))]
+fn old_rows(
+    alloc: Global,
+    form: &Form,
+    groups: &Groups,
+    base: Option<&GroupedTable>,
+) -> Result<Vec<FileRow>, AllocError>
+    ensures rows { HasDistinctPaths (rows_before (option_copied base.entry))
+        → IfOk result (λ v. SameRows v.items
+        (filter (λ r. has_group groups.now (group_name form.now r.path))
+        (rows_before (option_copied base.entry)))) }
+    ensures distinct { HasDistinctPaths (rows_before (option_copied base.entry))
+        → IfOk result (λ v. HasDistinctPaths v.items) }
+{
+    match base {
+        None => Ok(Vec::new(alloc)),
+        Some(before) => before.rows_of_groups(alloc, form, groups),
+    }
+}
+
 /// The change of the rows of the groups that the instant writes or replaces.
 pub(super) fn group_change(
     alloc: Global,
@@ -58,18 +95,20 @@ pub(super) fn group_change(
     table: &HudiTable,
     schema: &Schema,
     replaced: &[(Text, Text)],
-    before: &FileRows,
+    base: Option<&GroupedTable>,
     rows: Items<FileRow>,
 ) -> Result<Change, HudiError>
     ensures change { IfOk result
-        (IsGroupChange form.now table.now schema.now replaced.now before.now rows) }
+        (IsGroupChange form.now table.now schema.now replaced.now
+        (rows_before (option_copied base.entry)) rows) }
     ensures refused { IfErr result
-        (PassesLimitAfter form.now table.now schema.now replaced.now before.now rows) }
+        (PassesLimitAfter form.now table.now schema.now replaced.now
+        (rows_before (option_copied base.entry)) rows) }
 {
     let is_any_long = is_any_long(rows.as_slice());
     let newest = touched(alloc, form, rows, replaced)?;
-    let old = rows_of_groups(alloc, form, &newest.groups, before)?;
-    let kept = before.len() - old.len();
+    let old = old_rows(alloc, form, &newest.groups, base)?;
+    let kept = count_before(base) - old.len();
     let live = kept as u128 + newest.rows.len() as u128;
     if let Some(which) = limit_passed(table, schema, is_any_long, live) {
         return Err(HudiError::Limit { which });

@@ -13,13 +13,14 @@ ghost use Rattle.hudi_timeline.specs.Schemas.{stated_schema, spelled_schema, sch
 ghost use Rattle.hudi_timeline.specs.Steps.{IsTextRefusal, IsKindFault};
 ghost use Rattle.hudi_files.specs.FileFaults.{OnlyFeature};
 
+use hudi_groups::GroupedTable;
 use hudi_names::{HudiError, MALFORMED};
 use lake_basics::Text;
 use partition_map::{PartKind, are_distinct, column_kinds, has_other_kind};
 use schema_avro::read_avro;
 use schema_map::MapError;
 use std::alloc::{AllocError, Global};
-use table_history::{Feature, Schema, Table};
+use table_history::{Feature, Schema};
 
 const NO_SCHEMA: HudiError = HudiError::Unsupported {
     feature: Feature::NoSchema,
@@ -71,7 +72,7 @@ fn read_schema(alloc: Global, text: &[u8]) -> Result<Schema, HudiError>
 /// The stated schema, or else that of the table before. The first instant has to state one.
 pub(super) fn schema_after<'a>(
     stated: &'a Option<Schema>,
-    base: Option<&'a Table>,
+    base: Option<&'a GroupedTable>,
 ) -> Result<&'a Schema, HudiError>
     ensures found { IfOk result (λ schema.
         schema_after (Ok stated.now) (option_copied base.entry) ≡ Some schema.now) }
@@ -81,7 +82,7 @@ pub(super) fn schema_after<'a>(
     match stated {
         Some(schema) => Ok(schema),
         None => match base {
-            Some(before) => Ok(&before.schema),
+            Some(before) => Ok(&before.table().schema),
             None => Err(NO_SCHEMA),
         },
     }
@@ -95,7 +96,7 @@ pub(super) fn partition_kinds(
     alloc: Global,
     schema: &Schema,
     names: &[Text],
-    base: Option<&Table>,
+    base: Option<&GroupedTable>,
 ) -> Result<Vec<PartKind>, HudiError>
     ensures distinct { IfOk result (λ _. IsDistinct bytes_eq names.now) }
     ensures kinds { IfOk result (λ kinds. AreKindsOf schema.now names.now kinds.items) }
@@ -138,7 +139,7 @@ fn known_kinds(
 /// Whether one of the columns has another kind than in the table before.
 fn changes_kind(
     alloc: Global,
-    base: Option<&Table>,
+    base: Option<&GroupedTable>,
     schema: &Schema,
     names: &[Text],
 ) -> Result<bool, AllocError>
@@ -147,6 +148,6 @@ fn changes_kind(
 {
     match base {
         None => Ok(false),
-        Some(before) => has_other_kind(alloc, &before.schema, schema, names),
+        Some(before) => has_other_kind(alloc, &before.table().schema, schema, names),
     }
 }

@@ -1,10 +1,11 @@
-use Rattle.std.proofs.Common.{length, sym, ap, subst, ◌∙◌}
+use Rattle.std.proofs.Common.{length, refl, sym, ap, subst, ◌∙◌}
 use Rattle.std.specs.Option.{option_copied}
 use Rattle.std.proofs.lemmas.Result.{err_from_is_err_and}
 use Rattle.lake_basics.specs.Outcome.{each, FailsUnlessMemory}
 use Rattle.hudi_names.specs.Errors.{is_memory}
 use Rattle.hudi_files.specs.Stats.{bare_row}
 use Rattle.hudi_groups.specs.Files.{suffix_of}
+use Rattle.hudi_timeline.specs.Causes.{rows_before}
 use Rattle.hudi_timeline.specs.Live.{completed}
 use Rattle.hudi_timeline.proofs.CauseLemmas.{stat_refusal, text_refusal, no_schema}
 use Rattle.hudi_timeline.proofs.StepLemmas.{kinds_refused, kinds_counted, rows_refused, change_refused, found, live, goes_on}
@@ -96,9 +97,6 @@ returns-in_err-rows-clause-refused c =
 pub returns-in_err-rows-clause-goes_on : goal.returns-in_err-rows-clause-goes_on
 returns-in_err-rows-clause-goes_on c = let p = err_from_is_err_and c.from_residual-in_err-rows.result c.from_residual-in_err-rows.ensures.1 in rw p.1 tt
 
-pub rows_before-before-requires : goal.rows_before-before-requires
-rows_before-before-requires c = c.new-none.ensures
-
 pub returns-in_err-change-clause-found : goal.returns-in_err-change-clause-found
 returns-in_err-change-clause-found c = let p = err_from_is_err_and c.from_residual-in_err-change.result c.from_residual-in_err-change.ensures.1 in rw p.1 tt
 
@@ -112,7 +110,7 @@ returns-in_err-change-clause-refused c =
     c.in_ok-stated.stated c.in_ok-stated.ensures.ok c.in_ok-schema.schema.now c.in_ok-schema.ensures.found c.as_slice.result.now c.as_slice.ensures
     c.in_ok-kinds.kinds.items c.in_ok-kinds.ensures.distinct c.in_ok-kinds.ensures.kinds c.in_ok-kinds.ensures.kept
     c.as_slice-2.result.now c.as_slice-2.ensures.value c.as_slice-3.result.now c.as_slice-3.ensures
-    c.in_ok-rows.rows c.in_ok-rows.ensures.names c.in_ok-rows.ensures.inside c.in_ok-rows.ensures.values c.as_slice-4.result.now c.as_slice-4.ensures c.rows_before-before.result.now c.rows_before-before.ensures
+    c.in_ok-rows.rows c.in_ok-rows.ensures.names c.in_ok-rows.ensures.inside c.in_ok-rows.ensures.values c.as_slice-4.result.now c.as_slice-4.ensures (rows_before (option_copied c.args.base)) refl
     c.in_err-change.field-0.0 c.in_err-change.ensures.refused)
 
 pub returns-in_err-change-clause-goes_on : goal.returns-in_err-change-clause-goes_on
@@ -124,7 +122,7 @@ returns-clause-found c =
     c.in_ok-stated.stated c.in_ok-stated.ensures.ok c.in_ok-schema.schema.now c.in_ok-schema.ensures.found c.as_slice.result.now c.as_slice.ensures
     c.in_ok-kinds.kinds.items c.in_ok-kinds.ensures.distinct c.in_ok-kinds.ensures.kinds c.in_ok-kinds.ensures.kept
     c.as_slice-2.result.now c.as_slice-2.ensures.value c.as_slice-3.result.now c.as_slice-3.ensures
-    c.in_ok-rows.rows c.in_ok-rows.ensures.names c.in_ok-rows.ensures.inside c.in_ok-rows.ensures.values c.as_slice-4.result.now c.as_slice-4.ensures c.rows_before-before.result.now c.rows_before-before.ensures
+    c.in_ok-rows.rows c.in_ok-rows.ensures.names c.in_ok-rows.ensures.inside c.in_ok-rows.ensures.values c.as_slice-4.result.now c.as_slice-4.ensures (rows_before (option_copied c.args.base)) refl
     c.in_ok-stated.ensures.sound c.in_ok-change.change c.in_ok-change.ensures.change
 
 pub returns-clause-live : goal.returns-clause-live
@@ -133,7 +131,7 @@ returns-clause-live c =
     c.in_ok-stated.stated c.in_ok-stated.ensures.ok c.in_ok-schema.schema.now c.in_ok-schema.ensures.found c.as_slice.result.now c.as_slice.ensures
     c.in_ok-kinds.kinds.items c.in_ok-kinds.ensures.distinct c.in_ok-kinds.ensures.kinds c.in_ok-kinds.ensures.kept
     c.as_slice-2.result.now c.as_slice-2.ensures.value c.as_slice-3.result.now c.as_slice-3.ensures
-    c.in_ok-rows.rows c.in_ok-rows.ensures.names c.in_ok-rows.ensures.inside c.in_ok-rows.ensures.values c.as_slice-4.result.now c.as_slice-4.ensures c.rows_before-before.result.now c.rows_before-before.ensures
+    c.in_ok-rows.rows c.in_ok-rows.ensures.names c.in_ok-rows.ensures.inside c.in_ok-rows.ensures.values c.as_slice-4.result.now c.as_slice-4.ensures (rows_before (option_copied c.args.base)) refl
     c.in_ok-stated.ensures.sound c.in_ok-change.change c.in_ok-change.ensures.change
 
 pub returns-clause-goes_on : goal.returns-clause-goes_on
@@ -142,5 +140,5 @@ returns-clause-goes_on c =
     c.in_ok-stated.stated c.in_ok-stated.ensures.ok c.in_ok-schema.schema.now c.in_ok-schema.ensures.found c.as_slice.result.now c.as_slice.ensures
     c.in_ok-kinds.kinds.items c.in_ok-kinds.ensures.distinct c.in_ok-kinds.ensures.kinds c.in_ok-kinds.ensures.kept
     c.as_slice-2.result.now c.as_slice-2.ensures.value c.as_slice-3.result.now c.as_slice-3.ensures
-    c.in_ok-rows.rows c.in_ok-rows.ensures.names c.in_ok-rows.ensures.inside c.in_ok-rows.ensures.values c.as_slice-4.result.now c.as_slice-4.ensures c.rows_before-before.result.now c.rows_before-before.ensures
+    c.in_ok-rows.rows c.in_ok-rows.ensures.names c.in_ok-rows.ensures.inside c.in_ok-rows.ensures.values c.as_slice-4.result.now c.as_slice-4.ensures (rows_before (option_copied c.args.base)) refl
     c.in_ok-stated.ensures.sound c.in_ok-change.change c.in_ok-change.ensures.change

@@ -1,0 +1,53 @@
+-- The paths of a table's rows, by the names of the file groups that file ids name.
+use Rattle.std.specs.Prelude.{◌≡◌, ℕ, Bool, ◌&&◌, List, [], ◌∷◌, ◌++◌, Option, None, Some}
+use Rattle.std.specs.List.{list_any}
+use Rattle.std.specs.Str.{bytes_eq}
+use Rattle.std.specs.HashMap.{HashMap, get_by}
+use Rattle.std.specs.declared.hash.FoldHasher.{FoldHasher}
+use Rattle.std.specs.declared.hash.BuildHasherDefault.{BuildHasherDefault}
+use Rattle.table_history.specs.Row.{Row}
+use Rattle.table_history.specs.RowMap.{Key}
+use Rattle.hudi_groups.specs.declared.form.Form.TheVariants.{Base}
+use Rattle.hudi_groups.specs.Files.{group_name}
+use Rattle.hudi_groups.specs.GroupSets.{Groups, row_in_group}
+
+abbrev pub Index : Type 0
+Index = HashMap Key Groups (BuildHasherDefault FoldHasher)
+
+-- ---- what the index has
+
+abbrev pub keys_in : Option Groups → List Key
+keys_in None = []
+keys_in (Some paths) = paths.keys
+
+-- the paths of the group q
+abbrev pub paths_at : Index → List ℕ → List Key
+paths_at index q = keys_in (get_by (λ k. bytes_eq q k.items) index)
+
+-- The index has the path p in the group q.
+abbrev pub has_path : Index → List ℕ → List ℕ → Bool
+has_path index q p = list_any (λ k. bytes_eq p k.items) (paths_at index q)
+
+-- p is this path, and q its group
+abbrev pub is_path_of : List ℕ → List ℕ → List ℕ → Bool
+is_path_of q p path = bytes_eq q (group_name Base path) && bytes_eq p path
+
+-- p is the path of this row, and q its group
+abbrev pub is_row_of : List ℕ → List ℕ → Row → Bool
+is_row_of q p row = is_path_of q p row.path
+
+-- The index has the path of each row in the row's group, and nothing else.
+abbrev pub IsIndexOf : Index → List Row → Type 0
+IsIndexOf index rows = (q p : List ℕ) → has_path index q p ≡ list_any (is_row_of q p) rows
+
+-- ---- what is found by it
+
+-- the rows of the group q at these paths
+abbrev pub rows_among : List Row → List ℕ → List Key → List Row
+rows_among rows q [] = []
+rows_among rows q (path ∷ paths) = row_in_group Base rows q path.items ++ rows_among rows q paths
+
+-- the rows of these groups at the paths that the index has of them
+abbrev pub rows_by_index : List Row → Index → List Key → List Row
+rows_by_index rows index [] = []
+rows_by_index rows index (group ∷ groups) = rows_among rows group.items (paths_at index group.items) ++ rows_by_index rows index groups
