@@ -19,7 +19,7 @@ use Rattle.source_core.specs.declared.error.SourceError.TheVariants as source
 use Rattle.source_core.proofs.Answers.{weaker}
 use Rattle.source_hudi.specs.Heads.{IsAbsent, IsPending}
 use Rattle.source_hudi.specs.Instants.{AreAllRead, IsArchiveEmpty, IsFirstUnread, archive_folder, feature_of, first_archived, reached_in}
-use Rattle.source_hudi.specs.Reading.{HasManyNames, HasNoProperties, HasRefused, ShowsAtHead, ShowsFromScratch, ShowsInInstants, ShowsInTimeline, ShowsUpTo, Tells}
+use Rattle.source_hudi.specs.Reading.{HasFewNames, HasManyNames, HasNoProperties, HasRefused, ShowsAtHead, ShowsFromScratch, ShowsInInstants, ShowsInTimeline, ShowsUpTo, Tells}
 
 -- ---- the names
 
@@ -64,13 +64,13 @@ pending_found files None h = h
 pending_found files (Some time) h = h
 
 -- a commit is reached, so a table is there
-pub head_refused : (files : Files) (head : List ℕ) → IsHead files head → (e : SourceError) → IsReadRefusal (HasNoProperties files) e → IsHeadRefusal (IsAbsent files) (ShowsAtHead files) e
-head_refused files head is source.Memory h = tt
-head_refused files head is source.Absent h = absurd h
-head_refused files head is (source.Malformed path) h = (λ none. none head is.0, inr ((head, is.0), h))
-head_refused files head is (source.Unsupported feature path) h = (λ none. none head is.0, inr ((head, is.0), h))
-head_refused files head is (source.Limit which number) h = inr ((head, is.0), h)
-head_refused files head is source.StoreFault h = tt
+pub head_refused : (files : Files) (head : List ℕ) → IsHead files head → HasFewNames files timeline_folder → (e : SourceError) → IsReadRefusal (HasNoProperties files) e → IsHeadRefusal (IsAbsent files) (ShowsAtHead files) e
+head_refused files head is few source.Memory h = tt
+head_refused files head is few source.Absent h = absurd h
+head_refused files head is few (source.Malformed path) h = (λ none. none head is.0, inr (few, (head, is.0), h))
+head_refused files head is few (source.Unsupported feature path) h = (λ none. none head is.0, inr (few, (head, is.0), h))
+head_refused files head is few (source.Limit which number) h = inr (few, (head, is.0), h)
+head_refused files head is few source.StoreFault h = tt
 
 pub names_shown : (files : Files) (e : SourceError) → IsHeadRefusal (IsAbsent files) (HasManyNames files timeline_folder) e → IsHeadRefusal (IsAbsent files) (ShowsAtHead files) e
 names_shown files source.Memory h = tt
@@ -110,8 +110,8 @@ module _ (files : Files) (table : HudiTable) where
   pub names_in_timeline : (e : SourceError) → IsReadRefusal (HasManyNames files timeline_folder) e → IsReadRefusal (ShowsInTimeline files table) e
   names_in_timeline e h = weaker (HasManyNames files timeline_folder) (ShowsInTimeline files table) (λ d t. inl t) e h
 
-  pub shown_in_timeline : (head : List ℕ) → IsHead files head → (e : SourceError) → IsReadRefusal (ShowsUpTo files table head) e → IsReadRefusal (ShowsInTimeline files table) e
-  shown_in_timeline head is e h = weaker (ShowsUpTo files table head) (ShowsInTimeline files table) (λ d t. inr (head, is, t)) e h
+  pub shown_in_timeline : (head : List ℕ) → HasFewNames files timeline_folder → IsHead files head → (e : SourceError) → IsReadRefusal (ShowsUpTo files table head) e → IsReadRefusal (ShowsInTimeline files table) e
+  shown_in_timeline head few is e h = weaker (ShowsUpTo files table head) (ShowsInTimeline files table) (λ d t. inr (few, head, is, t)) e h
 
   pub names_in_archive : (e : SourceError) → IsReadRefusal (HasManyNames files archive_folder) e → IsReadRefusal (ShowsInInstants files table) e
   names_in_archive e h = weaker (HasManyNames files archive_folder) (ShowsInInstants files table) (λ d t. inl t) e h

@@ -29,7 +29,7 @@ use Rattle.target_core.specs.Folders.{SameIn}
 use Rattle.target_core.specs.FolderLemmas.{names_own, same_back}
 use Rattle.source_hudi.specs.Heads.{IsAbsent, IsHudiHead, IsPending, IsTableAtHead, IsTableName, IsTableOfInstants, IsTableUpTo, IsWholeTable}
 use Rattle.source_hudi.specs.Instants.{AreAllRead, IsArchiveEmpty, IsFirstUnread, IsUnread, archive_folder, first_archived, reached_in}
-use Rattle.source_hudi.specs.Reading.{HasArchive, HasManyNames, HasNoProperties, HasRefused, ShowsAtHead, ShowsFromScratch, ShowsInInstants, ShowsInTimeline, ShowsUpTo}
+use Rattle.source_hudi.specs.Reading.{HasArchive, HasFewNames, HasManyNames, HasNoProperties, HasRefused, ShowsAtHead, ShowsFromScratch, ShowsInInstants, ShowsInTimeline, ShowsUpTo}
 
 -- ---- names
 
@@ -218,14 +218,20 @@ table_own a b t same h = record {
 many_own : (a b : Files) (e : SourceError) → SameIn timeline_folder a b → HasManyNames a timeline_folder e → HasManyNames b timeline_folder e
 many_own a b e same h = (subst (λ (names : List (List ℕ)). MAX_NAMES < length names) (sym (timeline_names a b same)) h.0, h.1)
 
+few_own : (a b : Files) → SameIn timeline_folder a b → HasFewNames a timeline_folder → HasFewNames b timeline_folder
+few_own a b same few = subst (λ (names : List (List ℕ)). length names ≤ MAX_NAMES) (sym (timeline_names a b same)) few
+
 many_archived_own : (a b : Files) (e : SourceError) → SameIn timeline_folder a b → HasManyNames a archive_folder e → HasManyNames b archive_folder e
 many_archived_own a b e same h = (subst (λ (names : List (List ℕ)). MAX_NAMES < length names) (sym (archive_names a b same)) h.0, h.1)
+
+few_archived_own : (a b : Files) → SameIn timeline_folder a b → HasFewNames a archive_folder → HasFewNames b archive_folder
+few_archived_own a b same few = subst (λ (names : List (List ℕ)). length names ≤ MAX_NAMES) (sym (archive_names a b same)) few
 
 pub no_properties_own : (a b : Files) (e : SourceError) → SameIn timeline_folder a b → HasNoProperties a e → HasNoProperties b e
 no_properties_own a b e same h = (h.0, file_too a b same (codes "hoodie.properties") _ _ (fault_too a b same) h.0 h.1, h.2)
 
 archived_own : (a b : Files) (e : SourceError) → SameIn timeline_folder a b → HasArchive a e → HasArchive b e
-archived_own a b e same h = (h.0, subst (λ (names : List (List ℕ)). first_archived names ≡ Some h.0) (sym (archive_names a b same)) h.1, h.2)
+archived_own a b e same h = (few_archived_own a b same h.0, h.1, subst (λ (names : List (List ℕ)). first_archived names ≡ Some h.1) (sym (archive_names a b same)) h.2, h.3)
 
 first_unread_own : (a b : Files) (head name : List ℕ) (action : Action) → SameIn timeline_folder a b → IsFirstUnread a head name action → IsFirstUnread b head name action
 first_unread_own a b head name action same h = record { is = unread_own a b head name action same h.is; first = λ other act unread. h.first other act (unread_back a b head other act same unread) }
@@ -239,7 +245,7 @@ up_to_shows_own a b table head e same (inr h) = inr (all_read_own a b head same 
 
 timeline_shows_own : (a b : Files) (table : HudiTable) (e : SourceError) → SameIn timeline_folder a b → ShowsInTimeline a table e → ShowsInTimeline b table e
 timeline_shows_own a b table e same (inl h) = inl (many_own a b e same h)
-timeline_shows_own a b table e same (inr h) = inr (h.0, head_too a b same h.0 h.1, up_to_shows_own a b table h.0 e same h.2)
+timeline_shows_own a b table e same (inr h) = inr (few_own a b same h.0, h.1, head_too a b same h.1 h.2, up_to_shows_own a b table h.1 e same h.3)
 
 instants_show_own : (a b : Files) (table : HudiTable) (e : SourceError) → SameIn timeline_folder a b → ShowsInInstants a table e → ShowsInInstants b table e
 instants_show_own a b table e same (inl h) = inl (many_archived_own a b e same h)
@@ -248,7 +254,7 @@ instants_show_own a b table e same (inr (inr h)) = inr (inr (archive_own a b sam
 
 pub at_head_own : (a b : Files) (e : SourceError) → SameIn timeline_folder a b → ShowsAtHead a e → ShowsAtHead b e
 at_head_own a b e same (inl h) = inl (many_own a b e same h)
-at_head_own a b e same (inr h) = inr ((h.0.0, reached_too a b same h.0.0 h.0.1), no_properties_own a b e same h.1)
+at_head_own a b e same (inr h) = inr (few_own a b same h.0, (h.1.0, reached_too a b same h.1.0 h.1.1), no_properties_own a b e same h.2)
 
 pub from_scratch_own : (a b : Files) (e : SourceError) → SameIn timeline_folder a b → ShowsFromScratch a e → ShowsFromScratch b e
 from_scratch_own a b e same (inl h) = inl (no_properties_own a b e same h)

@@ -1,5 +1,5 @@
 -- What a Hudi table shows for which it isn't read as a source.
-use Rattle.std.specs.Prelude.{◌≡◌, ◌⊎◌, ◌<◌, ℕ, List, length, Some, codes}
+use Rattle.std.specs.Prelude.{◌≡◌, ◌⊎◌, ◌<◌, ◌≤◌, ℕ, List, length, Some, codes}
 use Rattle.lake_basics.specs.declared.limits.TheConstants.{MAX_COMMITS, MAX_FILE_BYTES, MAX_NAMES}
 use Rattle.lake_store.specs.Disk.{Files, names_in}
 use Rattle.table_history.specs.Words.{limit_number}
@@ -54,13 +54,16 @@ IsOfMemory _ = ⊥
 abbrev pub HasManyNames : Files → List ℕ → SourceError → Type 0
 HasManyNames files folder e = (MAX_NAMES < length (names_in files folder)) × (e ≡ Limit limit.Names MAX_NAMES)
 
+abbrev pub HasFewNames : Files → List ℕ → Type 0
+HasFewNames files folder = length (names_in files folder) ≤ MAX_NAMES
+
 -- The properties aren't there, or are refused.
 abbrev pub HasNoProperties : Files → SourceError → Type 0
 HasNoProperties files e = (cause : TimelineError) × IsFileRefusal files (codes "hoodie.properties") (IsPropertyFault files) cause × Tells cause e
 
--- The archive holds a file, of which the first is told.
+-- The archive holds files that aren't too many, of which the first is told.
 abbrev pub HasArchive : Files → SourceError → Type 0
-HasArchive files e = (path : List ℕ) × (first_archived (names_in files archive_folder) ≡ Some path) × (e ≡ Unsupported NeedsArchive path)
+HasArchive files e = HasFewNames files archive_folder × (path : List ℕ) × (first_archived (names_in files archive_folder) ≡ Some path) × (e ≡ Unsupported NeedsArchive path)
 
 -- An instant up to the head is of an action that isn't read, and the first such name is told.
 abbrev pub HasUnread : Files → List ℕ → SourceError → Type 0
@@ -70,16 +73,17 @@ HasUnread files head e = (name : List ℕ) × (action : Action) × IsFirstUnread
 abbrev pub HasRefused : Files → HudiTable → List CompletedInstant → SourceError → Type 0
 HasRefused files table instants e = (cause : TimelineError) × IsReadingRefusal files Base table instants cause × Tells cause e
 
--- Finding the head reads the names, and then the properties, where something is completed up to a head.
+-- Finding the head reads the names, and then, where they aren't too many and something is completed up to a head, the properties.
 abbrev pub ShowsAtHead : Files → SourceError → Type 0
-ShowsAtHead files e = HasManyNames files timeline_folder e ⊎ (((time : List ℕ) × IsReached files time) × HasNoProperties files e)
+ShowsAtHead files e = HasManyNames files timeline_folder e ⊎ (HasFewNames files timeline_folder × ((time : List ℕ) × IsReached files time) × HasNoProperties files e)
 
 -- The instants up to the head are judged by their names, and then those of them that are completed are read.
 abbrev pub ShowsUpTo : Files → HudiTable → List ℕ → SourceError → Type 0
 ShowsUpTo files table head e = HasUnread files head e ⊎ (AreAllRead files head × HasRefused files table (reached_in files) e)
 
+-- The names come before them, and are judged where they aren't too many.
 abbrev pub ShowsInTimeline : Files → HudiTable → SourceError → Type 0
-ShowsInTimeline files table e = HasManyNames files timeline_folder e ⊎ ((head : List ℕ) × IsHead files head × ShowsUpTo files table head e)
+ShowsInTimeline files table e = HasManyNames files timeline_folder e ⊎ (HasFewNames files timeline_folder × (head : List ℕ) × IsHead files head × ShowsUpTo files table head e)
 
 -- The archive comes before them.
 abbrev pub ShowsInInstants : Files → HudiTable → SourceError → Type 0

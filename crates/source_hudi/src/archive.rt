@@ -1,12 +1,12 @@
 //! The archive of a timeline.
 
-ghost use Rattle.std.specs.Prelude.{◌≡◌, IfErr, IfOk, IsErrOf};
+ghost use Rattle.std.specs.Prelude.{◌≡◌, IfErr, IfOk, IsErrOf, OnOk};
 ghost use Rattle.lake_store.specs.Disk.{names_in};
 ghost use Rattle.lake_store.specs.Runs.{FailsBy, IsUncontestedBy, OnlyReads};
 ghost use Rattle.source_core.specs.Answers.{IsReadRefusal};
 ghost use Rattle.source_core.specs.declared.error.SourceError.TheVariants.{StoreFault};
 ghost use Rattle.source_hudi.specs.Instants.{archive_folder, first_archived};
-ghost use Rattle.source_hudi.specs.Reading.{HasManyNames};
+ghost use Rattle.source_hudi.specs.Reading.{HasFewNames, HasManyNames};
 
 use crate::told::limit;
 use lake_basics::Text;
@@ -39,6 +39,7 @@ pub(crate) fn first_archived<S: Store>(
 ) -> Result<Option<Text>, SourceError>
     ensures found { S.tells → IfOk result (λ path. path
         ≡ first_archived (names_in (S.disk store.old).files archive_folder)) }
+    ensures few { S.tells → OnOk result (HasFewNames (S.disk store.old).files archive_folder) }
     ensures refused { S.tells → IfErr result
         (IsReadRefusal (HasManyNames (S.disk store.old).files archive_folder)) }
     ensures only_reads { S.tells → OnlyReads ⟦<S as Store>⟧ store.old store.new }

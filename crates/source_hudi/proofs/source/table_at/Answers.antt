@@ -15,7 +15,7 @@ table_up_to-requires-clause-head g c told = subst (λ (d : Disk). IsHead d.files
 pub returns-in-Ok-clause-refused : goal.returns-in-Ok-clause-refused
 returns-in-Ok-clause-refused g c told =
     let files = (g.S.Store.disk c.args.store.now).files in
-    errs c.table_up_to.result _ _ (shown_in_timeline files c.args.table.now c.args.head.now (c.requires told))
+    errs c.table_up_to.result _ _ (shown_in_timeline files c.args.table.now c.args.head.now (c.in-Ok.ensures.few told) (c.requires told))
     (subst (λ (d : Disk). IfErr c.table_up_to.result (IsReadRefusal (ShowsUpTo d.files c.args.table.now c.args.head.now))) (c.in-Ok.ensures.only_reads told).disk (c.table_up_to.ensures.refused told))
 
 pub returns-in-Ok-clause-only_reads : goal.returns-in-Ok-clause-only_reads

@@ -17,7 +17,7 @@ returns-in_err-table-clause-head g c told =
     let same = (c.in_ok-head.ensures.only_reads told).disk in
     let shown = subst (λ (d : Disk). IsReadRefusal (HasNoProperties d.files) c.in_err-table.field-0.0) same (c.in_err-table.ensures.refused told) in
     subst (λ (r : Result Head SourceError). IsHeadAnswer (IsAbsent files) (IsHudiHead files) (ShowsAtHead files) r) (sym exit.1)
-    (subst (IsHeadRefusal (IsAbsent files) (ShowsAtHead files)) (sym exit.2) (head_refused files c.in_ok-head.head.position (c.in_ok-head.ensures.position told) c.in_err-table.field-0.0 shown))
+    (subst (IsHeadRefusal (IsAbsent files) (ShowsAtHead files)) (sym exit.2) (head_refused files c.in_ok-head.head.position (c.in_ok-head.ensures.position told) (c.in_ok-head.ensures.few told) c.in_err-table.field-0.0 shown))
 
 pub returns-in_err-table-clause-only_reads : goal.returns-in_err-table-clause-only_reads
 returns-in_err-table-clause-only_reads g c = reading_further g.S.Store c.args.store.now c.find_head.new.store c.table_name.new.store c.in_ok-head.ensures.only_reads c.in_err-table.ensures.only_reads
