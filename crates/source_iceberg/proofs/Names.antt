@@ -11,7 +11,7 @@ use Rattle.source_core.specs.Answers.{IsHeadRefusal, IsReadRefusal}
 use Rattle.source_core.specs.declared.error.SourceError.{SourceError}
 use Rattle.source_core.specs.declared.error.SourceError.TheVariants as source
 use Rattle.source_iceberg.specs.Heads.{HasNoName, IsAbsent}
-use Rattle.source_iceberg.specs.Reading.{ShowsAtHead, TellsNames}
+use Rattle.source_iceberg.specs.Reading.{HasFewNames, ShowsAtHead, TellsNames}
 
 -- ---- the first of a list
 
@@ -68,7 +68,7 @@ module _ (names : List (List ℕ)) where
 
 -- ---- the same of the folder
 
-module _ (files : Files) (versions : (version : ℕ) → HasVersion files version → ⊥) where
+module _ (files : Files) (few : HasFewNames files) (versions : (version : ℕ) → HasVersion files version → ⊥) where
   named : HasNoName (names_in files metadata_folder) → IsAbsent files
   named none = inl (record { versions = versions; names = none })
 
@@ -79,9 +79,9 @@ module _ (files : Files) (versions : (version : ℕ) → HasVersion files versio
   in_folder : (e : SourceError) → IsHeadRefusal (HasNoName (names_in files metadata_folder)) (TellsNames (names_in files metadata_folder)) e → IsHeadRefusal (IsAbsent files) (ShowsAtHead files) e
   in_folder source.Memory h = tt
   in_folder source.Absent h = named h
-  in_folder (source.Malformed path) h = (unnamed h.0, inr (inl (versions, h.1)))
-  in_folder (source.Unsupported feature path) h = (unnamed h.0, inr (inl (versions, h.1)))
-  in_folder (source.Limit which number) h = inr (inl (versions, h))
+  in_folder (source.Malformed path) h = (unnamed h.0, inr (few, inl (versions, h.1)))
+  in_folder (source.Unsupported feature path) h = (unnamed h.0, inr (few, inl (versions, h.1)))
+  in_folder (source.Limit which number) h = inr (few, inl (versions, h))
   in_folder source.StoreFault h = tt
 
   pub names_told : (names : List (List ℕ)) → names ≡ names_in files metadata_folder → (e : SourceError) → IsHeadRefusal (HasNoName names) (TellsNames names) e → IsHeadRefusal (IsAbsent files) (ShowsAtHead files) e

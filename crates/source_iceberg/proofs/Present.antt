@@ -29,7 +29,7 @@ use Rattle.source_core.specs.declared.error.SourceError.TheVariants as source
 use Rattle.source_core.specs.declared.head.Head.{Head}
 use Rattle.source_iceberg.specs.HeadLemmas.{not_absent, one_text, one_version}
 use Rattle.source_iceberg.specs.Heads.{IsAbsent, IsIcebergHead, StandsForMetadata, metadata_features}
-use Rattle.source_iceberg.specs.Reading.{IsRefusedVersion, ShowsAtHead, Tells, TellsFault}
+use Rattle.source_iceberg.specs.Reading.{HasFewNames, IsRefusedVersion, ShowsAtHead, Tells, TellsFault}
 
 some_is : {A : Type 0} (a b : A) → Some a ≡ Some b → a ≡ b
 some_is a b e = ap (λ o. unwrap_or o a) e
@@ -103,13 +103,13 @@ module _ (files : Files) (version : ℕ) (newest : IsNewest (HasVersion files) v
   there e other refused (inl none) = none.versions version newest.there
   there e other refused (inr (w, n, stands, none)) = other (stands_number w n stands none (one_version (HasVersion files) w version stands.states.newest newest) refused.0 e refused.1 refused.2)
 
-  pub version_told : (e : SourceError) → IsReadRefusal (IsRefusedVersion files version) e → IsHeadRefusal (IsAbsent files) (ShowsAtHead files) e
-  version_told source.Memory h = tt
-  version_told source.Absent h = absurd h
-  version_told (source.Malformed path) h = (there (source.Malformed path) (λ number. let is = number.2 in absurd (cc)) h, inr (inr (version, newest, h)))
-  version_told (source.Unsupported feature path) h = (there (source.Unsupported feature path) (λ number. let is = number.2 in absurd (cc)) h, inr (inr (version, newest, h)))
-  version_told (source.Limit which number) h = inr (inr (version, newest, h))
-  version_told source.StoreFault h = tt
+  pub version_told : HasFewNames files → (e : SourceError) → IsReadRefusal (IsRefusedVersion files version) e → IsHeadRefusal (IsAbsent files) (ShowsAtHead files) e
+  version_told few source.Memory h = tt
+  version_told few source.Absent h = absurd h
+  version_told few (source.Malformed path) h = (there (source.Malformed path) (λ number. let is = number.2 in absurd (cc)) h, inr (few, inr (version, newest, h)))
+  version_told few (source.Unsupported feature path) h = (there (source.Unsupported feature path) (λ number. let is = number.2 in absurd (cc)) h, inr (few, inr (version, newest, h)))
+  version_told few (source.Limit which number) h = inr (few, inr (version, newest, h))
+  version_told few source.StoreFault h = tt
 
 -- ---- what was read once
 
@@ -136,8 +136,8 @@ module _ (files : Files) (head : Head) (is : IsIcebergHead files head) where
   shows_nothing e (inl many) =
       let long = many.0 in
       let few = is.few in absurd (omega (arith, long, few))
-  shows_nothing e (inr (inl other)) = other.0 is.version is.current.metadata.newest.there
-  shows_nothing e (inr (inr (version, newest, refused))) =
+  shows_nothing e (inr (few, inl other)) = other.0 is.version is.current.metadata.newest.there
+  shows_nothing e (inr (few, inr (version, newest, refused))) =
       let same = one_version (HasVersion files) version is.version newest is.current.metadata.newest in
       unrefused files is.version is.metadata is.current.metadata.says refused.0 (subst (λ (v : ℕ). IsFileFault files (version_path v) IsMetadataFault refused.0) same refused.1)
 

@@ -13,10 +13,13 @@ use Rattle.target_core.specs.Folders.{SameIn}
 use Rattle.target_core.specs.FolderLemmas.{names_own, same_back}
 use Rattle.std.proofs.Common.{◌∙◌}
 use Rattle.source_iceberg.specs.Heads.{HasNoName, IsAbsent, IsCurrent, IsIcebergHead, IsNewestMetadata, IsTableAtHead, StandsForMetadata, StatesMetadata}
-use Rattle.source_iceberg.specs.Reading.{HasManyNames, HasOtherNames, IsRefusedSnapshot, IsRefusedVersion, ShowsAtHead, ShowsFromScratch, TellsNames}
+use Rattle.source_iceberg.specs.Reading.{HasFewNames, HasManyNames, HasOtherNames, IsRefusedSnapshot, IsRefusedVersion, ShowsAtHead, ShowsFromScratch, TellsNames}
 
 names_same : (a b : Files) → SameIn metadata_folder a b → names_in b metadata_folder ≡ names_in a metadata_folder
 names_same a b same = names_own metadata_folder (λ name. (name, refl)) a b same
+
+few_own : (a b : Files) → SameIn metadata_folder a b → HasFewNames a → HasFewNames b
+few_own a b same few = subst (λ (names : List (List ℕ)). length names ≤ MAX_NAMES) (sym (names_same a b same)) few
 
 -- ---- the newest metadata
 
@@ -58,7 +61,7 @@ head_own a b head same h = record {
   position = h.position;
   pending = h.pending;
   table = h.table;
-  few = subst (λ (names : List (List ℕ)). length names ≤ MAX_NAMES) (sym (names_same a b same)) h.few;
+  few = few_own a b same h.few;
 }
 
 -- ---- the table
@@ -89,8 +92,8 @@ version_own a b same version e h = (h.0, version_refusal_too a b same version h.
 
 pub at_head_own : (a b : Files) (e : SourceError) → SameIn metadata_folder a b → ShowsAtHead a e → ShowsAtHead b e
 at_head_own a b e same (inl h) = inl (many_own a b same e h)
-at_head_own a b e same (inr (inl h)) = inr (inl (other_own a b same e h))
-at_head_own a b e same (inr (inr h)) = inr (inr (h.0, newest_own a b same h.0 h.1, version_own a b same h.0 e h.2))
+at_head_own a b e same (inr (few, inl h)) = inr (few_own a b same few, inl (other_own a b same e h))
+at_head_own a b e same (inr (few, inr h)) = inr (few_own a b same few, inr (h.0, newest_own a b same h.0 h.1, version_own a b same h.0 e h.2))
 
 pub from_scratch_own : (a b : Files) (e : SourceError) → SameIn metadata_folder a b → ShowsFromScratch a e → ShowsFromScratch b e
 from_scratch_own a b e same (inl h) = inl (at_head_own a b e same h)

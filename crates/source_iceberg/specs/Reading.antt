@@ -1,5 +1,5 @@
 -- What an Iceberg table shows for which it isn't read as a source.
-use Rattle.std.specs.Prelude.{◌≡◌, ◌⊎◌, ◌<◌, ℕ, List, length, Some, None, find}
+use Rattle.std.specs.Prelude.{◌≡◌, ◌⊎◌, ◌<◌, ◌≤◌, ℕ, List, length, Some, None, find}
 use Rattle.lake_basics.specs.declared.limits.TheConstants.{MAX_FILE_BYTES, MAX_NAMES}
 use Rattle.lake_store.specs.Disk.{Files, names_in}
 use Rattle.table_history.specs.Words.{limit_number}
@@ -64,9 +64,13 @@ IsRefusedMetadata files e = (version : ℕ) × IsNewest (HasVersion files) versi
 abbrev pub IsRefusedSnapshot : Files → Metadata → ℕ → Snapshot → SourceError → Type 0
 IsRefusedSnapshot files m version s e = (cause : IcebergError) × IsSnapshotRefusal files m version s cause × Tells cause e
 
--- Finding the head reads the names, and then the newest metadata.
+-- The names aren't too many to be listed.
+abbrev pub HasFewNames : Files → Type 0
+HasFewNames files = length (names_in files metadata_folder) ≤ MAX_NAMES
+
+-- Finding the head reads the names, and where they aren't too many the newest metadata.
 abbrev pub ShowsAtHead : Files → SourceError → Type 0
-ShowsAtHead files e = HasManyNames files e ⊎ (HasOtherNames files e ⊎ IsRefusedMetadata files e)
+ShowsAtHead files e = HasManyNames files e ⊎ (HasFewNames files × (HasOtherNames files e ⊎ IsRefusedMetadata files e))
 
 -- Reading from scratch reads the same, and then the current snapshot.
 abbrev pub ShowsFromScratch : Files → SourceError → Type 0

@@ -24,7 +24,7 @@ returns-in_err-metadata-clause-refused g c told =
     let same = (c.in_ok-version.ensures.only_reads told).disk in
     let refused = subst (λ (d : Disk). IsReadRefusal (IsRefusedVersion d.files c.in_ok-version.version) c.in_err-metadata.field-0.0) same (c.in_err-metadata.ensures.refused told) in
     subst (λ (r : Result Newest SourceError). IfErr r (IsHeadRefusal (IsAbsent files) (ShowsAtHead files))) (sym exit.1)
-    (subst (IsHeadRefusal (IsAbsent files) (ShowsAtHead files)) (sym exit.2) (version_told files c.in_ok-version.version (c.in_ok-version.ensures.newest told) c.in_err-metadata.field-0.0 refused))
+    (subst (IsHeadRefusal (IsAbsent files) (ShowsAtHead files)) (sym exit.2) (version_told files c.in_ok-version.version (c.in_ok-version.ensures.newest told) (c.in_ok-version.ensures.few told) c.in_err-metadata.field-0.0 refused))
 
 pub returns-in_err-metadata-clause-again : goal.returns-in_err-metadata-clause-again
 returns-in_err-metadata-clause-again g c told = λ head is.
@@ -33,7 +33,7 @@ returns-in_err-metadata-clause-again g c told = λ head is.
     let same = (c.in_ok-version.ensures.only_reads told).disk in
     let refused = subst (λ (d : Disk). IsReadRefusal (IsRefusedVersion d.files c.in_ok-version.version) c.in_err-metadata.field-0.0) same (c.in_err-metadata.ensures.refused told) in
     again files head is c.from_residual-in_err-metadata.result exit.0 exit.1
-    (subst (IsHeadRefusal (IsAbsent files) (ShowsAtHead files)) (sym exit.2) (version_told files c.in_ok-version.version (c.in_ok-version.ensures.newest told) c.in_err-metadata.field-0.0 refused))
+    (subst (IsHeadRefusal (IsAbsent files) (ShowsAtHead files)) (sym exit.2) (version_told files c.in_ok-version.version (c.in_ok-version.ensures.newest told) (c.in_ok-version.ensures.few told) c.in_err-metadata.field-0.0 refused))
 
 pub returns-clause-only_reads : goal.returns-clause-only_reads
 returns-clause-only_reads g c = reading_further g.S.Store c.args.store.now c.newest_version.new.store c.metadata_of.new.store c.in_ok-version.ensures.only_reads c.in_ok-metadata.ensures.only_reads
