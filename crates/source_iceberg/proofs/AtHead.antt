@@ -1,8 +1,7 @@
 -- The head that the newest metadata says, and the table there.
-use Rattle.std.proofs.Common.{◌≡◌, ◌⊎◌, ◌≤◌, inl, inr, ℕ, length, Some, None, Result, Ok, Err, sym, ap, subst, ◌∙◌}
+use Rattle.std.proofs.Common.{◌≡◌, ◌⊎◌, ◌≤◌, inl, inr, ℕ, length, Some, None, Result, Ok, Err, sym, subst}
 use Rattle.std.specs.Prelude.{IfErr, IfOk, OnOk}
 use Rattle.std.specs.Fmt.{signed_decimal}
-use Rattle.std.proofs.lemmas.Option.{none-some}
 use Rattle.lake_basics.specs.declared.limits.TheConstants.{MAX_NAMES}
 use Rattle.lake_store.specs.Disk.{Files, names_in}
 use Rattle.table_history.specs.declared.table.Table.{Table}
@@ -18,7 +17,7 @@ use Rattle.source_core.specs.declared.error.SourceError.{SourceError}
 use Rattle.source_core.specs.declared.error.SourceError.TheVariants.{Absent, Memory}
 use Rattle.source_core.specs.declared.head.Head.{Head}
 use Rattle.source_core.proofs.Answers.{weaker}
-use Rattle.source_iceberg.specs.HeadLemmas.{none_current, not_absent, one_metadata, stands_for}
+use Rattle.source_iceberg.specs.HeadLemmas.{none_current, not_absent, stands_for}
 use Rattle.source_iceberg.specs.Heads.{IsAbsent, IsCurrent, IsIcebergHead, IsNewestMetadata, IsTableAtHead}
 use Rattle.source_iceberg.specs.Reading.{IsRefusedSnapshot, ShowsAtHead, ShowsFromScratch}
 

@@ -40,7 +40,6 @@ use Rattle.iceberg_metadata.specs.declared.metadata.Metadata.{Metadata}
 use Rattle.iceberg_metadata.specs.declared.metadata.Snapshot.{Snapshot}
 use Rattle.iceberg_table.specs.declared.manifest.Manifest.{Manifest}
 use Rattle.source_iceberg.specs.Counted.{Counts}
-use Rattle.source_iceberg.specs.Once.{entries_once}
 use Rattle.source_iceberg.specs.Later.{GoesOnBy, IsFoundBehind, IsNotBehind, IsOneMore}
 use Rattle.source_iceberg.specs.Since.{AreCommits, AreCommitsBehind, AreCommitsOver, HasManyEntries, IsBehind, IsCommitOf, IsReached, IsRefusedBehind, NamesOtherColumns, Reaches, ShowsBehind, SnapshotChanges, StopsBehind}
 use Rattle.iceberg_table.specs.declared.snapshot.SnapshotTable.{SnapshotTable}

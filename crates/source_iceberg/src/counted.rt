@@ -1,6 +1,6 @@
 //! The entries of the manifests that are read, of which each counts once.
 
-ghost use Rattle.std.specs.Prelude.{◌≡◌, ◌≤◌, ◌++◌, ◌∷◌, [], List, IfErr, IfOk, IsErrOf};
+ghost use Rattle.std.specs.Prelude.{◌≤◌, ◌++◌, ◌∷◌, [], List, IfErr, IfOk, IsErrOf};
 ghost use Rattle.lake_basics.specs.declared.limits.TheConstants.{MAX_ACTIONS};
 ghost use Rattle.iceberg_table.specs.declared.manifest.Manifest.{Manifest};
 ghost use Rattle.source_core.specs.Answers.{IsReadRefusal};

@@ -1,6 +1,6 @@
 //! The commits of an Iceberg table after a snapshot.
 
-ghost use Rattle.std.specs.Prelude.{◌≡◌, ◌≤◌, ◌++◌, ◌∷◌, List, [], Some, length, IfErr, IfOk, IsErrOf};
+ghost use Rattle.std.specs.Prelude.{◌≡◌, ◌≤◌, List, [], Some, IfErr, IfOk, IsErrOf};
 ghost use Rattle.std.specs.Fmt.{signed_decimal};
 ghost use Rattle.lake_basics.specs.declared.limits.TheConstants.{MAX_ACTIONS};
 ghost use Rattle.lake_store.specs.Runs.{FailsBy, IsUncontestedBy, OnlyReads};
@@ -14,8 +14,8 @@ ghost use Rattle.source_core.specs.Answers.{IsReadRefusal};
 ghost use Rattle.source_core.specs.Since.{CanApplyAll, CanApplySince, FitAll, FitSince, IsSinceAnswer, IsSinceRefusal};
 ghost use Rattle.source_core.specs.declared.error.SourceError.TheVariants.{StoreFault};
 ghost use Rattle.source_iceberg.specs.Counted.{Counts};
-ghost use Rattle.source_iceberg.specs.Heads.{IsIcebergHead, IsNewestMetadata};
-ghost use Rattle.source_iceberg.specs.Since.{HasManyEntries, IsRefusedBehind, IsSince, NamesOtherColumns, Reaches, ShowsBehind, ShowsFromPosition, SnapshotChanges, StopsBehind, AreCommitsBehind, AreCommitsOver};
+ghost use Rattle.source_iceberg.specs.Heads.{IsIcebergHead};
+ghost use Rattle.source_iceberg.specs.Since.{IsRefusedBehind, IsSince, Reaches, ShowsBehind, ShowsFromPosition, SnapshotChanges, StopsBehind, AreCommitsBehind, AreCommitsOver};
 ghost use Rattle.source_iceberg.specs.Later.{GoesOnBy, IsOneMore};
 
 use crate::columns::{names_other_columns, partition_change, snapshot_changes};

@@ -1,7 +1,5 @@
-use Rattle.std.proofs.Common.{◌≡◌, ◌<◌, ◌+◌, ◌∷◌, ◌++◌, [], List, Result, true, false, arith, refl, sym, subst, ◌∙◌}
-use Rattle.std.specs.Prelude.{IfErr}
+use Rattle.std.proofs.Common.{◌≡◌, ◌<◌, ◌+◌, true, false, arith, refl, sym, ◌∙◌}
 use Rattle.lake_basics.specs.declared.limits.TheConstants.{MAX_ACTIONS}
-use Rattle.source_core.specs.Answers.{IsReadRefusal}
 use Rattle.source_iceberg.proofs.CountLaws.{counts_more, key_put, many_here}
 use Rattle.source_iceberg.proofs.counted.Counted.with_manifest.Goals as goal
 

@@ -1,8 +1,7 @@
-use Rattle.std.proofs.Common.{List, Result, ap, refl, sym, subst, ◌∙◌, ◌++◌}
+use Rattle.std.proofs.Common.{List, Result, refl, sym, subst, ◌++◌}
 use Rattle.std.specs.Prelude.{IfErr}
 use Rattle.std.proofs.lemmas.Result.{err_from_is_err_and}
 use Rattle.iceberg_table.specs.declared.manifest.Manifest.{Manifest}
-use Rattle.target_core.specs.Conditions.{IsPublishable}
 use Rattle.source_core.specs.Answers.{IsReadRefusal}
 use Rattle.source_core.specs.declared.error.SourceError.{SourceError}
 use Rattle.source_iceberg.specs.Counted.{Counts}
