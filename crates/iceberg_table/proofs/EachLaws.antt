@@ -9,7 +9,6 @@ use Rattle.iceberg_manifest.specs.Lists.{AreEach}
 use Rattle.iceberg_live.specs.declared.live.LiveRow.{LiveRow}
 use Rattle.iceberg_manifest.specs.declared.partition.PartColumn.{PartColumn}
 use Rattle.iceberg_table.specs.Kinds.{FitLive, FitRows, FitsColumns}
-use Rattle.iceberg_table.specs.Manifests.{entry_count}
 use Rattle.iceberg_table.specs.Tables.{AreOfContents, TakeNoDeletes, TakesNoDeletes, rows_in, rows_of}
 use Rattle.iceberg_table.specs.declared.manifest.Manifest.{Manifest}
 
@@ -51,10 +50,6 @@ each_once P (x ∷ xs) (y ∷ ys) (z ∷ zs) once a b =
     ap (λ w. w ∷ ys) one ∙ ap (λ l. z ∷ l) more
 
 -- ---- manifests
-
-pub count_push : (rs : List Manifest) (r : Manifest) → entry_count (rs ++ r ∷ []) ≡ entry_count rs + r.entries
-count_push [] r = omega arith
-count_push (s ∷ rs) r = let more = count_push rs r in omega (arith, more)
 
 in_rows : (columns : List PartColumn) (rows : List LiveRow) → FitLive columns rows → FitRows columns (rows_in rows)
 in_rows columns [] fit row there = absurd (Contains-none row there)

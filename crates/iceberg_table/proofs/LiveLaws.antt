@@ -36,17 +36,17 @@ use Rattle.iceberg_table.proofs.ListLaws.{path_once}
 
 -- ---- lists
 
-in_map : (rows : List LiveRow) (live : LiveRow) → Contains rows live → Contains (rows_in rows) live.row
+pub in_map : (rows : List LiveRow) (live : LiveRow) → Contains rows live → Contains (rows_in rows) live.row
 in_map [] live there = absurd (Contains-none live there)
 in_map (r ∷ rows) live there =
     ⊎_elim (λ same. subst (λ (l : LiveRow). Contains (rows_in (r ∷ rows)) l.row) same (Contains-head r.row (rows_in rows))) (λ later. Contains-tail r.row (rows_in rows) live.row (in_map rows live later)) (Contains-cases r rows live there)
 
-of_map : (rows : List LiveRow) (row : Row) → Contains (rows_in rows) row → (live : LiveRow) × Contains rows live × (live.row ≡ row)
+pub of_map : (rows : List LiveRow) (row : Row) → Contains (rows_in rows) row → (live : LiveRow) × Contains rows live × (live.row ≡ row)
 of_map [] row there = absurd (Contains-none row there)
 of_map (r ∷ rows) row there =
     ⊎_elim (λ same. (r, Contains-head r rows, same)) (λ later. let rest = of_map rows row later in (rest.0, Contains-tail r rows rest.0 rest.1, rest.2)) (Contains-cases r.row (rows_in rows) row there)
 
-in_flat : (rs : List Manifest) (r : Manifest) (row : Row) → Contains rs r → Contains (rows_in r.rows) row → Contains (rows_of rs) row
+pub in_flat : (rs : List Manifest) (r : Manifest) (row : Row) → Contains rs r → Contains (rows_in r.rows) row → Contains (rows_of rs) row
 in_flat [] r row there within = absurd (Contains-none r there)
 in_flat (q ∷ rs) r row there within =
     ⊎_elim
@@ -54,7 +54,7 @@ in_flat (q ∷ rs) r row there within =
     (λ later. Contains-append_right (rows_in q.rows) (rows_of rs) row (in_flat rs r row later within))
     (Contains-cases q rs r there)
 
-of_flat : (rs : List Manifest) (row : Row) → Contains (rows_of rs) row → (r : Manifest) × Contains rs r × Contains (rows_in r.rows) row
+pub of_flat : (rs : List Manifest) (row : Row) → Contains (rows_of rs) row → (r : Manifest) × Contains rs r × Contains (rows_in r.rows) row
 of_flat [] row there = absurd (Contains-none row there)
 of_flat (q ∷ rs) row there =
     ⊎_elim (λ here. (q, Contains-head q rs, here)) (λ later. let rest = of_flat rs row later in (rest.0, Contains-tail q rs rest.0 rest.1, rest.2)) (Contains-append_cases (rows_in q.rows) (rows_of rs) row there)
@@ -73,7 +73,7 @@ live_true : (e : EntryData) → e.status < 2 → is_live e ≡ true
 live_true e low = grind (arith, nat_tests)
 
 -- an entry has one row
-row_once : (location : List ℕ) (info : ManifestInfo) (e : EntryData) (a b : LiveRow) → IsRowOf location info e a → IsRowOf location info e b → a.row ≡ b.row
+pub row_once : (location : List ℕ) (info : ManifestInfo) (e : EntryData) (a b : LiveRow) → IsRowOf location info e a → IsRowOf location info e b → a.row ≡ b.row
 row_once location info e a b ra rb =
     let path : a.row.path ≡ b.row.path = append_cancel_left (front_of location) a.row.path b.row.path (sym ra.place ∙ rb.place) in
     let values : a.row.values ≡ b.row.values = ra.values ∙ sym rb.values in

@@ -57,12 +57,12 @@ by_path s f (Some (name ∷ [])) c at is =
     record { named = at ∙ ap (λ (n : List ℕ). Some (n ∷ [])) got.0; kind = ap (column_kind s.1) (sym got.0) ∙ got.1 }
 by_path s f (Some (name ∷ (part ∷ path))) c at is = absurd (cc)
 
-column_is : (s : HeldSchema) (f : SpecField) (c : SourceColumn) → column_of s f ≡ Ok c → IsColumn s f c
+pub column_is : (s : HeldSchema) (f : SpecField) (c : SourceColumn) → column_of s f ≡ Ok c → IsColumn s f c
 column_is s f c is = by_path s f (path_of (path_ids s) f.source_id) c refl (required_some PartitionType (option_and_then (top_column s.1 f) (path_of (path_ids s) f.source_id)) c is)
 
 -- ---- columns
 
-each_cons : {A B E : Type 0} (f : A → Result B E) (x : A) (xs : List A) (ys : List B) → each f (x ∷ xs) ≡ Ok ys → (y : B) × (rest : List B) × (f x ≡ Ok y) × (each f xs ≡ Ok rest) × (y ∷ rest ≡ ys)
+pub each_cons : {A B E : Type 0} (f : A → Result B E) (x : A) (xs : List A) (ys : List B) → each f (x ∷ xs) ≡ Ok ys → (y : B) × (rest : List B) × (f x ≡ Ok y) × (each f xs ≡ Ok rest) × (y ∷ rest ≡ ys)
 each_cons f x xs ys is =
     let first = bind_ok (f x) (λ y. each f xs >>= λ others. Ok (y ∷ others)) ys is in
     let others = bind_ok (each f xs) (λ rest. Ok (first.0 ∷ rest)) ys first.2 in

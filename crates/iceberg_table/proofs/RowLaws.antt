@@ -34,10 +34,10 @@ pub path_lacks : (rows : List FileRow) (path : List ℕ) (r : Option (Bor FileRo
 path_lacks rows path None is cases = cases
 path_lacks rows path (Some w) is cases = absurd (cc)
 
-no_paths : HasDistinctPaths []
+pub no_paths : HasDistinctPaths []
 no_paths = IsDistinct-from_apart bytes_eq [] (λ i j d _ within. absurd (omega arith))
 
-paths_push : (rows : List FileRow) (row : FileRow) → HasDistinctPaths rows → (HasPath rows row.path → ⊥) → HasDistinctPaths (rows ++ row ∷ [])
+pub paths_push : (rows : List FileRow) (row : FileRow) → HasDistinctPaths rows → (HasPath rows row.path → ⊥) → HasDistinctPaths (rows ++ row ∷ [])
 paths_push rows row distinct new =
     subst (IsDistinct bytes_eq) (sym (map-append (λ (r : FileRow). r.path) rows (row ∷ [])))
     (IsDistinct-push nat_list_eq_equiv (paths_of rows) row.path distinct (⊎_elim (λ is. absurd (there is)) (λ is. is) (cases_Bool (list_any (bytes_eq row.path) (paths_of rows)))))

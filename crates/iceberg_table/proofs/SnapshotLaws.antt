@@ -26,7 +26,8 @@ use Rattle.iceberg_metadata.specs.declared.metadata.Snapshot.{Snapshot}
 use Rattle.iceberg_table.specs.Errors.{IsRefusal}
 use Rattle.iceberg_table.specs.Kinds.{FitRows}
 use Rattle.iceberg_table.specs.Lists.{SaysList}
-use Rattle.iceberg_table.specs.Manifests.{IsManifestOf, entry_count}
+use Rattle.iceberg_table.specs.Manifests.{IsManifestOf}
+use Rattle.iceberg_table.specs.Once.{entries_once}
 use Rattle.iceberg_table.specs.Plan.{IsPlanOf, IsSoundPlan, names_of, part_columns}
 use Rattle.iceberg_table.specs.Refusals.{IsListedRefusal}
 use Rattle.iceberg_table.specs.Snapshots.{HasColumnsOf, HasManifestRows, IsReadBy, IsTableOfSnapshot}
@@ -42,19 +43,19 @@ use Rattle.iceberg_table.specs.declared.snapshot.SnapshotTable.{SnapshotTable}
 use Rattle.iceberg_table.proofs.LiveLaws.{table_is}
 
 module _ (files : Files) (m : Metadata) (plan : Plan) (list : List ManifestFile) (says : SaysList files m plan.list list) (manifests : List Manifest) (are : AreEach (IsManifestOf files m.location (part_columns plan.columns)) list manifests) where
-  pub read_by : entry_count manifests ≤ MAX_ACTIONS → ((others : List ManifestFile) → SaysList files m plan.list others → others ≡ list) → (table : Table) → IsTableOfRows plan.schema (names_of plan.columns) (rows_of manifests) table
+  pub read_by : entries_once manifests ≤ MAX_ACTIONS → ((others : List ManifestFile) → SaysList files m plan.list others → others ≡ list) → (table : Table) → IsTableOfRows plan.schema (names_of plan.columns) (rows_of manifests) table
       → (r : Result SnapshotTable IcebergError) → IfOk r (λ t. t ≡ record { table = table; manifests = manifests }) → IfOk r (IsReadBy files m plan)
   read_by few only table is (Ok t) whole = let same : t.manifests ≡ manifests = ap (λ (u : SnapshotTable). u.manifests) whole in record {
     list = list;
     says = says;
     only = only;
     manifests = subst (λ (l : List Manifest). AreEach (IsManifestOf files m.location (part_columns plan.columns)) list l) (sym same) are;
-    few = subst (λ (l : List Manifest). entry_count l ≤ MAX_ACTIONS) (sym same) few;
+    few = subst (λ (l : List Manifest). entries_once l ≤ MAX_ACTIONS) (sym same) few;
     table = subst (λ (u : SnapshotTable). IsTableOfRows plan.schema (names_of plan.columns) (rows_of u.manifests) u.table) (sym whole) is;
   }
   read_by few only table is (Err e) whole = tt
 
-  pub many_refused : entry_count manifests ≤ MAX_ACTIONS → (t : Table) → IsTableOfRows plan.schema (names_of plan.columns) (rows_of manifests) t → (r : Result SnapshotTable IcebergError)
+  pub many_refused : entries_once manifests ≤ MAX_ACTIONS → (t : Table) → IsTableOfRows plan.schema (names_of plan.columns) (rows_of manifests) t → (r : Result SnapshotTable IcebergError)
       → IfErr r (λ e. (e ≡ error.Refused plan.list (fault.Limit LiveFiles)) × (MAX_LIVE_FILES < length t.rows)) → IfErr r (IsRefusal (IsListedRefusal files m plan))
   many_refused few t is (Ok read) many = tt
   many_refused few t is (Err e) many =
@@ -112,7 +113,7 @@ names_length [] = refl
 names_length (c ∷ cs) = let rest = names_length cs in omega (arith, rest)
 
 module _ (plan : Plan) (sound : IsSoundPlan plan) (rows : List Row) (fit : FitRows (part_columns plan.columns) rows) where
-  sound_table : (t : Table) → IsTableOfRows plan.schema (names_of plan.columns) rows t → length t.rows ≤ MAX_LIVE_FILES → IsTableOfSnapshots t
+  pub sound_table : (t : Table) → IsTableOfRows plan.schema (names_of plan.columns) rows t → length t.rows ≤ MAX_LIVE_FILES → IsTableOfSnapshots t
   sound_table t is few = record {
     partition_distinct = subst (λ (names : List (List ℕ)). IsDistinct bytes_eq names) (sym is.partition) sound.distinct;
     partition_kinds = λ name there none.

@@ -5,6 +5,8 @@ pub mod Files
 pub mod Plan
 pub mod Lists
 pub mod Kinds
+pub mod Once
+pub mod Counted
 pub mod Manifests
 pub mod Tables
 pub mod Snapshots

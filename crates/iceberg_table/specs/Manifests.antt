@@ -15,6 +15,7 @@ use Rattle.iceberg_live.specs.declared.live.LiveRow.{LiveRow}
 use Rattle.iceberg_manifest.specs.declared.partition.PartColumn.{PartColumn}
 use Rattle.iceberg_table.specs.Errors.{IsFileFault, IsTold, manifest_fault}
 use Rattle.iceberg_table.specs.Files.{HoldsFile}
+use Rattle.iceberg_table.specs.Once.{counted_before, entries_once}
 use Rattle.iceberg_table.specs.Order.{Stops, StopsAt}
 use Rattle.iceberg_table.specs.Tables.{AreShared, rows_in, rows_of}
 use Rattle.iceberg_table.specs.declared.error.Fault.{Fault}
@@ -55,11 +56,6 @@ abbrev pub IsManifestOf : Files → List ℕ → List PartColumn → ManifestFil
 IsManifestOf files location columns file r =
     (r.file ≡ file) × (((file.info.content ≡ pos 0) × HasEntries files location columns r) ⊎ ((file.info.content ≢ pos 0) × ((all : List LiveRow) × HasEntries files location columns (record { file = r.file; entries = r.entries; rows = all })) × (r.rows ≡ [])))
 
--- how many entries manifests have together
-abbrev pub entry_count : List Manifest → ℕ
-entry_count [] = 0
-entry_count (r ∷ rs) = r.entries + entry_count rs
-
 -- The entries and those before them are too many, or the first of them that is live and at fault shows this.
 abbrev pub IsEntriesFault : List ℕ → ManifestFile → ℕ → List EntryData → Fault → Type 0
 IsEntriesFault location file before entries f =
@@ -78,11 +74,11 @@ IsManifestRefusal files location columns before file e = IsFileFault files file.
 -- The manifest is read, and a live entry of it has the path of an earlier one, for which the list at this path is named.
 abbrev pub SharesFile : Files → List ℕ → List PartColumn → List ℕ → List Manifest → ManifestFile → IcebergError → Type 0
 SharesFile files location columns path found file e =
-    (r : Manifest) × IsManifestOf files location columns file r × (entry_count found + r.entries ≤ MAX_ACTIONS) × IsTold path (AreShared (rows_of found ++ rows_in r.rows)) e
+    (r : Manifest) × IsManifestOf files location columns file r × (entries_once (found ++ r ∷ []) ≤ MAX_ACTIONS) × IsTold path (AreShared (rows_of found ++ rows_in r.rows)) e
 
 -- The first of the manifests that is refused, behind those before it, whose live rows have distinct paths, is refused so by itself, or else for a file
 -- that it shares.
 abbrev pub AreManifestsRefused : Files → List ℕ → List PartColumn → List ℕ → List ManifestFile → IcebergError → Type 0
 AreManifestsRefused files location columns path list =
     StopsAt (IsManifestOf files location columns)
-    (λ found file e. (entry_count found ≤ MAX_ACTIONS) × HasDistinctPaths (rows_of found) × (IsManifestRefusal files location columns (entry_count found) file e ⊎ SharesFile files location columns path found file e)) list
+    (λ found file e. (entries_once found ≤ MAX_ACTIONS) × HasDistinctPaths (rows_of found) × (IsManifestRefusal files location columns (counted_before file.path found) file e ⊎ SharesFile files location columns path found file e)) list

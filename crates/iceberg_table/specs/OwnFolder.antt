@@ -21,7 +21,8 @@ use Rattle.iceberg_table.specs.Files.{HoldsFile, SaysMetadata}
 use Rattle.iceberg_table.specs.Errors.{IsFileFault}
 use Rattle.iceberg_table.specs.Folder.{HasVersion, metadata_folder, version_path}
 use Rattle.iceberg_table.specs.Lists.{IsListFault, IsListed, SaysList}
-use Rattle.iceberg_table.specs.Manifests.{AreManifestsRefused, HasEntries, IsManifestFault, IsManifestOf, SaysManifest, SharesFile, entry_count}
+use Rattle.iceberg_table.specs.Manifests.{AreManifestsRefused, HasEntries, IsManifestFault, IsManifestOf, SaysManifest, SharesFile}
+use Rattle.iceberg_table.specs.Once.{counted_before}
 use Rattle.iceberg_table.specs.Plan.{part_columns}
 use Rattle.iceberg_table.specs.Refusals.{IsListedRefusal, IsMetadataFault, IsSnapshotRefusal}
 use Rattle.iceberg_table.specs.Snapshots.{IsLiveIn, IsReadAs, IsReadBy, IsTableOfSnapshot}
@@ -160,7 +161,7 @@ module _ (a b : Files) (same : SameMetadataFiles a b) (location : List ℕ) (col
           h.refused.0,
           h.refused.1,
           ⊎_elim
-              (λ fault. inl (fault_too a b same h.item.path (IsManifestFault location columns (entry_count h.found) h.item) e at fault))
+              (λ fault. inl (fault_too a b same h.item.path (IsManifestFault location columns (counted_before h.item.path h.found) h.item) e at fault))
               (λ (shares : SharesFile a location columns path h.found h.item e). inr (shares.0, of_file_too h.item shares.0 at shares.1, shares.2, shares.3))
               h.refused.2,
         );

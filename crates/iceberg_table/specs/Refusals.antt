@@ -13,7 +13,8 @@ use Rattle.iceberg_metadata.specs.declared.metadata.Snapshot.{Snapshot}
 use Rattle.iceberg_table.specs.Errors.{IsFileFault, IsTold, metadata_fault}
 use Rattle.iceberg_table.specs.Folder.{metadata_folder, version_path}
 use Rattle.iceberg_table.specs.Lists.{IsListFault, SaysList}
-use Rattle.iceberg_table.specs.Manifests.{AreManifestsRefused, IsManifestOf, entry_count}
+use Rattle.iceberg_table.specs.Manifests.{AreManifestsRefused, IsManifestOf}
+use Rattle.iceberg_table.specs.Once.{entries_once}
 use Rattle.iceberg_table.specs.Order.{Stops}
 use Rattle.iceberg_table.specs.Plan.{IsPlanFault, IsPlanOf, part_columns}
 use Rattle.iceberg_table.specs.Tables.{AreManyRows, rows_of}
@@ -39,7 +40,7 @@ abbrev pub IsListedRefusal : Files → Metadata → Plan → IcebergError → Ty
 IsListedRefusal files m plan =
     Stops (SaysList files m plan.list) (IsFileFault files plan.list (IsListFault m))
     (λ list. Stops (AreEach (IsManifestOf files m.location (part_columns plan.columns)) list) (AreManifestsRefused files m.location (part_columns plan.columns) plan.list list)
-    (λ manifests e. (entry_count manifests ≤ MAX_ACTIONS) × IsTold plan.list (AreManyRows (rows_of manifests)) e))
+    (λ manifests e. (entries_once manifests ≤ MAX_ACTIONS) × IsTold plan.list (AreManyRows (rows_of manifests)) e))
 
 -- What the metadata of that version says of the snapshot is refused, or else what it names.
 abbrev pub IsSnapshotRefusal : Files → Metadata → ℕ → Snapshot → IcebergError → Type 0

@@ -11,7 +11,8 @@ use Rattle.iceberg_live.specs.declared.live.LiveRow.{LiveRow}
 use Rattle.iceberg_metadata.specs.declared.metadata.Metadata.{Metadata}
 use Rattle.iceberg_metadata.specs.declared.metadata.Snapshot.{Snapshot}
 use Rattle.iceberg_table.specs.Lists.{SaysList}
-use Rattle.iceberg_table.specs.Manifests.{IsManifestOf, SaysManifest, entry_count}
+use Rattle.iceberg_table.specs.Manifests.{IsManifestOf, SaysManifest}
+use Rattle.iceberg_table.specs.Once.{entries_once}
 use Rattle.iceberg_table.specs.Plan.{IsPlanOf, names_of, part_columns}
 use Rattle.iceberg_table.specs.Tables.{IsTableOfRows, rows_of}
 use Rattle.iceberg_table.specs.declared.list.ManifestFile.{ManifestFile}
@@ -60,7 +61,7 @@ pub record IsReadBy (files : Files) (m : Metadata) (plan : Plan) (t : SnapshotTa
   pub says : SaysList files m plan.list list
   pub only : (others : List ManifestFile) → SaysList files m plan.list others → others ≡ list
   pub manifests : AreEach (IsManifestOf files m.location (part_columns plan.columns)) list t.manifests
-  pub few : entry_count t.manifests ≤ MAX_ACTIONS
+  pub few : entries_once t.manifests ≤ MAX_ACTIONS
   pub table : IsTableOfRows plan.schema (names_of plan.columns) (rows_of t.manifests) t.table
 
 -- So are those of the snapshot.

@@ -2,6 +2,7 @@
 //! snapshot's manifest list and manifests stand for.
 #![tactic(auto)]
 
+mod counted;
 mod error;
 mod file;
 mod folder;
@@ -12,11 +13,12 @@ mod rows;
 mod snapshot;
 mod version;
 
+pub use counted::Counted;
 pub use error::{Fault, IcebergError};
 pub use file::metadata_file_path;
 pub use folder::{METADATA_FOLDER, MetadataNames, list_metadata};
-pub use list::ManifestFile;
-pub use manifest::Manifest;
-pub use plan::Plan;
-pub use snapshot::{SnapshotTable, read_snapshot};
+pub use list::{ManifestFile, read_list_file};
+pub use manifest::{Manifest, read_manifest_file};
+pub use plan::{Plan, names_of, part_columns};
+pub use snapshot::{SnapshotTable, plan_snapshot, read_snapshot};
 pub use version::{read_version, version_path};

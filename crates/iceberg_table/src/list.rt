@@ -86,8 +86,10 @@ fn list_in(
     }
 }
 
-/// The manifests that the list at this path names, in the order of its rows.
-pub(crate) fn read_list_file<S: Store>(
+/// The manifests that the list at this path names, in the order of its rows (Apache Iceberg
+/// specification, "Manifest Lists"). Each is of the default spec, and none has live row-level
+/// deletes. What is refused is the list, or the first of its rows at fault.
+pub fn read_list_file<S: Store>(
     alloc: Global,
     store: &mut S,
     metadata: &Metadata,

@@ -8,10 +8,12 @@ ghost use Rattle.iceberg_table.specs.Errors.{IsFault, IsFileFault, IsRefusal};
 ghost use Rattle.iceberg_live.specs.LiveRows.{AreLiveRows};
 ghost use Rattle.iceberg_table.specs.Kinds.{FitLive, FitRows};
 ghost use Rattle.iceberg_table.specs.Lists.{HaveContents};
-ghost use Rattle.iceberg_table.specs.Manifests.{AreManifestsRefused, HasEntries, IsContent, IsEntriesFault, IsManifestFault, IsManifestOf, IsManifestRefusal, entry_count};
+ghost use Rattle.iceberg_table.specs.Manifests.{AreManifestsRefused, HasEntries, IsContent, IsEntriesFault, IsManifestFault, IsManifestOf, IsManifestRefusal};
+ghost use Rattle.iceberg_table.specs.Once.{entries_once};
 ghost use Rattle.iceberg_table.specs.Tables.{AreOfContents, IsTableOfRows, TakeNoDeletes, TakesNoDeletes, rows_of};
 ghost use Rattle.iceberg_table.specs.declared.error.IcebergError.TheVariants.{StoreFault};
 
+use crate::counted::Counted;
 use crate::error::{Fault, IcebergError, manifest_fault};
 use crate::file::{read_file, refusal};
 use crate::list::ManifestFile;
@@ -128,8 +130,10 @@ fn read_entries<S: Store>(
     }
 }
 
-/// What is read of a manifest, behind the entries of the manifests before it.
-fn read_one<S: Store>(
+/// What is read of a manifest that a list names (Apache Iceberg specification, "Manifests"), after
+/// so many entries of other manifests, with which its own may not be too many. No row is taken from
+/// a manifest of deletes. What is refused is this manifest.
+pub fn read_manifest_file<S: Store>(
     alloc: Global,
     store: &mut S,
     location: &str,
@@ -162,7 +166,7 @@ fn read_one<S: Store>(
 }
 
 /// What is read of the manifests that the list at this path names, one after another, and the table
-/// of their live rows, which is empty at first.
+/// of their live rows, which is empty at first. The entries of one that is named twice count once.
 pub(crate) fn read_manifests<S: Store>(
     alloc: Global,
     store: &mut S,
@@ -181,7 +185,7 @@ pub(crate) fn read_manifests<S: Store>(
     ensures fit { IfOk result (λ t. FitRows columns.now (rows_of t.manifests)) }
     ensures no_deletes { IfOk result (λ t. TakeNoDeletes t.manifests) }
     ensures contents { IfOk result (λ t. AreOfContents t.manifests) }
-    ensures within { IfOk result (λ t. entry_count t.manifests ≤ MAX_ACTIONS) }
+    ensures within { IfOk result (λ t. entries_once t.manifests ≤ MAX_ACTIONS) }
     ensures refused { S.tells → IfErr result (IsRefusal (AreManifestsRefused
         (S.disk store.old).files location.now columns.now path.now list)) }
     ensures only_reads { S.tells → OnlyReads ⟦<S as Store>⟧ store.old store.new }
@@ -190,10 +194,11 @@ pub(crate) fn read_manifests<S: Store>(
 {
     let mut manifests = Items::new(alloc);
     let mut table = empty;
-    let mut count = 0;
+    let mut counted = Counted::new(alloc);
     for file in list.into_vec() {
-        let manifest = read_one(alloc, store, location, columns, count, file)?;
-        count += manifest.entries;
+        let before = counted.before(&file.path);
+        let manifest = read_manifest_file(alloc, store, location, columns, before, file)?;
+        counted = counted.with_manifest(alloc, &manifest)?;
         table = joined(alloc, path, table, manifest.rows.as_slice())?;
         manifests.push(manifest)?;
     }

@@ -93,7 +93,7 @@ pub(crate) fn plan_of(
 }
 
 /// The names of these columns.
-pub(crate) fn names_of(alloc: Global, columns: &[SourceColumn]) -> Result<Items<Text>, AllocError>
+pub fn names_of(alloc: Global, columns: &[SourceColumn]) -> Result<Items<Text>, AllocError>
     ensures { IfOk result (λ names. names ≡ names_of columns.now) }
 {
     let mut names = Items::new(alloc);
@@ -104,7 +104,7 @@ pub(crate) fn names_of(alloc: Global, columns: &[SourceColumn]) -> Result<Items<
 }
 
 /// The columns as manifests have them.
-pub(crate) fn part_columns(
+pub fn part_columns(
     alloc: Global,
     columns: &[SourceColumn],
 ) -> Result<Items<PartColumn>, AllocError>

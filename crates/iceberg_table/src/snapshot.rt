@@ -5,9 +5,9 @@ ghost use Rattle.lake_basics.specs.declared.limits.TheConstants.{MAX_LIVE_FILES}
 ghost use Rattle.table_history.specs.declared.limit.LimitKind.TheVariants.{LiveFiles};
 ghost use Rattle.lake_store.specs.Runs.{FailsBy, IsUncontestedBy, OnlyReads};
 ghost use Rattle.iceberg_metadata.specs.Writing.{IsWritable};
-ghost use Rattle.iceberg_table.specs.Errors.{IsRefusal, error_at};
+ghost use Rattle.iceberg_table.specs.Errors.{IsRefusal, IsTold, error_at};
 ghost use Rattle.iceberg_table.specs.Folder.{version_path};
-ghost use Rattle.iceberg_table.specs.Plan.{IsSoundPlan, names_of};
+ghost use Rattle.iceberg_table.specs.Plan.{IsPlanFault, IsPlanOf, IsSoundPlan, names_of};
 ghost use Rattle.iceberg_table.specs.Refusals.{IsListedRefusal, IsSnapshotRefusal};
 ghost use Rattle.iceberg_table.specs.Snapshots.{HasColumnsOf, HasManifestRows, IsReadAs, IsReadBy, IsTableOfSnapshot};
 ghost use Rattle.iceberg_table.specs.Tables.{AreOfContents, IsTableOfSnapshots, TakeNoDeletes};
@@ -104,6 +104,27 @@ fn read_planned<S: Store>(
     bounded(path, read)
 }
 
+/// What the metadata of this version says of a snapshot (Apache Iceberg specification, "Snapshots").
+/// A refusal names the metadata.
+pub fn plan_snapshot(
+    alloc: Global,
+    metadata: &Metadata,
+    version: u32,
+    snapshot: &Snapshot,
+) -> Result<Plan, IcebergError>
+    ensures found { IfOk result (IsPlanOf metadata.now snapshot.now) }
+    // A table's own metadata gives a schema and columns that its table may have.
+    ensures sound { IsWritable metadata.now → IfOk result IsSoundPlan }
+    ensures refused { IfErr result (IsRefusal
+        (IsTold (version_path version) (IsPlanFault metadata.now snapshot.now))) }
+    ensures no_fault { IsErrOf result StoreFault → ⊥ }
+{
+    match plan_of(alloc, metadata, snapshot) {
+        Ok(plan) => Ok(plan),
+        Err(error) => Err(version_refusal(alloc, version, error)),
+    }
+}
+
 /// The table that a snapshot stands for (Apache Iceberg specification, "Scan Planning"): its
 /// schema, the partition columns of the default spec, and the rows of the live entries of its
 /// manifests. Each file is read once. The metadata is that of this version. A refusal is that of the
@@ -136,8 +157,8 @@ pub fn read_snapshot<S: Store>(
     ensures cause { FailsBy ⟦<S as Store>⟧ store.old store.new (IsErrOf result StoreFault) }
     ensures contest { IsUncontestedBy ⟦<S as Store>⟧ store.old store.new ⊥ }
 {
-    match plan_of(alloc, metadata, snapshot) {
+    match plan_snapshot(alloc, metadata, version, snapshot) {
         Ok(plan) => read_planned(alloc, store, metadata, plan),
-        Err(error) => Err(version_refusal(alloc, version, error)),
+        Err(error) => Err(error),
     }
 }

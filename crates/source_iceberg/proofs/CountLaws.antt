@@ -8,7 +8,6 @@ use Rattle.std.proofs.lemmas.List.Elements.{filter-append}
 use Rattle.std.proofs.lemmas.List.Folds.{list_any-append}
 use Rattle.std.proofs.lemmas.Slice.Eq.{bytes_eq-Decides}
 use Rattle.lake_basics.specs.declared.limits.TheConstants.{MAX_ACTIONS}
-use Rattle.iceberg_table.specs.Manifests.{entry_count}
 use Rattle.iceberg_table.specs.declared.manifest.Manifest.{Manifest}
 use Rattle.source_core.proofs.Answers.{weaker}
 use Rattle.source_core.specs.Answers.{IsReadRefusal}
@@ -16,7 +15,7 @@ use Rattle.source_core.specs.declared.error.SourceError.{SourceError}
 use Rattle.source_core.specs.declared.error.SourceError.TheVariants.{Limit}
 use Rattle.table_history.specs.declared.limit.LimitKind.TheVariants as limit
 use Rattle.source_iceberg.specs.Counted.{Counts}
-use Rattle.source_iceberg.specs.Once.{each_once, entries_once, has_path}
+use Rattle.iceberg_table.specs.Once.{each_once, entries_once, entry_count, has_path}
 use Rattle.source_iceberg.specs.Since.{HasManyEntries}
 use Rattle.source_iceberg.specs.declared.counted.Counted.{Counted}
 

@@ -3,7 +3,7 @@ use Rattle.std.specs.Prelude.{◌≡◌, ℕ, List}
 use Rattle.std.specs.List.{list_any}
 use Rattle.std.specs.Str.{bytes_eq}
 use Rattle.iceberg_table.specs.declared.manifest.Manifest.{Manifest}
-use Rattle.source_iceberg.specs.Once.{entries_once, has_path}
+use Rattle.iceberg_table.specs.Once.{entries_once, has_path}
 use Rattle.source_iceberg.specs.declared.counted.Counted.{Counted}
 
 -- The paths are those of the manifests that were read, and the number is that of their entries, where each manifest counts once.

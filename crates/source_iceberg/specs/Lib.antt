@@ -2,7 +2,6 @@ pub mod Heads
 pub mod Reading
 pub mod HeadLemmas
 pub mod OwnLemmas
-pub mod Once
 pub mod Since
 pub mod Counted
 pub mod Later

@@ -24,7 +24,7 @@ use Rattle.iceberg_table.specs.declared.snapshot.SnapshotTable.{SnapshotTable}
 use Rattle.source_core.specs.declared.error.SourceError.{SourceError}
 use Rattle.source_core.specs.declared.error.SourceError.TheVariants.{Limit, Unsupported}
 use Rattle.source_iceberg.specs.Heads.{IsNewestMetadata}
-use Rattle.source_iceberg.specs.Once.{entries_once}
+use Rattle.iceberg_table.specs.Once.{entries_once}
 use Rattle.source_iceberg.specs.Reading.{IsRefusedSnapshot}
 
 -- ---- whether they are there

@@ -17,7 +17,8 @@ use Rattle.iceberg_metadata.specs.declared.metadata.Snapshot.{Snapshot}
 use Rattle.iceberg_table.specs.Files.{SaysMetadata}
 use Rattle.iceberg_table.specs.Folder.{HasVersion, IsNewest, path_of, version_path}
 use Rattle.iceberg_table.specs.Lists.{IsListFault, SaysList}
-use Rattle.iceberg_table.specs.Manifests.{AreManifestsRefused, IsManifestFault, IsManifestOf, IsManifestRefusal, SharesFile, entry_count}
+use Rattle.iceberg_table.specs.Manifests.{AreManifestsRefused, IsManifestFault, IsManifestOf, IsManifestRefusal, SharesFile}
+use Rattle.iceberg_table.specs.Once.{counted_before}
 use Rattle.iceberg_table.specs.Plan.{IsPlanFault, part_columns}
 use Rattle.iceberg_table.specs.Refusals.{IsListedRefusal, IsMetadataFault, IsSnapshotRefusal}
 use Rattle.iceberg_table.specs.Tables.{AreManyRows, AreShared, rows_in, rows_of}
@@ -86,10 +87,10 @@ module _ (files : Files) (location : List ℕ) (columns : List PartColumn) (path
 
   -- Of manifests that are read, whose live rows have distinct paths, none is refused behind those before it.
   none_refused : (front : List ManifestFile) (item : ManifestFile) (behind : List ManifestFile) (manifests found : List Manifest) (told : List ℕ) (e : IcebergError) → AreEach Of (front ++ item ∷ behind) manifests → HasDistinctPaths (rows_of manifests) → AreEach Of front found
-      → IsManifestRefusal files location columns (entry_count found) item e ⊎ SharesFile files location columns path found item e → faulty_path e ≡ Some told → ⊥
+      → IsManifestRefusal files location columns (counted_before item.path found) item e ⊎ SharesFile files location columns path found item e → faulty_path e ≡ Some told → ⊥
   none_refused front item behind manifests found told e are distinct fronts (inl refused) is =
       let s = split_each Of front item behind manifests are in
-      manifest_or_fault files location columns (entry_count found) item told e s.one s.here refused is
+      manifest_or_fault files location columns (counted_before item.path found) item told e s.one s.here refused is
   none_refused front item behind manifests found told e are distinct fronts (inr (r, of, few, shared)) is =
       let s = split_each Of front item behind manifests are in
       let same : found ≡ s.found = manifests_once files location columns front found s.found fronts s.are in
@@ -107,11 +108,11 @@ module _ (files : Files) (location : List ℕ) (columns : List PartColumn) (path
     one_before d e told a b at rest is = none_refused a.front a.item rest b.found a.found told d (subst (λ (l : List ManifestFile). AreEach Of l b.found) is b.are) b.refused.1 a.are a.refused.2 at
 
     -- The one that is refused is told by its own path, or by that of the list.
-    at_item : (a b : List Manifest) (item : ManifestFile) (d e : IcebergError) (p q : List ℕ) → IsManifestRefusal files location columns (entry_count a) item d ⊎ SharesFile files location columns path a item d → IsManifestRefusal files location columns (entry_count b) item e ⊎ SharesFile files location columns path b item e
+    at_item : (a b : List Manifest) (item : ManifestFile) (d e : IcebergError) (p q : List ℕ) → IsManifestRefusal files location columns (counted_before item.path a) item d ⊎ SharesFile files location columns path a item d → IsManifestRefusal files location columns (counted_before item.path b) item e ⊎ SharesFile files location columns path b item e
         → faulty_path d ≡ Some p → faulty_path e ≡ Some q → p ≡ q
-    at_item a b item d e p q (inl x) (inl y) told too = file_told files item.path p (IsManifestFault location columns (entry_count a) item) d x told ∙ sym (file_told files item.path q (IsManifestFault location columns (entry_count b) item) e y too)
-    at_item a b item d e p q (inl x) (inr y) told too = absurd (manifest_or_fault files location columns (entry_count a) item p d y.0 y.1 x told)
-    at_item a b item d e p q (inr x) (inl y) told too = absurd (manifest_or_fault files location columns (entry_count b) item q e x.0 x.1 y too)
+    at_item a b item d e p q (inl x) (inl y) told too = file_told files item.path p (IsManifestFault location columns (counted_before item.path a) item) d x told ∙ sym (file_told files item.path q (IsManifestFault location columns (counted_before item.path b) item) e y too)
+    at_item a b item d e p q (inl x) (inr y) told too = absurd (manifest_or_fault files location columns (counted_before item.path a) item p d y.0 y.1 x told)
+    at_item a b item d e p q (inr x) (inl y) told too = absurd (manifest_or_fault files location columns (counted_before item.path b) item q e x.0 x.1 y too)
     at_item a b item d e p q (inr x) (inr y) told too = told_at path p (AreShared (rows_of a ++ rows_in x.0.rows)) d x.3 told ∙ sym (told_at path q (AreShared (rows_of b ++ rows_in y.0.rows)) e y.3 too)
 
     manifests_told : (d e : IcebergError) (p q : List ℕ) → AreManifestsRefused files location columns path list d → AreManifestsRefused files location columns path list e → faulty_path d ≡ Some p → faulty_path e ≡ Some q → p ≡ q
@@ -119,7 +120,7 @@ module _ (files : Files) (location : List ℕ) (columns : List PartColumn) (path
       where
         by : Places a.front a.item a.behind b.front b.item b.behind → p ≡ q
         by (Places.level fronts items) =
-            at_item a.found b.found b.item d e p q (subst (λ (f : ManifestFile). IsManifestRefusal files location columns (entry_count a.found) f d ⊎ SharesFile files location columns path a.found f d) items a.refused.2) b.refused.2 told too
+            at_item a.found b.found b.item d e p q (subst (λ (f : ManifestFile). IsManifestRefusal files location columns (counted_before f.path a.found) f d ⊎ SharesFile files location columns path a.found f d) items a.refused.2) b.refused.2 told too
         by (Places.before rest is) = absurd (one_before d e p a b told rest is)
         by (Places.after rest is) = absurd (one_before e d q b a too rest is)
 

@@ -1,4 +1,4 @@
-use Rattle.std.proofs.Common.{◌≡◌, ◌++◌, ◌+◌, ◌∷◌, ◌≤◌, [], ℕ, List, ap, refl, sym, subst, ◌∙◌, inl, inr, arith}
+use Rattle.std.proofs.Common.{◌≡◌, ◌++◌, ◌+◌, ◌∷◌, ◌≤◌, [], ℕ, List, length, ap, refl, sym, subst, ◌∙◌, inl, inr, arith, rules}
 use Rattle.std.specs.Prelude.{IfErr}
 use Rattle.std.proofs.lemmas.Result.{err_from_is_err_and}
 use Rattle.lake_basics.specs.declared.limits.TheConstants.{MAX_ACTIONS}
@@ -10,12 +10,15 @@ use Rattle.iceberg_manifest.specs.Lists.{AreEach}
 use Rattle.iceberg_live.specs.declared.live.LiveRow.{LiveRow}
 use Rattle.iceberg_table.specs.Errors.{IsRefusal, IsTold}
 use Rattle.iceberg_table.specs.Kinds.{FitRows}
-use Rattle.iceberg_table.specs.Manifests.{AreManifestsRefused, IsManifestOf, IsManifestRefusal, entry_count}
+use Rattle.iceberg_table.specs.Counted.{Counts}
+use Rattle.iceberg_table.specs.Manifests.{AreManifestsRefused, IsManifestOf, IsManifestRefusal}
+use Rattle.iceberg_table.specs.Once.{counted_before}
 use Rattle.iceberg_table.specs.Tables.{AreOfContents, AreShared, IsTableOfRows, TakeNoDeletes, rows_in, rows_of}
 use Rattle.iceberg_table.specs.declared.error.IcebergError.{IcebergError}
 use Rattle.iceberg_table.specs.declared.list.ManifestFile.{ManifestFile}
 use Rattle.iceberg_table.specs.declared.manifest.Manifest.{Manifest}
-use Rattle.iceberg_table.proofs.EachLaws.{contents_push, count_push, no_deletes_push, each_push, fit_none, fit_push, in_list, left_moved, left_next}
+use Rattle.iceberg_table.proofs.CountLaws.{before_counted, few_counted}
+use Rattle.iceberg_table.proofs.EachLaws.{contents_push, no_deletes_push, each_push, fit_none, fit_push, in_list, left_moved, left_next, left_none}
 use Rattle.iceberg_table.proofs.FaultLaws.{refused_further}
 use Rattle.iceberg_table.proofs.RowLaws.{manifest_next}
 use Rattle.iceberg_table.proofs.Runs.{fails_never, uncontested_further}
@@ -34,23 +37,24 @@ returns-in_err-manifest-clause-refused g c told =
     let e = c.in_err-manifest.field-0.0 in
     let split = left_next c.args.list was.0 c.loop-file.file-iterator.rest.items c.next.new.self.rest.items x was.1 c.in-Some.ensures.steps.0 in
     let P : IcebergError → Type 0 = AreManifestsRefused files location columns c.args.path.now c.args.list in
-    let step = subst (λ (d : Disk). IsRefusal (IsManifestRefusal d.files location columns c.loop-file.count x) e) (so_far.reads told).disk (c.in_err-manifest.ensures.refused told) in
-    let counted = subst (λ (n : ℕ). IsRefusal (IsManifestRefusal files location columns n x) e) (sym so_far.counted) step in
+    let manifests = c.loop-file.manifests in
+    let step = subst (λ (d : Disk). IsRefusal (IsManifestRefusal d.files location columns c.before-before.result x) e) (so_far.reads told).disk (c.in_err-manifest.ensures.refused told) in
+    let counted = subst (λ (n : ℕ). IsRefusal (IsManifestRefusal files location columns n x) e) (c.before-before.ensures ∙ before_counted x.path manifests c.loop-file.counted so_far.counts) step in
     subst (λ r. IfErr r (IsRefusal P)) (sym exit.1)
     (subst (IsRefusal P) (sym exit.2)
-    (refused_further (IsManifestRefusal files location columns (entry_count c.loop-file.manifests) x) P e
-    (λ d refused. record { front = was.0; item = x; behind = c.next.new.self.rest.items; split = split; found = c.loop-file.manifests; are = was.2 told; refused = (subst (λ (n : ℕ). n ≤ MAX_ACTIONS) (sym so_far.counted) so_far.within, so_far.table.distinct, inl refused) })
+    (refused_further (IsManifestRefusal files location columns (counted_before x.path manifests) x) P e
+    (λ d refused. record { front = was.0; item = x; behind = c.next.new.self.rest.items; split = split; found = c.loop-file.manifests; are = was.2 told; refused = (few_counted manifests c.loop-file.counted so_far.counts so_far.few, so_far.table.distinct, inl refused) })
     counted))
 
 pub returns-in_err-manifest-clause-only_reads : goal.returns-in_err-manifest-clause-only_reads
-returns-in_err-manifest-clause-only_reads g c = runs.reading_further g.S.Store c.args.store.now c.loop-file.store c.read_one.new.store c.loop-file.invariant.reads c.in_err-manifest.ensures.only_reads
+returns-in_err-manifest-clause-only_reads g c = runs.reading_further g.S.Store c.args.store.now c.loop-file.store c.read_manifest_file.new.store c.loop-file.invariant.reads c.in_err-manifest.ensures.only_reads
 
 pub loop-file-preserved : goal.loop-file-preserved
 loop-file-preserved g c =
     let store = g.S.Store in
     let old = c.args.store.now in
     let mid = c.loop-file.store in
-    let new = c.read_one.new.store in
+    let new = c.read_manifest_file.new.store in
     let files = (store.disk old).files in
     let location = c.args.location.now in
     let columns = c.args.columns.now in
@@ -60,8 +64,8 @@ loop-file-preserved g c =
     let r = c.in_ok-manifest.manifest in
     let split = left_next c.args.list was.0 c.loop-file.file-iterator.rest.items c.next.new.self.rest.items x was.1 c.in-Some.ensures.steps.0 in
     record {
-      within = c.in_ok-manifest.ensures.within;
-      counted = ap entry_count c.in_ok-push.ensures.ok ∙ count_push c.loop-file.manifests r ∙ ap (λ (n : ℕ). n + r.entries) so_far.counted;
+      few = c.in_ok-counted.ensures.few so_far.few;
+      counts = subst (λ (l : List Manifest). Counts l c.in_ok-counted.counted) (sym c.in_ok-push.ensures.ok) (c.in_ok-counted.ensures.counts c.loop-file.manifests so_far.counts);
       parts = (
         was.0 ++ x ∷ [],
         left_moved c.args.list was.0 c.next.new.self.rest.items x split,
@@ -88,8 +92,8 @@ loop-file-init g c =
     let store = g.S.Store in
     let none = c.new-manifests.ensures in
     record {
-      within = omega arith;
-      counted = ap entry_count none;
+      few = c.new-counted.ensures.few;
+      counts = subst (λ (l : List Manifest). Counts l c.new-counted.result) (sym none) c.new-counted.ensures.counts;
       parts = (
         [],
         sym (c.into_iter-file-iterator.ensures.into_iter_gives.0 ∙ c.into_vec-file-items.ensures),
@@ -121,8 +125,9 @@ returns-in_err-table-clause-refused g c told =
     let split = left_next c.args.list was.0 c.loop-file.file-iterator.rest.items c.next.new.self.rest.items x was.1 c.in-Some.ensures.steps.0 in
     let P : IcebergError → Type 0 = AreManifestsRefused files location columns path c.args.list in
     let one = subst (λ (d : Disk). IsManifestOf d.files location columns x r) (so_far.reads told).disk (c.in_ok-manifest.ensures.found told) in
-    let bound = subst (λ (n : ℕ). n + r.entries ≤ MAX_ACTIONS) (sym so_far.counted) c.in_ok-manifest.ensures.within in
-    let within = subst (λ (n : ℕ). n ≤ MAX_ACTIONS) (sym so_far.counted) so_far.within in
+    let manifests = c.loop-file.manifests in
+    let bound = few_counted (manifests ++ r ∷ []) c.in_ok-counted.counted (c.in_ok-counted.ensures.counts manifests so_far.counts) (c.in_ok-counted.ensures.few so_far.few) in
+    let within = few_counted manifests c.loop-file.counted so_far.counts so_far.few in
     let shared = subst (λ (l : List LiveRow). IsRefusal (IsTold path (AreShared (rows ++ rows_in l))) e) c.as_slice.ensures (c.in_err-table.ensures.refused c.args.empty.schema c.args.empty.partition rows so_far.table) in
     subst (λ q. IfErr q (IsRefusal P)) (sym exit.1)
     (subst (IsRefusal P) (sym exit.2)
@@ -131,7 +136,21 @@ returns-in_err-table-clause-refused g c told =
     shared))
 
 pub returns-in_err-table-clause-only_reads : goal.returns-in_err-table-clause-only_reads
-returns-in_err-table-clause-only_reads g c = runs.reading_further g.S.Store c.args.store.now c.loop-file.store c.read_one.new.store c.loop-file.invariant.reads c.in_ok-manifest.ensures.only_reads
+returns-in_err-table-clause-only_reads g c = runs.reading_further g.S.Store c.args.store.now c.loop-file.store c.read_manifest_file.new.store c.loop-file.invariant.reads c.in_ok-manifest.ensures.only_reads
 
 pub returns-in_err-push-clause-only_reads : goal.returns-in_err-push-clause-only_reads
-returns-in_err-push-clause-only_reads g c = runs.reading_further g.S.Store c.args.store.now c.loop-file.store c.read_one.new.store c.loop-file.invariant.reads c.in_ok-manifest.ensures.only_reads
+returns-in_err-push-clause-only_reads g c = runs.reading_further g.S.Store c.args.store.now c.loop-file.store c.read_manifest_file.new.store c.loop-file.invariant.reads c.in_ok-manifest.ensures.only_reads
+
+pub returns-in_err-counted-clause-only_reads : goal.returns-in_err-counted-clause-only_reads
+returns-in_err-counted-clause-only_reads g c = runs.reading_further g.S.Store c.args.store.now c.loop-file.store c.read_manifest_file.new.store c.loop-file.invariant.reads c.in_ok-manifest.ensures.only_reads
+
+pub returns-clause-within : goal.returns-clause-within
+returns-clause-within g c = few_counted c.loop-file.manifests c.loop-file.counted c.loop-file.invariant.counts c.loop-file.invariant.few
+
+pub returns-clause-found : goal.returns-clause-found
+returns-clause-found g c told =
+    let files = (g.S.Store.disk c.args.store.now).files in
+    let was = c.loop-file.invariant.parts in
+    let rest = c.loop-file.file-iterator.rest.items in
+    let none : length rest ≡ 0 = search rules in
+    subst (λ (l : List ManifestFile). AreEach (IsManifestOf files c.args.location.now c.args.columns.now) l c.loop-file.manifests) (sym (left_none c.args.list was.0 rest was.1 none)) (was.2 told)

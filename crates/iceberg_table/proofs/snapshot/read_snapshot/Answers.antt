@@ -3,8 +3,7 @@ use Rattle.iceberg_table.specs.Folder.{version_path}
 use Rattle.iceberg_table.specs.Plan.{IsPlanFault}
 use Rattle.iceberg_table.specs.Errors.{IsTold}
 use Rattle.iceberg_table.specs.Refusals.{IsSnapshotRefusal}
-use Rattle.iceberg_table.proofs.FaultLaws.{refused_further, told_at}
-use Rattle.iceberg_table.proofs.PlanLaws.{plan_sound}
+use Rattle.iceberg_table.proofs.FaultLaws.{refused_further}
 use Rattle.iceberg_table.proofs.SnapshotLaws.{columns_planned, table_found}
 use Rattle.iceberg_table.proofs.snapshot.read_snapshot.Goals as goal
 
@@ -12,7 +11,7 @@ pub returns-in-Ok-clause-table : goal.returns-in-Ok-clause-table
 returns-in-Ok-clause-table g c told = table_found (g.S.Store.disk c.args.store.now).files c.args.metadata.now c.args.snapshot.now c.in-Ok.plan c.in-Ok.ensures.found c.read_planned.result (c.read_planned.ensures.read told)
 
 pub returns-in-Ok-clause-sound : goal.returns-in-Ok-clause-sound
-returns-in-Ok-clause-sound g c writable = c.read_planned.ensures.sound (plan_sound c.args.metadata.now c.args.snapshot.now c.in-Ok.plan writable c.in-Ok.ensures.found)
+returns-in-Ok-clause-sound g c writable = c.read_planned.ensures.sound (c.in-Ok.ensures.sound writable)
 
 pub returns-in-Err-clause-refused : goal.returns-in-Err-clause-refused
 returns-in-Err-clause-refused g c told =
@@ -20,8 +19,7 @@ returns-in-Err-clause-refused g c told =
     let m = c.args.metadata.now in
     let s = c.args.snapshot.now in
     let v = c.args.version in
-    refused_further (IsTold (version_path v) (IsPlanFault m s)) (IsSnapshotRefusal files m v s) c.version_refusal.result (λ d shows. inl shows)
-    (told_at (version_path v) (IsPlanFault m s) c.in-Err.error c.version_refusal.result c.version_refusal.ensures c.in-Err.ensures.refused)
+    refused_further (IsTold (version_path v) (IsPlanFault m s)) (IsSnapshotRefusal files m v s) c.in-Err.error (λ d shows. inl shows) c.in-Err.ensures.refused
 
 pub returns-in-Ok-clause-columns : goal.returns-in-Ok-clause-columns
 returns-in-Ok-clause-columns g c = columns_planned c.args.metadata.now c.args.snapshot.now c.in-Ok.plan c.in-Ok.ensures.found c.read_planned.result c.read_planned.ensures.columns
