@@ -2,6 +2,7 @@
 use Rattle.std.proofs.Common.{◌≡◌, ◌⊎◌, ℕ, zero, suc, ◌+◌, ◌<◌, ◌≤◌, Contains, Option, Some, None, Bool, true, false, refl, sym, ap, subst, ◌∙◌, arith, inl, inr, ⊎_elim}
 use Rattle.std.specs.Prelude.{nat_lt, unwrap_or}
 use Rattle.std.proofs.lemmas.Bool.Decides.{nat_tests}
+use Rattle.lake_basics.specs.declared.limits.TheConstants.{MAX_COMMITS}
 use Rattle.lake_store.specs.Disk.{Files}
 use Rattle.table_history.specs.Row.{Row}
 use Rattle.table_history.specs.First.{NoneOf}
@@ -102,14 +103,14 @@ log_next files version c log next was says step meta at protocol =
     }
 
 -- a version that is refused behind those that can be read
-pub stops_at : (files : Files) (newest version : ℕ) (base : Option Table) (e : LogError) → version ≤ newest → IsReadLog files version base → IsStepRefusal files version base e → IsLogRefusal files newest e
-stops_at files newest version base error.Memory within log refused = tt
-stops_at files newest version base error.StoreFault within log refused = tt
-stops_at files newest version base error.ManyNames within log refused = refused
-stops_at files newest version base error.ManyCommits within log refused = absurd refused
-stops_at files newest version base (error.Missing v) within log refused = (version, base, within, log, refused)
-stops_at files newest version base (error.Large v) within log refused = (version, base, within, log, refused)
-stops_at files newest version base (error.Refused v e) within log refused = (version, base, within, log, refused)
+pub stops_at : (files : Files) (newest version : ℕ) (base : Option Table) (e : LogError) → newest + 1 ≤ MAX_COMMITS → version ≤ newest → IsReadLog files version base → IsStepRefusal files version base e → IsLogRefusal files newest e
+stops_at files newest version base error.Memory few within log refused = tt
+stops_at files newest version base error.StoreFault few within log refused = tt
+stops_at files newest version base error.ManyNames few within log refused = refused
+stops_at files newest version base error.ManyCommits few within log refused = absurd refused
+stops_at files newest version base (error.Missing v) few within log refused = (few, (version, base, within, log, refused))
+stops_at files newest version base (error.Large v) few within log refused = (few, (version, base, within, log, refused))
+stops_at files newest version base (error.Refused v e) few within log refused = (few, (version, base, within, log, refused))
 
 -- ---- one commit
 

@@ -84,15 +84,15 @@ IsStepRefusal files version base (error.Refused v e) = (v ≡ version) × (IsUnr
 abbrev pub StopsAt : Files → ℕ → LogError → Type 0
 StopsAt files newest e = (version : ℕ) × (base : Option Table) × (version ≤ newest) × IsReadLog files version base × IsStepRefusal files version base e
 
--- The log up to the newest version is refused.
+-- The log up to the newest version is refused: where it has more versions than are read, for that alone.
 abbrev pub IsLogRefusal : Files → ℕ → LogError → Type 0
 IsLogRefusal files newest error.Memory = Unit {0}
 IsLogRefusal files newest error.StoreFault = Unit {0}
 IsLogRefusal files newest error.ManyNames = ⊥
 IsLogRefusal files newest error.ManyCommits = MAX_COMMITS < newest + 1
-IsLogRefusal files newest (error.Missing v) = StopsAt files newest (error.Missing v)
-IsLogRefusal files newest (error.Large v) = StopsAt files newest (error.Large v)
-IsLogRefusal files newest (error.Refused v e) = StopsAt files newest (error.Refused v e)
+IsLogRefusal files newest (error.Missing v) = (newest + 1 ≤ MAX_COMMITS) × StopsAt files newest (error.Missing v)
+IsLogRefusal files newest (error.Large v) = (newest + 1 ≤ MAX_COMMITS) × StopsAt files newest (error.Large v)
+IsLogRefusal files newest (error.Refused v e) = (newest + 1 ≤ MAX_COMMITS) × StopsAt files newest (error.Refused v e)
 
 -- ---- which version is told
 

@@ -97,6 +97,6 @@ module _ (a b : Files) (same : SameVersions a b) where
   log_refusal_too newest error.StoreFault h = h
   log_refusal_too newest error.ManyNames h = h
   log_refusal_too newest error.ManyCommits h = h
-  log_refusal_too newest (error.Missing v) h = stops_too newest (error.Missing v) h
-  log_refusal_too newest (error.Large v) h = stops_too newest (error.Large v) h
-  log_refusal_too newest (error.Refused v e) h = stops_too newest (error.Refused v e) h
+  log_refusal_too newest (error.Missing v) h = (h.0, stops_too newest (error.Missing v) h.1)
+  log_refusal_too newest (error.Large v) h = (h.0, stops_too newest (error.Large v) h.1)
+  log_refusal_too newest (error.Refused v e) h = (h.0, stops_too newest (error.Refused v e) h.1)

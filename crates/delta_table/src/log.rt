@@ -7,7 +7,7 @@ ghost use Rattle.delta_change.specs.Change.{IsChangeRefusal, IsTableOfLog};
 ghost use Rattle.delta_log.specs.Sound.{IsSound};
 ghost use Rattle.delta_table.specs.Log.{HasLiveRows, IsLogOf, IsTaken, SaysCommit, stated_at};
 ghost use Rattle.delta_table.specs.Refusals.{IsLogRefusal, IsStepRefusal, IsVersionRefusal, TellsOf, error_at};
-ghost use Rattle.delta_table.specs.declared.error.LogError.TheVariants.{StoreFault};
+ghost use Rattle.delta_table.specs.declared.error.LogError.TheVariants.{ManyCommits, StoreFault};
 
 use crate::error::{LogError, error_of_read};
 use crate::versions::version_path;
@@ -175,6 +175,7 @@ pub fn read_log<S: Store>(alloc: Global, store: &mut S, newest: u64) -> Result<L
     // What is read may be followed on and published, and passes no number.
     ensures sound { IfOk result (λ log. IsTableOfLog log.table) }
     ensures few { OnOk result (newest < MAX_COMMITS) }
+    ensures many { MAX_COMMITS ≤ newest → IsErrOf result ManyCommits }
     ensures told { IfErr result (TellsOf (λ v. v ≤ newest)) }
     ensures refused { S.tells → IfErr result (IsLogRefusal (S.disk store.old).files newest) }
     ensures only_reads { S.tells → OnlyReads ⟦<S as Store>⟧ store.old store.new }

@@ -72,7 +72,7 @@ id_stated files read id is same =
     (newest.commit, read.meta, read.table, subst (λ v. SaysCommit files v newest.commit) first newest.says, newest.is, same, is.table)
 
 pub not_there : (files : Files) (version : ℕ) → IsLogRefusal files 0 (log.Missing version) → IsTableId files None
-not_there files version h = subst (λ v. HasVersion files v → ⊥) (zero_of h.0 h.2) h.4.1
+not_there files version h = subst (λ v. HasVersion files v → ⊥) (zero_of h.1.0 h.1.2) h.1.4.1
 
 -- the log of version 0 alone is refused for that version, which is there unless it is told to be missing
 there : (files : Files) (cause : LogError) → ((version : ℕ) → cause ≡ log.Missing version → ⊥) → IsLogRefusal files 0 cause → (e : SourceError) → Tells cause e → HasVersion files 0
@@ -81,10 +81,10 @@ there files log.StoreFault other h e t = absurd t
 there files log.ManyNames other h e t = absurd h
 there files log.ManyCommits other h e t = absurd (omega (arith, h))
 there files (log.Missing version) other h e t = absurd (other version refl)
-there files (log.Large version) other h e t = subst (λ v. HasVersion files v) (zero_of h.0 h.2) (h.4.1.0, h.4.1.1)
+there files (log.Large version) other h e t = subst (λ v. HasVersion files v) (zero_of h.1.0 h.1.2) (h.1.4.1.0, h.1.4.1.1)
 there files (log.Refused version error) other h e t =
-    subst (λ v. HasVersion files v) (zero_of h.0 h.2)
-    (⊎_elim (λ unreadable. (unreadable.0, unreadable.1)) (λ unfit. (unfit.1.bytes, unfit.1.holds)) h.4.1)
+    subst (λ v. HasVersion files v) (zero_of h.1.0 h.1.2)
+    (⊎_elim (λ unreadable. (unreadable.0, unreadable.1)) (λ unfit. (unfit.1.bytes, unfit.1.holds)) h.1.4.1)
 
 pub first_refused : (files : Files) (cause : LogError) (e : SourceError) → ((version : ℕ) → cause ≡ log.Missing version → ⊥) → IsLogRefusal files 0 cause → IsReadRefusal (Tells cause) e → IsReadRefusal (IsFirstRefused files) e
 first_refused files cause e other h told = weaker (Tells cause) (IsFirstRefused files) (λ d t. (there files cause other h d t, (cause, h, t))) e told

@@ -76,14 +76,14 @@ module _ (files : Files) (newest last : ℕ) (upto : last ≤ newest) (few : las
   stops_faulty log.StoreFault version is stops = absurd (err_ok version _ is)
   stops_faulty log.ManyNames version is stops = absurd (err_ok version _ is)
   stops_faulty log.ManyCommits version is stops = absurd (err_ok version _ is)
-  stops_faulty (log.Missing v) version is stops =
+  stops_faulty (log.Missing v) version is (within, stops) =
       let same : stops.0 ≡ version = sym stops.4.0 ∙ ok_once v version is in
       subst StopsFaulty same (stops.1, stops.2, read_is_log files stops.0 stops.1 stops.3, inl stops.4.1)
   stops_faulty (log.Large v) version is stops = absurd (err_ok version _ is)
   stops_faulty (log.Refused v delta.Memory) version is stops = absurd (err_ok version _ is)
-  stops_faulty (log.Refused v (delta.Malformed line)) version is stops = refused v (delta.Malformed line) version (ok_once v version is) tt stops
-  stops_faulty (log.Refused v (delta.DoublePath line)) version is stops = refused v (delta.DoublePath line) version (ok_once v version is) tt stops
-  stops_faulty (log.Refused v (delta.Unsupported feature line)) version is stops = refused v (delta.Unsupported feature line) version (ok_once v version is) tt stops
+  stops_faulty (log.Refused v (delta.Malformed line)) version is stops = refused v (delta.Malformed line) version (ok_once v version is) tt stops.1
+  stops_faulty (log.Refused v (delta.DoublePath line)) version is stops = refused v (delta.DoublePath line) version (ok_once v version is) tt stops.1
+  stops_faulty (log.Refused v (delta.Unsupported feature line)) version is stops = refused v (delta.Unsupported feature line) version (ok_once v version is) tt stops.1
   stops_faulty (log.Refused v (delta.Limit which)) version is stops = absurd (err_ok version _ is)
 
   pub told_here : HasVersion files newest → (source : Kind) (error : LogError) (seen : Seen DeltaKept) (P : DeltaKept → Type 0) → IsLogRefusal files last error → IsToldOf error seen → IsSeen (Reads files) (IsForeign source files) view_of P source seen
@@ -111,12 +111,12 @@ module _ (files : Files) (newest last : ℕ) (upto : last ≤ newest) (few : las
   refusal_here log.ManyNames e stops (inr is) = absurd stops
   refusal_here log.ManyCommits e stops (inr is) = absurd (omega (arith, stops, few))
   refusal_here (log.Missing v) e stops (inr is) = absurd (ok_err v e is)
-  refusal_here (log.Large v) e stops (inr is) = subst (IsInspectRefusal (IsCrowded files)) (err_once _ e is) (crowded_at limit.File MAX_FILE_BYTES stops.0 stops.1 stops.2 stops.3 (inl (refl, refl, stops.4.1)))
+  refusal_here (log.Large v) e stops (inr is) = subst (IsInspectRefusal (IsCrowded files)) (err_once _ e is) (crowded_at limit.File MAX_FILE_BYTES stops.1.0 stops.1.1 stops.1.2 stops.1.3 (inl (refl, refl, stops.1.4.1)))
   refusal_here (log.Refused v delta.Memory) e stops (inr is) = subst (IsInspectRefusal (IsCrowded files)) (err_once _ e is) tt
   refusal_here (log.Refused v (delta.Malformed line)) e stops (inr is) = absurd (ok_err v e is)
   refusal_here (log.Refused v (delta.DoublePath line)) e stops (inr is) = absurd (ok_err v e is)
   refusal_here (log.Refused v (delta.Unsupported feature line)) e stops (inr is) = absurd (ok_err v e is)
-  refusal_here (log.Refused v (delta.Limit which)) e stops (inr is) = subst (IsInspectRefusal (IsCrowded files)) (err_once _ e is) (crowded_at which (limit_number Delta which) stops.0 stops.1 stops.2 stops.3 (inr (refl, stops.4.1)))
+  refusal_here (log.Refused v (delta.Limit which)) e stops (inr is) = subst (IsInspectRefusal (IsCrowded files)) (err_once _ e is) (crowded_at which (limit_number Delta which) stops.1.0 stops.1.1 stops.1.2 stops.1.3 (inr (refl, stops.1.4.1)))
 
   pub refusal_all : (error : LogError) → IsLogRefusal files last error → (r : Result (Seen DeltaKept) TargetError) → IfErr r (IsRefusalOf error) → IfErr r (IsInspectRefusal (IsCrowded files))
   refusal_all error stops (Ok seen) refused = tt

@@ -1,6 +1,7 @@
 use Rattle.std.proofs.Common.{◌≡◌, ◌≤◌, ◌+◌, None, Some, Result, refl, sym, subst, arith}
 use Rattle.std.proofs.lemmas.Result.{err_from_is_err_and}
 use Rattle.std.specs.Prelude.{IfErr}
+use Rattle.lake_basics.specs.declared.limits.TheConstants.{MAX_COMMITS}
 use Rattle.lake_store.specs.Disk.{Disk}
 use Rattle.lake_store.proofs.RunLaws.{reading_further}
 use Rattle.delta_table.specs.Log.{IsLogOf, IsReadLog}
@@ -25,8 +26,9 @@ pub returns-in_err-log-clause-refused : goal.returns-in_err-log-clause-refused
 returns-in_err-log-clause-refused g c told =
     let exit = err_from_is_err_and c.from_residual.result c.from_residual.ensures.1 in
     let files = (g.S.Store.disk c.args.store.now).files in
+    let few : c.args.newest + 1 ≤ MAX_COMMITS = omega (arith, c.if-newest-ge-MAX_COMMITS.false) in
     subst (λ (r : Result Log LogError). IfErr r (IsLogRefusal files c.args.newest)) (sym exit.1)
-    (subst (IsLogRefusal files c.args.newest) (sym exit.2) (stops_at files c.args.newest 0 None c.in_err-log.field-0.0 (omega arith) refl (c.in_err-log.ensures.refused told)))
+    (subst (IsLogRefusal files c.args.newest) (sym exit.2) (stops_at files c.args.newest 0 None c.in_err-log.field-0.0 few (omega arith) refl (c.in_err-log.ensures.refused told)))
 
 pub returns-in_err-log-2-clause-refused : goal.returns-in_err-log-2-clause-refused
 returns-in_err-log-2-clause-refused g c told =
@@ -35,9 +37,10 @@ returns-in_err-log-2-clause-refused g c told =
     let so_far = c.loop-version.invariant in
     let files = (store.disk c.args.store.now).files in
     let within : c.loop-version.version ≤ c.args.newest = omega (arith, c.loop-version-test.true) in
+    let few : c.args.newest + 1 ≤ MAX_COMMITS = omega (arith, c.if-newest-ge-MAX_COMMITS.false) in
     let step = subst (λ (d : Disk). IsStepRefusal d.files c.loop-version.version (Some c.loop-version.log.table) c.in_err-log-2.field-0.0) (so_far.reads told).disk (c.in_err-log-2.ensures.refused told) in
     subst (λ (r : Result Log LogError). IfErr r (IsLogRefusal files c.args.newest)) (sym exit.1)
-    (subst (IsLogRefusal files c.args.newest) (sym exit.2) (stops_at files c.args.newest c.loop-version.version (Some c.loop-version.log.table) c.in_err-log-2.field-0.0 within (so_far.log told).table step))
+    (subst (IsLogRefusal files c.args.newest) (sym exit.2) (stops_at files c.args.newest c.loop-version.version (Some c.loop-version.log.table) c.in_err-log-2.field-0.0 few within (so_far.log told).table step))
 
 pub returns-in_err-log-2-clause-only_reads : goal.returns-in_err-log-2-clause-only_reads
 returns-in_err-log-2-clause-only_reads g c = reading_further g.S.Store c.args.store.now c.loop-version.store c.read_next.new.store c.loop-version.invariant.reads c.in_err-log-2.ensures.only_reads
