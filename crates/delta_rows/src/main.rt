@@ -9,8 +9,9 @@
 //!
 //! Those on the store are:
 //!
-//! - `file PATH` puts the lines below it, `file PATH unended` without the last newline; `show PATH` shows a
-//!   file, and `stop at call NUMBER` lets all calls of the store from this one on fail, counted from 0;
+//! - `file PATH` puts the lines below it, `file PATH unended` without the last newline, and `empty versions
+//!   FIRST to LAST` a version without a line at each of these numbers; `show PATH` shows a file, and `stop
+//!   at call NUMBER` lets all calls of the store from this one on fail, counted from 0;
 //! - `versions` shows which versions are there, and `log VERSION` what the log says up to this one;
 //! - `head`, `table` and `since POSITION` show what the source tells; `base` gives the table that commits are
 //!   read over, in the lines below it;

@@ -3,6 +3,8 @@ use crate::commits::{
     NOW_MS, tell_commit, tell_first, tell_name, tell_next, tell_text, tell_version,
 };
 use crate::logs::{tell_file, tell_log, tell_versions};
+use delta_table::version_path;
+use lake_basics::limits::MAX_DELTA_VERSION;
 use lake_basics::{Items, Text};
 use lake_store::{FuseStore, MemoryStore, Script};
 use rows::{Step, Steps, bytes_of_hex};
@@ -87,11 +89,27 @@ impl DeltaSteps {
                 let text = text.as_str().trim_end_matches('\n');
                 self.store.inner().put(path, text.as_bytes())?;
             }
+            ["empty", "versions", first, "to", last] => return self.put_versions(first, last),
             ["show", path] => tell_file(self.alloc, &mut self.store, path, shown)?,
             ["stop", "at", "call", number] => return self.stop(number),
             ["versions"] => tell_versions(self.alloc, &mut self.store, shown)?,
             ["log", version] => return self.log(version, shown),
             _ => return Ok(false),
+        }
+        Ok(true)
+    }
+
+    /// Puts a version without a line at each of these numbers.
+    fn put_versions(&mut self, first: &str, last: &str) -> Result<bool, AllocError> {
+        let (Ok(first), Ok(last)) = (first.parse::<u64>(), last.parse::<u64>()) else {
+            return Ok(false);
+        };
+        if last > MAX_DELTA_VERSION {
+            return Ok(false);
+        }
+        for version in first..last + 1 {
+            let path = version_path(self.alloc, version)?;
+            self.store.inner().put(path.as_str(), &[])?;
         }
         Ok(true)
     }
