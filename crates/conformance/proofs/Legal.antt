@@ -89,11 +89,11 @@ module _ (number : ℕ) (stops : Bool) where
 -- ---- the history
 
 -- the table behind a history
-abbrev last_table : Option Table → History → Option Table
+abbrev pub last_table : Option Table → History → Option Table
 last_table base [] = base
 last_table base (entry ∷ history) = last_table (Some entry.1) history
 
-history_more : (version : ℕ) (base : Option Table) (commits : List (List ℕ)) (history : History) (bytes : List ℕ) (next : Table)
+pub history_more : (version : ℕ) (base : Option Table) (commits : List (List ℕ)) (history : History) (bytes : List ℕ) (next : Table)
     → IsHistoryFrom version base commits history → IsExtension bytes (last_table base history) next
     → IsHistoryFrom version base (commits ++ bytes ∷ []) (history ++ (decimal (version + length commits), next) ∷ [])
 history_more version base [] [] bytes next is made = (ap decimal (let e : version + 0 ≡ version = omega arith in e), made, tt)
@@ -106,7 +106,7 @@ history_more version base (first ∷ commits) (entry ∷ history) bytes next is 
       (history_more (version + 1) (Some entry.1) commits history bytes next is.2 made),
 )
 
-last_more : (base : Option Table) (history : History) (entry : List ℕ × Table) → last_table base (history ++ entry ∷ []) ≡ Some entry.1
+pub last_more : (base : Option Table) (history : History) (entry : List ℕ × Table) → last_table base (history ++ entry ∷ []) ≡ Some entry.1
 last_more base [] entry = refl
 last_more base (first ∷ history) entry = last_more (Some first.1) history entry
 
@@ -117,8 +117,11 @@ module _ (number : ℕ) (spells : SpellsDrill) (says : (i : ℕ) → i < 200 →
       let few : n < 200 = omega (arith, le) in
       let before = history_after n (omega (arith, le)) in
       let made : IsExtension (drill_bytes number n) (last_table None before.0) (table_after number (suc n)) = record {
+        actions = (says n few).actions;
+        grammar = (says n few).readable.grammar;
+        supported = (says n few).readable.supported;
         commit = drill_commit number n;
-        readable = says n few;
+        states = (says n few).states;
         step = subst (λ (b : Option Table). IsStep (drill_commit number n) b (table_after number (suc n))) (sym before.2) (step_of number n few spells);
       } in
       let commits = map (drill_bytes number) (numbers_under n) in (

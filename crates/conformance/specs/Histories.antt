@@ -1,10 +1,13 @@
 -- Which lists of events are legal, and the history of the table that their commits make, whatever else happens.
-use Rattle.std.specs.Prelude.{◌≡◌, ◌≢◌, ◌<◌, ◌+◌, ℕ, List, [], ◌∷◌, Option, Some, None}
+use Rattle.std.specs.Prelude.{◌≡◌, ◌≢◌, ◌<◌, ◌+◌, ℕ, List, [], ◌∷◌, All, Option, Some, None}
 use Rattle.std.specs.Fmt.{decimal}
+use Rattle.table_history.specs.First.{NoneOf}
 use Rattle.table_history.specs.History.{History}
 use Rattle.table_history.specs.declared.kind.Kind.TheVariants.{Delta}
 use Rattle.table_history.specs.declared.table.Table.{Table}
-use Rattle.delta_log.specs.Readable.{IsReadableCommit}
+use Rattle.delta_log.specs.Judging.{lines_of}
+use Rattle.delta_log.specs.Readable.{AreLinesInGrammar, ShowsOnLine, States, line_features}
+use Rattle.delta_log.specs.declared.action.LineAction.{LineAction}
 use Rattle.delta_log.specs.declared.commit.DeltaCommit.{DeltaCommit}
 use Rattle.delta_table.specs.Log.{IsStep}
 use Rattle.conformance.specs.declared.event.Event.{Event}
@@ -20,10 +23,14 @@ extensions (event.Full target ∷ events) = extensions events
 extensions (event.Stop call ∷ events) = extensions events
 extensions (event.Crash choices ∷ events) = extensions events
 
--- The bytes are a commit in its grammar, which shows no feature over the table before it and makes the next one of it.
+-- The bytes are a commit in its grammar, which shows no feature over the table before it and makes the next one of it. How many actions it has and how
+-- long its paths are is no matter.
 pub record IsExtension (bytes : List ℕ) (base : Option Table) (next : Table) : Type 0 where
+  pub actions : List LineAction
+  pub grammar : AreLinesInGrammar (lines_of bytes) actions
+  pub supported : All (λ a. NoneOf (λ f. ShowsOnLine f a) line_features) actions
   pub commit : DeltaCommit
-  pub readable : IsReadableCommit bytes commit
+  pub states : States actions commit
   pub step : IsStep commit base next
 
 -- one position for each commit, its version in decimal, and after each the table that it makes of the one before
