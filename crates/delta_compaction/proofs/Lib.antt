@@ -1,0 +1,15 @@
+pub mod KeyLemmas
+pub mod EntryLemmas
+pub mod LawLemmas
+pub mod RangeLemmas
+pub mod SplitLemmas
+pub mod KindLemmas
+pub mod ActionLemmas
+pub mod ReadsLemmas
+pub mod LastLemmas
+pub mod NewestLemmas
+pub mod JoinLemmas
+pub mod TextLemmas
+pub mod SortedLemmas
+pub mod SameLemmas
+pub mod AgreeLemmas
