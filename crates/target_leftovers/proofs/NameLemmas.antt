@@ -1,0 +1,179 @@
+-- The tests of a name against what a commit may have written.
+use Rattle.std.proofs.Common.{◌≡◌, ◌≢◌, ◌⊎◌, ◌+◌, ◌-◌, ◌<◌, ℕ, Bool, true, false, ◌&&◌, ◌==◌, cond, nat_lt, Bor, ◌≤◌, List, [], ◌∷◌, ◌++◌, codes, length, take, drop, get_or, Option, Some, None, refl, sym, ap, subst, ◌∙◌, inl, inr, append_assoc, arith}
+use Rattle.std.specs.Prelude.{◌↔◌, IsTrue, MatchOption}
+use Rattle.std.specs.Char.{is_ascii_digit}
+use Rattle.std.specs.List.{after_first, before_first, list_all, position, position_or_len}
+use Rattle.std.specs.Str.{all_ascii_digits}
+use Rattle.std.specs.Str.Parse.{IsNumeral, digits_value}
+use Rattle.std.proofs.lemmas.Bool.{false≢true}
+use Rattle.std.proofs.lemmas.Bool.Decides.{nat_tests}
+use Rattle.std.proofs.Math.ListN.{get_or-append}
+use Rattle.std.proofs.Math.Seq.{drop-append-add, get_or-append_seam, take-append_seam, take-length}
+use Rattle.std.proofs.lemmas.List.{append_cancel_left, append_cancel_right, length-append, length-drop}
+use Rattle.std.proofs.lemmas.List.Sums.{passes_at_first, position_or_len_is, split_at_first}
+use Rattle.std.proofs.lemmas.Str.Parse.{IsNumeralModel, numerals_by_value, tells_all_ascii_digits, digit_at}
+use Rattle.target_leftovers.specs.Names.{AreNumbers, IsDecimal, IsDeltaName, IsIcebergName, IsManifestName, IsNumbered, list, manifest, staged}
+
+-- ---- decimals
+
+own : IsNumeralModel (λ ds. all_ascii_digits ds ≡ true) (digits_value 10)
+own = numerals_by_value _ tells_all_ascii_digits
+
+same_digits : (ds : List ℕ) → list_all is_ascii_digit ds ≡ all_ascii_digits ds
+same_digits [] = refl
+same_digits (c ∷ ds) = ap (λ b. is_ascii_digit c && b) (same_digits ds)
+
+pub decimal_tested : (ds : List ℕ) (are : Bool) → 0 < length ds → (get_or ds 0 0 ≡ 48 → length ds ≡ 1) → are ≡ list_all is_ascii_digit ds → IsTrue are ↔ IsDecimal ds
+decimal_tested ds are some plain is = (
+  λ whole. record { numeral = (some, own.to ds (sym (same_digits ds) ∙ sym is ∙ whole)); plain = plain },
+  λ decimal. is ∙ same_digits ds ∙ own.from ds decimal.numeral.1,
+)
+
+pub counted_digits : (bytes : List ℕ) (count : ℕ) (are : Bool) → 0 < count → length bytes ≡ count → are ≡ list_all is_ascii_digit bytes → IsTrue are ↔ ((length bytes ≡ count) × IsNumeral 10 bytes)
+counted_digits bytes count are some len is = (
+  λ whole. (len, (omega (arith, some, len), own.to bytes (sym (same_digits bytes) ∙ sym is ∙ whole))),
+  λ both. is ∙ same_digits bytes ∙ own.from bytes both.1.1,
+)
+
+-- ---- between two texts
+
+pub between_unique : (front behind a b : List ℕ) → front ++ (a ++ behind) ≡ front ++ (b ++ behind) → a ≡ b
+between_unique front behind a b same = append_cancel_right a b behind (append_cancel_left front (a ++ behind) (b ++ behind) same)
+
+module _ (name front behind : List ℕ) where
+  abbrev IsBetween : List ℕ → Type 0
+  IsBetween middle = name ≡ front ++ (middle ++ behind)
+
+  pub numbered_at : (middle : List ℕ) (is : Bool) → IsBetween middle → IsTrue is ↔ IsDecimal middle → IsTrue is ↔ IsNumbered front behind name
+  numbered_at middle is at test = (
+    λ whole. record { number = middle; decimal = test.0 whole; is = at },
+    λ numbered. test.1 (subst IsDecimal (between_unique front behind numbered.number middle (sym numbered.is ∙ at)) numbered.decimal),
+  )
+
+pub manifest_at : (name middle : List ℕ) (is : Bool) → name ≡ codes "lb-m-" ++ (middle ++ codes ".avro") → IsTrue is ↔ AreNumbers middle → IsTrue is ↔ IsManifestName name
+manifest_at name middle is at test = (
+  λ whole. record { numbers = middle; are = test.0 whole; is = at },
+  λ named. test.1 (subst AreNumbers (between_unique (codes "lb-m-") (codes ".avro") named.numbers middle (sym named.is ∙ at)) named.are),
+)
+
+pub delta_at : (name digits : List ℕ) (is : Bool) → name ≡ codes ".lakebridge-" ++ (digits ++ codes ".json") → IsTrue is ↔ ((length digits ≡ 20) × IsNumeral 10 digits) → IsTrue is ↔ IsDeltaName name
+delta_at name digits is at test = (
+  λ whole.
+      let both = test.0 whole in record { digits = digits; len = both.0; numeral = both.1; split = at },
+  λ named. test.1 (subst (λ (ds : List ℕ). (length ds ≡ 20) × IsNumeral 10 ds) (between_unique (codes ".lakebridge-") (codes ".json") named.digits digits (sym named.split ∙ at)) (named.len, named.numeral)),
+)
+
+pub delta_lacks : (name : List ℕ) → ((middle : List ℕ) → name ≢ codes ".lakebridge-" ++ (middle ++ codes ".json")) → IsTrue false ↔ IsDeltaName name
+delta_lacks name none = (λ no. absurd (false≢true no), λ named. absurd (none named.digits named.split))
+
+-- ---- two numbers
+
+abbrev is_hyphen : ℕ → Bool
+is_hyphen b = b == 45
+
+-- the place of the first hyphen
+abbrev place_of : List ℕ → ℕ
+place_of bytes = position_or_len is_hyphen bytes
+
+hyphen_seen : (bytes : List ℕ) (place : ℕ) → Some place ≡ position is_hyphen bytes → (position_or_len is_hyphen bytes < length bytes) × (place ≡ position_or_len is_hyphen bytes)
+hyphen_seen bytes place found = by (nat_lt (place_of bytes) (length bytes)) refl found
+  where
+    by : (b : Bool) → nat_lt (place_of bytes) (length bytes) ≡ b → Some place ≡ cond b (Some (place_of bytes)) None → (place_of bytes < length bytes) × (place ≡ place_of bytes)
+    by true is found = (grind (arith, nat_tests), cc)
+    by false is found = absurd cc
+
+hyphen_at : (version number : List ℕ) → IsDecimal version → position_or_len is_hyphen (version ++ (codes "-" ++ number)) ≡ length version
+hyphen_at version number decimal =
+    position_or_len_is is_hyphen (version ++ (codes "-" ++ number)) (length version) 0
+    (omega (arith, length-append version (codes "-" ++ number)))
+    (λ k within. rw (get_or-append version (codes "-" ++ number) 0 k within) (no_hyphen k within))
+    (λ _. rw (get_or-append_seam version 45 number 0))
+  where
+    no_hyphen : (k : ℕ) → k < length version → is_hyphen (get_or version k 0) ≡ false
+    no_hyphen k within = let digit = digit_at version k decimal.numeral.1 within in grind (arith, nat_tests)
+
+numbers_split : (bytes : List ℕ) (place : ℕ) → Some place ≡ position is_hyphen bytes → bytes ≡ take place bytes ++ (codes "-" ++ drop (place + 1) bytes)
+numbers_split bytes place found =
+    let seen = hyphen_seen bytes place found in
+    let hyphen : get_or bytes (position_or_len is_hyphen bytes) 0 ≡ 45 = let passes = passes_at_first is_hyphen bytes 0 seen.0 in grind (arith, nat_tests) in
+    subst (λ (n : ℕ). bytes ≡ take n bytes ++ (codes "-" ++ drop (n + 1) bytes)) (sym seen.1)
+    (split_at_first is_hyphen bytes 0 seen.0 ∙ ap (λ (b : ℕ). before_first is_hyphen bytes ++ (b ∷ after_first is_hyphen bytes)) hyphen)
+
+-- the two parts of numbers stand before and behind the first hyphen
+numbers_parts : (bytes : List ℕ) (place : ℕ) → Some place ≡ position is_hyphen bytes → (are : AreNumbers bytes) → (are.version ≡ take place bytes) × (are.number ≡ drop (place + 1) bytes)
+numbers_parts bytes place found are =
+    let seen = hyphen_seen bytes place found in
+    let here : place ≡ length are.version = seen.1 ∙ ap (position_or_len is_hyphen) are.is ∙ hyphen_at are.version are.number are.first in (
+      sym (ap (λ (n : ℕ). take n bytes) here ∙ ap (take (length are.version)) are.is ∙ take-append_seam are.version (codes "-" ++ are.number)),
+      sym (ap (λ (n : ℕ). drop (n + 1) bytes) here ∙ ap (drop (length are.version + 1)) are.is ∙ drop-append-add are.version (codes "-" ++ are.number) 1),
+    )
+
+-- all that stands behind a place
+pub behind_place : (n : ℕ) (xs : List ℕ) → take (length xs - n) (drop n xs) ≡ drop n xs
+behind_place n xs = ap (λ k. take k (drop n xs)) (sym (length-drop n xs)) ∙ take-length (drop n xs)
+
+module _ (bytes : List ℕ) (place : ℕ) (found : Some place ≡ position is_hyphen bytes) (first : Bool) (is_first : IsTrue first ↔ IsDecimal (take place bytes)) where
+  pub numbers_by : first ≡ true → (second : Bool) → IsTrue second ↔ IsDecimal (drop (place + 1) bytes) → IsTrue second ↔ AreNumbers bytes
+  numbers_by whole second is_second = (
+    λ also. record { version = take place bytes; number = drop (place + 1) bytes; first = is_first.0 whole; second = is_second.0 also; is = numbers_split bytes place found },
+    λ are. is_second.1 (subst IsDecimal (numbers_parts bytes place found are).1 are.second),
+  )
+
+  pub no_numbers : first ≡ false → IsTrue first ↔ AreNumbers bytes
+  no_numbers none = (
+    λ whole. absurd (false≢true (sym none ∙ whole)),
+    λ are. is_first.1 (subst IsDecimal (numbers_parts bytes place found are).0 are.first),
+  )
+
+pub hyphen_lacks : (bytes : List ℕ) → None ≡ position is_hyphen bytes → AreNumbers bytes → ⊥
+hyphen_lacks bytes none are = by (nat_lt (place_of bytes) (length bytes)) refl none
+  where
+    by : (b : Bool) → nat_lt (place_of bytes) (length bytes) ≡ b → None ≡ cond b (Some (place_of bytes)) None → ⊥
+    by true is found = absurd cc
+    by false is found =
+        let here : place_of bytes ≡ length are.version = ap (position_or_len is_hyphen) are.is ∙ hyphen_at are.version are.number are.first in
+        let long : length bytes ≡ length are.version + length (codes "-" ++ are.number) = ap length are.is ∙ length-append are.version (codes "-" ++ are.number) in
+        let past : length bytes ≤ place_of bytes = grind (arith, nat_tests) in
+        omega (arith, here, long, past)
+
+-- ---- leftovers
+
+module _ (name : List ℕ) where
+  pub staged_name : IsNumbered (codes "lb-v-") (codes ".json") name → IsIcebergName name
+  staged_name n = staged n.number n.decimal n.is
+
+  pub list_name : IsNumbered (codes "lb-s-") (codes ".avro") name → IsIcebergName name
+  list_name n = list n.number n.decimal n.is
+
+  manifest_name : IsManifestName name → IsIcebergName name
+  manifest_name m =
+      manifest m.are.version m.are.number m.are.first m.are.second
+      (m.is ∙ ap (λ (l : List ℕ). codes "lb-m-" ++ l) (ap (λ (l : List ℕ). l ++ codes ".avro") m.are.is ∙ append_assoc m.are.version (codes "-" ++ m.are.number) (codes ".avro")))
+
+  leftover_kinds : IsIcebergName name → IsNumbered (codes "lb-v-") (codes ".json") name ⊎ (IsNumbered (codes "lb-s-") (codes ".avro") name ⊎ IsManifestName name)
+  leftover_kinds (staged version plain is) = inl (record { number = version; decimal = plain; is = is })
+  leftover_kinds (list version plain is) = inr (inl (record { number = version; decimal = plain; is = is }))
+  leftover_kinds (manifest version number first second is) =
+      inr (inr (record {
+        numbers = version ++ (codes "-" ++ number);
+        are = record { version = version; number = number; first = first; second = second; is = refl };
+        is = is ∙ ap (λ (l : List ℕ). codes "lb-m-" ++ l) (sym (append_assoc version (codes "-" ++ number) (codes ".avro")));
+      }))
+
+  -- none of the first two, and the third as it is tested
+  pub manifest_left : (s l m : Bool) → IsTrue s ↔ IsNumbered (codes "lb-v-") (codes ".json") name → IsTrue l ↔ IsNumbered (codes "lb-s-") (codes ".avro") name → IsTrue m ↔ IsManifestName name
+      → s ≡ false → l ≡ false → IsTrue m ↔ IsIcebergName name
+  manifest_left s l m is_staged is_list is_manifest no_staged no_list = (
+    λ whole. manifest_name (is_manifest.0 whole),
+    λ leftover. by (leftover_kinds leftover),
+  )
+    where
+      by : IsNumbered (codes "lb-v-") (codes ".json") name ⊎ (IsNumbered (codes "lb-s-") (codes ".avro") name ⊎ IsManifestName name) → IsTrue m
+      by (inl n) = absurd (false≢true (sym no_staged ∙ is_staged.1 n))
+      by (inr (inl n)) = absurd (false≢true (sym no_list ∙ is_list.1 n))
+      by (inr (inr x)) = is_manifest.1 x
+
+pub between_by : (name front behind rest : List ℕ) → name ≡ front ++ rest → (r : Option (Bor (List ℕ))) → MatchOption r ((first : List ℕ) → rest ≢ first ++ behind) (λ x. rest ≡ x.now ++ behind)
+    → MatchOption r ((middle : List ℕ) → name ≢ front ++ (middle ++ behind)) (λ x. name ≡ front ++ (x.now ++ behind))
+between_by name front behind rest at None none = λ middle is. none middle (append_cancel_left front rest (middle ++ behind) (sym at ∙ is))
+between_by name front behind rest at (Some x) is = at ∙ ap (λ (l : List ℕ). front ++ l) is

@@ -1,0 +1,4 @@
+pub mod Names
+pub mod Reached
+pub mod Leftovers
+pub mod Loose
