@@ -1,0 +1,3 @@
+mod DeltaLaws
+mod HudiLaws
+mod IcebergLaws

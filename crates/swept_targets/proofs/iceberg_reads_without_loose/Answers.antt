@@ -1,0 +1,5 @@
+use Rattle.swept_targets.proofs.IcebergLaws.{reads_without}
+use Rattle.swept_targets.proofs.iceberg_reads_without_loose.Goals as goal
+
+pub returns : goal.returns
+returns c = λ files view path reads loose. reads_without c.args.target.now.id files view path reads loose
