@@ -1,0 +1,313 @@
+-- The cause of each answer of a list of events.
+use Rattle.std.proofs.Common.{◌≡◌, ◌≢◌, ◌↔◌, ◌⊎◌, inl, inr, ⊎_elim, ℕ, zero, suc, ◌+◌, ◌-◌, ◌^◌, ◌≤◌, ◌<◌, min, Bool, true, false, List, [], ◌∷◌, ◌++◌, drop, length, Option, Some, None, Result, Ok, Err, refl, sym, ap, subst, ◌∙◌, arith}
+use Rattle.std.specs.Prelude.{IsSome, slice_get}
+use Rattle.std.specs.Fmt.{decimal}
+use Rattle.std.proofs.lemmas.Bool.{cases_lt}
+use Rattle.lake_store.specs.Cause.{Rose, count_of}
+use Rattle.lake_store.specs.Disk.{Disk, Files}
+use Rattle.lake_store.specs.Fuse.{CanFail, FuseCanBeContested, FuseCanFail, contests_of, faults_of, fuse_disk, with_stop}
+use Rattle.lake_store.specs.declared.fuse.FuseStore.{FuseStore}
+use Rattle.lake_store.specs.declared.fuse.Script.{Script}
+use Rattle.conformance.specs.Histories.{IsHistoryFrom}
+use Rattle.source_core.specs.Histories.{IsAt, IsLike, LeadAlong, ShowsEntry, ShowsTable}
+use Rattle.source_core.specs.declared.error.SourceError.{SourceError}
+use Rattle.source_core.specs.declared.error.SourceError.TheVariants as source
+use Rattle.source_delta.specs.Heads.{IsAbsent}
+use Rattle.source_delta.specs.Histories.{HoldsHistory}
+use Rattle.source_delta.specs.Since.{ShowsFromPosition}
+use Rattle.table_history.specs.History.{FitsColumn, History, IsHistory, column_type}
+use Rattle.table_history.specs.TypeTree.{ColumnTrees}
+use Rattle.table_history.specs.declared.feature.Feature.{Feature}
+use Rattle.table_history.specs.declared.kind.Kind.{Kind}
+use Rattle.table_history.specs.declared.kind.Kind.TheVariants.{Delta, Hudi, Iceberg}
+use Rattle.table_history.specs.declared.limit.LimitKind.{LimitKind}
+use Rattle.table_history.specs.declared.row.PartValue.{PartValue}
+use Rattle.table_history.specs.declared.table.Table.{Table}
+use Rattle.target_core.specs.Conditions.{GoesOn}
+use Rattle.target_core.specs.Views.{IsOfSource, IsPublished, IsUnpublished, SameView, Standing, View}
+use Rattle.target_core.specs.declared.target.TargetError.TheVariants as target_error
+use Rattle.target_hudi.specs.InspectLemmas as hudi_inspect
+use Rattle.target_hudi.specs.ViewLemmas as hudi_view
+use Rattle.target_hudi.specs.WideLemmas as hudi_wide
+use Rattle.target_hudi.specs.declared.target.HudiTarget.{HudiTarget}
+use Rattle.target_iceberg.specs.InspectLemmas as iceberg_inspect
+use Rattle.target_iceberg.specs.ViewLemmas as iceberg_view
+use Rattle.target_iceberg.specs.WideLemmas as iceberg_wide
+use Rattle.target_iceberg.specs.declared.target.IcebergTarget.{IcebergTarget}
+use Rattle.target_sync.proofs.Along.{KeepsKinds}
+use Rattle.target_sync.specs.Along.{IsToLast, IsWholeSync}
+use Rattle.target_sync.specs.Answered.{IsCaused, IsFew, IsOfSync, IsRefusal, IsSourceFault, IsUnfit}
+use Rattle.target_sync.specs.Dues.{AreSinceMark, Due, IsInFull, IsSinceFault, TakesCommits}
+use Rattle.target_sync.specs.Others.{IsIdle}
+use Rattle.target_sync.specs.Targets.{TargetFacts, target_facts}
+use Rattle.target_sync.specs.declared.apply.Report.{Report}
+use Rattle.target_sync.specs.declared.plan.Mode.{Mode}
+use Rattle.target_sync.specs.declared.plan.Mode.TheVariants as modes
+use Rattle.target_sync.specs.declared.status.Side.{Side}
+use Rattle.target_sync.specs.declared.status.Side.TheVariants as side
+use Rattle.target_sync.specs.declared.status.Status.{Status}
+use Rattle.target_sync.specs.declared.status.Status.TheVariants as status
+use Rattle.lake_play.specs.Causes.{Before, HoldsLog, IsCauseAt, IsOver, IsUnfitBetween, LeadFrom, PassesNumber}
+use Rattle.lake_play.specs.Formats.{from_delta, to_hudi, to_iceberg}
+use Rattle.lake_play.specs.Playing.{Brings, scripted, status_of}
+use Rattle.lake_play.specs.Scripted.{scripted_contests, scripted_store, some_of}
+use Rattle.lake_play.specs.Standing.{StandsWithin}
+use Rattle.lake_play.proofs.Faults.{IsPlayedFault, at_head_fault, from_position_fault, from_scratch_fault}
+use Rattle.lake_play.proofs.Histories.{entry_of, holds_history, is_absent, is_history, not_absent, same_length}
+use Rattle.lake_play.proofs.Logs.{HoldsCommits}
+use Rattle.lake_play.proofs.Targets.{IsPlayed, at_front, shows_whole}
+
+-- ---- the laws of a target that are used
+
+pub record Views (target : TargetFacts) : Type 0 where
+  pub one_view : (files : Files) (v w : View) → target.files.reads files v → target.files.reads files w → SameView v w ⊎ (IsUnpublished v × IsUnpublished w)
+  pub published : (files : Files) (v : View) → target.files.reads files v → IsUnpublished v ⊎ IsPublished v
+  pub kinds : KeepsKinds target.files.image
+  pub not_foreign : (source : Kind) (files : Files) (path : List ℕ) (v : View) → target.is_foreign source files path → target.files.reads files v → (IsUnpublished v → ⊥) × (IsOfSource source v → ⊥)
+
+pub hudi_views : (target : HudiTarget) → Views (target_facts to_hudi target)
+hudi_views target = record { one_view = hudi_view.one_view; published = hudi_view.published; kinds = hudi_wide.image_kinds; not_foreign = hudi_inspect.not_foreign }
+
+pub iceberg_views : (target : IcebergTarget) → Views (target_facts to_iceberg target)
+iceberg_views target = record { one_view = iceberg_view.one_view; published = iceberg_view.published; kinds = iceberg_wide.image_kinds; not_foreign = iceberg_inspect.not_foreign }
+
+-- ---- whether a call may fail
+
+-- A call may fail only by the script that was there first, or after a Stop.
+pub record MayFail (script : Script) (stopped : Bool) (store : FuseStore) : Type 0 where
+  pub can : FuseCanFail store → CanFail script ⊎ (stopped ≡ true)
+  pub named : CanFail script ⊎ ((store.script.failing.items ≡ []) × (contests_of store ≡ 0))
+
+named_at_first : (script : Script) (calls : List ℕ) → script.failing.items ≡ calls → CanFail script ⊎ (script.failing.items ≡ [])
+named_at_first script [] is = inr is
+named_at_first script (call ∷ calls) is = inl (inr (λ none. cc))
+
+pub may_fail_first : (store : FuseStore) → contests_of store ≡ 0 → MayFail store.script false store
+may_fail_first store none = record { can = λ can. inl can; named = ⊎_elim inl (λ is. inr (is, none)) (named_at_first store.script store.script.failing.items refl) }
+
+module _ (script : Script) (stopped : Bool) (old new : FuseStore) (may : MayFail script stopped old) where
+  pub same_may : new ≡ record old { inner = new.inner } → MayFail script stopped new
+  same_may is = subst (MayFail script stopped) (sym is) (record { can = may.can; named = may.named })
+
+  pub stop_may : (call : ℕ) → new ≡ with_stop old (Some call) → MayFail script true new
+  stop_may call is = subst (MayFail script true) (sym is) (record { can = λ can. inr refl; named = may.named })
+
+  pub crash_may : new ≡ record (with_stop old None) { inner = new.inner } → MayFail script false new
+  crash_may is = subst (MayFail script false) (sym is) (record {
+    can = λ can. ⊎_elim (λ stop. absurd cc) (λ (some : old.script.failing.items ≢ []). ⊎_elim inl (λ none. absurd (some none.0)) may.named) can;
+    named = may.named;
+  })
+
+  none_of : (calls : List ℕ) → some_of calls ≡ 0 → calls ≡ []
+  none_of [] is = refl
+  none_of (call ∷ calls) is = absurd (omega (arith, is))
+
+  pub brings_may : (target : TargetFacts) (mode : Mode) (now : ℕ) (given : Status) → Brings target mode now old new given → (FuseCanBeContested old → ⊥) → MayFail script stopped new
+  brings_may target mode now given brings none = record {
+    can = λ can. may.can (brings.sync.sync.fault.still can);
+    named = ⊎_elim inl (λ (was : (old.script.failing.items ≡ []) × (contests_of old ≡ 0)).
+        let same : scripted_contests (scripted new) ≡ scripted_contests (scripted old) = brings.sync.sync.contest.same (λ refused. none (brings.sync.sync.contest.allowed refused)) in
+        let before : some_of old.script.failing.items ≡ 0 = ap some_of was.0 in
+        let count : contests_of old ≡ 0 = was.1 in
+        let ends : contests_of new ≤ 2 ^ 64 - 1 = omega arith in
+        let none_now : some_of new.script.failing.items ≡ 0 = omega (arith, same, before, count) in
+        inr (none_of new.script.failing.items none_now, omega (arith, same, before, count))) may.named;
+  }
+
+-- ---- one answer
+
+module _ (target : TargetFacts) (views : Views target) (mode : Mode) (now : ℕ) (old new : FuseStore) (given : Status) (brings : Brings target mode now old new given) (none : FuseCanBeContested old → ⊥)
+    (commits : List (List ℕ)) (first : ℕ) (log : HoldsCommits commits first (fuse_disk old)) (front rest : History) (is : IsHistoryFrom 0 None commits front) (few : length commits ≤ 2 ^ 64)
+    (floor : ℕ) (was : IsPlayed target.files (front ++ rest) floor (length commits) (fuse_disk old)) where
+  abbrev files : Files
+  files = (fuse_disk old).files
+
+  abbrev sync : IsWholeSync scripted_store from_delta target None mode now (scripted old) (scripted new) (Some brings.answer)
+  sync = brings.sync
+
+  abbrev j : ℕ
+  j = was.stands.j
+
+  whole : length front ≡ length commits
+  whole = same_length 0 None commits front is
+
+  within : j ≤ length front
+  within = let up = was.stands.up_to in let e = whole in omega (arith, up, e)
+
+  here : IsAt Delta target.files front files j
+  here = at_front target.files front rest files j within was.stands.at
+
+  over : IsOver target (front ++ rest) commits files
+  over = record {
+    log = record { first = first; holds = log.holds; only = log.only };
+    stands = record { j = j; from_there = omega arith; up_to = was.stands.up_to; at = was.stands.at };
+  }
+
+  -- ---- what is read of the source
+
+  marked_none : (view : View) (standing : Standing) → IsUnpublished view → view.mark ≡ Some standing → ⊥
+  marked_none view standing unpublished mark = let no : view.mark ≡ None = ap (λ (v : View). v.mark) unpublished in cc
+
+  same_standing : (a b : Standing) → Some a ≡ Some b → a ≡ b
+  same_standing a b e = cc
+
+  -- what reads the same files shows the same table
+  shows_start : (n : ℕ) (view start : View) → target.files.reads files view → target.files.reads files start → ShowsTable Delta target.files.image front n view → ShowsTable Delta target.files.image front n start
+  shows_start zero view start reads other shows =
+      ⊎_elim
+      (λ (same : SameView start view).
+      ⊎_elim (λ (un : IsUnpublished start). un) (λ (is : IsPublished start). absurd (marked_none view is.1.0 shows (sym same.mark ∙ is.1.1))) (views.published files start other))
+      (λ both. both.0)
+      (views.one_view files start view other reads)
+  shows_start (suc k) view start reads other shows =
+      let entry = shows.2 in
+      ⊎_elim
+      (λ (same : SameView start view). (
+        shows.0,
+        shows.1,
+        record {
+          standing = entry.standing;
+          mark = same.mark ∙ entry.mark;
+          format = entry.format;
+          position = entry.position;
+          rows = λ row. (λ there. (entry.rows row).0 ((same.rows row).0 there), λ there. (same.rows row).1 ((entry.rows row).1 there));
+          partition = same.partition ∙ entry.partition;
+          schema = entry.schema ∙ ap (λ (s : ColumnTrees). Some s) (sym same.schema);
+        },
+      ))
+      (λ (both : IsUnpublished start × IsUnpublished view). absurd (marked_none view entry.standing both.1 entry.mark))
+      (views.one_view files start view other reads)
+
+  like_entry : (entry : List ℕ × Table) (view : View) → ShowsEntry Delta target.files.image entry view → IsLike view.table entry.1
+  like_entry entry view shows = record {
+    rows = shows.rows;
+    partition = shows.partition;
+    kinds = λ name there v. let both = views.kinds entry.1.schema view.table.schema shows.schema name v in (both.1, both.0);
+  }
+
+  since_by : (n : ℕ) (start : View) → n ≤ length front → ShowsTable Delta target.files.image front n start → (e : SourceError) → IsSinceFault from_delta files start e → IsPlayedFault first e
+  since_by zero start le shows e since = absurd (marked_none start since.0 shows since.1)
+  since_by (suc k) start le shows e since =
+      let entry = shows.0 in
+      let at = entry_of 0 None commits front is k entry shows.1 in
+      let len = whole in
+      let none_added : 0 + k ≡ k = omega arith in
+      let one : since.0 ≡ shows.2.standing = same_standing since.0 shows.2.standing (sym since.1 ∙ shows.2.mark) in
+      let to : since.0.to ≡ decimal k = ap (λ (s : Standing). s.to) one ∙ shows.2.position ∙ at.position ∙ ap decimal none_added in
+      from_position_fault commits first (fuse_disk old) log front is k entry start.table e shows.1 (omega (arith, le, len, few)) (like_entry entry start shows.2)
+      (subst (λ (p : List ℕ). ShowsFromPosition files p start.table e) to since.2.1)
+
+  source_fault : (e : SourceError) → IsSourceFault from_delta target mode files e → IsPlayedFault first e
+  source_fault e (inl at_head) = at_head_fault commits first (fuse_disk old) log front is e at_head
+  source_fault e (inr read) =
+      let start = read.1.0 in
+      ⊎_elim
+      (λ (since : (mode ≡ modes.Sync) × IsSinceFault from_delta files start e). since_by j start within (shows_start j here.view start here.reads read.1.1 here.shows) e since.1)
+      (λ (scratch : (¬ TakesCommits from_delta mode files start) × from_delta.from_scratch files e). from_scratch_fault commits first (fuse_disk old) log front is e scratch.1)
+      read.1.2.1
+
+  -- ---- what is due to the target
+
+  no_due : length commits ≡ 0 → (start : View) → Due from_delta mode files start → ⊥
+  no_due empty start due = let of = log.only due.is_head.newest due.is_head.is.there in let less = of.1 in omega (arith, less, empty)
+
+  some_due : (start : View) → Due from_delta mode files start → 0 < length commits
+  some_due start due = ⊎_elim (λ (empty : length commits < 1). absurd (no_due (omega (arith, empty)) start due)) (λ (some : 1 ≤ length commits). some) (cases_lt (length commits) 1)
+
+  true_false : true ≡ false → ⊥
+  true_false e = cc
+
+  module _ (some : 0 < length commits) (start : View) (due : Due from_delta mode files start) where
+    holds : HoldsHistory files front
+    holds = holds_history commits first (fuse_disk old) log some front is
+
+    lead_by : (n : ℕ) → ShowsTable Delta target.files.image front n start → (b : Bool) → due.full ≡ b → LeadFrom front n start due.commits
+    lead_by n shows true full = inr (sync.along.in_full tt front (is_history commits front is few) holds start due full)
+    lead_by zero shows false full =
+        ⊎_elim
+        (λ (since : AreSinceMark from_delta mode files start due.partition due.commits due.full). absurd (marked_none start since.marked.0 shows since.marked.1))
+        (λ (in_full : IsInFull from_delta mode files start due.head due.partition due.commits due.full). absurd (true_false (sym in_full.way ∙ full)))
+        due.way
+    lead_by (suc k) shows false full =
+        let one : suc k ≡ k + 1 = omega arith in
+        inl (k, shows.0, one, shows.1, sync.along.each_once tt front (is_history commits front is few) holds k shows.0 shows.1 start shows.2 due full)
+
+  unfit_between : (feature : Feature) (path : List ℕ) → IsUnfit from_delta target mode files (target_error.Unsupported feature path) → IsUnfitBetween target (front ++ rest) commits feature path
+  unfit_between feature path unfit =
+      let start = unfit.0 in
+      let due = unfit.2.1.0 in
+      let shows = shows_start j here.view start here.reads unfit.1 here.shows in
+      record {
+        files = files;
+        over = over;
+        start = start;
+        reads = unfit.1;
+        j = j;
+        shows = shows_whole target.files.image front rest j start within shows;
+        front = front;
+        rest = rest;
+        split = refl;
+        count = whole;
+        due = due.commits;
+        leads = lead_by (some_due start due) start due j shows due.full refl;
+        partition = due.partition;
+        unfit = unfit.2.1.1;
+      }
+
+  -- ---- each status
+
+  module _ (before : Before) (same : before.commits ≡ commits) (shortened : 0 < first → before.shortened ≡ true) (Faulty : Type 0) (faulty : brings.answer ≡ Err status.StoreFault → Faulty) where
+    abbrev Idle : Type 0
+    Idle = IsIdle scripted_store None (scripted old) (scripted new)
+
+    abbrev Cause : Status → Type 0
+    Cause e = IsCauseAt target mode now (front ++ rest) before Faulty e
+
+    number : (of : Side) (which : LimitKind) (n : ℕ) → IsRefusal Idle from_delta target mode now files (status.Limit of which n) → IsRefusal (Unit {0}) from_delta target mode now files (status.Limit of which n)
+    number side.Source which n h = (tt, h.1)
+    number (side.Target kind) which n h = (h.0, ⊎_elim (λ crowded. inl (tt, crowded.1, crowded.2)) (λ other. inr (⊎_elim (λ unfit. inl (tt, unfit.1)) (λ passed. inr passed) other)) h.1)
+
+    passes : (e : Status) → IsRefusal (Unit {0}) from_delta target mode now files e → PassesNumber target mode now (front ++ rest) before.commits e
+    passes e h = subst (λ (cs : List (List ℕ)). PassesNumber target mode now (front ++ rest) cs e) (sym same) (record { files = files; over = over; passes = h })
+
+    none_read : (cs : List (List ℕ)) → commits ≡ cs → IsAbsent files → cs ≡ []
+    none_read [] e absent = refl
+    none_read (bytes ∷ cs) e absent = let len : length commits ≡ length (bytes ∷ cs) = ap (λ (l : List (List ℕ)). length l) e in absurd (not_absent commits first (fuse_disk old) log (omega (arith, len)) absent)
+
+    removed : (feature : Feature) (path : List ℕ) → IsSourceFault from_delta target mode files (source.Unsupported feature path) → Cause (status.Unsupported side.Source feature path)
+    removed feature path fault = let played = source_fault (source.Unsupported feature path) fault in (played.0, shortened played.1)
+
+    foreign : (path : List ℕ) → target.is_foreign Delta files path → ⊥
+    foreign path h =
+        let not = views.not_foreign Delta files path here.view h here.reads in
+        by j here.view here.shows not
+      where
+        by : (n : ℕ) (view : View) → ShowsTable Delta target.files.image front n view → (IsUnpublished view → ⊥) × (IsOfSource Delta view → ⊥) → ⊥
+        by zero view shows not = not.0 shows
+        by (suc k) view shows not = not.1 (shows.2.standing, shows.2.mark, shows.2.format)
+
+    refused : (e : Status) → brings.answer ≡ Err e → IsRefusal Idle from_delta target mode now files e → IsOfSync target.files.kind e → Cause e
+    refused status.Done is h few = absurd few
+    refused status.Memory is h few = tt
+    refused status.Usage is h few = absurd few
+    refused status.Absent is h few = same ∙ none_read commits refl h.1
+    refused (status.Malformed path) is h few = absurd (source_fault (source.Malformed path) h.1)
+    refused (status.Unsupported side.Source feature path) is h few = removed feature path h.1
+    refused (status.Unsupported (side.Target kind) feature path) is h few = (h.1, subst (λ (cs : List (List ℕ)). IsUnfitBetween target (front ++ rest) cs feature path) (sym same) (unfit_between feature path h.2))
+    refused (status.Limit of which n) is h few = passes (status.Limit of which n) (number of which n h)
+    refused (status.Foreign kind path) is h few = absurd (foreign path h.3)
+    refused (status.Contested kind) is h few = absurd (none (sync.sync.contest.allowed (ap (λ (a : Result Report Status). Some a) is ∙ ap (λ (k : Kind). Some (Err (status.Contested k))) few)))
+    refused status.StoreFault is h few = faulty is
+    refused status.SinkFault is h few = absurd few
+    refused (status.Behind kind at head) is h few = absurd few
+    refused (status.Differs kind path) is h few = absurd few
+    refused (status.Stale path) is h few = absurd few
+
+    by_answer : (answer : Result Report Status) → brings.answer ≡ answer → Cause (status_of answer)
+    by_answer (Ok report) is = tt
+    by_answer (Err e) is =
+        refused e is (subst (λ (a : Result Report Status). IsCaused Idle from_delta target mode now files (Some a)) is (sync.sync.caused tt))
+        (subst (λ (a : Result Report Status). IsFew target.files.kind (Some a)) is sync.sync.few)
+
+    pub answer_caused : Cause given
+    answer_caused = subst Cause (sym brings.told) (by_answer brings.answer refl)

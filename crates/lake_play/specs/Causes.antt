@@ -1,0 +1,129 @@
+-- Why the syncs of a list of events are answered so.
+use Rattle.std.specs.Prelude.{◌≡◌, ◌⊎◌, ◌≤◌, ◌<◌, ◌+◌, ℕ, Bool, true, false, List, [], ◌∷◌, ◌++◌, drop, length, slice_get, Option, Some, None}
+use Rattle.conformance.specs.Histories.{extensions}
+use Rattle.conformance.specs.declared.event.Event.{Event}
+use Rattle.conformance.specs.declared.event.Event.TheVariants as event
+use Rattle.delta_table.specs.Versions.{HasVersion, HoldsVersion}
+use Rattle.lake_store.specs.Cause.{Rose}
+use Rattle.lake_store.specs.Disk.{Files}
+use Rattle.lake_store.specs.Fuse.{CanFail}
+use Rattle.lake_store.specs.declared.fuse.Script.{Script}
+use Rattle.source_core.specs.Histories.{LeadAlong, ShowsTable}
+use Rattle.table_history.specs.History.{History}
+use Rattle.table_history.specs.declared.feature.Feature.{Feature}
+use Rattle.table_history.specs.declared.feature.Feature.TheVariants.{NeedsCheckpoint}
+use Rattle.table_history.specs.declared.kind.Kind.{Kind}
+use Rattle.table_history.specs.declared.kind.Kind.TheVariants.{Delta, Hudi, Iceberg}
+use Rattle.table_history.specs.declared.limit.LimitKind.{LimitKind}
+use Rattle.table_history.specs.declared.table.Commit.{Commit}
+use Rattle.table_history.specs.declared.table.Table.{Table}
+use Rattle.target_core.specs.Views.{View}
+use Rattle.target_core.specs.declared.target.TargetError.TheVariants as target_error
+use Rattle.target_hudi.specs.TableName.{IsTableName}
+use Rattle.target_hudi.specs.declared.target.HudiTarget.{HudiTarget}
+use Rattle.target_iceberg.specs.TableId.{table_id}
+use Rattle.target_iceberg.specs.declared.target.IcebergTarget.{IcebergTarget}
+use Rattle.target_sync.specs.Along.{IsToLast}
+use Rattle.target_sync.specs.Answered.{IsRefusal}
+use Rattle.target_sync.specs.Targets.{TargetFacts, target_facts}
+use Rattle.target_sync.specs.declared.plan.Mode.{Mode}
+use Rattle.target_sync.specs.declared.plan.Mode.TheVariants as modes
+use Rattle.target_sync.specs.declared.status.Side.TheVariants as side
+use Rattle.target_sync.specs.declared.status.Status.{Status}
+use Rattle.target_sync.specs.declared.status.Status.TheVariants as status
+use Rattle.lake_play.specs.Formats.{from_delta, place, to_hudi, to_iceberg}
+use Rattle.lake_play.specs.Standing.{StandsWithin}
+
+-- ---- what was played before an answer
+
+-- How many commits there were, from which of them on the source's versions are there, whether one was removed, and whether a Stop stands there with no
+-- Crash behind it.
+pub record Before : Type 0 where
+  pub commits : List (List ℕ)
+  pub shortened : Bool
+  pub stopped : Bool
+
+abbrev pub nothing_before : Before
+nothing_before = record { commits = []; shortened = false; stopped = false }
+
+abbrev pub behind : Event → Before → Before
+behind (event.Extend bytes) before = record before { commits = before.commits ++ bytes ∷ [] }
+behind (event.Shorten below) before = record before { shortened = true }
+behind (event.Sync target) before = before
+behind (event.Full target) before = before
+behind (event.Stop call) before = record before { stopped = true }
+behind (event.Crash choices) before = record before { stopped = false }
+
+-- ---- the files that a sync is over
+
+-- The source's log holds the commits from one of them on, and no other version.
+pub record HoldsLog (commits : List (List ℕ)) (files : Files) : Type 0 where
+  pub first : ℕ
+  pub holds : (version : ℕ) (bytes : List ℕ) → first ≤ version → slice_get commits version ≡ Some bytes → HoldsVersion files version bytes
+  pub only : (version : ℕ) → HasVersion files version → (first ≤ version) × (version < length commits)
+
+-- The files hold these commits, and the target stands at one of the tables that they make.
+pub record IsOver (target : TargetFacts) (history : History) (commits : List (List ℕ)) (files : Files) : Type 0 where
+  pub log : HoldsLog commits files
+  pub stands : StandsWithin target.files history 0 (length commits) files
+
+-- ---- the causes
+
+-- the commits lead from the j-th table of the history, counted from 1, to the last: one for each table behind it, or one alone
+abbrev pub LeadFrom : History → ℕ → View → List Commit → Type 0
+LeadFrom history j start commits = ((k : ℕ) × (entry : List ℕ × Table) × (j ≡ k + 1) × (slice_get history k ≡ Some entry) × LeadAlong entry.1 (drop (k + 1) history) commits) ⊎ IsToLast history start commits
+
+-- Commits that lead from one table of the history to a later one don't fit the target that stands there, for this feature.
+pub record IsUnfitBetween (target : TargetFacts) (history : History) (commits : List (List ℕ)) (feature : Feature) (path : List ℕ) : Type 0 where
+  pub files : Files
+  pub over : IsOver target history commits files
+  pub start : View
+  pub reads : target.files.reads files start
+  pub j : ℕ
+  pub shows : ShowsTable Delta target.files.image history j start
+  pub front : History
+  pub rest : History
+  pub split : history ≡ front ++ rest
+  pub count : length front ≡ length commits
+  pub due : List Commit
+  pub leads : LeadFrom front j start due
+  pub partition : List (List ℕ)
+  pub unfit : target.unfit files partition due (target_error.Unsupported feature path)
+
+-- This number is passed in what is read, or in what would be written.
+pub record PassesNumber (target : TargetFacts) (mode : Mode) (now : ℕ) (history : History) (commits : List (List ℕ)) (given : Status) : Type 0 where
+  pub files : Files
+  pub over : IsOver target history commits files
+  pub passes : IsRefusal (Unit {0}) from_delta target mode now files given
+
+-- why a sync of this target is answered so
+abbrev pub IsCauseAt : TargetFacts → Mode → ℕ → History → Before → Type 0 → Status → Type 0
+IsCauseAt target mode now history before Faulty status.Done = Unit {0}
+IsCauseAt target mode now history before Faulty status.Memory = Unit {0}
+IsCauseAt target mode now history before Faulty status.StoreFault = Faulty
+IsCauseAt target mode now history before Faulty status.Absent = before.commits ≡ []
+IsCauseAt target mode now history before Faulty (status.Unsupported side.Source feature path) = (feature ≡ NeedsCheckpoint) × (before.shortened ≡ true)
+IsCauseAt target mode now history before Faulty (status.Unsupported (side.Target kind) feature path) = (kind ≡ target.files.kind) × IsUnfitBetween target history before.commits feature path
+IsCauseAt target mode now history before Faulty (status.Limit of which number) = PassesNumber target mode now history before.commits (status.Limit of which number)
+IsCauseAt target mode now history before Faulty _ = ⊥
+
+abbrev pub IsCause : Kind → Mode → ℕ → History → Before → Type 0 → Status → Type 0
+IsCause Delta mode now history before Faulty given = given ≡ status.Usage
+IsCause Hudi mode now history before Faulty given = (given ≡ status.Memory) ⊎ ((target : HudiTarget) × IsTableName place target.name × IsCauseAt (target_facts to_hudi target) mode now history before Faulty given)
+IsCause Iceberg mode now history before Faulty given = (given ≡ status.Memory) ⊎ ((target : IcebergTarget) × (target.id ≡ table_id place) × IsCauseAt (target_facts to_iceberg target) mode now history before Faulty given)
+
+-- A fault has two causes: the fuse counted it, and its script named a call that fails, or a Stop stands before it with no Crash between the two.
+abbrev pub IsFaulty : Script → ℕ → ℕ → Before → Type 0
+IsFaulty script old new before = Rose old new × (CanFail script ⊎ (before.stopped ≡ true))
+
+-- Each answer has its cause.
+abbrev pub AreCaused : (Before → Type 0) → ℕ → History → Before → List Event → List Status → Type 0
+AreCaused faulty now history before [] answers = Unit {0}
+AreCaused faulty now history before (event.Extend bytes ∷ events) answers = AreCaused faulty now history (behind (event.Extend bytes) before) events answers
+AreCaused faulty now history before (event.Shorten below ∷ events) answers = AreCaused faulty now history (behind (event.Shorten below) before) events answers
+AreCaused faulty now history before (event.Sync target ∷ events) [] = ⊥
+AreCaused faulty now history before (event.Sync target ∷ events) (given ∷ answers) = IsCause target modes.Sync now history before (faulty before) given × AreCaused faulty now history before events answers
+AreCaused faulty now history before (event.Full target ∷ events) [] = ⊥
+AreCaused faulty now history before (event.Full target ∷ events) (given ∷ answers) = IsCause target modes.Full now history before (faulty before) given × AreCaused faulty now history before events answers
+AreCaused faulty now history before (event.Stop call ∷ events) answers = AreCaused faulty now history (behind (event.Stop call) before) events answers
+AreCaused faulty now history before (event.Crash choices ∷ events) answers = AreCaused faulty now history (behind (event.Crash choices) before) events answers
