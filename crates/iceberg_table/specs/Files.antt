@@ -13,6 +13,12 @@ use Rattle.iceberg_table.specs.Folder.{version_path}
 abbrev pub HoldsFile : Files → List ℕ → List ℕ → Type 0
 HoldsFile files path bytes = map.get files path ≡ Some bytes
 
+-- The file at this path is there, and isn't larger than a file that is read.
+pub record HoldsShortFile (files : Files) (path : List ℕ) : Type 0 where
+  pub bytes : List ℕ
+  pub holds : HoldsFile files path bytes
+  pub short : length bytes ≤ MAX_FILE_BYTES
+
 -- The metadata of the version is there and says this. It is in the grammar, shows no feature that isn't supported, and passes no number. The parents of its snapshots form no cycle.
 pub record SaysMetadata (files : Files) (version : ℕ) (m : Metadata) : Type 0 where
   pub bytes : List ℕ

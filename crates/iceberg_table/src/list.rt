@@ -4,6 +4,7 @@ ghost use Rattle.std.specs.Prelude.{◌≡◌, ◌↔◌, List, Ok, IfErr, IfOk,
 ghost use Rattle.lake_store.specs.Runs.{FailsBy, IsUncontestedBy, OnlyReads};
 ghost use Rattle.iceberg_manifest.specs.Lists.{AreEach};
 ghost use Rattle.iceberg_table.specs.Errors.{IsFault, IsFileFault, IsRefusal};
+ghost use Rattle.iceberg_table.specs.Files.{HoldsShortFile};
 ghost use Rattle.iceberg_table.specs.Lists.{AreRows, HasDeletes, HaveContents, IsListFault, IsListed, IsRowFault, SaysList};
 ghost use Rattle.iceberg_table.specs.Order.{StopsAt};
 ghost use Rattle.iceberg_table.specs.declared.error.IcebergError.TheVariants.{StoreFault};
@@ -100,6 +101,8 @@ pub fn read_list_file<S: Store>(
     ensures only { S.tells → IfOk result (λ list. (others : List ManifestFile)
         → SaysList (S.disk store.old).files metadata.now path.now others → others ≡ list) }
     ensures contents { IfOk result HaveContents }
+    ensures short { S.tells → IfOk result (λ list.
+        HoldsShortFile (S.disk store.old).files path.now) }
     ensures refused { S.tells → IfErr result (IsRefusal
         (IsFileFault (S.disk store.old).files path.now (IsListFault metadata.now))) }
     ensures only_reads { S.tells → OnlyReads ⟦<S as Store>⟧ store.old store.new }

@@ -13,3 +13,6 @@ returns-in-Ok-clause-only g c told others says =
 
 pub returns-in-Ok-clause-contents : goal.returns-in-Ok-clause-contents
 returns-in-Ok-clause-contents g c = let found = c.in-Ok.ensures.found in contents_listed c.args.metadata.now c.as_slice.result.now found.0 c.in-Ok.list found.1 found.2
+
+pub returns-in-Ok-clause-short : goal.returns-in-Ok-clause-short
+returns-in-Ok-clause-short g c told = record { bytes = _; holds = c.in_ok-bytes.ensures.holds told; short = c.in_ok-bytes.ensures.short }
