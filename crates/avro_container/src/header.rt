@@ -82,6 +82,8 @@ fn meta_in(
     }
 }
 
+/// The header of a container file: its metadata, its marker, and where its blocks begin (Apache Avro
+/// specification, "Object Container Files").
 #[tactic(auto, unfolding(crate::specs::Reading::header_at))]
 pub fn read_header(alloc: Global, bytes: &[u8]) -> Result<Header<'_>, ReadError<ContainerFault>>
     ensures { Gives (λ h. (h.meta.items, h.marker.now, h.blocks.now))

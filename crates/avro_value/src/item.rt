@@ -50,6 +50,7 @@ pub fn zigzag_value(z: u64) -> i64
     if z % 2 == 0 { half } else { -1 - half }
 }
 
+/// A `long` at the front, and the bytes after it.
 #[tactic(auto, unfolding(crate::specs::Reading::long_at))]
 pub fn long(bytes: &[u8]) -> Result<(i64, &[u8]), Fault>
     ensures { GivesAlways (λ x. (x.0, x.1.now)) result (long_at bytes.now) }
@@ -58,6 +59,7 @@ pub fn long(bytes: &[u8]) -> Result<(i64, &[u8]), Fault>
     Ok((zigzag_value(z), rest))
 }
 
+/// An `int` at the front, and the bytes after it. A number past 32 bits is a fault.
 #[tactic(auto, unfolding(crate::specs::Reading::int_at))]
 pub fn int(bytes: &[u8]) -> Result<(i32, &[u8]), Fault>
     ensures { GivesAlways (λ x. (x.0, x.1.now)) result (int_at bytes.now) }
@@ -94,6 +96,7 @@ pub fn index(count: usize, bytes: &[u8]) -> Result<(u32, &[u8]), Fault>
     Ok((i as u32, rest))
 }
 
+/// A `boolean` at the front, and the bytes after it: one byte, 0 or 1.
 #[tactic(auto, unfolding(crate::specs::Reading::boolean_at))]
 pub fn boolean(bytes: &[u8]) -> Result<(bool, &[u8]), Fault>
     ensures { GivesAlways (λ x. (x.0, x.1.now)) result (boolean_at bytes.now) }
@@ -129,6 +132,7 @@ pub fn array<const N: usize>(bytes: &[u8]) -> Result<([u8; N], &[u8]), Fault>
     }
 }
 
+/// `bytes` at the front, and those after them: a length, and so many bytes.
 #[tactic(auto, unfolding(crate::specs::Reading::bytes_at))]
 pub fn bytes(bytes: &[u8]) -> Result<(&[u8], &[u8]), Fault>
     ensures { GivesAlways (λ x. (x.0.now, x.1.now)) result (bytes_at bytes.now) }
@@ -137,6 +141,7 @@ pub fn bytes(bytes: &[u8]) -> Result<(&[u8], &[u8]), Fault>
     run(len as usize, rest)
 }
 
+/// A `string` at the front, and the bytes after it: a length, and so many bytes of UTF-8.
 #[tactic(auto, unfolding(crate::specs::Reading::text_at))]
 pub fn text(input: &[u8]) -> Result<(&str, &[u8]), Fault>
     ensures { GivesAlways (λ x. (x.0.now, x.1.now)) result (text_at input.now) }

@@ -13,6 +13,7 @@ use crate::value::Value;
 use lake_basics::{Blob, ReadError, Text};
 use std::alloc::Global;
 
+/// Takes a `boolean`.
 pub fn boolean(input: &mut Input<'_>) -> Result<Value, ReadError<FaultAt>>
     ensures { Gives (λ v. (value_tree v, input.new.rest.now, input.new.budget)) result
         (map_reading ValueTree.boolean (item_at boolean_at input.old.rest.now input.old.budget)) }
@@ -21,6 +22,7 @@ pub fn boolean(input: &mut Input<'_>) -> Result<Value, ReadError<FaultAt>>
     Ok(Value::Boolean(input.take(item)?))
 }
 
+/// Takes an `int`.
 pub fn int(input: &mut Input<'_>) -> Result<Value, ReadError<FaultAt>>
     ensures { Gives (λ v. (value_tree v, input.new.rest.now, input.new.budget)) result
         (map_reading ValueTree.int (item_at int_at input.old.rest.now input.old.budget)) }
@@ -29,6 +31,7 @@ pub fn int(input: &mut Input<'_>) -> Result<Value, ReadError<FaultAt>>
     Ok(Value::Int(input.take(item)?))
 }
 
+/// Takes a `long`.
 pub fn long(input: &mut Input<'_>) -> Result<Value, ReadError<FaultAt>>
     ensures { Gives (λ v. (value_tree v, input.new.rest.now, input.new.budget)) result
         (map_reading ValueTree.long (item_at long_at input.old.rest.now input.old.budget)) }
@@ -37,6 +40,7 @@ pub fn long(input: &mut Input<'_>) -> Result<Value, ReadError<FaultAt>>
     Ok(Value::Long(input.take(item)?))
 }
 
+/// Takes a `float`: four bytes, the lowest first.
 pub fn float(input: &mut Input<'_>) -> Result<Value, ReadError<FaultAt>>
     ensures { Gives (λ v. (value_tree v, input.new.rest.now, input.new.budget)) result
         (map_reading ValueTree.float (item_at (run_at 4) input.old.rest.now input.old.budget)) }
@@ -45,6 +49,7 @@ pub fn float(input: &mut Input<'_>) -> Result<Value, ReadError<FaultAt>>
     Ok(Value::Float(input.take(item)?))
 }
 
+/// Takes a `double`: eight bytes, the lowest first.
 pub fn double(input: &mut Input<'_>) -> Result<Value, ReadError<FaultAt>>
     ensures { Gives (λ v. (value_tree v, input.new.rest.now, input.new.budget)) result
         (map_reading ValueTree.double (item_at (run_at 8) input.old.rest.now input.old.budget)) }
@@ -53,6 +58,7 @@ pub fn double(input: &mut Input<'_>) -> Result<Value, ReadError<FaultAt>>
     Ok(Value::Double(input.take(item)?))
 }
 
+/// Takes `bytes`.
 pub fn bytes(alloc: Global, input: &mut Input<'_>) -> Result<Value, ReadError<FaultAt>>
     ensures { Gives (λ v. (value_tree v, input.new.rest.now, input.new.budget)) result
         (map_reading ValueTree.bytes (item_at bytes_at input.old.rest.now input.old.budget)) }
@@ -61,6 +67,7 @@ pub fn bytes(alloc: Global, input: &mut Input<'_>) -> Result<Value, ReadError<Fa
     Ok(Value::Bytes(Blob::from_slice(alloc, input.take_bytes(item)?)?))
 }
 
+/// Takes a `string`.
 pub fn text(alloc: Global, input: &mut Input<'_>) -> Result<Value, ReadError<FaultAt>>
     ensures { Gives (λ v. (value_tree v, input.new.rest.now, input.new.budget)) result
         (map_reading ValueTree.text (item_at text_at input.old.rest.now input.old.budget)) }
@@ -77,6 +84,7 @@ pub fn key(alloc: Global, input: &mut Input<'_>) -> Result<Text, ReadError<Fault
     Ok(Text::from_str(alloc, input.take_text(item)?)?)
 }
 
+/// Takes a `fixed` of so many bytes.
 pub fn fixed(alloc: Global, size: u32, input: &mut Input<'_>) -> Result<Value, ReadError<FaultAt>>
     ensures { Gives (λ v. (value_tree v, input.new.rest.now, input.new.budget)) result
         (map_reading ValueTree.fixed (item_at (run_at size) input.old.rest.now input.old.budget)) }
@@ -96,6 +104,7 @@ pub fn index(count: usize, input: &mut Input<'_>) -> Result<u32, ReadError<Fault
     Ok(index)
 }
 
+/// Takes the index of a symbol of an `enum` that has so many.
 pub fn symbol(symbols: usize, input: &mut Input<'_>) -> Result<Value, ReadError<FaultAt>>
     ensures { Gives (λ v. (value_tree v, input.new.rest.now, input.new.budget)) result
         (map_reading ValueTree.enum_of

@@ -83,6 +83,7 @@ fn push_long(out: &mut Vec<u8>, n: i64) -> Result<(), AllocError>
     push_varint(out, zigzag(n))
 }
 
+/// Adds a number from 0 on, as a `long`.
 pub fn push_natural(out: &mut Vec<u8>, n: u64) -> Result<(), AllocError>
     requires { n < 2 ^ 63 }
     ensures { OnOk result (out.new.items ≡ out.old.items ++ varint_of (2 * n)) }
@@ -97,6 +98,7 @@ fn push_index(out: &mut Vec<u8>, index: u32) -> Result<(), AllocError>
     push_natural(out, u64::from(index))
 }
 
+/// Adds bytes as they are.
 pub fn push_bytes(out: &mut Vec<u8>, bytes: &[u8]) -> Result<(), AllocError>
     ensures { OnOk result (out.new.items ≡ out.old.items ++ bytes.now) }
 {
@@ -118,6 +120,7 @@ fn push_prefixed(out: &mut Vec<u8>, bytes: &[u8]) -> Result<(), AllocError>
     push_bytes(out, bytes)
 }
 
+/// Adds `bytes`: their number, and then they.
 pub fn push_blob(out: &mut Vec<u8>, blob: &Blob) -> Result<(), AllocError>
     ensures bytes { OnOk result (out.new.items ≡ out.old.items ++ length_prefixed blob.now) }
     ensures sound { length blob.now < 2 ^ 63 }
@@ -125,6 +128,7 @@ pub fn push_blob(out: &mut Vec<u8>, blob: &Blob) -> Result<(), AllocError>
     push_prefixed(out, blob.as_slice())
 }
 
+/// Adds a `string`: the number of its bytes, and then they.
 pub fn push_text(out: &mut Vec<u8>, text: &Text) -> Result<(), AllocError>
     ensures bytes { OnOk result (out.new.items ≡ out.old.items ++ length_prefixed text.now) }
     ensures sound { IsText text.now }

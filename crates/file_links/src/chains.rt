@@ -114,6 +114,7 @@ impl Chains {
         }
     }
 
+    /// The same chains anew.
     pub fn copy(&self, alloc: Global) -> Result<Chains, AllocError>
         requires sound { AreSound self.now }
         ensures sound { IfOk result AreSound }
@@ -169,6 +170,7 @@ impl Chains {
         append(self, slot, chain);
     }
 
+    /// The first slot of a chain, if it has one.
     pub fn first(&self, chain: u32) -> Option<u32>
         requires sound { AreSound self.now }
         requires chain { chain < chain_count self.now }
@@ -196,12 +198,14 @@ impl Chains {
         at(&self.chain, slot)
     }
 
+    /// How many chains there are.
     pub fn chain_count(&self) -> usize
         ensures { result ≡ chain_count self.now }
     {
         self.first.len()
     }
 
+    /// How many slots there are.
     pub fn slot_count(&self) -> usize
         requires sound { AreSound self.now }
         ensures value { result ≡ slot_count self.now }

@@ -33,6 +33,7 @@ impl Model for InstantPaths {
 }
 
 impl InstantPaths {
+    /// The paths of an instant's files, by its time.
     pub fn new(alloc: Global, instant: &str) -> Result<InstantPaths, AllocError>
         ensures { IfOk result (λ paths. paths ≡ instant.now) }
     {
@@ -52,18 +53,21 @@ impl InstantPaths {
         self.claim.as_str()
     }
 
+    /// The file that announces the instant.
     pub fn requested(&self) -> &str
         ensures { result.now ≡ pending_path Requested self.now }
     {
         self.requested.as_str()
     }
 
+    /// The file that says it is at work.
     pub fn inflight(&self) -> &str
         ensures { result.now ≡ pending_path Inflight self.now }
     {
         self.inflight.as_str()
     }
 
+    /// The file that completes it.
     pub fn completed(&self) -> &str
         ensures { result.now ≡ completed_path self.now }
     {

@@ -12,6 +12,7 @@ pub struct SystemClock<R> {
 }
 
 impl<R: time::Clock> SystemClock<R> {
+    /// The clock of this system.
     pub fn new(rt: R) -> SystemClock<R> {
         SystemClock { rt }
     }

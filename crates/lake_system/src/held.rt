@@ -13,6 +13,7 @@ pub struct HeldFolder {
 }
 
 impl HeldFolder {
+    /// No folder, and so no lock yet.
     pub fn new() -> HeldFolder {
         HeldFolder { faults: 0 }
     }

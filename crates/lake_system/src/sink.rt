@@ -13,6 +13,7 @@ pub struct StdSink<R> {
 }
 
 impl<R: Print> StdSink<R> {
+    /// The standard output of this program, with no fault so far.
     pub fn new(rt: R) -> StdSink<R> {
         StdSink { rt, faults: 0 }
     }

@@ -168,6 +168,7 @@ fn no_version(alloc: Global) -> SourceError
 }
 
 impl DeltaSource {
+    /// The source of Delta tables.
     pub fn new() -> DeltaSource {
         DeltaSource {}
     }

@@ -201,6 +201,7 @@ fn whole_table<S: Store>(
 }
 
 impl HudiSource {
+    /// The source of Hudi tables.
     pub fn new() -> HudiSource {
         HudiSource {}
     }

@@ -127,6 +127,7 @@ fn head_of(alloc: Global, metadata: Metadata) -> Result<Head, SourceError>
 }
 
 impl IcebergSource {
+    /// The source of Iceberg tables.
     pub fn new() -> IcebergSource {
         IcebergSource {}
     }
