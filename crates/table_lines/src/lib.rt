@@ -9,3 +9,4 @@ mod summary;
 pub use line::line_of_text;
 pub use put::{put_lines, rows_in_order};
 pub use row::row_line;
+pub use summary::totals;
