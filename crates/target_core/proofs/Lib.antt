@@ -8,3 +8,4 @@ pub mod Along
 pub mod SameStart
 pub mod HeldRows
 pub mod Writing
+pub mod Come

@@ -1,5 +1,6 @@
 -- How a target goes from commit to commit.
 use Rattle.std.proofs.Common.{◌≡◌, ◌⊎◌, inl, inr, ⊎_elim, refl, ℕ, zero, suc, ◌+◌, ◌<◌, ◌≤◌, List, [], ◌∷◌, ◌++◌, length, take, Option, Some, Bool, true, false, sym, ◌∙◌, ap, subst, arith, below_more}
+use Rattle.std.proofs.lemmas.Bool.{cases_lt}
 use Rattle.std.proofs.lemmas.List.{take_more, length-take-le}
 use Rattle.std.proofs.lemmas.Option.{slice_get_within, get_or_from_slice_get}
 use Rattle.std.specs.Prelude.{slice_get}
@@ -238,16 +239,23 @@ module _ {S : Type 0} (store : Ghosts S) (target : Meaning) (origin : Origin) (s
           (λ never. weaker store old new (LeavesFew target origin start (store.disk old).files commits (i + 1)) (KeepsShown target origin start commits (store.disk new).files e) (kept_behind e never) (λ t. few_on (free never)) told)
           (contested_or e)
 
-    -- so many are published, unless another writer was in the way
-    pub gained_on : U → (n : ℕ) × (i ≤ n) × (n ≤ i + 1) × Gained target origin start (store.disk old).files commits n (store.disk new).files
-    gained_on u =
+    -- these alone are published, or one more, unless another writer was in the way
+    pub gained_on : ((files : Files) (v : View) → target.reads files v → target.commits_in files ≡ v.commits) → U
+        → Gained target origin start (store.disk old).files commits i (store.disk new).files ⊎ (Gained target origin start (store.disk old).files commits (i + 1) (store.disk new).files × (here.commits < target.commits_in (store.disk new).files))
+    gained_on counts u =
         let some = step.at_return u in
-        let few : some.count ≤ 1 = some.gained.within in (
-          i + some.count,
-          omega arith,
-          omega (arith, few),
-          gained_more target origin start (store.disk old).files commits i here (store.disk mid).files so_far.leads so_far.within so_far.each so_far.earlier commit at some.count (store.disk new).files some.gained,
-        )
+        let few : some.count ≤ 1 = some.gained.within in
+        let more = gained_more target origin start (store.disk old).files commits i here (store.disk mid).files so_far.leads so_far.within so_far.each so_far.earlier commit at some.count (store.disk new).files some.gained in
+        ⊎_elim
+        (λ one.
+        let next : i + some.count ≡ i + 1 = omega (arith, one, few) in
+        let held : target.commits_in (store.disk new).files ≡ some.gained.view.commits = counts (store.disk new).files some.gained.view some.gained.stands in
+        let count = count_taken target.image origin here (commit ∷ []) some.count some.gained.view some.gained.leads some.gained.within in
+        inr (subst (λ (k : ℕ). Gained target origin start (store.disk old).files commits k (store.disk new).files) next more, omega (arith, held, count, one)))
+        (λ none.
+        let same : i + some.count ≡ i = omega (arith, none) in
+        inl (subst (λ (k : ℕ). Gained target origin start (store.disk old).files commits k (store.disk new).files) same more))
+        (cases_lt 0 some.count)
 
     -- and these alone, where it reads as before
     pub stopped_on : target.reads (store.disk new).files here → Gained target origin start (store.disk old).files commits i (store.disk new).files

@@ -1,5 +1,6 @@
 -- What publishing a list of commits writes.
-use Rattle.std.specs.Prelude.{◌≡◌, List, [], ◌∷◌}
+use Rattle.std.specs.Prelude.{◌≡◌, ℕ, List, [], ◌∷◌}
+use Rattle.std.specs.FinMap as map
 use Rattle.lake_store.specs.Disk.{Files}
 use Rattle.lake_store.specs.Runs.{LeavesAlone}
 use Rattle.lake_store.specs.declared.store.Store.{Ghosts}
@@ -15,6 +16,10 @@ AreWritten {K} stands_for writes kept before (commit ∷ commits) last after =
 -- they have, whatever is kept at the end
 abbrev pub HaveLeft : {K : Type 0} → (K → Files → Type 0) → (K → Files → Commit → Files → Type 0) → K → Files → List Commit → Files → Type 0
 HaveLeft {K} stands_for writes kept before commits after = (last : K) × AreWritten stands_for writes kept before commits last after
+
+-- Files that are left so have at each path that their commits reach just what these have.
+abbrev pub IsAsLeft : (Files → List ℕ → Type 0) → (Files → Type 0) → Files → Type 0
+IsAsLeft reached Left files = (left : Files) × Left left × ((path : List ℕ) → reached left path → map.get files path ≡ map.get left path)
 
 -- At some moment before the end the files were so. No file that a commit published by then reaches changes from then on, and none becomes dirty, at return
 -- and at any moment.

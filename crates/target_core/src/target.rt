@@ -1,6 +1,6 @@
 //! A target, by what its files stand for and what a commit makes of them.
 
-ghost use Rattle.std.specs.Prelude.{◌≡◌, ◌+◌, ◌<◌, ◌≤◌, ◌^◌, ◌↔◌, ◌⊎◌, ℕ, List, [], ◌∷◌, None, Option, Some, IfErr, IfOk, IsErrOf, OnOk, is_ok, option_map};
+ghost use Rattle.std.specs.Prelude.{◌≡◌, ◌≢◌, ◌+◌, ◌<◌, ◌≤◌, ◌^◌, ◌↔◌, ◌⊎◌, ℕ, List, [], ◌∷◌, None, Option, Some, IfErr, IfOk, IsErrOf, OnOk, is_ok, option_map};
 ghost use Rattle.std.specs.Option.{option_copied};
 ghost use Rattle.std.specs.FinMap as map;
 ghost use Rattle.lake_store.specs.Disk.{Disk, Files, IsClean};
@@ -19,11 +19,12 @@ ghost use Rattle.target_core.specs.Changes.{SameRowChange};
 ghost use Rattle.target_core.specs.Gained.{CarriesAll};
 ghost use Rattle.target_core.specs.Folders.{MayLeaveIn, SameIn, after_crash, folder_of};
 ghost use Rattle.target_core.specs.Meaning.{meaning_of};
-ghost use Rattle.target_core.specs.Outcome.{Uncontested, answer_of};
+ghost use Rattle.target_core.specs.Outcome.{HasCome, Uncontested, answer_of};
 ghost use Rattle.target_core.specs.Publishing.{Publishes};
 ghost use Rattle.target_core.specs.Refusals.{IsCommitRefusal, IsFitsRefusal, IsInspectRefusal, IsOfCommit, IsOfInspect};
 ghost use Rattle.target_core.specs.SeenView.{IsSeen, IsSeenSound};
 ghost use Rattle.target_core.specs.Views.{IsAdvanced, IsOfSource, IsPublished, IsUnpublished, Origin, SameView, Standing, View, absent, standing_of};
+ghost use Rattle.target_core.specs.Written.{IsAsLeft};
 ghost use Rattle.target_core.specs.declared.target.TargetError.{TargetError};
 ghost use Rattle.table_history.specs.declared.limit.LimitKind.TheVariants.{File, Names};
 ghost use Rattle.lake_basics.specs.declared.limits.TheConstants.{MAX_FILE_BYTES, MAX_NAMES};
@@ -267,10 +268,13 @@ pub trait Target {
             (commit.now ∷ commits)
             → Fits (unfit self.now kept.new) (view self.now kept.new).table.partition commits) }
 
-        // Where it stood for the files and these were settled, so do the files.
+        // Once it has come, nothing is left to do that could fail: what is kept stands for the
+        // files, where it did before and these were settled, whatever is answered then.
         ensures stands { S.tells → stands_for self.now kept.old (S.disk store.old).files
             → settled self.now (S.disk store.old)
-            → OnOk result (stands_for self.now kept.new (S.disk store.new).files) }
+            → HasCome result (view self.now kept.old).commits
+            (commits_in self.now (S.disk store.new).files)
+            → stands_for self.now kept.new (S.disk store.new).files }
         ensures publishes { S.tells → stands_for self.now kept.old (S.disk store.old).files
             → settled self.now (S.disk store.old)
             → Publishes ⟦<S as Store>⟧
@@ -280,11 +284,20 @@ pub trait Target {
             (view self.now kept.old) (commit.now ∷ [])
             (Uncontested result) (is_ok result) store.old store.new }
 
-        // At `Ok` just what it writes has come.
+        // At `Ok` just what it writes has come. Where it has come and is refused all the same, what
+        // commits reach is just that.
         ensures writes { S.tells → stands_for self.now kept.old (S.disk store.old).files
             → OnOk result (writes self.now kept.old (S.disk store.old).files
             (record { source = source; table = option_copied table.entry }) now_ms commit.now
             (S.disk store.new).files) }
+        ensures came { S.tells → stands_for self.now kept.old (S.disk store.old).files
+            → settled self.now (S.disk store.old)
+            → HasCome result (view self.now kept.old).commits
+            (commits_in self.now (S.disk store.new).files)
+            → IsAsLeft (reached self.now) (λ left. writes self.now kept.old
+            (S.disk store.old).files
+            (record { source = source; table = option_copied table.entry }) now_ms commit.now left
+            × stands_for self.now kept.new left) (S.disk store.new).files }
 
         // Behind another writer's commit nothing is published.
         ensures contested { S.tells → stands_for self.now kept.old (S.disk store.old).files
@@ -310,6 +323,12 @@ pub trait Target {
             → settled self.now (S.disk store.old) → (which : LimitKind) (number : ℕ)
             → IsErrOf result (TargetError.Limit which number)
             → reads self.now (S.disk store.new).files (view self.now kept.old) }
+
+        // Its texts are built, and its time is drawn, before anything is written. Names are listed
+        // behind the first sync.
+        ensures untouched { S.tells → (which : LimitKind) (number : ℕ)
+            → IsErrOf result (TargetError.Limit which number) → which ≢ Names
+            → OnlyReads ⟦<S as Store>⟧ store.old store.new }
         ensures few { IfErr result IsOfCommit }
         ensures ahead { S.tells → OnOk result
             ((commits : List Commit) (which : LimitKind) (number : ℕ)

@@ -1,12 +1,12 @@
-use Rattle.std.proofs.Common.{◌≡◌, ◌≤◌, ℕ, ◌+◌, true, false, Some, Err, Result, List, [], ◌∷◌, append-nil, length, take, drop, inr, refl, sym, ◌∙◌, ap, subst, arith}
+use Rattle.std.proofs.Common.{◌≡◌, ◌≤◌, ℕ, ◌+◌, true, false, Some, Err, Result, List, [], ◌∷◌, append-nil, length, take, drop, inr, ⊎_elim, refl, sym, ◌∙◌, ap, subst, arith}
 use Rattle.std.proofs.lemmas.List.{take_all}
 use Rattle.std.proofs.lemmas.Option.{slice_get-get_or}
 use Rattle.std.proofs.lemmas.Result.{err_from_is_err_and}
 use Rattle.std.specs.Prelude.{IfErr, is_ok, slice_get}
 use Rattle.std.specs.Option.{option_copied}
-use Rattle.lake_store.specs.Disk.{Files}
+use Rattle.lake_store.specs.Disk.{Disk, Files}
 use Rattle.lake_store.specs.Runs.{IsEachMoment, IsOutside}
-use Rattle.lake_store.proofs.RunLaws.{alone_by_reading, alone_further, reading_begins}
+use Rattle.lake_store.proofs.RunLaws.{alone_by_reading, alone_further, reading_begins, reading_further}
 use Rattle.table_history.specs.declared.table.Commit.{Commit}
 use Rattle.target_core.specs.Folders.{folder_of}
 use Rattle.target_core.specs.Outcome.{Uncontested}
@@ -103,7 +103,7 @@ loop-commit-preserved g c =
       source = inr (standing_at origin commit.position, step.view.mark, refl);
       fits = step.fits (drop (i + 1) commits) (fits_here (target.unfit t c.loop-commit.kept) here.table.partition commits i commit at so_far.fits);
       counted = step.counted;
-      stands = λ told was settled. step.stands told (so_far.stands told was settled) (so_far.under_way told was settled).settled;
+      stands = λ told was settled. step.stands told (so_far.stands told was settled) (so_far.under_way told was settled).settled tt;
       under_way = λ told was settled.
           let way = so_far.under_way told was settled in
           under_way_more store (meaning target t) origin start commits i here s mid c.commit.new.store way commit at (Unit {0}) true
@@ -112,7 +112,7 @@ loop-commit-preserved g c =
           let settled_here = (so_far.under_way told was settled).settled in
           let stands_here = so_far.stands told was settled in
           written_take (target.stands_for t) (λ kept before commit after. target.writes t kept before origin c.args.now_ms commit after) c.args.kept.now (store.disk s).files commits i c.loop-commit.kept (store.disk mid).files commit
-          c.commit.new.kept (store.disk c.commit.new.store).files at (so_far.written told was settled) (step.writes told stands_here) (step.stands told stands_here settled_here);
+          c.commit.new.kept (store.disk c.commit.new.store).files at (so_far.written told was settled) (step.writes told stands_here) (step.stands told stands_here settled_here tt);
       ahead = λ told cs which number was.
           subst (λ (xs : List Commit). target.passes t c.args.kept.now (store.disk s).files origin c.args.now_ms xs which number) (more_before commits i commit at cs)
           (so_far.ahead told (commit ∷ cs) which number (step.ahead told cs which number was));
@@ -204,8 +204,38 @@ returns-in_err-commit-clause-refusal g c told =
       };
       gained = λ was uncontested.
           let way = so_far.under_way told was.0 was.1 in
-          gained_on store (meaning target t) origin start commits i here s c.loop-commit.store c.commit.new.store way commit at _ false
-          (c.in_err-commit.ensures.publishes told (so_far.stands told was.0 was.1) way.settled) told (g.met.T.Target.reached_stays t) (λ e. uncontested (exit.2 ∙ e));
+          let step = c.in_err-commit.ensures in
+          let stands_here = so_far.stands told was.0 was.1 in
+          ⊎_elim
+          (λ before. (
+            i,
+            omega arith,
+            omega arith,
+            before,
+            (
+              (store.disk c.loop-commit.store).files,
+              (c.loop-commit.kept, so_far.written told was.0 was.1),
+              λ path reached. (step.publishes told stands_here way.settled).bytes.disk.files path reached,
+            ),
+          ))
+          (λ after.
+          let like = step.came told stands_here way.settled ((λ e. uncontested (exit.2 ∙ e)), after.1) in (
+            i + 1,
+            omega arith,
+            omega arith,
+            after.0,
+            (
+              like.0,
+              (
+                c.commit.new.kept,
+                written_take (target.stands_for t) (λ kept before commit after. target.writes t kept before origin c.args.now_ms commit after) c.args.kept.now files commits i c.loop-commit.kept (store.disk c.loop-commit.store).files commit
+                    c.commit.new.kept like.0 at (so_far.written told was.0 was.1) like.1.0 like.1.1,
+              ),
+              like.2,
+            ),
+          ))
+          (gained_on store (meaning target t) origin start commits i here s c.loop-commit.store c.commit.new.store way commit at _ false
+          (step.publishes told stands_here way.settled) told (g.met.T.Target.reached_stays t) (g.met.T.Target.commits_read t) (λ e. uncontested (exit.2 ∙ e)));
       contested = λ was is.
           let way = so_far.under_way told was.0 was.1 in
           let few : target.commits_in t (store.disk c.commit.new.store).files ≤ here.commits + 1 = c.in_err-commit.ensures.contested told (so_far.stands told was.0 was.1) way.settled (ap (λ (e : TargetError). Err e) (sym exit.2 ∙ is)) in
@@ -216,6 +246,17 @@ returns-in_err-commit-clause-refusal g c told =
           stopped_on store (meaning target t) origin start commits i here s c.loop-commit.store c.commit.new.store way commit at _ false
           (c.in_err-commit.ensures.publishes told (so_far.stands told was.0 was.1) way.settled) told (g.met.T.Target.reached_stays t)
           (c.in_err-commit.ensures.limited told (so_far.stands told was.0 was.1) way.settled which number (ap (λ (e : TargetError). Err e) (sym exit.2 ∙ is)));
+      untouched = λ was which number is other.
+          let reads = c.in_err-commit.ensures.untouched told which number (ap (λ (e : TargetError). Err e) (sym exit.2 ∙ is)) other in (
+            c.loop-commit.kept,
+            subst
+                (λ (d : Disk).
+                AreWritten (target.stands_for t) (λ kept before commit after. target.writes t kept before origin c.args.now_ms commit after) c.args.kept.now files (take i commits) c.loop-commit.kept d.files)
+                (sym reads.disk) (so_far.written told was.0 was.1),
+          );
+      unmoved = λ which number is other none.
+          reading_further store s c.loop-commit.store c.commit.new.store (λ told. so_far.none told none)
+          (λ told. c.in_err-commit.ensures.untouched told which number (ap (λ (e : TargetError). Err e) (sym exit.2 ∙ is)) other) told;
     })
 
 pub returns-clause-publishes : goal.returns-clause-publishes
