@@ -1,9 +1,9 @@
 //! A source, by what its files show.
 
-ghost use Rattle.std.specs.Prelude.{◌≡◌, ◌++◌, ◌∷◌, List, [], ℕ, IfErr, IfOk, IsErrOf};
+ghost use Rattle.std.specs.Prelude.{◌≡◌, ◌++◌, ◌∷◌, List, [], ℕ, Contains, IfErr, IfOk, IsErrOf};
 ghost use Rattle.lake_store.specs.Disk.{Files};
 ghost use Rattle.lake_store.specs.Runs.{FailsBy, IsUncontestedBy, OnlyReads};
-ghost use Rattle.table_history.specs.History.{History, IsHistory};
+ghost use Rattle.table_history.specs.History.{History, IsHistory, positions_of};
 ghost use Rattle.table_history.specs.declared.kind.Kind.{Kind};
 ghost use Rattle.table_history.specs.declared.table.Commit.{Commit};
 ghost use Rattle.table_history.specs.declared.table.Table.{Table};
@@ -129,11 +129,24 @@ pub trait Source {
         (commits : List Commit) → is_head source files head
         → is_since source files head.position base commits → commits ≡ [] };
 
+    /// A table that has a head isn't absent.
+    ghost head_there: { (source : Self) (files : Files) (head : Head)
+        → is_head source files head → is_absent source files → ⊥ };
+
+    /// Files have one table at the head, up to the order of its rows.
+    ghost one_table: { (source : Self) (files : Files) (a b : Table) → is_table source files a
+        → is_table source files b → SameTable a b };
+
     /// A history that the files hold ends at the head, with the table there.
     ghost last: { (source : Self) (files : Files) (history : History) (head : Head)
         → IsHistory history → holds source files history → is_head source files head
         → (last : List ℕ × Table) × IsLast history last × (last.0 ≡ head.position)
         × ((table : Table) → is_table source files table → SameTable table last.1) };
+
+    /// A position whose later commits are all there is one of its positions.
+    ghost reached_held: { (source : Self) (files : Files) (history : History)
+        (position : List ℕ) → holds source files history → reaches source files position
+        → Contains (positions_of history) position };
 
     /// The commits since one of its positions, over a table like the one there, lead along it.
     ghost along: { (source : Self) (files : Files) (front behind : History)

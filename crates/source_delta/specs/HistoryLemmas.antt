@@ -1,5 +1,5 @@
 -- The histories that a Delta table's log holds: they end at its newest version, and its commits lead along them.
-use Rattle.std.proofs.Common.{◌≡◌, ◌≤◌, ◌<◌, ◌+◌, ◌^◌, ℕ, zero, suc, List, [], ◌∷◌, ◌++◌, length, Option, Some, None, refl, sym, ap, subst, ◌∙◌, append_assoc, arith, ⊎_elim}
+use Rattle.std.proofs.Common.{◌≡◌, ◌≤◌, ◌<◌, ◌+◌, ◌^◌, ℕ, zero, suc, List, [], ◌∷◌, ◌++◌, Contains, length, Option, Some, None, refl, sym, ap, subst, ◌∙◌, append_assoc, arith, ⊎_elim}
 use Rattle.std.proofs.lemmas.Bool.{cases_lt}
 use Rattle.std.proofs.lemmas.Fmt.{decimal_injective}
 use Rattle.std.proofs.lemmas.List.{length-append}
@@ -7,12 +7,13 @@ use Rattle.std.specs.Fmt.{decimal}
 use Rattle.std.specs.Prelude.{option_map, slice_get, unwrap_or}
 use Rattle.lake_basics.specs.declared.limits.TheConstants.{MAX_DELTA_VERSION}
 use Rattle.lake_store.specs.Disk.{Files}
-use Rattle.table_history.specs.History.{History}
+use Rattle.table_history.specs.History.{History, positions_of}
 use Rattle.table_history.specs.Rows.{SameRows}
 use Rattle.table_history.specs.TypeTree.{ColumnTrees}
 use Rattle.table_history.specs.declared.table.Commit.{Commit}
 use Rattle.table_history.specs.declared.table.Table.{Table}
 use Rattle.table_history.proofs.Laws.{change_of_same_rows}
+use Rattle.table_history.proofs.RowListLemmas.{Contains-head, Contains-tail}
 use Rattle.delta_change.specs.Change.{CanFollow}
 use Rattle.delta_change.specs.TableBehind.{IsSchemaBehind, StatesSchema}
 use Rattle.delta_log.specs.declared.commit.DeltaCommit.{DeltaCommit}
@@ -22,6 +23,7 @@ use Rattle.delta_table.specs.Log.{IsReadLog, IsStep, SaysCommit}
 use Rattle.delta_table.specs.SameVersions.{has_too, own_versions, says_too, versions_sym}
 use Rattle.delta_table.specs.Versions.{HasVersion, log_folder}
 use Rattle.delta_table.proofs.LogLaws.{step_made}
+use Rattle.delta_table.proofs.PathLaws.{says_once}
 use Rattle.target_core.specs.Folders.{SameIn}
 use Rattle.source_core.specs.Histories.{IsLast, IsLike, LeadAlong, LeadsTo, SameTable}
 use Rattle.source_core.specs.declared.head.Head.{Head}
@@ -124,6 +126,21 @@ read_same files history h all (suc version) last within log =
     let behind : table_before history (suc version) ≡ Some place.0.1 = ap (option_map (λ (entry : List ℕ × Table). entry.1)) place.1 in
     subst (λ l. SameBefore l (table_before history (suc version))) (sym log.6) (subst (SameBefore (Some log.4)) (sym behind) same)
 
+-- Two readings of so many versions make the same table.
+read_once : (files : Files) (count : ℕ) (a b : Option Table) → IsReadLog files count a → IsReadLog files count b → SameBefore a b
+read_once files zero a b one other = subst (λ x. SameBefore x b) (sym one) (subst (SameBefore None) (sym other) tt)
+read_once files (suc version) a b one other =
+    let before = read_once files version one.0 other.0 one.1 other.1 in
+    let commit = says_once files version one.2 other.2 one.3 other.3 in
+    let step : IsStep one.2 other.0 other.4 = subst (λ c. IsStep c other.0 other.4) (sym commit) other.5.0 in
+    let same : SameTable one.4 other.4 = next_same one.0 other.0 before one.2 one.4 other.4 one.5.0 step in
+    subst (λ x. SameBefore x b) (sym one.6) (subst (SameBefore (Some one.4)) (sym other.6) same)
+
+pub one_table : (files : Files) (a b : Table) → IsTableAtHead files a → IsTableAtHead files b → SameTable a b
+one_table files a b x y =
+    let newest = one_newest files y.newest x.newest y.is x.is in
+    read_once files (x.newest + 1) (Some a) (Some b) x.log (subst (λ n. IsReadLog files (n + 1) (Some b)) newest y.log)
+
 pub last : (files : Files) (history : History) (head : Head) → HoldsHistory files history → IsDeltaHead files head
     → (last : List ℕ × Table) × IsLast history last × (last.0 ≡ head.position) × ((table : Table) → IsTableAtHead files table → SameTable table last.1)
 last files history head h is =
@@ -150,6 +167,27 @@ last files history head h is =
         let within : suc (length front) ≤ length history = omega (arith, whole, version) in
         let same = read_same files history h all (suc (length front)) (Some table) within log in
         subst (SameBefore (Some table)) (ap (option_map (λ (entry : List ℕ × Table). entry.1)) place) same
+
+-- ---- positions
+
+some_entry : (a b : List ℕ × Table) → Some a ≡ Some b → a ≡ b
+some_entry a b e = cc
+
+position_at : (history : History) (version : ℕ) (entry : List ℕ × Table) → slice_get history version ≡ Some entry → Contains (positions_of history) entry.0
+position_at [] version entry at = absurd cc
+position_at (first ∷ history) zero entry at = subst (λ (e : List ℕ × Table). Contains (positions_of (first ∷ history)) e.0) (some_entry first entry at) (Contains-head first.0 (positions_of history))
+position_at (first ∷ history) (suc version) entry at = Contains-tail first.0 (positions_of history) entry.0 (position_at history version entry at)
+
+-- Each version up to the newest has its place in a history.
+pub reached_held : (files : Files) (history : History) (position : List ℕ) → HoldsHistory files history → Reaches files position → Contains (positions_of history) position
+reached_held files history position h reached =
+    let is = reached.2 in
+    let newest = one_newest files reached.1 h.kept.newest is.is (newest_of files history h) in
+    let up = is.within in
+    let count = h.count in
+    let under : reached.0 < length history = omega (arith, up, newest, count) in
+    let place = some_at history reached.0 under in
+    subst (Contains (positions_of history)) (h.positions reached.0 place.0 place.1 ∙ sym is.spelled) (position_at history reached.0 place.0 place.1)
 
 -- ---- what is behind an entry
 

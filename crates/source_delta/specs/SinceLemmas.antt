@@ -12,7 +12,7 @@ use Rattle.delta_table.specs.Versions.{HasVersion}
 use Rattle.delta_table.proofs.PathLaws.{says_once}
 use Rattle.source_core.specs.Since.{EndAt}
 use Rattle.source_core.specs.declared.head.Head.{Head}
-use Rattle.source_delta.specs.Heads.{IsDeltaHead, IsNewest, IsTableId}
+use Rattle.source_delta.specs.Heads.{IsAbsent, IsDeltaHead, IsNewest, IsTableId}
 use Rattle.source_delta.specs.Since.{AreCommits, IsSince}
 
 pub version_within : (files : Files) (version : ℕ) → HasVersion files version → version ≤ MAX_DELTA_VERSION
@@ -47,6 +47,9 @@ same_parts a b position pending table =
 pub one_head : (files : Files) (a b : Head) → IsDeltaHead files a → IsDeltaHead files b → a ≡ b
 one_head files a b x y =
     same_parts a b (x.position ∙ ap decimal (one_newest files x.newest y.newest x.is y.is) ∙ sym y.position) (x.pending ∙ sym y.pending) (one_id files a.table b.table x.table y.table)
+
+pub head_there : (files : Files) (head : Head) → IsDeltaHead files head → IsAbsent files → ⊥
+head_there files head is absent = absent is.newest is.is.there
 
 -- ---- where the commits end
 

@@ -180,8 +180,8 @@ impl Source for DeltaSource {
     ghost use Rattle.source_delta.specs.Reading.{ShowsAtHead, ShowsFromScratch};
     ghost use Rattle.source_delta.specs.Since.{IsSince, Reaches, ShowsFromPosition};
     ghost use Rattle.source_delta.specs.Histories.{HoldsHistory};
-    ghost use Rattle.source_delta.specs.SinceLemmas.{ends, none_at_head, one_head};
-    ghost use Rattle.source_delta.specs.HistoryLemmas.{along, holds_own, last};
+    ghost use Rattle.source_delta.specs.SinceLemmas.{ends, head_there, none_at_head, one_head};
+    ghost use Rattle.source_delta.specs.HistoryLemmas.{along, holds_own, last, one_table, reached_held};
     ghost use Rattle.source_delta.specs.OwnLemmas.{absent_own, at_head_own, from_position_own, from_scratch_own, head_own, reaches_own, since_own, table_own};
 
     ghost kind = { λ source. Delta };
@@ -261,7 +261,13 @@ impl Source for DeltaSource {
 
     ghost none_at_head = { λ source files head base commits is since. none_at_head files head base commits is since };
 
+    ghost head_there = { λ source files head is absent. head_there files head is absent };
+
+    ghost one_table = { λ source files a b x y. one_table files a b x y };
+
     ghost last = { λ source files history head is holds at. last files history head holds at };
+
+    ghost reached_held = { λ source files history position holds reached. reached_held files history position holds reached };
 
     ghost along = { λ source files front behind entry base commits is holds like reached since. along files front behind entry base commits holds like reached since };
 

@@ -124,6 +124,14 @@ later_positions files front behind entry is holds at =
     let kept : IsDistinct bytes_eq times = last_distinct holds.archived times (subst (IsDistinct bytes_eq) holds.positions is.distinct) in
     later_times parts.0 entry.0 (positions_of behind) (reached_in files) (order_up_to_head files) parts.1 (subst (IsDistinct bytes_eq) parts.1 kept)
 
+-- The instants up to the head have their places in a history.
+pub reached_held : (files : Files) (history : History) (position : List ℕ) → HoldsHistory files history → IsReached files position → Contains (positions_of history) position
+reached_held files history position holds at =
+    let times = times_of (reached_in files) in
+    let of = (reached_times files position).1 at in
+    let there : Contains times position = subst (Contains times) of.2 (map_in (λ (c : CompletedInstant). c.time) (reached_in files) of.0 of.1) in
+    subst (λ (l : List (List ℕ)). Contains l position) (sym holds.positions) (Contains-append_right holds.archived times position there)
+
 pub along : (files : Files) (front behind : History) (entry : List ℕ × Table) (base : Table) (commits : List Commit) → IsHistory (front ++ entry ∷ behind) → HoldsHistory files (front ++ entry ∷ behind)
     → IsLike base entry.1 → IsReached files entry.0 → IsSince files entry.0 base commits → LeadAlong entry.1 behind commits
 along files front behind entry base commits is holds like at since =

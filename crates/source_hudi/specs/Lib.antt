@@ -8,3 +8,4 @@ pub mod Histories
 pub mod ListLemmas
 pub mod LikeLemmas
 pub mod HistoryLemmas
+pub mod OnceLemmas

@@ -212,7 +212,8 @@ impl Source for HudiSource {
     ghost use Rattle.hudi_table.specs.Folder.{IsReached};
     ghost use Rattle.source_hudi.specs.Heads.{IsAbsent, IsHudiHead, IsTableAtHead};
     ghost use Rattle.source_hudi.specs.Histories.{HoldsHistory};
-    ghost use Rattle.source_hudi.specs.HistoryLemmas.{along, holds_own, last};
+    ghost use Rattle.source_hudi.specs.HistoryLemmas.{along, holds_own, last, reached_held};
+    ghost use Rattle.source_hudi.specs.OnceLemmas.{head_there, one_table};
     ghost use Rattle.source_hudi.specs.Reading.{ShowsAtHead, ShowsFromScratch};
     ghost use Rattle.source_hudi.specs.Since.{IsSince, ShowsSince};
     ghost use Rattle.source_hudi.specs.OwnLemmas.{absent_own, at_head_own, from_scratch_own, head_own, reaches_own, table_own};
@@ -298,7 +299,13 @@ impl Source for HudiSource {
 
     ghost none_at_head = { λ source files head base commits is since. none_at_head files head base commits is since };
 
+    ghost head_there = { λ source files head is absent. head_there files head is absent };
+
+    ghost one_table = { λ source files a b x y. one_table files a b x y };
+
     ghost last = { λ source files history head is holds at. last files history head is holds at };
+
+    ghost reached_held = { λ source files history position holds at. reached_held files history position holds at };
 
     ghost along = { λ source files front behind entry base commits is holds like at since. along files front behind entry base commits is holds like at since };
 

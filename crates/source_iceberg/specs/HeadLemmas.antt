@@ -132,6 +132,9 @@ same_parts : (a b : Head) → a.position ≡ b.position → a.pending ≡ b.pend
 same_parts a b position pending table =
     ap (λ (x : List ℕ). head_of x a.pending a.table) position ∙ ap (λ (x : Option (List ℕ)). head_of b.position x a.table) pending ∙ ap (λ (x : Option (List ℕ)). head_of b.position b.pending x) table
 
+pub head_there : (files : Files) (head : Head) → IsIcebergHead files head → IsAbsent files → ⊥
+head_there files head is absent = not_absent files is.version is.metadata is.snapshot is.current absent
+
 pub one_head : (files : Files) (a b : Head) → IsIcebergHead files a → IsIcebergHead files b → a ≡ b
 one_head files a b x y =
     let one = one_current files x.version y.version x.metadata y.metadata x.snapshot y.snapshot x.current y.current in

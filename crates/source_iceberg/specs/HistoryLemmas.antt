@@ -1,14 +1,14 @@
 -- The commits of an Iceberg table lead along the histories that its newest metadata holds, and its table at the head is the last one there.
-use Rattle.std.proofs.Common.{◌≡◌, ℕ, List, [], ◌∷◌, ◌++◌, Option, Some, Result, Ok, append_assoc, sym, ap, subst, ◌∙◌}
+use Rattle.std.proofs.Common.{◌≡◌, ℕ, List, [], ◌∷◌, ◌++◌, Contains, Option, Some, Result, Ok, append_assoc, sym, ap, subst, ◌∙◌}
 use Rattle.std.specs.Prelude.{reverse, unwrap_or}
 use Rattle.lake_store.specs.Disk.{Files}
-use Rattle.table_history.specs.History.{History, IsHistory}
+use Rattle.table_history.specs.History.{History, IsHistory, positions_of}
 use Rattle.table_history.specs.Rows.{SameRows}
 use Rattle.table_history.specs.TypeTree.{ColumnTrees}
 use Rattle.table_history.specs.declared.table.Commit.{Commit}
 use Rattle.table_history.specs.declared.table.Table.{Table}
 use Rattle.table_history.proofs.Laws.{change_of_same_rows}
-use Rattle.iceberg_ancestry.specs.Ancestry.{IsAncestry, held_at}
+use Rattle.iceberg_ancestry.specs.Ancestry.{IsAncestry}
 use Rattle.iceberg_metadata.specs.Schemas.{HeldSchema}
 use Rattle.iceberg_columns.specs.declared.columns.SourceColumn.{SourceColumn}
 use Rattle.iceberg_metadata.specs.declared.metadata.Metadata.{Metadata}
@@ -16,15 +16,16 @@ use Rattle.iceberg_metadata.specs.declared.metadata.Snapshot.{Snapshot}
 use Rattle.iceberg_table.specs.Plan.{names_of, snapshot_schema}
 use Rattle.iceberg_table.specs.Snapshots.{IsReadAs, IsTableOfSnapshot}
 use Rattle.iceberg_table.specs.declared.manifest.Manifest.{Manifest}
+use Rattle.iceberg_table.specs.declared.snapshot.SnapshotTable.{SnapshotTable}
 use Rattle.iceberg_table.proofs.LiveLaws.{columns_same}
 use Rattle.source_core.specs.Histories.{IsLast, IsLike, LeadAlong, LeadsTo, SameTable}
 use Rattle.source_core.specs.declared.head.Head.{Head}
-use Rattle.source_iceberg.specs.Heads.{IsIcebergHead, IsTableAtHead}
+use Rattle.source_iceberg.specs.Heads.{IsCurrent, IsIcebergHead, IsTableAtHead}
 use Rattle.source_iceberg.specs.Histories.{AreEntriesOf, HoldsHistory, IsEntryOf}
-use Rattle.source_iceberg.specs.ListLemmas.{same_behind}
-use Rattle.source_iceberg.specs.HeadLemmas.{metadata_once, stated_once}
-use Rattle.source_iceberg.specs.Since.{AreCommits, IsSince}
-use Rattle.source_iceberg.specs.SinceLemmas.{ancestors_once, last_ancestor, some_once}
+use Rattle.source_iceberg.specs.ListLemmas.{in_positions, same_behind}
+use Rattle.source_iceberg.specs.HeadLemmas.{one_current, stated_once}
+use Rattle.source_iceberg.specs.Since.{AreCommits, IsReached, IsSince, Reaches}
+use Rattle.source_iceberg.specs.SinceLemmas.{ancestors_once, last_ancestor}
 
 -- ---- a snapshot has one table
 
@@ -59,6 +60,25 @@ split_entries files m (f ∷ front) s later entries are =
     let more = split_entries files m front s later are.1 are.4 in
     record { front = are.0 ∷ more.front; entry = more.entry; behind = more.behind; split = are.2 ∙ ap (λ (l : History). are.0 ∷ l) more.split; is = more.is; rest = more.rest }
 
+-- ---- the table at the head
+
+-- The table at the head is that of the current snapshot, whoever found that one.
+record IsOfCurrent (files : Files) (m : Metadata) (s : Snapshot) (table : Table) : Type 0 where
+  pub is : IsTableOfSnapshot files m s table
+  pub read : (t : SnapshotTable) × IsReadAs files m s t
+
+of_current : (files : Files) (version : ℕ) (m : Metadata) (s : Snapshot) → IsCurrent files version m s → (table : Table) → IsTableAtHead files table → IsOfCurrent files m s table
+of_current files version m s current table at =
+    let one = one_current files at.version version at.metadata m at.snapshot s at.current current in
+    let is = subst (λ (x : Metadata). IsTableOfSnapshot files x at.snapshot table) one.1 at.is in
+    let read = subst (λ (x : Metadata). IsReadAs files x at.snapshot at.read.0) one.1 at.read.1 in
+    record { is = subst (λ (x : Snapshot). IsTableOfSnapshot files m x table) one.2 is; read = (at.read.0, subst (λ (x : Snapshot). IsReadAs files m x at.read.0) one.2 read) }
+
+pub one_table : (files : Files) (a b : Table) → IsTableAtHead files a → IsTableAtHead files b → SameTable a b
+one_table files a b x y =
+    let other = of_current files x.version x.metadata x.snapshot x.current b y in
+    table_once files x.metadata x.snapshot a b x.is other.is
+
 -- ---- the end
 
 module _ (files : Files) (history : History) (head : Head) (holds : HoldsHistory files history) (is : IsIcebergHead files head) where
@@ -80,14 +100,8 @@ module _ (files : Files) (history : History) (head : Head) (holds : HoldsHistory
 
   same_table : (table : Table) → IsTableAtHead files table → SameTable table last_entry.entry.1
   same_table table at =
-      let same : at.metadata ≡ is.metadata = metadata_once files at.version is.version at.metadata is.metadata at.current.metadata is.current.metadata in
-      let held = subst (λ (m : Metadata). held_at m.snapshots m.current_snapshot ≡ Some at.snapshot) same at.current.held in
-      let snapshot : at.snapshot ≡ is.snapshot = some_once (held_at is.metadata.snapshots is.metadata.current_snapshot) at.snapshot is.snapshot held is.current.held in
-      let read = subst (λ (m : Metadata). IsReadAs files m at.snapshot at.read.0) same at.read.1 in
-      let read_too = subst (λ (s : Snapshot). IsReadAs files is.metadata s at.read.0) snapshot read in
-      let table_is = subst (λ (m : Metadata). IsTableOfSnapshot files m at.snapshot table) same at.is in
-      let table_too = subst (λ (s : Snapshot). IsTableOfSnapshot files is.metadata s table) snapshot table_is in
-      table_once files is.metadata is.snapshot table last_entry.entry.1 table_too (last_entry.is.table at.read.0 read_too)
+      let own = of_current files is.version is.metadata is.snapshot is.current table at in
+      table_once files is.metadata is.snapshot table last_entry.entry.1 own.is (last_entry.is.table own.read.0 own.read.1)
 
 pub last : (files : Files) (history : History) (head : Head) → HoldsHistory files history → IsIcebergHead files head
     → (last : List ℕ × Table) × IsLast history last × (last.0 ≡ head.position) × ((table : Table) → IsTableAtHead files table → SameTable table last.1)
@@ -117,19 +131,43 @@ module _ (files : Files) (m : Metadata) where
       let rest = leads_along later own.table next are.1 made.1 last made.3 same.rows kept are.4 made.6 in
       subst (λ (h : History). LeadAlong entry.1 h commits) (sym are.2) (subst (LeadAlong entry.1 (next ∷ are.1)) (sym made.4) (first, rest))
 
+-- ---- where a position that is reached stands
+
+module _ (files : Files) (history : History) (position : List ℕ) (version : ℕ) (m : Metadata) (later : List Snapshot) (holds : HoldsHistory files history) (reached : IsReached files position version m later) where
+  same_newest : holds.metadata ≡ m
+  same_newest = stated_once files holds.version version holds.metadata m holds.newest reached.metadata
+
+  reached_entry : SplitsAt files m reached.behind.at later holds.kept
+  reached_entry =
+      let one = ancestors_once m holds.ancestors reached.ancestors (subst (λ (x : Metadata). IsAncestry x holds.ancestors) same_newest holds.are) reached.are in
+      let entries = subst (λ (x : Metadata). AreEntriesOf files x (reverse holds.ancestors) holds.kept) same_newest holds.entries in
+      split_entries files m reached.behind.front reached.behind.at later holds.kept (subst (λ (ss : List Snapshot). AreEntriesOf files m ss holds.kept) (ap reverse one ∙ reached.behind.split) entries)
+
+  reached_split : history ≡ (holds.earlier ++ reached_entry.front) ++ reached_entry.entry ∷ reached_entry.behind
+  reached_split =
+      holds.split
+      ∙ ap (λ (l : History). holds.earlier ++ l) reached_entry.split
+      ∙ sym (append_assoc holds.earlier reached_entry.front (reached_entry.entry ∷ reached_entry.behind))
+
+  reached_position : position ≡ reached_entry.entry.0
+  reached_position = reached.behind.spelled ∙ sym reached_entry.is.position
+
+  reached_within : Contains (positions_of history) position
+  reached_within =
+      subst (λ (l : History). Contains (positions_of l) position) (sym reached_split)
+      (subst (Contains (positions_of ((holds.earlier ++ reached_entry.front) ++ reached_entry.entry ∷ reached_entry.behind))) (sym reached_position) (in_positions (holds.earlier ++ reached_entry.front) reached_entry.entry reached_entry.behind))
+
+pub reached_held : (files : Files) (history : History) (position : List ℕ) → HoldsHistory files history → Reaches files position → Contains (positions_of history) position
+reached_held files history position holds reached = reached_within files history position reached.0 reached.1 reached.2 holds reached.3
+
 pub along : (files : Files) (front behind : History) (entry : List ℕ × Table) (base : Table) (commits : List Commit) → IsHistory (front ++ entry ∷ behind) → HoldsHistory files (front ++ entry ∷ behind)
     → IsLike base entry.1 → IsSince files entry.0 base commits → LeadAlong entry.1 behind commits
 along files front behind entry base commits is holds like since =
-    let reached = since.reached in
     let m = since.metadata in
-    let same : holds.metadata ≡ m = stated_once files holds.version since.version holds.metadata m holds.newest reached.metadata in
-    let one : holds.ancestors ≡ reached.ancestors = ancestors_once m holds.ancestors reached.ancestors (subst (λ (x : Metadata). IsAncestry x holds.ancestors) same holds.are) reached.are in
-    let entries = subst (λ (x : Metadata). AreEntriesOf files x (reverse holds.ancestors) holds.kept) same holds.entries in
-    let of_reached = subst (λ (ss : List Snapshot). AreEntriesOf files m ss holds.kept) (ap reverse one ∙ reached.behind.split) entries in
-    let split = split_entries files m reached.behind.front reached.behind.at since.later holds.kept of_reached in
-    let whole : front ++ entry ∷ behind ≡ (holds.earlier ++ split.front) ++ split.entry ∷ split.behind =
-    holds.split ∙ ap (λ (l : History). holds.earlier ++ l) split.split ∙ sym (append_assoc holds.earlier split.front (split.entry ∷ split.behind)) in
-    let at : entry.0 ≡ split.entry.0 = reached.behind.spelled ∙ sym split.is.position in
+    let history = front ++ entry ∷ behind in
+    let split = reached_entry files history entry.0 since.version m since.later holds since.reached in
+    let whole = reached_split files history entry.0 since.version m since.later holds since.reached in
+    let at = reached_position files history entry.0 since.version m since.later holds since.reached in
     let rest : behind ≡ split.behind = same_behind front entry behind (holds.earlier ++ split.front) split.entry split.behind is.distinct whole at in
     let made = since.over.behind in
     subst (λ (h : History). LeadAlong entry.1 h commits) (sym rest) (leads_along files m since.later base entry split.behind commits made.last made.read like.rows like.partition split.rest made.are)

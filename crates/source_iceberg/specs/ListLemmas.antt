@@ -35,7 +35,7 @@ behind_distinct : (p : List ℕ) (ys : List (List ℕ)) → IsDistinct bytes_eq 
 unfolding IsDistinct
 behind_distinct p ys distinct = distinct.1
 
-in_positions : (xs : History) (e : List ℕ × Table) (ps : History) → Contains (positions_of (xs ++ e ∷ ps)) e.0
+pub in_positions : (xs : History) (e : List ℕ × Table) (ps : History) → Contains (positions_of (xs ++ e ∷ ps)) e.0
 in_positions [] e ps = Contains-head e.0 (positions_of ps)
 in_positions (x ∷ xs) e ps = Contains-tail x.0 (positions_of (xs ++ e ∷ ps)) e.0 (in_positions xs e ps)
 

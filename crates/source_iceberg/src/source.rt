@@ -139,9 +139,9 @@ impl Source for IcebergSource {
     ghost use Rattle.source_iceberg.specs.Reading.{ShowsAtHead, ShowsFromScratch};
     ghost use Rattle.source_iceberg.specs.Since.{IsSince, Reaches, ShowsFromPosition};
     ghost use Rattle.source_iceberg.specs.Histories.{HoldsHistory};
-    ghost use Rattle.source_iceberg.specs.HeadLemmas.{one_head};
+    ghost use Rattle.source_iceberg.specs.HeadLemmas.{head_there, one_head};
     ghost use Rattle.source_iceberg.specs.SinceLemmas.{ends, none_at_head};
-    ghost use Rattle.source_iceberg.specs.HistoryLemmas.{along, last};
+    ghost use Rattle.source_iceberg.specs.HistoryLemmas.{along, last, one_table, reached_held};
     ghost use Rattle.source_iceberg.specs.SinceOwnLemmas.{from_position_own, holds_own, reaches_own, since_own};
     ghost use Rattle.source_iceberg.specs.OwnLemmas.{absent_own, at_head_own, from_scratch_own, head_own, table_own};
 
@@ -211,7 +211,13 @@ impl Source for IcebergSource {
 
     ghost none_at_head = { λ source files head base commits is since. none_at_head files head base commits is since };
 
+    ghost head_there = { λ source files head is absent. head_there files head is absent };
+
+    ghost one_table = { λ source files a b x y. one_table files a b x y };
+
     ghost last = { λ source files history head is holds at. last files history head holds at };
+
+    ghost reached_held = { λ source files history position holds reached. reached_held files history position holds reached };
 
     ghost along = { λ source files front behind entry base commits is holds like reached since. along files front behind entry base commits is holds like since };
 
