@@ -2,6 +2,7 @@
 use Rattle.std.proofs.Common.{◌≡◌, ◌≢◌, ◌⊎◌, inl, inr, ⊎_elim, ℕ, List, [], refl, sym, ◌∙◌, ap, subst}
 use Rattle.std.specs.Prelude.{Option, None, Some, is_some, Result, Ok, Err, IsErrOf, OnErr, OnOk}
 use Rattle.std.specs.FinMap as map
+use Rattle.std.proofs.lemmas.Result.{on_ok_weaker}
 use Rattle.lake_store.specs.Disk.{Disk, Files, IsClean, MayLeave, Moves, moved, stored, with_file, written}
 use Rattle.lake_store.specs.Moments.{Elapses}
 use Rattle.lake_store.specs.declared.store.Store.{Ghosts}
@@ -12,7 +13,7 @@ use Rattle.lake_store.proofs.MomentLaws.{goes_further, goes_on, started, weaker}
 use Rattle.lake_store.proofs.RunLaws.{NowOnly}
 use Rattle.hudi_names.specs.Time.{IsDigits, IsSomeTime}
 use Rattle.hudi_commit.specs.Names.{IsLeftover, IsThere, Stage, Requested, Inflight, claim_path, completed_path, pending_path, properties_path}
-use Rattle.hudi_commit.specs.Runs.{IsAfter, IsAllClean, IsBase, IsBefore, IsPublished, IsRecovered, IsUncontested, StaysAlike, StaysBefore, StaysOrGains, announced, claimed}
+use Rattle.hudi_commit.specs.Runs.{HasCome, IsAfter, IsAllClean, IsBase, IsBefore, IsPublished, IsRecovered, IsUncontested, StaysAlike, StaysBefore, StaysOrGains, announced, claimed}
 use Rattle.hudi_commit.specs.Settled.{IsAnnounceable, Stands, StandsAt}
 use Rattle.hudi_commit.proofs.NameLaws.{Properties, Claim, Pending, Completed, apart, claim_leftover, completed_stays, name_of-claim, name_of-completed, name_of-pending, name_of-properties, pending_leftover, properties_stay}
 use Rattle.hudi_commit.proofs.OrderlyLaws.{there, there_none}
@@ -101,6 +102,28 @@ pub has_moved_at : (old new : Disk) (p q from to bytes : List ℕ) → p ≡ fro
 has_moved_at old new p q from to bytes at_from at_to here moves =
     let same : moves.0 ≡ bytes = cc (sym moves.1 ∙ ap (map.get old.files) at_from ∙ here) in
     moves.2 ∙ ap (λ b. moved old p q b) same ∙ ap (λ x. moved old x q bytes) at_from ∙ ap (λ x. moved old from x bytes) at_to
+
+-- once the instant's file has come from its claim, also where it was refused then
+pub come_uncontested : {T : Type 0} (r : Result T StoreError) (t : List ℕ) (files : Files) → HasCome r t files → IsUncontested r
+come_uncontested (Ok x) t files come = tt
+come_uncontested (Err e) t files come = come.0
+
+pub never_come : {T : Type 0} {A : Type 0} (r : Result T StoreError) (e : StoreError) (t : List ℕ) (files : Files) → r ≡ Err e → map.get files (completed_path t) ≡ None → HasCome r t files → A
+never_come (Ok x) e t files is none come = absurd cc
+never_come (Err x) e t files is none come = there_none files (completed_path t) come.1 none
+
+come_or : {T : Type 0} (r : Result T StoreError) (t : List ℕ) (old new to : Disk) → HasCome r t new.files → map.get old.files (completed_path t) ≡ None → OnOk r (new ≡ to) → (new ≡ old) ⊎ (new ≡ to) → new ≡ to
+come_or (Ok x) t old new to come none ok either = ok
+come_or (Err e) t old new to come none ok (inl same) = there_none new.files (completed_path t) come.1 (ap (λ (d : Disk). map.get d.files (completed_path t)) same ∙ none)
+come_or (Err e) t old new to come none ok (inr gone) = gone
+
+pub has_come_at : {T : Type 0} (r : Result T StoreError) (old new : Disk) (p q t bytes : List ℕ) → p ≡ claim_path t → q ≡ completed_path t → HasCome r t new.files → map.get old.files (claim_path t) ≡ Some bytes → map.get old.files (completed_path t) ≡ None
+    → OnOk r (Moves p q old new) → (IsErrOf r Taken → (b : List ℕ) × (new ≡ stored old q b)) → OnErr r ((IsErrOf r Taken → ⊥) → (new ≡ old) ⊎ Moves p q old new)
+    → new ≡ moved old (claim_path t) (completed_path t) bytes
+has_come_at r old new p q t bytes at_from at_to come here none ok taken err =
+    come_or r t old new (moved old (claim_path t) (completed_path t) bytes) come none
+    (on_ok_weaker r (λ moves. has_moved_at old new p q (claim_path t) (completed_path t) bytes at_from at_to here moves) ok)
+    (uncontested_at r old new p q (claim_path t) (completed_path t) bytes at_from at_to (come_uncontested r t new.files come) here ok taken err)
 
 -- ---- a commit is claimed and announced
 module _ (t b : List ℕ) (time : IsSomeTime t) where

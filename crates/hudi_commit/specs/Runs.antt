@@ -9,13 +9,23 @@ use Rattle.lake_store.specs.declared.store.StoreError.TheVariants.{Taken}
 use Rattle.hudi_names.specs.Time.{IsDigits, IsSomeTime}
 use Rattle.hudi_names.specs.declared.name.State.{State}
 use Rattle.hudi_names.specs.declared.name.State.TheVariants.{Completed}
-use Rattle.hudi_commit.specs.Names.{IsInstantIn, IsLeftover, IsOf, IsOpenLeftover, IsThere, Stage, StaysOrGoes, Requested, Inflight, claim_path, completed_path, pending_path, properties_path, staged_properties_path, timeline_path}
+use Rattle.hudi_commit.specs.Names.{IsInstantIn, IsLeftover, IsOf, IsOpenLeftover, IsThere, Stage, StaysOrGoes, Requested, Inflight, claim_path, claims_folder, completed_path, pending_path, properties_path, staged_properties_path, timeline_path}
+use Rattle.hudi_commit.specs.Orderly.{IsOrderly}
 use Rattle.hudi_commit.specs.Settled.{IsSettled, IsUnannounced, Stands, StandsAt}
 
 -- no other writer was in the way
 abbrev pub IsUncontested : {T : Type 0} → Result T StoreError → Type 0
 IsUncontested (Ok x) = Unit {0}
 IsUncontested (Err e) = e ≡ Taken → ⊥
+
+-- The instant's completed file has come: the call is done; or it is refused, no other writer was in the way, and the file is there.
+abbrev pub HasCome : {T : Type 0} → Result T StoreError → List ℕ → Files → Type 0
+HasCome (Ok x) instant files = Unit {0}
+HasCome (Err e) instant files = (e ≡ Taken → ⊥) × IsThere files (completed_path instant)
+
+-- the folder has no file that it hadn't before
+abbrev pub HasNotGrown : List ℕ → Files → Files → Type 0
+HasNotGrown folder old new = (path : List ℕ) → IsIn folder path → IsThere new path → IsThere old path
 
 -- ---- the commit as a whole
 
@@ -93,6 +103,15 @@ pub record IsOther (properties : Option (List ℕ)) (instant path : List ℕ) : 
   pub pending : (stage : Stage) → path ≢ pending_path stage instant
   pub given : NotGiven properties path
 
+-- What stands once the instant's completed file has come, settled before or not. It has this text, and behind properties that are given no staged ones are
+-- left. Each other file is as before, or was a leftover of a stopped commit and is gone.
+pub record HasCompleted (properties : Option (List ℕ)) (instant text : List ℕ) (old new : Disk) : Type 0 where
+  pub committed : IsOrderly old.files → IsReady properties old.files → IsCommitted properties instant text old new
+  pub completed : map.get new.files (completed_path instant) ≡ Some text
+  pub staged : IsSome properties → map.get new.files staged_properties_path ≡ None
+  pub others : (path : List ℕ) → IsOther properties instant path → StaysOrGoes old.files new.files path
+  pub not_grown : HasNotGrown claims_folder old.files new.files
+
 -- ---- its parts
 
 abbrev pub IsNoLeftover : List ℕ → Type 0
@@ -127,10 +146,6 @@ completed instant bytes disk = moved (announced instant (claimed instant bytes d
 
 abbrev pub IsAllClean : Disk → Type 0
 IsAllClean disk = (path : List ℕ) → IsClean disk path
-
--- the folder has no file that it hadn't before
-abbrev pub HasNotGrown : List ℕ → Files → Files → Type 0
-HasNotGrown folder old new = (path : List ℕ) → IsIn folder path → IsThere new path → IsThere old path
 
 -- open leftovers alone are gone
 pub record IsTidied (old new : Disk) : Type 0 where

@@ -9,7 +9,7 @@ ghost use Rattle.lake_store.specs.Runs.{ChangesOnlyIn, FailsBy, IsContestedBy, I
 ghost use Rattle.hudi_names.specs.Time.{IsSomeTime};
 ghost use Rattle.hudi_commit.specs.Names.{IsThere, StaysOrGoes, claims_folder, completed_path, properties_path, staged_properties_path, timeline_folder};
 ghost use Rattle.hudi_commit.specs.Orderly.{IsOrderly};
-ghost use Rattle.hudi_commit.specs.Runs.{HasNotGrown, IsCommitted, IsIdle, IsKept, IsKeptBut, IsOneStep, IsOther, IsPrepared, IsReady, IsTakenBy, IsUncontested, LacksOrIs, NotGiven, StaysBefore};
+ghost use Rattle.hudi_commit.specs.Runs.{HasCome, HasCompleted, IsIdle, IsKept, IsKeptBut, IsOneStep, IsPrepared, IsReady, IsTakenBy, IsUncontested, LacksOrIs, NotGiven, StaysBefore};
 ghost use Rattle.hudi_commit.specs.Settled.{IsSettled, Stands};
 
 use crate::paths::InstantPaths;
@@ -65,24 +65,10 @@ pub fn publish_commit<S: Store>(
     requires real { IsSomeTime instant.now }
     requires free { S.tells → map.get (S.disk store.old).files (completed_path instant.now) ≡ None }
 
-    // What stands at `Ok`, settled before or not.
-    ensures committed { S.tells → IsOrderly (S.disk store.old).files
-        → IsReady (option_copied properties.entry) (S.disk store.old).files
-        → OnOk result (IsCommitted (option_copied properties.entry) instant.now text.now
-        (S.disk store.old) (S.disk store.new)) }
-    ensures completed { S.tells → OnOk result
-        (map.get (S.disk store.new).files (completed_path instant.now) ≡ Some text.now) }
-
-    // Behind properties that are given no staged ones are left.
-    ensures staged { S.tells → OnOk result (IsSome (option_copied properties.entry)
-        → map.get (S.disk store.new).files staged_properties_path ≡ None) }
-
-    // Each other file is as before, or was a leftover of a stopped commit and is gone.
-    ensures others { S.tells → OnOk result ((path : List ℕ)
-        → IsOther (option_copied properties.entry) instant.now path
-        → StaysOrGoes (S.disk store.old).files (S.disk store.new).files path) }
-    ensures not_grown { S.tells → OnOk result (HasNotGrown claims_folder (S.disk store.old).files
-        (S.disk store.new).files) }
+    // What stands once its file has come, also where it is refused then.
+    ensures comes { S.tells → HasCome result instant.now (S.disk store.new).files
+        → HasCompleted (option_copied properties.entry) instant.now text.now
+        (S.disk store.old) (S.disk store.new) }
 
     // At any moment the timeline reads as before or as after, and it stays settled.
     ensures one_step { S.tells → IsUncontested result → IsOrderly (S.disk store.old).files

@@ -6,7 +6,7 @@ ghost use Rattle.lake_store.specs.Disk.{Files, with_file};
 ghost use Rattle.lake_store.specs.Runs.{FailsBy, IsContestedBy, IsEachMoment, IsUncontestedBy, LeavesAlone};
 ghost use Rattle.hudi_names.specs.Time.{IsSomeTime};
 ghost use Rattle.hudi_commit.specs.Names.{IsThere, completed_path};
-ghost use Rattle.hudi_commit.specs.Runs.{IsNext, IsNoFileOf, IsNotOf, IsPublished, IsUncontested, LacksOrIs, StaysAlike, StaysOrGains, announced, claimed, completed};
+ghost use Rattle.hudi_commit.specs.Runs.{HasCome, IsNext, IsNoFileOf, IsNotOf, IsPublished, IsUncontested, LacksOrIs, StaysAlike, StaysOrGains, announced, claimed, completed};
 ghost use Rattle.hudi_commit.specs.Settled.{IsAnnounceable, IsUnannounced, Stands};
 
 use crate::paths::InstantPaths;
@@ -62,9 +62,10 @@ pub fn complete<S: Store>(
         → StaysOrGains ⟦<S as Store>⟧ base paths.now bytes.now store.old store.new }
     ensures published { S.tells → (base : Files)
         → Stands base (S.disk store.old) → IsNext paths.now (S.disk store.old)
-        → OnOk result (IsPublished base paths.now bytes.now (S.disk store.old) (S.disk store.new)) }
-    ensures completed { S.tells
-        → OnOk result (S.disk store.new ≡ completed paths.now bytes.now (S.disk store.old)) }
+        → HasCome result paths.now (S.disk store.new).files
+        → IsPublished base paths.now bytes.now (S.disk store.old) (S.disk store.new) }
+    ensures completed { S.tells → HasCome result paths.now (S.disk store.new).files
+        → S.disk store.new ≡ completed paths.now bytes.now (S.disk store.old) }
     ensures taken { S.tells → IsErrOf result StoreError.Taken
         → IsThere (S.disk store.new).files (completed_path paths.now) }
     ensures theirs { S.tells → IsErrOf result StoreError.Taken

@@ -1,21 +1,21 @@
-use Rattle.std.proofs.Common.{◌≡◌, ap, sym, ◌∙◌, subst}
+use Rattle.std.proofs.Common.{◌≡◌, refl, ap, sym, ◌∙◌, subst}
 use Rattle.std.specs.Prelude.{Some}
 use Rattle.std.specs.Option.{option_copied}
 use Rattle.std.specs.FinMap as map
-use Rattle.std.proofs.lemmas.Result.{err_from_is_err_and, on_ok_weaker}
+use Rattle.std.proofs.lemmas.Result.{err_from_is_err_and}
 use Rattle.lake_store.specs.Disk.{Disk}
 use Rattle.lake_store.specs.Runs.{IsEachMoment, IsOutside}
 use Rattle.lake_store.proofs.RunLaws.{alone_further, alone_of_fewer}
 use Rattle.hudi_names.specs.Time.{IsDigits, IsSomeTime}
 use Rattle.hudi_commit.specs.Names.{completed_path, staged_properties_path, timeline_folder}
-use Rattle.hudi_commit.specs.Runs.{IsCommitted, IsKept, IsKeptBut, IsNext, IsNoFileOf, IsNotOpen, IsOneStep, IsPublished, LacksOrIs, completed, prepared}
+use Rattle.hudi_commit.specs.Runs.{HasCome, IsCommitted, IsKept, IsKeptBut, IsNext, IsNoFileOf, IsNotOpen, IsOneStep, LacksOrIs, completed, prepared}
 use Rattle.hudi_commit.proofs.AloneLaws.{alone_begun, alone_sync}
 use Rattle.hudi_commit.proofs.ClaimLaws.{others_not_grown}
 use Rattle.hudi_commit.proofs.CommitLaws.{before_step, committed, completed_here, completed_kept_but, entry_stands, kept_but, kept_from, outside_kept, prepared_next, recovered_idle, step_then, synced_clean, synced_stands, tidied_ready}
 use Rattle.hudi_commit.proofs.KeepLaws.{begun, keeps_then, sync_keeps}
 use Rattle.hudi_commit.proofs.OpenLaws.{completed_not_open, open_same}
 use Rattle.hudi_commit.proofs.OtherLaws.{others_kept, staged_no_file}
-use Rattle.hudi_commit.proofs.StagingLaws.{alike_before, before_then}
+use Rattle.hudi_commit.proofs.StagingLaws.{alike_before, before_then, never_come}
 use Rattle.hudi_commit.proofs.TheirsLaws.{IsCompleted, none_yet, theirs_after}
 use Rattle.hudi_commit.proofs.commit.publish_commit.Goals as goal
 
@@ -142,84 +142,82 @@ returns-clause-one_step g c told free orderly settled ready =
     subst (λ x. IsOneStep store props x b s0 s4) at
     (step_then store told props c.in_ok-paths.paths b s0 s3 s4 b3 (c.complete.ensures.gains told free (prepared props entry) prep.stands (subst (λ x. IsNext x (disk s3)) (sym at) next)))
 
-pub returns-clause-committed : goal.returns-clause-committed
-returns-clause-committed g c told orderly ready =
+-- no file of the instant is completed before the last call
+pub returns-in_err-paths-clause-comes : goal.returns-in_err-paths-clause-comes
+returns-in_err-paths-clause-comes g c told come =
+    let exit = err_from_is_err_and c.from_residual.result c.from_residual.ensures.1 in
+    never_come c.from_residual.result exit.0 c.args.instant.now (g.S.Store.disk c.args.store.now).files exit.1 (c.requires.free told) come
+
+pub returns-in_err-sync-clause-comes : goal.returns-in_err-sync-clause-comes
+returns-in_err-sync-clause-comes g c told come =
+    let exit = err_from_is_err_and c.from_residual-in_err-sync.result c.from_residual-in_err-sync.ensures.1 in
+    let store = g.S.Store in
+    let t = c.args.instant.now in
+    let s0 = c.args.store.now in
+    let s1 = c.sync.new.self in
+    let K = IsCompleted store told t in
+    let a1 = alone_sync store told g.met.S.Store.only_now K s0 s0 s1 (alone_begun store told g.met.S.Store.only_now K s0) c.sync.ensures.elapses c.sync.result c.sync.ensures.ok c.sync.ensures.err in
+    never_come c.from_residual-in_err-sync.result exit.0 t (store.disk s1).files exit.1 (a1.disk.files (completed_path t) refl ∙ c.requires.free told) come
+
+pub returns-in_err-clear_claims-clause-comes : goal.returns-in_err-clear_claims-clause-comes
+returns-in_err-clear_claims-clause-comes g c told come =
+    let exit = err_from_is_err_and c.from_residual-in_err-clear_claims.result c.from_residual-in_err-clear_claims.ensures.1 in
+    let disk = g.S.Store.disk in
+    let t = c.args.instant.now in
+    let is = c.requires.real.1.digits in
+    let free2 = (c.clear_claims.ensures.alone told).disk.files (completed_path t) (completed_not_open (disk c.sync.new.self).files t is) ∙ ap (λ (d : Disk). map.get d.files (completed_path t)) (c.in_ok-sync.ensures.ok told) ∙ c.requires.free told in
+    never_come c.from_residual-in_err-clear_claims.result exit.0 t (disk c.clear_claims.new.store).files exit.1 free2 come
+
+pub returns-in_err-prepare-clause-comes : goal.returns-in_err-prepare-clause-comes
+returns-in_err-prepare-clause-comes g c told come =
+    let exit = err_from_is_err_and c.from_residual-in_err-prepare.result c.from_residual-in_err-prepare.ensures.1 in
+    let disk = g.S.Store.disk in
+    let t = c.args.instant.now in
+    let is = c.requires.real.1.digits in
+    let free2 = (c.clear_claims.ensures.alone told).disk.files (completed_path t) (completed_not_open (disk c.sync.new.self).files t is) ∙ ap (λ (d : Disk). map.get d.files (completed_path t)) (c.in_ok-sync.ensures.ok told) ∙ c.requires.free told in
+    never_come c.from_residual-in_err-prepare.result exit.0 t (disk c.prepare.new.store).files exit.1 ((c.prepare.ensures.alone told).disk.files (completed_path t) (completed_kept_but (option_copied c.args.properties) t is) ∙ free2) come
+
+pub returns-clause-comes : goal.returns-clause-comes
+returns-clause-comes g c told come_now =
     let store = g.S.Store in
     let disk = g.S.Store.disk in
     let props = option_copied c.args.properties in
     let t = c.args.instant.now in
     let b = c.args.text.now in
-    let is = c.requires.real.1.digits in
+    let real = c.requires.real in
+    let is = real.1.digits in
     let s0 = c.args.store.now in
     let s1 = c.sync.new.self in
     let s2 = c.clear_claims.new.store in
     let s3 = c.prepare.new.store in
     let s4 = c.complete.new.store in
     let entry = (disk s0).files in
+    let at = c.in_ok-paths.ensures in
+    let come = subst (λ x. HasCome c.complete.result x (disk s4).files) (sym at) come_now in
     let ok1 = c.in_ok-sync.ensures.ok told in
-    let k1s = synced_stands (disk s0) (disk s1) ok1 orderly in
-    let run2 = c.clear_claims.ensures.keeps told entry k1s in
     let tidied = c.in_ok-clear_claims.ensures.tidied told in
     let recovered = c.in_ok-clear_claims.ensures.recovered told in
-    let is_ready = tidied_ready props (disk s0) (disk s1) (disk s2) ok1 tidied ready in
-    let idle = recovered_idle entry (disk s1) (disk s2) (synced_clean (disk s0) (disk s1) ok1) tidied recovered run2.disk in
     let free2 = (c.clear_claims.ensures.alone told).disk.files (completed_path t) (completed_not_open (disk s1).files t is) ∙ ap (λ (d : Disk). map.get d.files (completed_path t)) ok1 ∙ c.requires.free told in
     let free3 = (c.prepare.ensures.alone told).disk.files (completed_path t) (completed_kept_but props t is) ∙ free2 in
-    let prep = c.in_ok-prepare.ensures.prepared told entry run2.disk idle is_ready in
-    let next = prepared_next props entry (disk s2) (disk s3) t is prep free3 in
-    let at = c.in_ok-paths.ensures in
-    on_ok_weaker c.complete.result
-    (λ (done : IsPublished (prepared props entry) c.in_ok-paths.paths b (disk s3) (disk s4)). subst (λ x. IsCommitted props x b (disk s0) (disk s4)) at (committed props c.in_ok-paths.paths b (disk s0) (disk s2) (disk s3) (disk s4) recovered prep done))
-    (c.complete.ensures.published told (prepared props entry) prep.stands (subst (λ x. IsNext x (disk s3)) (sym at) next))
+    let done = c.complete.ensures.completed told come in
+    let others = others_kept props t b real (disk s0) (disk s1) (disk s2) (disk s3) (disk s4) ok1 tidied
+    (λ u is_u. (c.prepare.ensures.alone told).disk.files (completed_path u) (completed_kept_but props u is_u)) (c.in_ok-prepare.ensures.others told) free3 (subst (λ x. disk s4 ≡ completed x b (disk s3)) at done) in
+    record {
+      committed = λ orderly ready.
+          let k1s = synced_stands (disk s0) (disk s1) ok1 orderly in
+          let run2 = c.clear_claims.ensures.keeps told entry k1s in
+          let is_ready = tidied_ready props (disk s0) (disk s1) (disk s2) ok1 tidied ready in
+          let idle = recovered_idle entry (disk s1) (disk s2) (synced_clean (disk s0) (disk s1) ok1) tidied recovered run2.disk in
+          let prep = c.in_ok-prepare.ensures.prepared told entry run2.disk idle is_ready in
+          let next = prepared_next props entry (disk s2) (disk s3) t is prep free3 in
+          subst (λ x. IsCommitted props x b (disk s0) (disk s4)) at
+          (committed props c.in_ok-paths.paths b (disk s0) (disk s2) (disk s3) (disk s4) recovered prep (c.complete.ensures.published told (prepared props entry) prep.stands (subst (λ x. IsNext x (disk s3)) (sym at) next) come));
+      completed = subst (λ x. map.get (disk s4).files (completed_path x) ≡ Some b) at (completed_here c.in_ok-paths.paths b (disk s3) (disk s4) done);
+      staged = λ some. (c.complete.ensures.alone told).disk.files staged_properties_path (staged_no_file c.in_ok-paths.paths (subst IsDigits (sym at) is)) ∙ c.in_ok-prepare.ensures.staged told some;
+      others = others;
+      not_grown = others_not_grown props t is entry (disk s4).files others;
+    }
 
-pub returns-clause-completed : goal.returns-clause-completed
-returns-clause-completed g c told =
-    let disk = g.S.Store.disk in
-    let b = c.args.text.now in
-    let s3 = c.prepare.new.store in
-    let s4 = c.complete.new.store in
-    on_ok_weaker c.complete.result
-    (λ (done : disk s4 ≡ completed c.in_ok-paths.paths b (disk s3)).
-    subst (λ t. map.get (disk s4).files (completed_path t) ≡ Some b) c.in_ok-paths.ensures (completed_here c.in_ok-paths.paths b (disk s3) (disk s4) done))
-    (c.complete.ensures.completed told)
-
-pub returns-clause-others : goal.returns-clause-others
-returns-clause-others g c told =
-    let disk = g.S.Store.disk in
-    let props = option_copied c.args.properties in
-    let t = c.args.instant.now in
-    let real = c.requires.real in
-    let s0 = c.args.store.now in
-    let s1 = c.sync.new.self in
-    let s2 = c.clear_claims.new.store in
-    let s3 = c.prepare.new.store in
-    let s4 = c.complete.new.store in
-    let ok1 = c.in_ok-sync.ensures.ok told in
-    let free2 = (c.clear_claims.ensures.alone told).disk.files (completed_path t) (completed_not_open (disk s1).files t real.1.digits) ∙ ap (λ (d : Disk). map.get d.files (completed_path t)) ok1 ∙ c.requires.free told in
-    let free3 = (c.prepare.ensures.alone told).disk.files (completed_path t) (completed_kept_but props t real.1.digits) ∙ free2 in
-    on_ok_weaker c.complete.result
-    (λ (done : disk s4 ≡ completed c.in_ok-paths.paths c.args.text.now (disk s3)).
-    others_kept props t c.args.text.now real (disk s0) (disk s1) (disk s2) (disk s3) (disk s4) ok1 (c.in_ok-clear_claims.ensures.tidied told)
-    (λ u is. (c.prepare.ensures.alone told).disk.files (completed_path u) (completed_kept_but props u is)) (c.in_ok-prepare.ensures.others told) free3
-    (subst (λ x. disk s4 ≡ completed x c.args.text.now (disk s3)) c.in_ok-paths.ensures done))
-    (c.complete.ensures.completed told)
-
-pub returns-clause-staged : goal.returns-clause-staged
-returns-clause-staged g c told =
-    let disk = g.S.Store.disk in
-    let digits = subst IsDigits (sym c.in_ok-paths.ensures) c.requires.real.1.digits in
-    on_ok_weaker c.complete.result
-    (λ (done : disk c.complete.new.store ≡ completed c.in_ok-paths.paths c.args.text.now (disk c.prepare.new.store)) some.
-    (c.complete.ensures.alone told).disk.files staged_properties_path (staged_no_file c.in_ok-paths.paths digits) ∙ c.in_ok-prepare.ensures.staged told some)
-    (c.complete.ensures.completed told)
-
-pub returns-clause-not_grown : goal.returns-clause-not_grown
-returns-clause-not_grown g c told =
-    on_ok_weaker c.complete.result
-    (others_not_grown (option_copied c.args.properties) c.args.instant.now c.requires.real.1.digits (g.S.Store.disk c.args.store.now).files (g.S.Store.disk c.complete.new.store).files)
-    (returns-clause-others g c told)
-
--- no file of the instant is completed before the last call
 pub returns-in_err-clear_claims-clause-unpublished : goal.returns-in_err-clear_claims-clause-unpublished
 returns-in_err-clear_claims-clause-unpublished g c told n long =
     let disk = g.S.Store.disk in

@@ -1,8 +1,8 @@
-use Rattle.std.proofs.Common.{List, ℕ, inl, inr, ap, sym, ◌∙◌, subst, ⊎_elim}
+use Rattle.std.proofs.Common.{List, ℕ, inl, inr, refl, ap, sym, ◌∙◌, subst, ⊎_elim}
 use Rattle.std.specs.Prelude.{is_some}
 use Rattle.std.specs.FinMap as map
-use Rattle.std.proofs.lemmas.Result.{on_ok_weaker}
-use Rattle.lake_store.specs.Disk.{Moves, moved}
+use Rattle.std.proofs.lemmas.Result.{err_from_is_err_and}
+use Rattle.lake_store.specs.Disk.{moved}
 use Rattle.lake_store.proofs.RunLaws.{alone_further, alone_of_fewer}
 use Rattle.hudi_commit.specs.Names.{claim_path, completed_path}
 use Rattle.hudi_commit.specs.Runs.{IsNoFileOf, IsNotOf, IsPublished, announced}
@@ -10,7 +10,7 @@ use Rattle.hudi_commit.specs.Settled.{Stands}
 use Rattle.hudi_commit.proofs.AloneLaws.{alone_publish}
 use Rattle.hudi_commit.proofs.KeepLaws.{keeps_then}
 use Rattle.hudi_commit.proofs.PublishLaws.{stored_there}
-use Rattle.hudi_commit.proofs.StagingLaws.{announced_clean, claim_here, claimed_announceable, commit_published, gains_on, has_moved_at, not_yet, still_free, uncontested_at}
+use Rattle.hudi_commit.proofs.StagingLaws.{announced_clean, claim_here, claimed_announceable, commit_published, gains_on, has_come_at, never_come, not_yet, still_free, uncontested_at}
 use Rattle.hudi_commit.proofs.TheirsLaws.{IsCompleted, completed_not_of, theirs_come}
 use Rattle.hudi_commit.proofs.publication.complete.Goals as goal
 
@@ -68,8 +68,39 @@ returns-clause-gains g c told free base stands next =
     (uncontested_at c.publish.result (disk s₂) (disk s₃) c.claim-2.result.now c.completed.result.now (claim_path t) (completed_path t) b c.claim-2.ensures c.completed.ensures free
     (claim_here t b is (disk s₀) (disk s₁) (disk s₂) ok₁ ok₂) (c.publish.ensures.ok told) (c.publish.ensures.taken told) (c.publish.ensures.err told)))
 
+-- no file of the instant is completed before the last call
+pub returns-in_err-claim-clause-published : goal.returns-in_err-claim-clause-published
+returns-in_err-claim-clause-published g c told base stands next come =
+    let t = c.args.paths.now in
+    let exit = err_from_is_err_and c.from_residual.result c.from_residual.ensures.1 in
+    never_come c.from_residual.result exit.0 t (g.S.Store.disk c.claim.new.store).files exit.1
+    ((c.claim.ensures.alone told).disk.files (completed_path t) (completed_not_of t c.requires.real.1.digits (completed_path t) refl) ∙ c.requires.free told) come
+
+pub returns-in_err-claim-clause-completed : goal.returns-in_err-claim-clause-completed
+returns-in_err-claim-clause-completed g c told come =
+    let t = c.args.paths.now in
+    let exit = err_from_is_err_and c.from_residual.result c.from_residual.ensures.1 in
+    never_come c.from_residual.result exit.0 t (g.S.Store.disk c.claim.new.store).files exit.1
+    ((c.claim.ensures.alone told).disk.files (completed_path t) (completed_not_of t c.requires.real.1.digits (completed_path t) refl) ∙ c.requires.free told) come
+
+pub returns-in_err-announce-clause-published : goal.returns-in_err-announce-clause-published
+returns-in_err-announce-clause-published g c told base stands next come =
+    let t = c.args.paths.now in
+    let apart = completed_not_of t c.requires.real.1.digits (completed_path t) refl in
+    let exit = err_from_is_err_and c.from_residual-in_err-announce.result c.from_residual-in_err-announce.ensures.1 in
+    never_come c.from_residual-in_err-announce.result exit.0 t (g.S.Store.disk c.announce.new.store).files exit.1
+    ((c.announce.ensures.alone told).disk.files (completed_path t) apart ∙ (c.claim.ensures.alone told).disk.files (completed_path t) apart ∙ c.requires.free told) come
+
+pub returns-in_err-announce-clause-completed : goal.returns-in_err-announce-clause-completed
+returns-in_err-announce-clause-completed g c told come =
+    let t = c.args.paths.now in
+    let apart = completed_not_of t c.requires.real.1.digits (completed_path t) refl in
+    let exit = err_from_is_err_and c.from_residual-in_err-announce.result c.from_residual-in_err-announce.ensures.1 in
+    never_come c.from_residual-in_err-announce.result exit.0 t (g.S.Store.disk c.announce.new.store).files exit.1
+    ((c.announce.ensures.alone told).disk.files (completed_path t) apart ∙ (c.claim.ensures.alone told).disk.files (completed_path t) apart ∙ c.requires.free told) come
+
 pub returns-clause-published : goal.returns-clause-published
-returns-clause-published g c told base stands next =
+returns-clause-published g c told base stands next come =
     let store = g.S.Store in
     let disk = store.disk in
     let t = c.args.paths.now in
@@ -84,29 +115,27 @@ returns-clause-published g c told base stands next =
     let k₁ = c.claim.ensures.keeps told base stands next.unannounced in
     let is_next = claimed_announceable t b is (disk s₀) (disk s₁) ok₁ next.properties in
     let k₂ = keeps_then store told base s₀ s₁ s₂ k₁ (c.announce.ensures.keeps told base k₁.disk is_next) in
-    on_ok_weaker c.publish.result
-    (λ (moves : Moves c.claim-2.result.now c.completed.result.now (disk s₂) (disk s₃)).
+    let here = claim_here t b is (disk s₀) (disk s₁) (disk s₂) ok₁ ok₂ in
     subst (IsPublished base t b (disk s₀))
-    (sym (has_moved_at (disk s₂) (disk s₃) c.claim-2.result.now c.completed.result.now (claim_path t) (completed_path t) b c.claim-2.ensures c.completed.ensures (claim_here t b is (disk s₀) (disk s₁) (disk s₂) ok₁ ok₂) moves))
-    (commit_published t b is (disk s₀) (disk s₁) (disk s₂) ok₁ ok₂ base next.properties k₂.disk))
-    (c.publish.ensures.ok told)
+    (sym (has_come_at c.publish.result (disk s₂) (disk s₃) c.claim-2.result.now c.completed.result.now t b c.claim-2.ensures c.completed.ensures come here (still_free t b is (disk s₀) (disk s₁) (disk s₂) ok₁ ok₂ (c.requires.free told)) (c.publish.ensures.ok told)
+    (c.publish.ensures.taken told) (c.publish.ensures.err told)))
+    (commit_published t b is (disk s₀) (disk s₁) (disk s₂) ok₁ ok₂ base next.properties k₂.disk)
 
 pub returns-clause-completed : goal.returns-clause-completed
-returns-clause-completed g c told =
+returns-clause-completed g c told come =
     let disk = g.S.Store.disk in
     let t = c.args.paths.now in
     let b = c.args.bytes.now in
+    let is = c.requires.real in
     let s₀ = c.args.store.now in
     let s₁ = c.claim.new.store in
     let s₂ = c.announce.new.store in
     let s₃ = c.publish.new.self in
     let ok₁ = c.in_ok-claim.ensures.claimed told in
     let ok₂ = c.in_ok-announce.ensures.announced told in
-    on_ok_weaker c.publish.result
-    (λ (moves : Moves c.claim-2.result.now c.completed.result.now (disk s₂) (disk s₃)).
-    has_moved_at (disk s₂) (disk s₃) c.claim-2.result.now c.completed.result.now (claim_path t) (completed_path t) b c.claim-2.ensures c.completed.ensures (claim_here t b c.requires.real (disk s₀) (disk s₁) (disk s₂) ok₁ ok₂) moves
-    ∙ ap (λ d. moved d (claim_path t) (completed_path t) b) (ok₂ ∙ ap (announced t) ok₁))
-    (c.publish.ensures.ok told)
+    has_come_at c.publish.result (disk s₂) (disk s₃) c.claim-2.result.now c.completed.result.now t b c.claim-2.ensures c.completed.ensures come (claim_here t b is (disk s₀) (disk s₁) (disk s₂) ok₁ ok₂) (still_free t b is (disk s₀) (disk s₁) (disk s₂) ok₁ ok₂ (c.requires.free told)) (c.publish.ensures.ok told)
+    (c.publish.ensures.taken told) (c.publish.ensures.err told)
+    ∙ ap (λ d. moved d (claim_path t) (completed_path t) b) (ok₂ ∙ ap (announced t) ok₁)
 
 fewer : (t path : List ℕ) → IsNoFileOf t path → IsNotOf t path
 fewer t path kept = kept.leftover
