@@ -1,6 +1,6 @@
 -- What a commit leaves of the store, where it is refused before it writes, and where its version is staged and published.
-use Rattle.std.proofs.Common.{◌≡◌, ◌≢◌, ◌⊎◌, inl, inr, ⊎_elim, ℕ, suc, ◌+◌, ◌≤◌, Bool, true, false, List, [], ◌∷◌, Some, None, refl, sym, ap, subst, ◌∙◌, arith}
-use Rattle.std.specs.Prelude.{Err, IsErrOf, Ok, Result, is_ok}
+use Rattle.std.proofs.Common.{◌≡◌, ◌≢◌, ◌⊎◌, inl, inr, ⊎_elim, ℕ, suc, ◌+◌, ◌<◌, ◌≤◌, Bool, true, false, List, [], ◌∷◌, Some, None, refl, sym, ap, subst, ◌∙◌, arith}
+use Rattle.std.specs.Prelude.{Err, IsErrOf, IsSome, Ok, Result, is_ok}
 use Rattle.std.specs.FinMap as map
 use Rattle.std.proofs.lemmas.Bool.{false≢true}
 use Rattle.lake_basics.specs.declared.limits.TheConstants.{MAX_DELTA_VERSION, MAX_FILE_BYTES}
@@ -12,7 +12,7 @@ use Rattle.lake_store.specs.declared.store.Store.{Ghosts}
 use Rattle.lake_store.specs.declared.store.StoreError.{StoreError}
 use Rattle.lake_store.specs.declared.store.StoreError.TheVariants.{Taken}
 use Rattle.lake_store.specs.declared.store.StoreError.TheVariants as errors
-use Rattle.lake_store.proofs.DiskLaws.{path_cases}
+use Rattle.lake_store.proofs.DiskLaws.{get-remove_here, get-remove_other, path_cases}
 use Rattle.table_history.specs.declared.limit.LimitKind.{LimitKind}
 use Rattle.table_history.specs.declared.limit.LimitKind.TheVariants.{File}
 use Rattle.lake_store.proofs.MomentLaws.{both, started, weaker}
@@ -28,18 +28,19 @@ use Rattle.target_core.specs.Outcome.{Uncontested, answer_of}
 use Rattle.target_core.specs.Publishing.{Publishes}
 use Rattle.target_core.specs.Step.{IsBefore, IsBeforeOrBehind}
 use Rattle.target_core.specs.Views.{Origin}
+use Rattle.target_core.specs.Written.{IsAsLeft}
 use Rattle.target_core.specs.declared.target.TargetError.{TargetError}
 use Rattle.target_core.specs.declared.target.TargetError.TheVariants.{Contested, Limit}
 use Rattle.target_core.proofs.OneStep.{publishes_none, publishes_one}
 use Rattle.target_delta.specs.DeltaMeaning.{delta_meaning}
 use Rattle.target_delta.specs.Fitting.{Unfit}
 use Rattle.target_delta.specs.Kept.{StandsFor, end_of, view_of}
-use Rattle.target_delta.specs.Names.{HasVersions, IsLeftover, IsReached, IsSettled, IsStagedPath}
+use Rattle.target_delta.specs.Names.{HasVersions, IsLeftover, IsReached, IsSettled, IsStagedPath, path_of}
 use Rattle.target_delta.specs.NewVersion.{IsNewVersion, Writes}
 use Rattle.target_delta.specs.Reading.{commits_in}
 use Rattle.target_delta.specs.Writing.{IsWritten, LogEnd}
 use Rattle.target_delta.specs.declared.kept.DeltaKept.{DeltaKept}
-use Rattle.target_delta.proofs.CommitLemmas.{advanced, earlier, free_path, is_before, is_behind}
+use Rattle.target_delta.proofs.CommitLemmas.{advanced, earlier, free_path, is_before, is_behind, stands_now}
 use Rattle.target_delta.specs.CountLemmas.{count_is}
 use Rattle.target_delta.specs.KeptLemmas.{versions_of_reads}
 use Rattle.delta_table.specs.SameVersions.{version_in, versions_sym}
@@ -137,6 +138,28 @@ module _ {S : Type 0} (store : Ghosts S) (only_now : NowOnly store) (s : S) (tol
         (λ _. (record { reads = stands.reads; earlier = λ c change standing le h. h }, settled))
         (λ _. started store only_now s Left (λ t image may. left_by image may) told)
 
+-- ---- what is written
+
+writes_files : (before after : Files) (staged name bytes : List ℕ) (version : ℕ) (end : LogEnd) (origin : Origin) (now : ℕ) (commit : Commit) (written : DeltaCommit)
+    → IsStagedPath staged version → IsVersionPath name version → version ≡ end.version → IsWritten end origin commit written → bytes ≡ commit_text now written
+    → map.get after name ≡ Some bytes → map.get after staged ≡ None → ((path : List ℕ) → path ≢ staged → path ≢ name → map.get after path ≡ map.get before path) → Writes end before origin now commit after
+writes_files before after staged name bytes version end origin now commit written is_staged named same is text there gone others =
+    let staged_end : IsStagedPath staged end.version = subst (λ (n : ℕ). IsStagedPath staged n) same is_staged in
+    let named_end : IsVersionPath name end.version = subst (λ (n : ℕ). IsVersionPath name n) same named in
+    record {
+      text = record { written = written; is = is; holds = record { path = name; is = named_end; there = there ∙ ap (λ (b : List ℕ). Some b) text } };
+      gone = λ path at. ap (λ (p : List ℕ). map.get after p) (one_staged path staged end.version at staged_end) ∙ gone;
+      others = λ path off_name off_staged. others path
+          (λ (is_staged_too : path ≡ staged). off_staged (subst (λ (p : List ℕ). IsStagedPath p end.version) (sym is_staged_too) staged_end))
+          (λ (is_name : path ≡ name). off_name (subst (λ (p : List ℕ). IsVersionPath p end.version) (sym is_name) named_end));
+    }
+
+pub writes_now : (old new : Disk) (staged name bytes : List ℕ) (version : ℕ) (end : LogEnd) (origin : Origin) (now : ℕ) (commit : Commit) (written : DeltaCommit)
+    → IsStagedPath staged version → IsVersionPath name version → version ≡ end.version → IsPublished staged name bytes old new → IsWritten end origin commit written → bytes ≡ commit_text now written
+    → Writes end old.files origin now commit new.files
+writes_now old new staged name bytes version end origin now commit written is_staged named same published is text =
+    writes_files old.files new.files staged name bytes version end origin now commit written is_staged named same is text published.file published.gone published.others
+
 -- ---- staged and published
 
 three : {A B C D : Type 0} → (A → D) → (B → D) → (C → D) → A ⊎ B ⊎ C → D
@@ -231,6 +254,56 @@ module _ {S : Type 0} (store : Ghosts S) (old new : S) (told : store.tells) (sta
         (λ u. (either (store.disk new).files (beside_now versions_kept) (untaken u) left.file, settled_now versions_kept settled))
         (λ u. weaker store old new (IsStagedImage staged name bytes IsTaken (store.disk old)) (λ files. Either files × IsSettled (after_crash files)) (λ image is. either_left image (untaken u) is) moments told)
 
+    -- The version is there, where there are more than before.
+    come_there : (IsTaken → ⊥) → kept.commits < commits_in (store.disk new).files → map.get (store.disk new).files name ≡ Some bytes
+    come_there untaken later = three
+        (λ none.
+        let before = is_before origin now kept next commit bytes v can fits id (store.disk old).files stands name named_kept (store.disk new).files (beside_now versions_kept) none in
+        let count = count_is (store.disk new).files kept.commits (versions_of_reads (store.disk new).files (view_of kept) before.reads) in
+        absurd (omega (arith, later, count)))
+        (λ there. there)
+        (λ taken. absurd (untaken taken))
+        left.file
+
+    pub stands_come : (IsTaken → ⊥) → kept.commits < commits_in (store.disk new).files → StandsFor id next (store.disk new).files
+    stands_come untaken later =
+        stands_now origin now kept next commit bytes v can fits id (store.disk old).files stands name named_kept (store.disk new).files (beside_now versions_kept) (come_there untaken later)
+
+    -- What commits reach is then just what the commit leaves, which has no staged file.
+    bare : Files
+    bare = map.remove (store.disk new).files staged
+
+    bare_version : (path : List ℕ) (n : ℕ) → IsVersionPath path n → map.get bare path ≡ map.get (store.disk new).files path
+    unfolding bare
+    bare_version path n is = get-remove_other (store.disk new).files staged path (λ same. never_leftover path n is (subst IsLeftover (sym same) leftover))
+
+    bare_beside : IsBeside name (store.disk old).files bare
+    unfolding bare
+    bare_beside = record {
+      versions = λ path n apart is. bare_version path n is ∙ (beside_now versions_kept).versions path n apart is;
+      names = λ other apart there. ⊎_elim
+          (λ (same : path_of other ≡ staged). absurd (none_there (map.get bare (path_of other)) (ap (λ (p : List ℕ). map.get bare p) same ∙ get-remove_here (store.disk new).files staged) there))
+          (λ (ns : path_of other ≢ staged). (beside_now versions_kept).names other apart (subst (λ (o : Option (List ℕ)). IsSome o) (get-remove_other (store.disk new).files staged (path_of other) ns) there))
+          (path_cases (path_of other) staged);
+    }
+
+    module _ (there : map.get (store.disk new).files name ≡ Some bytes) where
+      bare_writes : Writes (end_of kept) (store.disk old).files origin now commit bare
+      unfolding bare
+      bare_writes = writes_files (store.disk old).files bare staged name bytes version (end_of kept) origin now commit v.written is_staged named same v.is v.text (bare_version name version named ∙ there) (get-remove_here (store.disk new).files staged)
+          (λ path off_staged off_name. get-remove_other (store.disk new).files staged path off_staged ∙ left.others path off_staged off_name)
+
+      pub as_left : IsAsLeft IsReached (λ files. Writes (end_of kept) (store.disk old).files origin now commit files × StandsFor id next files) (store.disk new).files
+      as_left = (
+        bare,
+        (bare_writes, stands_now origin now kept next commit bytes v can fits id (store.disk old).files stands name named_kept bare bare_beside (bare_version name version named ∙ there)),
+        λ path reached. sym (bare_version path reached.version reached.named),
+      )
+
+    pub as_left_come : (IsTaken → ⊥) → kept.commits < commits_in (store.disk new).files
+        → IsAsLeft IsReached (λ files. Writes (end_of kept) (store.disk old).files origin now commit files × StandsFor id next files) (store.disk new).files
+    as_left_come untaken later = as_left (come_there untaken later)
+
     -- Behind another writer's version all that a crash would have shown stays.
     module _ (theirs : List ℕ) (there : map.get (store.disk new).files name ≡ Some theirs)
         (at_name : IsEachMoment store old new (λ image. IsClean (store.disk old) name → (map.get image name ≡ None) ⊎ (map.get image name ≡ Some theirs))) where
@@ -256,19 +329,3 @@ module _ {S : Type 0} (store : Ghosts S) (old new : S) (told : store.tells) (sta
           let Q : Files → Type 0 = λ image. IsClean (store.disk old) name → (map.get image name ≡ None) ⊎ (map.get image name ≡ Some theirs) in
           weaker store old new (λ image. P image × Q image) (λ image. CarriesAll (delta_meaning id) image (store.disk new).files)
           (λ image is. all_at image is.0 (is.1 (version_clean (store.disk old) name version settled named))) (both store old new P Q moments (λ t. at_name)) told
-
--- ---- what is written
-
-pub writes_now : (old new : Disk) (staged name bytes : List ℕ) (version : ℕ) (end : LogEnd) (origin : Origin) (now : ℕ) (commit : Commit) (written : DeltaCommit)
-    → IsStagedPath staged version → IsVersionPath name version → version ≡ end.version → IsPublished staged name bytes old new → IsWritten end origin commit written → bytes ≡ commit_text now written
-    → Writes end old.files origin now commit new.files
-writes_now old new staged name bytes version end origin now commit written is_staged named same published is text =
-    let staged_end : IsStagedPath staged end.version = subst (λ (n : ℕ). IsStagedPath staged n) same is_staged in
-    let named_end : IsVersionPath name end.version = subst (λ (n : ℕ). IsVersionPath name n) same named in
-    record {
-      text = record { written = written; is = is; holds = record { path = name; is = named_end; there = published.file ∙ ap (λ (b : List ℕ). Some b) text } };
-      gone = λ path at. ap (λ (p : List ℕ). map.get new.files p) (one_staged path staged end.version at staged_end) ∙ published.gone;
-      others = λ path off_name off_staged. published.others path
-          (λ (is_staged_too : path ≡ staged). off_staged (subst (λ (p : List ℕ). IsStagedPath p end.version) (sym is_staged_too) staged_end))
-          (λ (is_name : path ≡ name). off_name (subst (λ (p : List ℕ). IsVersionPath p end.version) (sym is_name) named_end));
-    }

@@ -8,14 +8,15 @@ ghost use Rattle.table_history.specs.declared.limit.LimitKind.{LimitKind};
 ghost use Rattle.table_history.specs.declared.table.Commit.{Commit};
 ghost use Rattle.target_core.specs.Conditions.{CanPublish, Fits};
 ghost use Rattle.target_core.specs.Gained.{CarriesAll};
-ghost use Rattle.target_core.specs.Outcome.{Uncontested};
+ghost use Rattle.target_core.specs.Outcome.{HasCome, Uncontested};
 ghost use Rattle.target_core.specs.Publishing.{Publishes};
 ghost use Rattle.target_core.specs.Refusals.{IsCommitRefusal, IsOfCommit};
 ghost use Rattle.target_core.specs.Views.{IsAdvanced};
+ghost use Rattle.target_core.specs.Written.{IsAsLeft};
 ghost use Rattle.target_delta.specs.DeltaMeaning.{delta_meaning, image};
 ghost use Rattle.target_delta.specs.Fitting.{Unfit};
 ghost use Rattle.target_delta.specs.Kept.{StandsFor, end_of, view_of};
-ghost use Rattle.target_delta.specs.Names.{HasVersions, IsSettled};
+ghost use Rattle.target_delta.specs.Names.{HasVersions, IsReached, IsSettled};
 ghost use Rattle.target_delta.specs.NewVersion.{Writes};
 ghost use Rattle.target_delta.specs.Reading.{commits_in};
 ghost use Rattle.target_delta.specs.Writing.{Passes};
@@ -53,7 +54,8 @@ pub(crate) fn publish_commit<S: Store>(
         → Fits (Unfit (end_of kept.new)) kept.new.table.partition commits) }
     ensures stands { S.tells → (id : List ℕ) → StandsFor id kept.old (S.disk store.old).files
         → IsSettled (S.disk store.old)
-        → OnOk result (StandsFor id kept.new (S.disk store.new).files) }
+        → HasCome result kept.old.commits (commits_in (S.disk store.new).files)
+        → StandsFor id kept.new (S.disk store.new).files }
     ensures publishes { S.tells → (id : List ℕ) → StandsFor id kept.old (S.disk store.old).files
         → IsSettled (S.disk store.old)
         → Publishes ⟦<S as Store>⟧ (delta_meaning id)
@@ -63,6 +65,12 @@ pub(crate) fn publish_commit<S: Store>(
     ensures writes { S.tells → OnOk result (Writes (end_of kept.old) (S.disk store.old).files
         (record { source = source; table = option_copied table.entry }) now_ms commit.now
         (S.disk store.new).files) }
+    ensures came { S.tells → (id : List ℕ) → StandsFor id kept.old (S.disk store.old).files
+        → IsSettled (S.disk store.old)
+        → HasCome result kept.old.commits (commits_in (S.disk store.new).files)
+        → IsAsLeft IsReached (λ left. Writes (end_of kept.old) (S.disk store.old).files
+        (record { source = source; table = option_copied table.entry }) now_ms commit.now left
+        × StandsFor id kept.new left) (S.disk store.new).files }
     ensures contested { S.tells → (id : List ℕ) → StandsFor id kept.old (S.disk store.old).files
         → IsSettled (S.disk store.old) → IsErrOf result TargetError.Contested
         → commits_in (S.disk store.new).files ≤ kept.old.commits + 1 }

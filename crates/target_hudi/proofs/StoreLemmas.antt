@@ -31,7 +31,7 @@ use Rattle.hudi_groups.proofs.AnyLemmas.{any_from, any_to}
 use Rattle.hudi_properties.specs.Written.{properties_text}
 use Rattle.hudi_commit.specs.Names.{IsLeftover, IsOf, IsThere, Stage, StaysOrGoes, claim_path, claims_folder, completed_name, completed_path, pending_path, properties_path, staged_properties_path, timeline_folder, timeline_path}
 use Rattle.hudi_commit.specs.Orderly.{IsOrderly}
-use Rattle.hudi_commit.specs.Runs.{HasNotGrown, IsBeforeOrAfter, IsCommitted, IsKept, IsOneStep, IsOther, IsReady, IsTakenBy, LacksOrIs, NotGiven}
+use Rattle.hudi_commit.specs.Runs.{HasCompleted, HasNotGrown, IsBeforeOrAfter, IsCommitted, IsKept, IsOneStep, IsOther, IsReady, IsTakenBy, LacksOrIs, NotGiven}
 use Rattle.hudi_commit.specs.Settled.{IsSettled, Stands}
 use Rattle.hudi_commit.proofs.NameLaws.{completed_stays}
 use Rattle.hudi_commit.proofs.StepLaws.{clean_settled, in_timeline}
@@ -43,6 +43,7 @@ use Rattle.target_core.specs.Publishing.{Publishes}
 use Rattle.target_core.specs.Refusals.{IsCommitRefusal}
 use Rattle.target_core.specs.Step as step
 use Rattle.target_core.specs.Views.{Origin}
+use Rattle.target_core.specs.Written.{IsAsLeft}
 use Rattle.target_core.specs.declared.target.TargetError.{TargetError}
 use Rattle.target_core.specs.declared.target.TargetError.TheVariants.{Contested, Limit}
 use Rattle.target_core.proofs.OneStep.{publishes_none, publishes_one}
@@ -231,6 +232,17 @@ module _ {S : Type 0} (store : Ghosts S) (old new : S) (told : store.tells) (nam
       let at_most = few instant v.real entry all_before exit beside_now in
       omega (arith, at_most, counted.commits)
 
+  -- The instant is completed, where there are more commits than before.
+  pub come_there : kept.commits < commits_in exit → IsThere exit (completed_path instant)
+  come_there later = by (map.get exit (completed_path instant)) refl
+    where
+      by : (o : Option (List ℕ)) → map.get exit (completed_path instant) ≡ o → IsThere exit (completed_path instant)
+      by None is =
+          let same : commits_in exit ≡ commits_in entry = ap length (completed_before instant v.real entry all_before exit beside_now is) in
+          let count = counted.commits in
+          absurd (omega (arith, later, same, count))
+      by (Some bytes) is = ap is_some is
+
   -- Behind another writer's instant all that a crash would have shown stays.
   module _ (settled : IsSettledTarget (store.disk old)) where
     stays_clean : (path : List ℕ) → IsIn timeline_folder path → (IsLeftover path → ⊥) → IsClean (store.disk old) path
@@ -372,6 +384,12 @@ module _ {S : Type 0} (store : Ghosts S) (old new : S) (told : store.tells) (nam
       -- what is kept stands for the files
       pub stands_behind : IsCommitted properties instant text (store.disk old) (store.disk new) → StandsFor next exit
       stands_behind committed = stands_now name origin now kept next commit instant properties text v entry counted.newest can fits goes folders stands.reads exit (grown_now committed)
+
+      -- and just what the commit writes has come
+      pub as_left : HasCompleted properties instant text (store.disk old) (store.disk new) → IsAsLeft IsReached (λ left. Writes name kept entry origin now commit left × StandsFor next left) exit
+      as_left came =
+          let committed = came.committed orderly_before ready in
+          (exit, (writes committed came.staged came.others, stands_behind committed), λ path reached. refl)
 
       pub publishes_instant : (U : Type 0) (done : Bool) → (done ≡ true → IsCommitted properties instant text (store.disk old) (store.disk new)) → (U → IsOneStep store properties instant text old new)
           → Publishes store hudi_meaning origin (view_of kept) (commit ∷ []) U done old new

@@ -9,15 +9,16 @@ ghost use Rattle.table_history.specs.declared.limit.LimitKind.TheVariants.{Names
 ghost use Rattle.table_history.specs.declared.table.Commit.{Commit};
 ghost use Rattle.target_core.specs.Conditions.{CanPublish, Fits, GoesOn};
 ghost use Rattle.target_core.specs.Gained.{CarriesAll};
-ghost use Rattle.target_core.specs.Outcome.{Uncontested};
+ghost use Rattle.target_core.specs.Outcome.{HasCome, Uncontested};
 ghost use Rattle.target_core.specs.Publishing.{Publishes};
 ghost use Rattle.target_core.specs.Refusals.{IsCommitRefusal, IsOfCommit};
 ghost use Rattle.target_core.specs.Views.{IsAdvanced};
+ghost use Rattle.target_core.specs.Written.{IsAsLeft};
 ghost use Rattle.target_hudi.specs.Fitting.{Unfit};
 ghost use Rattle.target_hudi.specs.HudiMeaning.{hudi_meaning, image};
 ghost use Rattle.target_hudi.specs.Kept.{IsCounted, StandsFor, end_of, held_of, view_of};
 ghost use Rattle.target_hudi.specs.NewInstant.{IsTaken};
-ghost use Rattle.target_hudi.specs.Reading.{IsSettledTarget, Reads, commits_in};
+ghost use Rattle.target_hudi.specs.Reading.{IsReached, IsSettledTarget, Reads, commits_in};
 ghost use Rattle.target_hudi.specs.Writes.{Writes};
 ghost use Rattle.target_hudi.specs.Writing.{Passes};
 
@@ -65,9 +66,11 @@ pub(crate) fn publish<S: Store>(
     ensures fits { OnOk result ((commits : List Commit)
         → Fits (Unfit (held_of kept.old)) kept.old.table.partition (commit.now ∷ commits)
         → Fits (Unfit (held_of kept.new)) kept.new.table.partition commits) }
+    // Once the instant is completed nothing is left to do that could fail.
     ensures stands { S.tells → StandsFor kept.old (S.disk store.old).files
         → IsSettledTarget (S.disk store.old)
-        → OnOk result (StandsFor kept.new (S.disk store.new).files) }
+        → HasCome result kept.old.commits (commits_in (S.disk store.new).files)
+        → StandsFor kept.new (S.disk store.new).files }
     ensures publishes { S.tells → StandsFor kept.old (S.disk store.old).files
         → IsSettledTarget (S.disk store.old)
         → Publishes ⟦<S as Store>⟧ hudi_meaning
@@ -78,6 +81,12 @@ pub(crate) fn publish<S: Store>(
         → OnOk result (Writes name.now kept.old (S.disk store.old).files
         (record { source = source; table = option_copied table.entry }) now_ms commit.now
         (S.disk store.new).files) }
+    ensures came { S.tells → StandsFor kept.old (S.disk store.old).files
+        → IsSettledTarget (S.disk store.old)
+        → HasCome result kept.old.commits (commits_in (S.disk store.new).files)
+        → IsAsLeft IsReached (λ left. Writes name.now kept.old (S.disk store.old).files
+        (record { source = source; table = option_copied table.entry }) now_ms commit.now left
+        × StandsFor kept.new left) (S.disk store.new).files }
     ensures contested { S.tells → StandsFor kept.old (S.disk store.old).files
         → IsSettledTarget (S.disk store.old) → IsErrOf result TargetError.Contested
         → commits_in (S.disk store.new).files ≤ kept.old.commits + 1 }

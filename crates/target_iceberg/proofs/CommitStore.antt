@@ -18,10 +18,12 @@ use Rattle.iceberg_commit.specs.NewVersion.{IsVersionRefusal}
 use Rattle.target_core.specs.Conditions.{CanPublish, Fits}
 use Rattle.target_core.specs.Folders.{MayLeaveIn, after_crash}
 use Rattle.target_core.specs.Gained.{CarriesAll}
+use Rattle.target_core.specs.Outcome.{HasCome, Uncontested}
 use Rattle.target_core.specs.Publishing.{Publishes}
 use Rattle.target_core.specs.Refusals.{IsCommitRefusal}
 use Rattle.target_core.specs.Step.{IsBefore}
 use Rattle.target_core.specs.Views.{Origin}
+use Rattle.target_core.specs.Written.{IsAsLeft}
 use Rattle.target_core.specs.declared.target.TargetError.{TargetError}
 use Rattle.target_core.specs.declared.target.TargetError.TheVariants.{Contested, Limit, Memory, StoreFault, Unsupported}
 use Rattle.target_core.proofs.OneStep.{publishes_none, publishes_one}
@@ -46,6 +48,10 @@ no_fault faults may_fail s Q never = record { later = omega arith; still = λ m.
 
 pub no_contest : {S : Type 0} (contests : S → ℕ) (may_contest : S → Type 0) (s : S) (Q : Type 0) → (Q → ⊥) → HasContest contests may_contest s s Q
 no_contest contests may_contest s Q never = record { later = omega arith; still = λ m. m; rose = λ q. absurd (never q); allowed = λ q. absurd (never q); same = λ _. refl }
+
+pub done_or_later : {T : Type 0} (r : Result T TargetError) (before after : ℕ) → HasCome r before after → (is_ok r ≡ true) ⊎ (Uncontested r × (before < after))
+done_or_later (Ok v) before after come = inl refl
+done_or_later (Err e) before after come = inr come
 
 one_error : {T : Type 0} (r : Result T TargetError) (e f : TargetError) → r ≡ Err e → IsErrOf r f → e ≡ f
 one_error r e f is err = cc
@@ -139,9 +145,6 @@ module _ {S : Type 0} (store : Ghosts S) (old new : S) (told : store.tells) (ver
     carried_on : CarriesAll (iceberg_meaning id) (store.disk old).files (store.disk new).files
     carried_on = files.carried_on kept next origin now commit version v id location plain can fits (store.disk old) stands settled (store.disk new).files p.others.disk.files
 
-    pub stands_now : done ≡ true → StandsFor id location next (store.disk new).files
-    stands_now is = files.stands_behind kept next origin now commit version v id location plain can fits (store.disk old) stands settled (store.disk new).files (p.all is).files
-
     abbrev Shown : Files → Type 0
     Shown image = KeepsImage (IsNotAside version) (store.disk old) image ⊎ IsPublished version (store.disk old).files image
 
@@ -158,13 +161,31 @@ module _ {S : Type 0} (store : Ghosts S) (old new : S) (told : store.tells) (ver
         (λ u. files.disk_either kept next origin now commit version v id location plain can fits (store.disk old) stands settled (store.disk new) (p.at_return u))
         (λ u. weaker store old new Shown (λ image. Either image × IsSettled (after_crash image)) (files.image_either kept next origin now commit version v id location plain can fits (store.disk old) stands settled) (λ _. p.moments u) told)
 
-    -- Where the version is published, what is kept stands for it.
-    pub ready_now : U → kept.version < commits_in (store.disk new).files → StandsFor id location next (store.disk new).files
-    ready_now u later =
-        ⊎_elim
-        (λ keeps. let same : commits_in (store.disk new).files ≡ kept.version = files.same_count kept next origin now commit version v id location plain can fits (store.disk old) stands settled (store.disk new) keeps in absurd (omega (arith, later, same)))
-        (λ durable. files.stands_behind kept next origin now commit version v id location plain can fits (store.disk old) stands settled (store.disk new).files durable.files)
-        (p.at_return u)
+    -- Once the version is published, what is kept stands for it, and just what it writes has come.
+    module _ (come : (done ≡ true) ⊎ (U × (kept.version < commits_in (store.disk new).files))) where
+      published_now : IsPublished version (store.disk old).files (store.disk new).files
+      published_now =
+          ⊎_elim
+          (λ is. (p.all is).files)
+          (λ later.
+          ⊎_elim
+          (λ keeps.
+          let same : commits_in (store.disk new).files ≡ kept.version = files.same_count kept next origin now commit version v id location plain can fits (store.disk old) stands settled (store.disk new) keeps in
+          let more = later.1 in
+          absurd (omega (arith, more, same)))
+          (λ durable. durable.files)
+          (p.at_return later.0))
+          come
+
+      pub stands_come : StandsFor id location next (store.disk new).files
+      stands_come = files.stands_behind kept next origin now commit version v id location plain can fits (store.disk old) stands settled (store.disk new).files published_now
+
+      pub as_left : IsAsLeft IsReached (λ left. Writes (end_of kept) (store.disk old).files origin now commit left × StandsFor id location next left) (store.disk new).files
+      as_left = (
+        (store.disk new).files,
+        (files.writes_now kept next origin now commit version v id location (store.disk old).files (store.disk new).files stands published_now, stands_come),
+        λ path reached. refl,
+      )
 
     -- Behind another writer's version nothing is published.
     pub count_contested : C → commits_in (store.disk new).files ≤ kept.version + 1

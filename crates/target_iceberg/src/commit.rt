@@ -11,14 +11,15 @@ ghost use Rattle.table_history.specs.declared.limit.LimitKind.{LimitKind};
 ghost use Rattle.table_history.specs.declared.table.Commit.{Commit};
 ghost use Rattle.target_core.specs.Conditions.{CanPublish, Fits};
 ghost use Rattle.target_core.specs.Gained.{CarriesAll};
-ghost use Rattle.target_core.specs.Outcome.{Uncontested};
+ghost use Rattle.target_core.specs.Outcome.{HasCome, Uncontested};
 ghost use Rattle.target_core.specs.Publishing.{Publishes};
 ghost use Rattle.target_core.specs.Refusals.{IsCommitRefusal, IsOfCommit};
 ghost use Rattle.target_core.specs.Views.{IsAdvanced};
+ghost use Rattle.target_core.specs.Written.{IsAsLeft};
 ghost use Rattle.target_iceberg.specs.Fitting.{Unfit, state_of};
 ghost use Rattle.target_iceberg.specs.IcebergMeaning.{iceberg_meaning};
 ghost use Rattle.target_iceberg.specs.Kept.{IsCounted, StandsFor};
-ghost use Rattle.target_iceberg.specs.Reached.{IsSettled};
+ghost use Rattle.target_iceberg.specs.Reached.{IsReached, IsSettled};
 ghost use Rattle.target_iceberg.specs.Reading.{commits_in};
 ghost use Rattle.target_iceberg.specs.Writes.{Writes};
 
@@ -56,16 +57,12 @@ pub(crate) fn publish_commit<S: Store>(
     ensures fits { OnOk result ((commits : List Commit)
         → Fits (Unfit (state_of kept.old)) kept.old.table.partition (commit.now ∷ commits)
         → Fits (Unfit (state_of kept.new)) kept.new.table.partition commits) }
+    // Once the version is published nothing is left to do that could want memory: what is kept
+    // stands for the files, whatever is answered.
     ensures stands { S.tells → (id location : List ℕ)
         → ((front : List ℕ) → location ≡ front ++ 47 ∷ [] → ⊥)
         → StandsFor id location kept.old (S.disk store.old).files → IsSettled (S.disk store.old)
-        → OnOk result (StandsFor id location kept.new (S.disk store.new).files) }
-    // Once the version is published nothing is left to do that could want memory: what is kept
-    // stands for the files, whatever is answered.
-    ensures ready { S.tells → (id location : List ℕ)
-        → ((front : List ℕ) → location ≡ front ++ 47 ∷ [] → ⊥)
-        → StandsFor id location kept.old (S.disk store.old).files → IsSettled (S.disk store.old)
-        → Uncontested result → kept.old.version < commits_in (S.disk store.new).files
+        → HasCome result kept.old.version (commits_in (S.disk store.new).files)
         → StandsFor id location kept.new (S.disk store.new).files }
     ensures publishes { S.tells → (id location : List ℕ)
         → ((front : List ℕ) → location ≡ front ++ 47 ∷ [] → ⊥)
@@ -79,6 +76,13 @@ pub(crate) fn publish_commit<S: Store>(
         → OnOk result (Writes (end_of kept.old) (S.disk store.old).files
         (record { source = source; table = option_copied table.entry }) now_ms commit.now
         (S.disk store.new).files) }
+    ensures came { S.tells → (id location : List ℕ)
+        → ((front : List ℕ) → location ≡ front ++ 47 ∷ [] → ⊥)
+        → StandsFor id location kept.old (S.disk store.old).files → IsSettled (S.disk store.old)
+        → HasCome result kept.old.version (commits_in (S.disk store.new).files)
+        → IsAsLeft IsReached (λ left. Writes (end_of kept.old) (S.disk store.old).files
+        (record { source = source; table = option_copied table.entry }) now_ms commit.now left
+        × StandsFor id location kept.new left) (S.disk store.new).files }
     ensures contested { S.tells → (id location : List ℕ)
         → ((front : List ℕ) → location ≡ front ++ 47 ∷ [] → ⊥)
         → StandsFor id location kept.old (S.disk store.old).files → IsSettled (S.disk store.old)

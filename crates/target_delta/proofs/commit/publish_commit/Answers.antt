@@ -7,13 +7,17 @@ use Rattle.delta_table.specs.Versions.{IsVersionPath}
 use Rattle.target_core.specs.Outcome.{Uncontested}
 use Rattle.target_core.specs.Publishing.{Publishes}
 use Rattle.target_core.specs.Views.{Origin}
+use Rattle.target_core.proofs.Come.{come_later, come_uncontested, never_come}
+use Rattle.target_delta.specs.CountLemmas.{count_is}
 use Rattle.target_delta.specs.DeltaMeaning.{delta_meaning}
 use Rattle.target_delta.specs.Kept.{end_of, view_of}
+use Rattle.target_delta.specs.KeptLemmas.{versions_of_reads}
 use Rattle.target_delta.specs.Names.{HasVersions, IsStagedPath}
 use Rattle.target_delta.specs.NewVersion.{IsNewVersion}
+use Rattle.target_delta.specs.Reading.{commits_in}
 use Rattle.target_delta.specs.Writing.{LogEnd}
 use Rattle.target_delta.proofs.CommitLemmas.{fits_behind, free_path, stands_now}
-use Rattle.target_delta.proofs.StoreLemmas.{alone_staged, beside_now, contested_by, count_taken, counted_now, err_same, kept_taken, not_ok, ok_taken, publishes_nothing, publishes_staged, unlimited_by, untaken_by, writes_now}
+use Rattle.target_delta.proofs.StoreLemmas.{alone_staged, as_left, as_left_come, beside_now, contested_by, count_taken, counted_now, err_same, kept_taken, not_ok, ok_taken, publishes_nothing, publishes_staged, stands_come, unlimited_by, untaken_by, writes_now}
 use Rattle.target_delta.proofs.commit.publish_commit.Goals as goal
 
 pub returns-in_err-version-clause-publishes : goal.returns-in_err-version-clause-publishes
@@ -24,6 +28,22 @@ returns-in_err-version-clause-publishes g c told id stands settled =
     let exit = err_from_is_err_and c.from_residual.result c.from_residual.ensures.1 in
     subst (λ (done : Bool). Publishes g.S.Store (delta_meaning id) origin (view_of kept) (c.args.commit.now ∷ []) (Uncontested c.from_residual.result) done s s) (sym (ap is_ok exit.1))
     (publishes_nothing g.S.Store g.met.S.Store.only_now s told id origin kept c.args.commit.now stands settled (Uncontested c.from_residual.result))
+
+pub returns-in_err-version-clause-stands : goal.returns-in_err-version-clause-stands
+returns-in_err-version-clause-stands g c told id stands settled come =
+    let exit = err_from_is_err_and c.from_residual.result c.from_residual.ensures.1 in
+    let kept = c.args.kept.now in
+    let files = (g.S.Store.disk c.args.store.now).files in
+    let count = count_is files kept.commits (versions_of_reads files (view_of kept) stands.reads) in
+    never_come c.from_residual.result exit.0 kept.commits (commits_in files) exit.1 (omega (arith, count)) come
+
+pub returns-in_err-version-clause-came : goal.returns-in_err-version-clause-came
+returns-in_err-version-clause-came g c told id stands settled come =
+    let exit = err_from_is_err_and c.from_residual.result c.from_residual.ensures.1 in
+    let kept = c.args.kept.now in
+    let files = (g.S.Store.disk c.args.store.now).files in
+    let count = count_is files kept.commits (versions_of_reads files (view_of kept) stands.reads) in
+    never_come c.from_residual.result exit.0 kept.commits (commits_in files) exit.1 (omega (arith, count)) come
 
 pub returns-in_err-version-clause-limited : goal.returns-in_err-version-clause-limited
 returns-in_err-version-clause-limited g c told which number is = reading_begins g.S.Store g.met.S.Store.only_now c.args.store.now told
@@ -69,6 +89,50 @@ returns-in_err-stage_and_publish-clause-publishes g c told id stands settled =
     let error = c.in_err-stage_and_publish.field-0.0 in
     publishes_staged store old new told staged name bytes kept.commits is_staged named _ (c.in_err-stage_and_publish.ensures.left told) c.in_err-stage_and_publish.ensures.any_moment id origin c.args.now_ms kept next c.args.commit.now refl v c.requires.can c.requires.fits stands settled
     (Uncontested result) (λ u taken. untaken_by result exit.0 error exit.1 exit.2 u (err_same error taken)) (is_ok result) (λ ok. absurd (not_ok result exit.0 exit.1 ok))
+
+pub returns-in_err-stage_and_publish-clause-stands : goal.returns-in_err-stage_and_publish-clause-stands
+returns-in_err-stage_and_publish-clause-stands g c told id stands settled come =
+    let store = g.S.Store in
+    let kept = c.args.kept.now in
+    let next = c.new_version.new.kept in
+    let old = c.args.store.now in
+    let new = c.stage_and_publish.new.store in
+    let staged = c.as_str-staged.result.now in
+    let name = c.as_str-path.result.now in
+    let bytes = c.as_slice.result.now in
+    let origin : Origin = record { source = c.args.source; table = option_copied c.args.table } in
+    let is_staged = subst (λ p. IsStagedPath p kept.commits) (sym c.as_str-staged.ensures.value) c.in_ok-version.ensures.staged in
+    let named = subst (λ p. IsVersionPath p kept.commits) (sym c.as_str-path.ensures.value) c.in_ok-version.ensures.path in
+    let v = subst (λ b. IsNewVersion origin c.args.now_ms kept c.args.commit.now b next) (sym c.as_slice.ensures.value) c.in_ok-version.ensures.is in
+    let exit = err_from_is_err_and c.from_residual-in_err-stage_and_publish.result c.from_residual-in_err-stage_and_publish.ensures.1 in
+    let result = c.from_residual-in_err-stage_and_publish.result in
+    let error = c.in_err-stage_and_publish.field-0.0 in
+    let untaken = λ taken. untaken_by result exit.0 error exit.1 exit.2 (come_uncontested result kept.commits (commits_in (store.disk new).files) come) (err_same error taken) in
+    let later = come_later result exit.0 kept.commits (commits_in (store.disk new).files) exit.1 come in
+    stands_come store old new told staged name bytes kept.commits is_staged named _ (c.in_err-stage_and_publish.ensures.left told) c.in_err-stage_and_publish.ensures.any_moment id origin c.args.now_ms kept next c.args.commit.now refl v c.requires.can c.requires.fits stands settled
+    untaken later
+
+pub returns-in_err-stage_and_publish-clause-came : goal.returns-in_err-stage_and_publish-clause-came
+returns-in_err-stage_and_publish-clause-came g c told id stands settled come =
+    let store = g.S.Store in
+    let kept = c.args.kept.now in
+    let next = c.new_version.new.kept in
+    let old = c.args.store.now in
+    let new = c.stage_and_publish.new.store in
+    let staged = c.as_str-staged.result.now in
+    let name = c.as_str-path.result.now in
+    let bytes = c.as_slice.result.now in
+    let origin : Origin = record { source = c.args.source; table = option_copied c.args.table } in
+    let is_staged = subst (λ p. IsStagedPath p kept.commits) (sym c.as_str-staged.ensures.value) c.in_ok-version.ensures.staged in
+    let named = subst (λ p. IsVersionPath p kept.commits) (sym c.as_str-path.ensures.value) c.in_ok-version.ensures.path in
+    let v = subst (λ b. IsNewVersion origin c.args.now_ms kept c.args.commit.now b next) (sym c.as_slice.ensures.value) c.in_ok-version.ensures.is in
+    let exit = err_from_is_err_and c.from_residual-in_err-stage_and_publish.result c.from_residual-in_err-stage_and_publish.ensures.1 in
+    let result = c.from_residual-in_err-stage_and_publish.result in
+    let error = c.in_err-stage_and_publish.field-0.0 in
+    let untaken = λ taken. untaken_by result exit.0 error exit.1 exit.2 (come_uncontested result kept.commits (commits_in (store.disk new).files) come) (err_same error taken) in
+    let later = come_later result exit.0 kept.commits (commits_in (store.disk new).files) exit.1 come in
+    as_left_come store old new told staged name bytes kept.commits is_staged named _ (c.in_err-stage_and_publish.ensures.left told) c.in_err-stage_and_publish.ensures.any_moment id origin c.args.now_ms kept next c.args.commit.now refl v c.requires.can c.requires.fits stands settled
+    untaken later
 
 pub returns-in_err-stage_and_publish-clause-limited : goal.returns-in_err-stage_and_publish-clause-limited
 returns-in_err-stage_and_publish-clause-limited g c told which number is =
@@ -168,7 +232,7 @@ returns-clause-fits g c =
     fits_behind origin c.args.now_ms kept next c.args.commit.now bytes v
 
 pub returns-clause-stands : goal.returns-clause-stands
-returns-clause-stands g c told id stands settled =
+returns-clause-stands g c told id stands settled come =
     let store = g.S.Store in
     let kept = c.args.kept.now in
     let next = c.new_version.new.kept in
@@ -216,3 +280,20 @@ returns-clause-writes g c told =
     let named = subst (λ p. IsVersionPath p kept.commits) (sym c.as_str-path.ensures.value) c.in_ok-version.ensures.path in
     let v = subst (λ b. IsNewVersion origin c.args.now_ms kept c.args.commit.now b next) (sym c.as_slice.ensures.value) c.in_ok-version.ensures.is in
     writes_now (store.disk old) (store.disk new) staged name bytes kept.commits (end_of kept) origin c.args.now_ms c.args.commit.now v.written is_staged named refl (c.in_ok-stage_and_publish.ensures.published told) v.is v.text
+
+pub returns-clause-came : goal.returns-clause-came
+returns-clause-came g c told id stands settled come =
+    let store = g.S.Store in
+    let kept = c.args.kept.now in
+    let next = c.new_version.new.kept in
+    let old = c.args.store.now in
+    let new = c.stage_and_publish.new.store in
+    let staged = c.as_str-staged.result.now in
+    let name = c.as_str-path.result.now in
+    let bytes = c.as_slice.result.now in
+    let origin : Origin = record { source = c.args.source; table = option_copied c.args.table } in
+    let is_staged = subst (λ p. IsStagedPath p kept.commits) (sym c.as_str-staged.ensures.value) c.in_ok-version.ensures.staged in
+    let named = subst (λ p. IsVersionPath p kept.commits) (sym c.as_str-path.ensures.value) c.in_ok-version.ensures.path in
+    let v = subst (λ b. IsNewVersion origin c.args.now_ms kept c.args.commit.now b next) (sym c.as_slice.ensures.value) c.in_ok-version.ensures.is in
+    as_left store old new told staged name bytes kept.commits is_staged named _ (c.in_ok-stage_and_publish.ensures.left told) c.in_ok-stage_and_publish.ensures.any_moment id origin c.args.now_ms kept next c.args.commit.now refl v c.requires.can c.requires.fits stands settled
+    (c.in_ok-stage_and_publish.ensures.published told).file

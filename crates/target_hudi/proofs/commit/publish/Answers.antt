@@ -1,4 +1,4 @@
-use Rattle.std.proofs.Common.{◌≡◌, Bool, true, false, [], ◌∷◌, sym, ap, subst, ◌∙◌}
+use Rattle.std.proofs.Common.{◌≡◌, Bool, true, false, [], ◌∷◌, sym, ap, subst, ◌∙◌, arith}
 use Rattle.std.specs.Prelude.{is_ok}
 use Rattle.std.specs.Option.{option_copied}
 use Rattle.std.proofs.lemmas.Result.{err_from_is_err_and}
@@ -9,12 +9,14 @@ use Rattle.target_core.specs.Outcome.{Uncontested, answer_of}
 use Rattle.target_core.specs.Publishing.{Publishes}
 use Rattle.target_core.specs.Views.{Origin}
 use Rattle.target_core.specs.declared.target.TargetError.TheVariants.{Contested}
+use Rattle.target_core.proofs.Come.{never_come}
 use Rattle.target_hudi.specs.HudiMeaning.{hudi_meaning}
 use Rattle.target_hudi.specs.Kept.{end_of, view_of}
+use Rattle.target_hudi.specs.Reading.{commits_in}
 use Rattle.target_hudi.proofs.TimelineLemmas.{free}
 use Rattle.target_hudi.proofs.KeepsLemmas.{advanced, fits_behind}
 use Rattle.target_hudi.proofs.PublishLemmas.{earlier}
-use Rattle.target_hudi.proofs.StoreLemmas.{contest_too, contested_error, counted_now, few_now, kept_taken, limited_by, only_names, orderly_before, passes_ahead, publishes_instant, publishes_nothing, reads_unmoved, ready, refused_by, same_instant, stands_behind, taken_answer, taken_now, writes}
+use Rattle.target_hudi.proofs.StoreLemmas.{as_left, come_there, contest_too, contested_error, counted_now, few_now, kept_taken, limited_by, only_names, orderly_before, passes_ahead, publishes_instant, publishes_nothing, reads_unmoved, ready, refused_by, same_instant, stands_behind, taken_answer, taken_now, writes}
 use Rattle.target_hudi.proofs.commit.publish.Goals as goal
 
 pub returns-in_err-new-clause-publishes : goal.returns-in_err-new-clause-publishes
@@ -25,6 +27,20 @@ returns-in_err-new-clause-publishes g c told stands settled =
     let exit = err_from_is_err_and c.from_residual.result c.from_residual.ensures.1 in
     subst (λ (done : Bool). Publishes g.S.Store hudi_meaning origin (view_of kept) (c.args.commit.now ∷ []) (Uncontested c.from_residual.result) done s s) (sym (ap is_ok exit.1))
     (publishes_nothing g.S.Store g.met.S.Store.only_now s told origin kept c.args.commit.now stands settled (Uncontested c.from_residual.result))
+
+pub returns-in_err-new-clause-stands : goal.returns-in_err-new-clause-stands
+returns-in_err-new-clause-stands g c told stands settled come =
+    let files = (g.S.Store.disk c.args.store.now).files in
+    let exit = err_from_is_err_and c.from_residual.result c.from_residual.ensures.1 in
+    let count = (c.requires.counted told).commits in
+    never_come c.from_residual.result exit.0 c.args.kept.now.commits (commits_in files) exit.1 (omega (arith, count)) come
+
+pub returns-in_err-new-clause-came : goal.returns-in_err-new-clause-came
+returns-in_err-new-clause-came g c told stands settled come =
+    let files = (g.S.Store.disk c.args.store.now).files in
+    let exit = err_from_is_err_and c.from_residual.result c.from_residual.ensures.1 in
+    let count = (c.requires.counted told).commits in
+    never_come c.from_residual.result exit.0 c.args.kept.now.commits (commits_in files) exit.1 (omega (arith, count)) come
 
 pub returns-in_err-new-clause-untouched : goal.returns-in_err-new-clause-untouched
 returns-in_err-new-clause-untouched g c told which number limited other = reading_begins g.S.Store g.met.S.Store.only_now c.args.store.now told
@@ -75,7 +91,7 @@ returns-in-Ok-clause-counted g c told =
     let text = c.as_slice.result.now in
     let origin : Origin = record { source = c.args.source; table = option_copied c.args.table } in
     let v = same_instant (end_of name kept) origin now kept next commit c.in_ok-new.new.time instant c.in_ok-new.new.text text c.in_ok-new.new.properties properties c.as_str.ensures.value c.bytes_of-properties.ensures c.as_slice.ensures.value c.in_ok-new.ensures.is in
-    counted_now store old new told name origin now kept next commit instant properties text v (c.requires.counted told) (c.in-Ok.ensures.kept told) (c.in-Ok.ensures.completed told)
+    counted_now store old new told name origin now kept next commit instant properties text v (c.requires.counted told) (c.in-Ok.ensures.kept told) (c.in-Ok.ensures.comes told tt).completed
 
 pub returns-in-Ok-clause-fits : goal.returns-in-Ok-clause-fits
 returns-in-Ok-clause-fits g c =
@@ -92,7 +108,7 @@ returns-in-Ok-clause-fits g c =
     fits_behind name origin now kept next commit instant properties text v c.requires.can
 
 pub returns-in-Ok-clause-stands : goal.returns-in-Ok-clause-stands
-returns-in-Ok-clause-stands g c told stands settled =
+returns-in-Ok-clause-stands g c told stands settled come =
     let store = g.S.Store in
     let name = c.args.name.now in
     let kept = c.args.kept.now in
@@ -110,7 +126,26 @@ returns-in-Ok-clause-stands g c told stands settled =
     let alone = c.in-Ok.ensures.kept told in
     let whole = orderly_before store old new told name origin now kept next commit instant properties text v counted alone stands in
     let is_ready = ready store old new told name origin now kept next commit instant properties text v counted alone stands in
-    stands_behind store old new told name origin now kept next commit instant properties text v counted alone stands c.requires.can c.requires.fits c.requires.source settled (c.in-Ok.ensures.committed told whole is_ready)
+    stands_behind store old new told name origin now kept next commit instant properties text v counted alone stands c.requires.can c.requires.fits c.requires.source settled ((c.in-Ok.ensures.comes told tt).committed whole is_ready)
+
+pub returns-in-Ok-clause-came : goal.returns-in-Ok-clause-came
+returns-in-Ok-clause-came g c told stands settled come =
+    let store = g.S.Store in
+    let name = c.args.name.now in
+    let kept = c.args.kept.now in
+    let next = c.new_instant.new.kept in
+    let commit = c.args.commit.now in
+    let old = c.args.store.now in
+    let new = c.publish_commit.new.store in
+    let now = c.args.now_ms in
+    let instant = c.as_str.result.now in
+    let properties = option_copied c.bytes_of-properties.result in
+    let text = c.as_slice.result.now in
+    let origin : Origin = record { source = c.args.source; table = option_copied c.args.table } in
+    let v = same_instant (end_of name kept) origin now kept next commit c.in_ok-new.new.time instant c.in_ok-new.new.text text c.in_ok-new.new.properties properties c.as_str.ensures.value c.bytes_of-properties.ensures c.as_slice.ensures.value c.in_ok-new.ensures.is in
+    let counted = c.requires.counted told in
+    let alone = c.in-Ok.ensures.kept told in
+    as_left store old new told name origin now kept next commit instant properties text v counted alone stands c.requires.can c.requires.fits c.requires.source settled (c.in-Ok.ensures.comes told tt)
 
 pub returns-in-Ok-clause-publishes : goal.returns-in-Ok-clause-publishes
 returns-in-Ok-clause-publishes g c told stands settled =
@@ -132,7 +167,7 @@ returns-in-Ok-clause-publishes g c told stands settled =
     let whole = orderly_before store old new told name origin now kept next commit instant properties text v counted alone stands in
     let is_ready = ready store old new told name origin now kept next commit instant properties text v counted alone stands in
     publishes_instant store old new told name origin now kept next commit instant properties text v counted alone stands c.requires.can c.requires.fits c.requires.source settled _ true
-    (λ done. c.in-Ok.ensures.committed told whole is_ready) (λ u. c.in-Ok.ensures.one_step told tt whole settled.timeline is_ready)
+    (λ done. (c.in-Ok.ensures.comes told tt).committed whole is_ready) (λ u. c.in-Ok.ensures.one_step told tt whole settled.timeline is_ready)
 
 pub returns-in-Ok-clause-writes : goal.returns-in-Ok-clause-writes
 returns-in-Ok-clause-writes g c told stands =
@@ -153,7 +188,7 @@ returns-in-Ok-clause-writes g c told stands =
     let alone = c.in-Ok.ensures.kept told in
     let whole = orderly_before store old new told name origin now kept next commit instant properties text v counted alone stands in
     let is_ready = ready store old new told name origin now kept next commit instant properties text v counted alone stands in
-    writes store old new told name origin now kept next commit instant properties text v counted alone stands (c.in-Ok.ensures.committed told whole is_ready) (c.in-Ok.ensures.staged told) (c.in-Ok.ensures.others told)
+    writes store old new told name origin now kept next commit instant properties text v counted alone stands ((c.in-Ok.ensures.comes told tt).committed whole is_ready) (c.in-Ok.ensures.comes told tt).staged (c.in-Ok.ensures.comes told tt).others
 
 pub returns-in-Ok-clause-ahead : goal.returns-in-Ok-clause-ahead
 returns-in-Ok-clause-ahead g c told =
@@ -170,7 +205,7 @@ returns-in-Ok-clause-ahead g c told =
     let text = c.as_slice.result.now in
     let origin : Origin = record { source = c.args.source; table = option_copied c.args.table } in
     let v = same_instant (end_of name kept) origin now kept next commit c.in_ok-new.new.time instant c.in_ok-new.new.text text c.in_ok-new.new.properties properties c.as_str.ensures.value c.bytes_of-properties.ensures c.as_slice.ensures.value c.in_ok-new.ensures.is in
-    passes_ahead name origin now kept next commit instant properties text v (store.disk old).files (store.disk new).files (c.in-Ok.ensures.not_grown told)
+    passes_ahead name origin now kept next commit instant properties text v (store.disk old).files (store.disk new).files (c.in-Ok.ensures.comes told tt).not_grown
 
 pub returns-clause-publishes : goal.returns-clause-publishes
 returns-clause-publishes g c told stands settled =
@@ -193,6 +228,50 @@ returns-clause-publishes g c told stands settled =
     let is_ready = ready store old new told name origin now kept next commit instant properties text v counted alone stands in
     publishes_instant store old new told name origin now kept next commit instant properties text v counted alone stands c.requires.can c.requires.fits c.requires.source settled (c.of_list.result ≡ Contested → ⊥) false
     (λ done. absurd (cc)) (λ u. c.in-Err.ensures.one_step told (λ taken. u (c.of_list.ensures ∙ ap (answer_of Names MAX_NAMES) taken)) whole settled.timeline is_ready)
+
+pub returns-clause-stands : goal.returns-clause-stands
+returns-clause-stands g c told stands settled come =
+    let store = g.S.Store in
+    let name = c.args.name.now in
+    let kept = c.args.kept.now in
+    let next = c.new_instant.new.kept in
+    let commit = c.args.commit.now in
+    let old = c.args.store.now in
+    let new = c.publish_commit.new.store in
+    let now = c.args.now_ms in
+    let instant = c.as_str.result.now in
+    let properties = option_copied c.bytes_of-properties.result in
+    let text = c.as_slice.result.now in
+    let origin : Origin = record { source = c.args.source; table = option_copied c.args.table } in
+    let v = same_instant (end_of name kept) origin now kept next commit c.in_ok-new.new.time instant c.in_ok-new.new.text text c.in_ok-new.new.properties properties c.as_str.ensures.value c.bytes_of-properties.ensures c.as_slice.ensures.value c.in_ok-new.ensures.is in
+    let counted = c.requires.counted told in
+    let alone = c.in-Err.ensures.kept told in
+    let whole = orderly_before store old new told name origin now kept next commit instant properties text v counted alone stands in
+    let is_ready = ready store old new told name origin now kept next commit instant properties text v counted alone stands in
+    let there = come_there store old new told name origin now kept next commit instant properties text v counted alone come.1 in
+    let came = c.in-Err.ensures.comes told ((λ taken. come.0 (c.of_list.ensures ∙ ap (answer_of Names MAX_NAMES) taken)), there) in
+    stands_behind store old new told name origin now kept next commit instant properties text v counted alone stands c.requires.can c.requires.fits c.requires.source settled (came.committed whole is_ready)
+
+pub returns-clause-came : goal.returns-clause-came
+returns-clause-came g c told stands settled come =
+    let store = g.S.Store in
+    let name = c.args.name.now in
+    let kept = c.args.kept.now in
+    let next = c.new_instant.new.kept in
+    let commit = c.args.commit.now in
+    let old = c.args.store.now in
+    let new = c.publish_commit.new.store in
+    let now = c.args.now_ms in
+    let instant = c.as_str.result.now in
+    let properties = option_copied c.bytes_of-properties.result in
+    let text = c.as_slice.result.now in
+    let origin : Origin = record { source = c.args.source; table = option_copied c.args.table } in
+    let v = same_instant (end_of name kept) origin now kept next commit c.in_ok-new.new.time instant c.in_ok-new.new.text text c.in_ok-new.new.properties properties c.as_str.ensures.value c.bytes_of-properties.ensures c.as_slice.ensures.value c.in_ok-new.ensures.is in
+    let counted = c.requires.counted told in
+    let alone = c.in-Err.ensures.kept told in
+    let there = come_there store old new told name origin now kept next commit instant properties text v counted alone come.1 in
+    let came = c.in-Err.ensures.comes told ((λ taken. come.0 (c.of_list.ensures ∙ ap (answer_of Names MAX_NAMES) taken)), there) in
+    as_left store old new told name origin now kept next commit instant properties text v counted alone stands c.requires.can c.requires.fits c.requires.source settled came
 
 pub returns-clause-contested : goal.returns-clause-contested
 returns-clause-contested g c told stands settled contested =

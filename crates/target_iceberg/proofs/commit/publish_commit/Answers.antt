@@ -14,10 +14,12 @@ use Rattle.target_core.specs.Publishing.{Publishes}
 use Rattle.target_core.specs.Views.{Origin}
 use Rattle.target_core.specs.declared.target.TargetError.{TargetError}
 use Rattle.target_core.specs.declared.target.TargetError.TheVariants.{Contested, StoreFault}
+use Rattle.target_core.proofs.Come.{come_later}
 use Rattle.target_iceberg.specs.IcebergMeaning.{iceberg_meaning}
+use Rattle.target_iceberg.specs.Reading.{commits_in}
 use Rattle.target_iceberg.proofs.CommitFiles.{free_path, number}
 use Rattle.target_iceberg.proofs.CommitKept.{fits_behind, kinds_stay, passes_behind}
-use Rattle.target_iceberg.proofs.CommitStore.{count_contested, counted_now, kept_contested, never_contested, never_fault, never_later, never_limited, no_contest, no_fault, on_ok, publishes_nothing, publishes_version, ready_now, stands_now, writes_now}
+use Rattle.target_iceberg.proofs.CommitStore.{as_left, count_contested, counted_now, done_or_later, kept_contested, never_contested, never_fault, never_later, never_limited, no_contest, no_fault, on_ok, publishes_nothing, publishes_version, stands_come, writes_now}
 use Rattle.target_iceberg.proofs.commit.publish_commit.Goals as goal
 
 pub returns-in_err-new-clause-publishes : goal.returns-in_err-new-clause-publishes
@@ -32,9 +34,17 @@ returns-in_err-new-clause-publishes g c told id location plain stands settled =
 pub returns-in_err-new-clause-limited : goal.returns-in_err-new-clause-limited
 returns-in_err-new-clause-limited g c told which most is = reading_begins g.S.Store g.met.S.Store.only_now c.args.store.now told
 
-pub returns-in_err-new-clause-ready : goal.returns-in_err-new-clause-ready
-returns-in_err-new-clause-ready g c told id location plain stands settled un later =
-    absurd (never_later id location c.args.kept.now (g.S.Store.disk c.args.store.now).files stands later)
+pub returns-in_err-new-clause-stands : goal.returns-in_err-new-clause-stands
+returns-in_err-new-clause-stands g c told id location plain stands settled come =
+    let files = (g.S.Store.disk c.args.store.now).files in
+    let exit = err_from_is_err_and c.from_residual.result c.from_residual.ensures.1 in
+    absurd (never_later id location c.args.kept.now files stands (come_later c.from_residual.result exit.0 c.args.kept.now.version (commits_in files) exit.1 come))
+
+pub returns-in_err-new-clause-came : goal.returns-in_err-new-clause-came
+returns-in_err-new-clause-came g c told id location plain stands settled come =
+    let files = (g.S.Store.disk c.args.store.now).files in
+    let exit = err_from_is_err_and c.from_residual.result c.from_residual.ensures.1 in
+    absurd (never_later id location c.args.kept.now files stands (come_later c.from_residual.result exit.0 c.args.kept.now.version (commits_in files) exit.1 come))
 
 pub returns-in_err-new-clause-contested : goal.returns-in_err-new-clause-contested
 returns-in_err-new-clause-contested g c told id location plain stands settled contested =
@@ -118,7 +128,7 @@ returns-clause-fits g c =
     on_ok c.publish_version.result _ (λ is. fits_behind kept next origin c.args.now_ms commit files v)
 
 pub returns-clause-stands : goal.returns-clause-stands
-returns-clause-stands g c told id location plain stands settled =
+returns-clause-stands g c told id location plain stands settled come =
     let kept = c.args.kept.now in
     let next = c.next_version.new.kept in
     let old = c.args.store.now in
@@ -131,26 +141,28 @@ returns-clause-stands g c told id location plain stands settled =
     let new = c.publish_version.new.store in
     let r = c.publish_version.result in
     let at = c.publish_version.ensures.publishes told in
-    on_ok r _ (stands_now g.S.Store old new told files (Uncontested r) (IsErrOf r Contested) (is_ok r) at kept next origin c.args.now_ms commit v id location plain c.requires.can c.requires.fits stands settled)
+    stands_come g.S.Store old new told files (Uncontested r) (IsErrOf r Contested) (is_ok r) at kept next origin c.args.now_ms commit v id location plain c.requires.can c.requires.fits stands settled
+    (done_or_later r kept.version (commits_in (g.S.Store.disk new).files) come)
+
+pub returns-clause-came : goal.returns-clause-came
+returns-clause-came g c told id location plain stands settled come =
+    let kept = c.args.kept.now in
+    let next = c.next_version.new.kept in
+    let old = c.args.store.now in
+    let commit = c.args.commit.now in
+    let origin : Origin = record { source = c.args.source; table = option_copied c.args.table } in
+    let made = c.in_ok-new.new in
+    let files : VersionFiles = record { version = made.version; manifests = c.as_slice-manifests.result.now; list = made.list; metadata = made.metadata } in
+    let v : IsNextVersion kept origin c.args.now_ms commit files next =
+    subst (λ (texts : List (List ℕ)). IsNextVersion kept origin c.args.now_ms commit (record { version = made.version; manifests = texts; list = made.list; metadata = made.metadata }) next) (sym c.as_slice-manifests.ensures.value) c.in_ok-new.ensures.is in
+    let new = c.publish_version.new.store in
+    let r = c.publish_version.result in
+    let at = c.publish_version.ensures.publishes told in
+    as_left g.S.Store old new told files (Uncontested r) (IsErrOf r Contested) (is_ok r) at kept next origin c.args.now_ms commit v id location plain c.requires.can c.requires.fits stands settled
+    (done_or_later r kept.version (commits_in (g.S.Store.disk new).files) come)
 
 pub returns-clause-limited : goal.returns-clause-limited
 returns-clause-limited g c told which most is = absurd (never_limited c.publish_version.result c.publish_version.ensures.refusal which most is)
-
-pub returns-clause-ready : goal.returns-clause-ready
-returns-clause-ready g c told id location plain stands settled un later =
-    let kept = c.args.kept.now in
-    let next = c.next_version.new.kept in
-    let old = c.args.store.now in
-    let commit = c.args.commit.now in
-    let origin : Origin = record { source = c.args.source; table = option_copied c.args.table } in
-    let made = c.in_ok-new.new in
-    let files : VersionFiles = record { version = made.version; manifests = c.as_slice-manifests.result.now; list = made.list; metadata = made.metadata } in
-    let v : IsNextVersion kept origin c.args.now_ms commit files next =
-    subst (λ (texts : List (List ℕ)). IsNextVersion kept origin c.args.now_ms commit (record { version = made.version; manifests = texts; list = made.list; metadata = made.metadata }) next) (sym c.as_slice-manifests.ensures.value) c.in_ok-new.ensures.is in
-    let new = c.publish_version.new.store in
-    let r = c.publish_version.result in
-    let at = c.publish_version.ensures.publishes told in
-    ready_now g.S.Store old new told files (Uncontested r) (IsErrOf r Contested) (is_ok r) at kept next origin c.args.now_ms commit v id location plain c.requires.can c.requires.fits stands settled un later
 
 pub returns-clause-publishes : goal.returns-clause-publishes
 returns-clause-publishes g c told id location plain stands settled =

@@ -17,3 +17,12 @@ pub returns-clause-limited : goal.returns-clause-limited
 returns-clause-limited g c told stands settled which number is =
     let only = c.publish_commit.ensures.limited told which number is in
     subst (λ (d : Disk). Reads d.files (view_of c.args.kept.now)) (sym only.disk) stands.reads
+
+pub returns-clause-stands : goal.returns-clause-stands
+returns-clause-stands g c told stands settled come = c.publish_commit.ensures.stands told c.args.self.now.id stands settled come
+
+pub returns-clause-came : goal.returns-clause-came
+returns-clause-came g c told stands settled come = c.publish_commit.ensures.came told c.args.self.now.id stands settled come
+
+pub returns-clause-untouched : goal.returns-clause-untouched
+returns-clause-untouched g c told which number is other = c.publish_commit.ensures.limited told which number is

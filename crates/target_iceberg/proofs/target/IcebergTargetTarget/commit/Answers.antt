@@ -5,7 +5,13 @@ use Rattle.target_iceberg.specs.Reading.{Reads}
 use Rattle.target_iceberg.proofs.target.IcebergTargetTarget.commit.Goals as goal
 
 pub returns-clause-stands : goal.returns-clause-stands
-returns-clause-stands g c told stands settled = c.publish_commit.ensures.stands told c.args.self.now.id c.args.self.now.location c.args.self.now.plain stands settled
+returns-clause-stands g c told stands settled come = c.publish_commit.ensures.stands told c.args.self.now.id c.args.self.now.location c.args.self.now.plain stands settled come
+
+pub returns-clause-came : goal.returns-clause-came
+returns-clause-came g c told stands settled come = c.publish_commit.ensures.came told c.args.self.now.id c.args.self.now.location c.args.self.now.plain stands settled come
+
+pub returns-clause-untouched : goal.returns-clause-untouched
+returns-clause-untouched g c told which number is other = c.publish_commit.ensures.limited told which number is
 
 pub returns-clause-publishes : goal.returns-clause-publishes
 returns-clause-publishes g c told stands settled = c.publish_commit.ensures.publishes told c.args.self.now.id c.args.self.now.location c.args.self.now.plain stands settled
