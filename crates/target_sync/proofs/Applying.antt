@@ -1,6 +1,7 @@
 -- What applying a plan leaves, by how it ends.
-use Rattle.std.proofs.Common.{◌≡◌, ◌≢◌, inl, inr, ◌+◌, ◌<◌, ◌≤◌, ℕ, Bool, true, false, List, [], ◌∷◌, length, take, Option, refl, sym, ap, subst, arith}
+use Rattle.std.proofs.Common.{◌≡◌, ◌≢◌, ◌⊎◌, inl, inr, ⊎_elim, ◌+◌, ◌<◌, ◌≤◌, ℕ, Bool, true, false, List, [], ◌∷◌, length, take, Option, refl, sym, ap, subst, arith}
 use Rattle.std.proofs.Math.Seq.{take-length}
+use Rattle.std.proofs.lemmas.Bool.{cases_lt}
 use Rattle.std.specs.Prelude.{Result, Ok, Err, IsErrOf}
 use Rattle.lake_store.specs.Disk.{Disk, Files, MayLeave}
 use Rattle.lake_store.specs.Runs.{ChangesOnlyIn, FailsBy, IsContestedBy, IsEachMoment, IsOutside, OnlyReads}
@@ -9,6 +10,7 @@ use Rattle.lake_store.proofs.MomentLaws.{goes_further, started, weaker}
 use Rattle.lake_store.proofs.RunLaws.{NowOnly, alone_by_reading, reading_begins}
 use Rattle.table_history.specs.declared.kind.Kind.{Kind}
 use Rattle.table_history.specs.declared.limit.LimitKind.{LimitKind}
+use Rattle.table_history.specs.declared.limit.LimitKind.TheVariants.{Names}
 use Rattle.table_history.specs.declared.table.Change.{Change}
 use Rattle.table_history.specs.declared.table.Commit.{Commit}
 use Rattle.table_history.specs.TypeTree.{ColumnTrees}
@@ -23,7 +25,7 @@ use Rattle.target_core.specs.Views.{Origin, Standing, View, standing_at}
 use Rattle.target_core.proofs.Steps.{gained_none}
 use Rattle.target_core.specs.declared.target.TargetError.{TargetError}
 use Rattle.target_core.specs.declared.target.TargetError.TheVariants.{Memory, StoreFault, Contested, Limit, Unsupported}
-use Rattle.target_sync.specs.Applied.{Applies, IsApplyRefusal, IsTold, PassesIn, StayShown}
+use Rattle.target_sync.specs.Applied.{Applies, IsApplyRefusal, IsLimitedAt, IsTold, PassesIn, StayShown}
 use Rattle.target_sync.specs.Targets.{IsStart}
 use Rattle.target_sync.specs.declared.apply.Report.{Report}
 use Rattle.target_sync.proofs.Counting.{contested_as, contested_never, fails_as, fails_never}
@@ -47,6 +49,10 @@ err_same e d is = cc is
 
 ok_err : {X : Type 0} (x : X) (d : TargetError) → ◌≡◌ {A = Result X TargetError} (Ok x) (Err d) → ⊥
 ok_err x d is = cc is
+
+names_or : (which : LimitKind) → (which ≡ Names) ⊎ (which ≢ Names)
+names_or Names = inl refl
+names_or _ = inr (λ is. cc is)
 
 module _ {S : Type 0} (store : Ghosts S) (target : Meaning) (origin : Origin) (start : View) (commits : List Commit) where
   -- while files are only read a crash shows none of them
@@ -172,14 +178,23 @@ module _ {S : Type 0} (store : Ghosts S) (target : Meaning) (origin : Origin) (s
         limited = λ told stands which number is_limit.
             let at = refused told in
             let same : e ≡ Limit which number = err_same e (Limit which number) is_limit in
-            inr (record {
+            let limited_with : (which ≢ Names → (0 < at.place) × written (take at.place commits) (store.disk new).files) → IsLimitedAt store target passes written origin start partition commits old new which number
+            = λ untouched. record {
               place = at.place;
               within = at.within;
               columns = columns (has_some commits at.place at.within);
               passed = subst (λ (x : TargetError). IsCommitRefusal (passes (take (at.place + 1) commits)) x) same at.cause;
               left = at.stay stands;
               gained = at.limited stands which number same;
-            });
+              untouched = untouched;
+            } in
+            ⊎_elim
+            (λ names. inr (limited_with (λ other. absurd (other names))))
+            (λ other. ⊎_elim
+            (λ some. inr (limited_with (λ _. (some, at.untouched stands which number same other))))
+            (λ none. inl (at.unmoved which number same other (omega (arith, none))))
+            (cases_lt 0 at.place))
+            (names_or which);
         refused = λ told. refusal_at (OnlyReads store old new) (refused told).place (refused told).within e (refused told).cause;
         fault = fails_as store.faults store.may_fail old new _ _ (err_is e StoreFault) cause;
         contest = contested_as store.contests store.may_contest old new _ _ (err_is e Contested) (err_is e Contested) contest;
@@ -207,7 +222,13 @@ module _ {S : Type 0} (store : Ghosts S) (target : Meaning) (origin : Origin) (s
               left = subst (λ (cs : List Commit). written cs (store.disk new).files) (sym (take-length commits)) (has_written told stands);
               stay = alone_by_reading store (target.reached (store.disk new).files) new new (reading_begins store only_now new told);
             };
-            gained = λ u. (length commits, omega arith, omega arith, (publishes told stands).all refl);
+            gained = λ u. (
+              length commits,
+              omega arith,
+              omega arith,
+              (publishes told stands).all refl,
+              ((store.disk new).files, subst (λ (cs : List Commit). written cs (store.disk new).files) (sym (take-length commits)) (has_written told stands), λ path reached. refl),
+            );
           });
           contested = λ told stands is. absurd (memory_is Contested (λ same. cc same) is);
           limited = λ told stands which number is. absurd (memory_is (Limit which number) (λ same. cc same) is);

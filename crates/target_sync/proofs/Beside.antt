@@ -15,7 +15,7 @@ use Rattle.target_core.specs.Folders.{MayLeaveIn, SameIn, after_crash, folder_of
 use Rattle.target_core.specs.Gained.{CarriesAt, Gained, StillCarries}
 use Rattle.target_core.specs.Meaning.{Meaning}
 use Rattle.target_core.specs.Views.{Origin, View, standing_at}
-use Rattle.target_core.specs.Written.{StayAfter}
+use Rattle.target_core.specs.Written.{IsAsLeft, StayAfter}
 use Rattle.target_core.proofs.Apart.{folders_apart}
 use Rattle.target_core.proofs.Same.{same_refl}
 use Rattle.target_core.proofs.Steps.{count_taken}
@@ -237,6 +237,12 @@ module _ {S : Type 0} (store : Ghosts S) (only_now : NowOnly store) (now_counts 
             stay = alone_further store reached is.middle mid new (λ t. is.stay) (λ t. bytes_kept mid new (run t) reached (own.reached_in (store.disk is.middle).files)) told;
           }
 
+      left_on : (partition : List (List ℕ)) (origin : Origin) (commits : List Commit) (files : Files) → SameIn folder (store.disk mid).files files → Leaves target None now before partition origin commits (store.disk mid).files → Leaves target (Some other) now before partition origin commits files
+      left_on partition origin commits files here is = (before, (store.disk mid).files, (λ path mine. refl), here, is)
+
+      as_left_on : (partition : List (List ℕ)) (origin : Origin) (commits : List Commit) → IsAsLeft target.files.reached (Leaves target None now before partition origin commits) (store.disk mid).files → IsAsLeft target.files.reached (Leaves target (Some other) now before partition origin commits) (store.disk new).files
+      as_left_on partition origin commits is = (is.0, (before, is.0, (λ path mine. refl), (λ path mine. refl), is.1), λ path reached. same mid new (run told) path (own.reached_in is.0 path reached) ∙ is.2 path reached)
+
       contested_on : IsContested store source target.files (Leaves target None now) mode start before old mid → IsContested store source target.files (Leaves target (Some other) now) mode start before old new
       contested_on is = record {
         due = is.due;
@@ -260,6 +266,9 @@ module _ {S : Type 0} (store : Ghosts S) (only_now : NowOnly store) (now_counts 
         passed = is.passed;
         left = stay_on is.due.partition (origin_of is.due) (take is.place is.due.commits) is.left;
         gained = gained_own source target own mode start before (store.disk mid).files (store.disk new).files (same mid new (run told)) (origin_of is.due) (with_columns is.due.partition start) is.due.commits is.place is.gained;
+        untouched = λ names.
+            let left = is.untouched names in
+            (left.0, left_on is.due.partition (origin_of is.due) (take is.place is.due.commits) (store.disk new).files (same mid new (run told)) left.1);
       })
 
       stopped_on : (given : Answer) → StopsSo store source target None mode now start old mid given → StopsSo store source target (Some other) mode now start old new given
@@ -278,6 +287,7 @@ module _ {S : Type 0} (store : Ghosts S) (only_now : NowOnly store) (now_counts 
               some.1,
               some.2,
               gained_own source target own mode start before (store.disk mid).files (store.disk new).files (same mid new (run told)) (origin_of is.due) (with_columns is.due.partition start) is.due.commits some.0 some.3,
+              as_left_on is.due.partition (origin_of is.due) (take some.0 is.due.commits) some.4,
             );
       })
 
@@ -413,8 +423,11 @@ module _ {S : Type 0} (store : Ghosts S) (only_now : NowOnly store) (now_counts 
           (λ t. stay) told
 
       -- what was left over the other's files was left over the first ones
+      left_since : (partition : List (List ℕ)) (origin : Origin) (commits : List Commit) (files : Files) → Leaves target None now middle partition origin commits files → Leaves target (Some other) now first partition origin commits files
+      left_since partition origin commits files is = (middle, files, here told, (λ path mine. refl), is)
+
       stay_since : (partition : List (List ℕ)) (origin : Origin) (commits : List Commit) → StayAfter store target.files (Leaves target None now middle partition origin commits) new → StayAfter store target.files (Leaves target (Some other) now first partition origin commits) new
-      stay_since partition origin commits is = record { middle = is.middle; left = (middle, (store.disk is.middle).files, here told, (λ path mine. refl), is.left); stay = is.stay }
+      stay_since partition origin commits is = record { middle = is.middle; left = left_since partition origin commits (store.disk is.middle).files is.left; stay = is.stay }
 
       contested_since : IsContested store source target.files (Leaves target None now) mode start middle mid new → IsContested store source target.files (Leaves target (Some other) now) mode start first old new
       unfolding due_own
@@ -441,6 +454,9 @@ module _ {S : Type 0} (store : Ghosts S) (only_now : NowOnly store) (now_counts 
         passed = own.passes middle first is.due.partition (origin_of is.due) now _ which number (back told) is.passed;
         left = stay_since is.due.partition (origin_of is.due) (take is.place is.due.commits) is.left;
         gained = gained_since source laws target own mode start middle first (store.disk new).files (source_back told) (here told) (origin_of is.due) (with_columns is.due.partition start) is.due.commits is.place is.gained;
+        untouched = λ names.
+            let left = is.untouched names in
+            (left.0, left_since is.due.partition (origin_of is.due) (take is.place is.due.commits) (store.disk new).files left.1);
       })
 
       stopped_since : (given : Answer) → StopsSo store source target None mode now start mid new given → StopsSo store source target (Some other) mode now start old new given
@@ -460,6 +476,7 @@ module _ {S : Type 0} (store : Ghosts S) (only_now : NowOnly store) (now_counts 
               some.1,
               some.2,
               gained_since source laws target own mode start middle first (store.disk new).files (source_back told) (here told) (origin_of is.due) (with_columns is.due.partition start) is.due.commits some.0 some.3,
+              (some.4.0, left_since is.due.partition (origin_of is.due) (take some.0 is.due.commits) some.4.0 some.4.1, some.4.2),
             );
       })
 

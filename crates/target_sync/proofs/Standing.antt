@@ -1,5 +1,5 @@
 -- Where a target stands behind a plan of what is due, and that a source stays as it is.
-use Rattle.std.proofs.Common.{◌≡◌, ◌⊎◌, inl, inr, ⊎_elim, ℕ, ◌+◌, ◌<◌, ◌≤◌, Bool, true, false, List, [], ◌∷◌, length, take, Contains, Option, Some, None, refl, sym, ap, subst, ◌∙◌, arith}
+use Rattle.std.proofs.Common.{◌≡◌, ◌≢◌, ◌⊎◌, inl, inr, ⊎_elim, ℕ, ◌+◌, ◌<◌, ◌≤◌, Bool, true, false, List, [], ◌∷◌, length, take, Contains, Option, Some, None, refl, sym, ap, subst, ◌∙◌, arith}
 use Rattle.std.proofs.Math.Seq.{take-length}
 use Rattle.lake_store.specs.Disk.{Disk, Files, IsClean, MayLeave}
 use Rattle.lake_store.specs.Runs.{ChangesOnlyIn, IsEachMoment, IsIn, IsOutside, KeepsImage, LeavesAlone, OnlyReads}
@@ -15,6 +15,7 @@ use Rattle.table_history.specs.Tables.{IsRowAfter}
 use Rattle.table_history.specs.TypeTree.{ColumnTrees}
 use Rattle.table_history.specs.declared.kind.Kind.{Kind}
 use Rattle.table_history.specs.declared.limit.LimitKind.{LimitKind}
+use Rattle.table_history.specs.declared.limit.LimitKind.TheVariants.{Names}
 use Rattle.table_history.specs.declared.table.Change.{Change}
 use Rattle.table_history.specs.declared.table.Commit.{Commit}
 use Rattle.table_history.specs.declared.table.Table.{Table}
@@ -24,7 +25,7 @@ use Rattle.target_core.specs.Gained.{Carries, Gained, GainedSome, StillCarries}
 use Rattle.target_core.specs.Meaning.{Meaning}
 use Rattle.target_core.specs.Publishing.{LeavesSome, Publishes}
 use Rattle.target_core.specs.Views.{IsAdvancedAll, IsPublished, IsSchemaAfter, IsUnpublished, Origin, SameView, Standing, View, absent, standing_at}
-use Rattle.target_core.specs.Written.{StayAfter}
+use Rattle.target_core.specs.Written.{IsAsLeft, StayAfter}
 use Rattle.target_core.proofs.Apart.{folders_apart}
 use Rattle.target_core.proofs.Same.{advanced_from, same_refl}
 use Rattle.target_core.proofs.Steps.{count_taken}
@@ -389,7 +390,8 @@ module _ (source : SourceMeaning) (own : SourceLaws source) (target : Meaning) (
             }
 
         pub stopped_here : {S : Type 0} (store : Ghosts S) (leaves : Leaving) (new : S) (U : Type 0) (place : ℕ) → place ≤ length commits → StayAfter store target (leaves before partition origin (take place commits)) new
-            → (U → (n : ℕ) × (place ≤ n) × (n ≤ place + 1) × Gained target origin v before commits n (store.disk new).files) → IsStopped store source target leaves mode start U before new
+            → (U → (n : ℕ) × (place ≤ n) × (n ≤ place + 1) × Gained target origin v before commits n (store.disk new).files × IsAsLeft target.reached (leaves before partition origin (take n commits)) (store.disk new).files)
+            → IsStopped store source target leaves mode start U before new
         unfolding due_one due_here
         stopped_here store leaves new U place within left gained = record {
           due = due_one source mode before v start one due_here;
@@ -397,14 +399,14 @@ module _ (source : SourceMeaning) (own : SourceLaws source) (target : Meaning) (
           place = place;
           within = within;
           left = left;
-          gained = λ u. let some = gained u in (some.0, some.1, some.2, gained_begun some.0 (store.disk new).files some.3);
+          gained = λ u. let some = gained u in (some.0, some.1, some.2, gained_begun some.0 (store.disk new).files some.3, some.4);
         }
 
         pub limited_here : {S : Type 0} (store : Ghosts S) (passes : Files → List (List ℕ) → Origin → List Commit → LimitKind → ℕ → Type 0) (leaves : Leaving) (new : S) (which : LimitKind) (number : ℕ) (place : ℕ) → place < length commits
             → passes before partition origin (take (place + 1) commits) which number → StayAfter store target (leaves before partition origin (take place commits)) new
-            → Gained target origin v before commits place (store.disk new).files → IsLimited store source target passes leaves mode start before new which number
+            → Gained target origin v before commits place (store.disk new).files → (which ≢ Names → (0 < place) × leaves before partition origin (take place commits) (store.disk new).files) → IsLimited store source target passes leaves mode start before new which number
         unfolding due_one due_here
-        limited_here store passes leaves new which number place within passed left gained = record {
+        limited_here store passes leaves new which number place within passed left gained untouched = record {
           due = due_one source mode before v start one due_here;
           columns = columns_of v start partition one columns;
           place = place;
@@ -412,6 +414,7 @@ module _ (source : SourceMeaning) (own : SourceLaws source) (target : Meaning) (
           passed = passed;
           left = left;
           gained = gained_begun place (store.disk new).files gained;
+          untouched = untouched;
         }
 
         pub contested_here : {S : Type 0} (store : Ghosts S) (leaves : Leaving) (old new : S) (place : ℕ) → place < length commits → Carries target origin v.commits commits place (store.disk new).files

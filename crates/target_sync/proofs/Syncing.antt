@@ -248,10 +248,13 @@ module _ {S F T K : Type 0} (store : Ghosts S) (only_now : NowOnly store) (sourc
           (λ (idle : (is_ok {E = TargetError} (Ok report) ≡ true → ⊥) × (store.tells → OnlyReads store mid new)). absurd (idle.0 refl)) (columns_known _ given.columns)
 
       -- what they left over the view that was kept
+      left_is : (cs : List Commit) (files : Files) → HaveWritten target t kept (store.disk mid).files origin now cs files → Leaves (target_facts target t) None now before partition origin cs files
+      left_is cs files is = (kept, is_kept told, subst (λ (d : Disk). HaveWritten target t kept d.files origin now cs files) disk_same is)
+
       stay_is : (cs : List Commit) → StayAfter store (meaning target t) (HaveWritten target t kept (store.disk mid).files origin now cs) new → StayAfter store (meaning target t) (Leaves (target_facts target t) None now before partition origin cs) new
       stay_is cs is = record {
         middle = is.middle;
-        left = (kept, is_kept told, subst (λ (d : Disk). HaveWritten target t kept d.files origin now cs (store.disk is.middle).files) disk_same is.left);
+        left = left_is cs (store.disk is.middle).files is.left;
         stay = is.stay;
       }
 
@@ -273,7 +276,8 @@ module _ {S F T K : Type 0} (store : Ghosts S) (only_now : NowOnly store) (sourc
           let passed : target.passes t kept before origin now (take (at.place + 1) commits) which number = subst (λ (d : Disk). target.passes t kept d.files origin now (take (at.place + 1) commits) which number) disk_same at.passed in
           let gained = subst (λ (d : Disk). Gained (meaning target t) origin v d.files commits at.place (store.disk new).files) disk_same at.gained in
           inr (limited_here (source_meaning source f) laws.source_own (meaning target t) mode v before head (is_head told) id (is_id told) partition commits full (way told) at.columns start
-          (laws.views.one_view before v start (kept_reads told) ready.reads) store passes_at (Leaves (target_facts target t) None now) new which number at.place at.within (kept, is_kept told, passed) (stay_is (take at.place commits) at.left) gained)
+          (laws.views.one_view before v start (kept_reads told) ready.reads) store passes_at (Leaves (target_facts target t) None now) new which number at.place at.within (kept, is_kept told, passed) (stay_is (take at.place commits) at.left) gained
+          (λ other. let left = at.untouched other in (left.0, left_is (take at.place commits) (store.disk new).files left.1)))
 
       -- what isn't idle has the source's columns, from before it was read
       columns_or : {X : Type 0} → (v.table.partition ≡ partition) ⊎ (X × (store.tells → OnlyReads store mid new)) → (v.table.partition ≡ partition) ⊎ OnlyReads store old new
@@ -287,7 +291,14 @@ module _ {S F T K : Type 0} (store : Ghosts S) (only_now : NowOnly store) (sourc
       stopped_at start ready e (inl columns) at =
           inr (stopped_here (source_meaning source f) laws.source_own (meaning target t) mode v before head (is_head told) id (is_id told) partition commits full (way told) columns start
           (laws.views.one_view before v start (kept_reads told) ready.reads) store (Leaves (target_facts target t) None now) new (¬ IsContest (status_of_target (target.kind t) e)) at.place at.within (stay_is (take at.place commits) at.left)
-          (λ u. let some = at.gained (undisturbed (target.kind t) (Err e) u) in (some.0, some.1, some.2, subst (λ (d : Disk). Gained (meaning target t) origin v d.files commits some.0 (store.disk new).files) disk_same some.3)))
+          (λ u.
+          let some = at.gained (undisturbed (target.kind t) (Err e) u) in (
+            some.0,
+            some.1,
+            some.2,
+            subst (λ (d : Disk). Gained (meaning target t) origin v d.files commits some.0 (store.disk new).files) disk_same some.3,
+            (some.4.0, left_is (take some.0 commits) some.4.0 some.4.1, some.4.2),
+          )))
 
       stopped_is : (start : View) → IsReady (source_meaning source f) (target_facts target t) before start (target.settled t (store.disk old)) → (answer : Result Report TargetError) → Applied answer
           → StopsSo store (source_meaning source f) (target_facts target t) None mode now start old new (Some (answer_of_target (target.kind t) answer))

@@ -9,6 +9,7 @@ use Rattle.table_history.specs.Rows.{HasDistinctPaths}
 use Rattle.table_history.specs.TypeTree.{ColumnTrees}
 use Rattle.table_history.specs.declared.kind.Kind.{Kind}
 use Rattle.table_history.specs.declared.limit.LimitKind.{LimitKind}
+use Rattle.table_history.specs.declared.limit.LimitKind.TheVariants.{Names}
 use Rattle.table_history.specs.declared.table.Commit.{Commit}
 use Rattle.target_core.specs.Conditions.{CanPublishAll}
 use Rattle.target_core.specs.Folders.{folder_of}
@@ -17,7 +18,7 @@ use Rattle.target_core.specs.Meaning.{Meaning}
 use Rattle.target_core.specs.Outcome.{Uncontested}
 use Rattle.target_core.specs.Publishing.{Publishes}
 use Rattle.target_core.specs.Views.{IsAdvancedAll, Origin, Standing, View}
-use Rattle.target_core.specs.Written.{StayAfter}
+use Rattle.target_core.specs.Written.{IsAsLeft, StayAfter}
 use Rattle.target_core.specs.declared.target.TargetError.{TargetError}
 use Rattle.target_core.specs.declared.target.TargetError.TheVariants.{Memory, StoreFault, Contested, Limit, Unsupported}
 use Rattle.target_sync.specs.Targets.{IsStart}
@@ -92,6 +93,7 @@ pub record IsContestedAt {S : Type 0} (store : Ghosts S) (target : Meaning) (wri
   pub stay : IsEachMoment store old new (StayShown target origin start.commits commits (store.disk new).files)
 
 -- Publishing one of the commits passes this number. Those before it are published and left just what they write, which stays byte for byte, and it isn't.
+-- Where it isn't the number of names, there are some before it, and no file has changed since.
 pub record IsLimitedAt {S : Type 0} (store : Ghosts S) (target : Meaning) (passes : List Commit → LimitKind → ℕ → Type 0) (written : List Commit → Files → Type 0) (origin : Origin) (start : View) (partition : List (List ℕ)) (commits : List Commit) (old new : S) (which : LimitKind) (number : ℕ) : Type 0 where
   pub place : ℕ
   pub within : place < length commits
@@ -99,14 +101,16 @@ pub record IsLimitedAt {S : Type 0} (store : Ghosts S) (target : Meaning) (passe
   pub passed : passes (take (place + 1) commits) which number
   pub left : StayAfter store target (written (take place commits)) new
   pub gained : Gained target origin start (store.disk old).files commits place (store.disk new).files
+  pub untouched : which ≢ Names → (0 < place) × written (take place commits) (store.disk new).files
 
--- Publishing the commits ended with a refusal. The first so many of them left just what they write, which stays byte for byte, and unless another
--- writer was in the way at most one more is published.
+-- Publishing the commits ended with a refusal. The first so many of them left just what they write, which stays byte for byte. Unless another writer was
+-- in the way at most one more is published, and what commits reach is just what the published ones leave.
 pub record IsStoppedAt {S : Type 0} (store : Ghosts S) (target : Meaning) (written : List Commit → Files → Type 0) (Uncontested : Type 0) (origin : Origin) (start : View) (commits : List Commit) (old new : S) : Type 0 where
   pub place : ℕ
   pub within : place ≤ length commits
   pub left : StayAfter store target (written (take place commits)) new
   pub gained : Uncontested → (n : ℕ) × (place ≤ n) × (n ≤ place + 1) × Gained target origin start (store.disk old).files commits n (store.disk new).files
+      × IsAsLeft target.reached (written (take n commits)) (store.disk new).files
 
 -- Some first commits of the list pass the number.
 abbrev pub PassesIn : (List Commit → LimitKind → ℕ → Type 0) → List Commit → LimitKind → ℕ → Type 0

@@ -1,17 +1,18 @@
 -- Where a target stands while it is brought to the source's head, and behind that.
-use Rattle.std.specs.Prelude.{◌≡◌, ◌⊎◌, ◌+◌, ◌<◌, ◌≤◌, ℕ, true, List, length, take, Some}
+use Rattle.std.specs.Prelude.{◌≡◌, ◌≢◌, ◌⊎◌, ◌+◌, ◌<◌, ◌≤◌, ℕ, true, List, length, take, Some}
 use Rattle.lake_store.specs.Disk.{Files, IsClean}
 use Rattle.lake_store.specs.Runs.{IsEachMoment, IsIn, LeavesAlone}
 use Rattle.lake_store.specs.declared.store.Store.{Ghosts}
 use Rattle.table_history.specs.Rows.{SameRows}
 use Rattle.table_history.specs.declared.limit.LimitKind.{LimitKind}
+use Rattle.table_history.specs.declared.limit.LimitKind.TheVariants.{Names}
 use Rattle.table_history.specs.declared.table.Commit.{Commit}
 use Rattle.table_history.specs.declared.table.Table.{Table}
 use Rattle.target_core.specs.Folders.{after_crash, folder_of}
 use Rattle.target_core.specs.Gained.{Carries, Gained, GainedSome, StillCarries}
 use Rattle.target_core.specs.Meaning.{Meaning}
 use Rattle.target_core.specs.Views.{IsUnpublished, Origin, SameView, View}
-use Rattle.target_core.specs.Written.{StayAfter}
+use Rattle.target_core.specs.Written.{IsAsLeft, StayAfter}
 use Rattle.target_sync.specs.Applied.{StayShown, position_at}
 use Rattle.target_sync.specs.Dues.{Due, origin_of}
 use Rattle.target_sync.specs.Sources.{SameSource, SourceMeaning}
@@ -56,7 +57,7 @@ abbrev pub Leaving : Type 1
 Leaving = Files → List (List ℕ) → Origin → List Commit → Files → Type 0
 
 -- Publishing the commits that are due ended with a refusal. The first so many of them left just what they write, and what they reach stays byte for byte
--- from then on. Unless another writer was in the way at most one more is published.
+-- from then on. Unless another writer was in the way at most one more is published, and what commits reach is just what the published ones leave.
 pub record IsStopped {S : Type 0} (store : Ghosts S) (source : SourceMeaning) (target : Meaning) (leaves : Leaving) (mode : Mode) (start : View) (Uncontested : Type 0) (before : Files) (new : S) : Type 0 where
   pub due : Due source mode before start
   pub columns : (due.partition ≡ start.table.partition) ⊎ IsUnpublished start
@@ -64,6 +65,7 @@ pub record IsStopped {S : Type 0} (store : Ghosts S) (source : SourceMeaning) (t
   pub within : place ≤ length due.commits
   pub left : StayAfter store target (leaves before due.partition (origin_of due) (take place due.commits)) new
   pub gained : Uncontested → (n : ℕ) × (place ≤ n) × (n ≤ place + 1) × Gained target (origin_of due) (with_columns due.partition start) before due.commits n (store.disk new).files
+      × IsAsLeft target.reached (leaves before due.partition (origin_of due) (take n due.commits)) (store.disk new).files
 
 -- Publishing one of the commits that are due met another writer's. Those before it left just what they write, and what they reach stays byte for byte
 -- from then on; they stand, each with its own change, as does each that a crash at any moment would have shown. Nothing is published after that writer's.
@@ -78,7 +80,8 @@ pub record IsContested {S : Type 0} (store : Ghosts S) (source : SourceMeaning) 
   pub stay : IsEachMoment store old new (StayShown target (origin_of due) start.commits due.commits (store.disk new).files)
 
 -- Publishing one of the commits that are due passes this number. The target has gained those before it, and not that one. They left just what they
--- write, and what they reach stays byte for byte from then on.
+-- write, and what they reach stays byte for byte from then on. Where it isn't the number of names, there are some before it, and no file of the target has
+-- changed since.
 pub record IsLimited {S : Type 0} (store : Ghosts S) (source : SourceMeaning) (target : Meaning) (passes : Files → List (List ℕ) → Origin → List Commit → LimitKind → ℕ → Type 0) (leaves : Leaving) (mode : Mode) (start : View) (before : Files) (new : S) (which : LimitKind) (number : ℕ) : Type 0 where
   pub due : Due source mode before start
   pub columns : (due.partition ≡ start.table.partition) ⊎ IsUnpublished start
@@ -87,6 +90,7 @@ pub record IsLimited {S : Type 0} (store : Ghosts S) (source : SourceMeaning) (t
   pub passed : passes before due.partition (origin_of due) (take (place + 1) due.commits) which number
   pub left : StayAfter store target (leaves before due.partition (origin_of due) (take place due.commits)) new
   pub gained : Gained target (origin_of due) (with_columns due.partition start) before due.commits place (store.disk new).files
+  pub untouched : which ≢ Names → (0 < place) × leaves before due.partition (origin_of due) (take place due.commits) (store.disk new).files
 
 abbrev pub IsAsBeforeOrUnderway : SourceMeaning → Meaning → Mode → View → Files → Files → Type 0
 IsAsBeforeOrUnderway source target mode start before files = IsAsBefore target start before files ⊎ IsUnderway source target mode start before files
