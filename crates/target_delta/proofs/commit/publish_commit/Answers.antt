@@ -107,10 +107,9 @@ returns-in_err-stage_and_publish-clause-stands g c told id stands settled come =
     let exit = err_from_is_err_and c.from_residual-in_err-stage_and_publish.result c.from_residual-in_err-stage_and_publish.ensures.1 in
     let result = c.from_residual-in_err-stage_and_publish.result in
     let error = c.in_err-stage_and_publish.field-0.0 in
-    let untaken = λ taken. untaken_by result exit.0 error exit.1 exit.2 (come_uncontested result kept.commits (commits_in (store.disk new).files) come) (err_same error taken) in
     let later = come_later result exit.0 kept.commits (commits_in (store.disk new).files) exit.1 come in
     stands_come store old new told staged name bytes kept.commits is_staged named _ (c.in_err-stage_and_publish.ensures.left told) c.in_err-stage_and_publish.ensures.any_moment id origin c.args.now_ms kept next c.args.commit.now refl v c.requires.can c.requires.fits stands settled
-    untaken later
+    (λ taken. untaken_by result exit.0 error exit.1 exit.2 (come_uncontested result kept.commits (commits_in (store.disk new).files) come) (err_same error taken)) later
 
 pub returns-in_err-stage_and_publish-clause-came : goal.returns-in_err-stage_and_publish-clause-came
 returns-in_err-stage_and_publish-clause-came g c told id stands settled come =
@@ -129,10 +128,9 @@ returns-in_err-stage_and_publish-clause-came g c told id stands settled come =
     let exit = err_from_is_err_and c.from_residual-in_err-stage_and_publish.result c.from_residual-in_err-stage_and_publish.ensures.1 in
     let result = c.from_residual-in_err-stage_and_publish.result in
     let error = c.in_err-stage_and_publish.field-0.0 in
-    let untaken = λ taken. untaken_by result exit.0 error exit.1 exit.2 (come_uncontested result kept.commits (commits_in (store.disk new).files) come) (err_same error taken) in
     let later = come_later result exit.0 kept.commits (commits_in (store.disk new).files) exit.1 come in
     as_left_come store old new told staged name bytes kept.commits is_staged named _ (c.in_err-stage_and_publish.ensures.left told) c.in_err-stage_and_publish.ensures.any_moment id origin c.args.now_ms kept next c.args.commit.now refl v c.requires.can c.requires.fits stands settled
-    untaken later
+    (λ taken. untaken_by result exit.0 error exit.1 exit.2 (come_uncontested result kept.commits (commits_in (store.disk new).files) come) (err_same error taken)) later
 
 pub returns-in_err-stage_and_publish-clause-limited : goal.returns-in_err-stage_and_publish-clause-limited
 returns-in_err-stage_and_publish-clause-limited g c told which number is =
