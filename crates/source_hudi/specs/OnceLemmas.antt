@@ -16,7 +16,10 @@ use Rattle.hudi_timeline.specs.Schemas.{schema_after}
 use Rattle.hudi_timeline.proofs.CauseLemmas.{kinds_same}
 use Rattle.hudi_timeline.proofs.ChangeLemmas.{schema_is}
 use Rattle.hudi_groups.specs.declared.form.Form.TheVariants.{Base}
+use Rattle.hudi_instant.specs.Instants.{json_instant}
 use Rattle.hudi_instant.specs.declared.instant.Instant.{Instant}
+use Rattle.hudi_properties.specs.Pairs.{properties_of}
+use Rattle.hudi_properties.specs.TableProperties.{checked_table}
 use Rattle.hudi_properties.specs.declared.table.HudiTable.{HudiTable}
 use Rattle.hudi_table.specs.Files.{SaysInstant, SaysProperties}
 use Rattle.hudi_table.specs.Reading.{SayTimeline}
@@ -44,13 +47,13 @@ some_once a b o x y = cc (sym x ∙ y)
 instant_once : (files : Files) (c : CompletedInstant) (a b : Instant) → SaysInstant files c a → SaysInstant files c b → a ≡ b
 instant_once files c a b x y =
     let bytes = some_once x.bytes y.bytes _ x.holds y.holds in
-    ok_once _ a b (ap _ (sym bytes) ∙ x.reads) y.reads
+    ok_once (json_instant y.bytes) a b (ap json_instant (sym bytes) ∙ x.reads) y.reads
 
 table_described : (files : Files) (a b : Properties) → SaysProperties files a → SaysProperties files b → a.table ≡ b.table
 table_described files a b x y =
     let bytes = some_once x.bytes y.bytes _ x.holds y.holds in
-    let pairs : a.pairs ≡ b.pairs = ok_once _ a.pairs b.pairs x.read.0 (ap _ bytes ∙ y.read.0) in
-    ok_once _ a.table b.table x.read.1 (ap _ pairs ∙ y.read.1)
+    let pairs : a.pairs ≡ b.pairs = ok_once (properties_of x.bytes) a.pairs b.pairs x.read.0 (ap properties_of bytes ∙ y.read.0) in
+    ok_once (checked_table a.pairs) a.table b.table x.read.1 (ap checked_table pairs ∙ y.read.1)
 
 timeline_once : (files : Files) (instants : List CompletedInstant) (a b : Timeline) → SayTimeline files naming.Base instants a → SayTimeline files naming.Base instants b → a ≡ b
 timeline_once files [] a b x y = x ∙ sym y
