@@ -1,0 +1,14 @@
+mod Lists
+mod CauseLaws
+mod RemovingLaws
+mod PartLaws
+mod LooseLaws
+mod SweepLaws
+mod PickLaws
+mod ClaimLaws
+mod SetLaws
+mod OnceLaws
+mod ReadingLaws
+mod VersionLaws
+mod ReachLaws
+mod RefusalLaws
