@@ -1,0 +1,28 @@
+use Rattle.std.proofs.Common.{◌≡◌, ◌≤◌, ◌<◌, ◌^◌, ℕ, Some, sym, ap, ◌∙◌, arith}
+use Rattle.std.proofs.lemmas.Fmt.{parse-decimal}
+use Rattle.std.specs.Prelude.{Ok}
+use Rattle.lake_basics.specs.declared.limits.TheConstants.{MAX_DELTA_VERSION}
+use Rattle.delta_compact.proofs.reading.version_at.Goals as goal
+
+small : (n : ℕ) → n ≤ MAX_DELTA_VERSION → n < 2 ^ 64
+small n h = omega (arith, h)
+
+pub returns-in_default-clause-known : goal.returns-in_default-clause-known
+returns-in_default-clause-known c = λ version within is.
+    let parsed = parse-decimal 64 version c.args.position.now c.parse.result (small version within) (small version within) is c.parse.ensures.value.0 in
+    let no = c.in_default.is in
+    absurd (cc)
+
+pub returns-then-version-gt-MAX_DELTA_VERSION-clause-known : goal.returns-then-version-gt-MAX_DELTA_VERSION-clause-known
+returns-then-version-gt-MAX_DELTA_VERSION-clause-known c = λ version within is.
+    let parsed = parse-decimal 64 version c.args.position.now c.parse.result (small version within) (small version within) is c.parse.ensures.value.0 in
+    let both : Ok version ≡ Ok c.in-Ok.version = sym parsed ∙ c.in-Ok.is in
+    let same : version ≡ c.in-Ok.version = cc in
+    absurd (omega (arith, same, within, c.if-version-gt-MAX_DELTA_VERSION.true))
+
+pub returns-clause-known : goal.returns-clause-known
+returns-clause-known c = λ version within is.
+    let parsed = parse-decimal 64 version c.args.position.now c.parse.result (small version within) (small version within) is c.parse.ensures.value.0 in
+    let both : Ok version ≡ Ok c.in-Ok.version = sym parsed ∙ c.in-Ok.is in
+    let same : c.in-Ok.version ≡ version = cc in
+    ap (λ (n : ℕ). Some n) same

@@ -1,0 +1,5 @@
+pub mod Blocks
+pub mod Joinable
+pub mod Refusals
+pub mod Compacting
+pub mod Steps
