@@ -1,69 +1,22 @@
 -- What each kind of words makes of a command.
-use Rattle.std.proofs.Common.{◌≡◌, ℕ, List, get_or, refl, sym, ◌∙◌, ap, subst, arith}
+use Rattle.std.proofs.Common.{◌≡◌, ◌∙◌, ℕ, List, sym, subst}
 use Rattle.std.specs.Prelude.{Option, Some, None}
 use Rattle.lake_store.specs.declared.store.Store.{Ghosts}
 use Rattle.lake_store.specs.declared.sink.Sink as sinks
 use Rattle.table_history.specs.declared.kind.Kind.{Kind}
-use Rattle.sync_driver.specs.Answers.{AreApart, Brings, Command, Compares, Prints, form_of}
+use Rattle.sync_driver.specs.Answers.{AreApart, Brings, Command, Compares, Prints, SweepsTo, form_of}
+use Rattle.sync_driver.specs.Compacted.{TellsCompaction}
 use Rattle.sync_driver.specs.Formats.{Formats}
-use Rattle.sync_driver.specs.Forms.{Words, IsCommand, IsNoCommand, Spells, verb_word}
+use Rattle.sync_driver.specs.Forms.{Words, IsCommand, IsNoCommand, Spells}
 use Rattle.sync_driver.specs.Lines.{refusal_line}
 use Rattle.sync_driver.specs.Tellings.{Tells}
 use Rattle.target_sync.specs.declared.plan.Mode.{Mode}
 use Rattle.target_sync.specs.declared.plan.Mode.TheVariants as modes
 use Rattle.target_sync.specs.declared.status.Status.{Status}
 use Rattle.target_sync.specs.declared.status.Status.TheVariants.{Usage}
-use Rattle.sync_driver.specs.declared.words.Verb.TheVariants as verb
 use Rattle.sync_driver.specs.declared.words.Form.{Form}
-use Rattle.sync_driver.specs.declared.words.Form.TheVariants.{Sync, Full, Show, Check}
-
-full_sync : (w : Option (List ℕ)) → w ≡ Some (verb_word verb.Full) → w ≡ Some (verb_word verb.Sync) → ⊥
-full_sync w a b = let e : verb_word verb.Full ≡ verb_word verb.Sync = cc in let d : 102 ≡ 115 = ap (λ (w : List ℕ). get_or w 0 0) e in omega (arith, d)
-
-sync_check : (w : Option (List ℕ)) → w ≡ Some (verb_word verb.Sync) → w ≡ Some (verb_word verb.Check) → ⊥
-sync_check w a b = let e : verb_word verb.Sync ≡ verb_word verb.Check = cc in let d : 115 ≡ 99 = ap (λ (w : List ℕ). get_or w 0 0) e in omega (arith, d)
-
-full_check : (w : Option (List ℕ)) → w ≡ Some (verb_word verb.Full) → w ≡ Some (verb_word verb.Check) → ⊥
-full_check w a b = let e : verb_word verb.Full ≡ verb_word verb.Check = cc in let d : 102 ≡ 99 = ap (λ (w : List ℕ). get_or w 0 0) e in omega (arith, d)
-
--- words spell one form at most
-pub one_form : (words : Words) (a b : Form) → Spells words a → Spells words b → a ≡ b
-one_form words (Sync f t None) (Sync g s None) is other = let a : Some f ≡ Some g = sym is.0.2 ∙ other.0.2 in let b : Some t ≡ Some s = sym is.1 ∙ other.1 in cc
-one_form words (Sync f t None) (Sync g s (Some w)) is other = let e : 4 ≡ 5 = sym is.0.0 ∙ other.0.0 in absurd (omega (arith, e))
-one_form words (Sync f t None) (Full g s None) is other = absurd (full_sync _ other.0.1 is.0.1)
-one_form words (Sync f t None) (Full g s (Some w)) is other = let e : 4 ≡ 5 = sym is.0.0 ∙ other.0.0 in absurd (omega (arith, e))
-one_form words (Sync f t None) (Show g) is other = let e : 4 ≡ 3 = sym is.0.0 ∙ other.0 in absurd (omega (arith, e))
-one_form words (Sync f t (Some u)) (Sync g s None) is other = let e : 5 ≡ 4 = sym is.0.0 ∙ other.0.0 in absurd (omega (arith, e))
-one_form words (Sync f t (Some u)) (Sync g s (Some w)) is other = let a : Some f ≡ Some g = sym is.0.2 ∙ other.0.2 in let b : Some t ≡ Some s = sym is.1 ∙ other.1 in let d : Some u ≡ Some w = sym is.2 ∙ other.2 in cc
-one_form words (Sync f t (Some u)) (Full g s None) is other = let e : 5 ≡ 4 = sym is.0.0 ∙ other.0.0 in absurd (omega (arith, e))
-one_form words (Sync f t (Some u)) (Full g s (Some w)) is other = absurd (full_sync _ other.0.1 is.0.1)
-one_form words (Sync f t (Some u)) (Show g) is other = let e : 5 ≡ 3 = sym is.0.0 ∙ other.0 in absurd (omega (arith, e))
-one_form words (Full f t None) (Sync g s None) is other = absurd (full_sync _ is.0.1 other.0.1)
-one_form words (Full f t None) (Sync g s (Some w)) is other = let e : 4 ≡ 5 = sym is.0.0 ∙ other.0.0 in absurd (omega (arith, e))
-one_form words (Full f t None) (Full g s None) is other = let a : Some f ≡ Some g = sym is.0.2 ∙ other.0.2 in let b : Some t ≡ Some s = sym is.1 ∙ other.1 in cc
-one_form words (Full f t None) (Full g s (Some w)) is other = let e : 4 ≡ 5 = sym is.0.0 ∙ other.0.0 in absurd (omega (arith, e))
-one_form words (Full f t None) (Show g) is other = let e : 4 ≡ 3 = sym is.0.0 ∙ other.0 in absurd (omega (arith, e))
-one_form words (Full f t (Some u)) (Sync g s None) is other = let e : 5 ≡ 4 = sym is.0.0 ∙ other.0.0 in absurd (omega (arith, e))
-one_form words (Full f t (Some u)) (Sync g s (Some w)) is other = absurd (full_sync _ is.0.1 other.0.1)
-one_form words (Full f t (Some u)) (Full g s None) is other = let e : 5 ≡ 4 = sym is.0.0 ∙ other.0.0 in absurd (omega (arith, e))
-one_form words (Full f t (Some u)) (Full g s (Some w)) is other = let a : Some f ≡ Some g = sym is.0.2 ∙ other.0.2 in let b : Some t ≡ Some s = sym is.1 ∙ other.1 in let d : Some u ≡ Some w = sym is.2 ∙ other.2 in cc
-one_form words (Full f t (Some u)) (Show g) is other = let e : 5 ≡ 3 = sym is.0.0 ∙ other.0 in absurd (omega (arith, e))
-one_form words (Show f) (Sync g s None) is other = let e : 3 ≡ 4 = sym is.0 ∙ other.0.0 in absurd (omega (arith, e))
-one_form words (Show f) (Sync g s (Some w)) is other = let e : 3 ≡ 5 = sym is.0 ∙ other.0.0 in absurd (omega (arith, e))
-one_form words (Show f) (Full g s None) is other = let e : 3 ≡ 4 = sym is.0 ∙ other.0.0 in absurd (omega (arith, e))
-one_form words (Show f) (Full g s (Some w)) is other = let e : 3 ≡ 5 = sym is.0 ∙ other.0.0 in absurd (omega (arith, e))
-one_form words (Sync f t None) (Check g s) is other = absurd (sync_check _ is.0.1 other.0.1)
-one_form words (Sync f t (Some u)) (Check g s) is other = let e : 5 ≡ 4 = sym is.0.0 ∙ other.0.0 in absurd (omega (arith, e))
-one_form words (Full f t None) (Check g s) is other = absurd (full_check _ is.0.1 other.0.1)
-one_form words (Full f t (Some u)) (Check g s) is other = let e : 5 ≡ 4 = sym is.0.0 ∙ other.0.0 in absurd (omega (arith, e))
-one_form words (Show f) (Check g s) is other = let e : 3 ≡ 4 = sym is.0 ∙ other.0.0 in absurd (omega (arith, e))
-one_form words (Check f t) (Sync g s None) is other = absurd (sync_check _ other.0.1 is.0.1)
-one_form words (Check f t) (Sync g s (Some w)) is other = let e : 4 ≡ 5 = sym is.0.0 ∙ other.0.0 in absurd (omega (arith, e))
-one_form words (Check f t) (Full g s None) is other = absurd (full_check _ other.0.1 is.0.1)
-one_form words (Check f t) (Full g s (Some w)) is other = let e : 4 ≡ 5 = sym is.0.0 ∙ other.0.0 in absurd (omega (arith, e))
-one_form words (Check f t) (Show g) is other = let e : 4 ≡ 3 = sym is.0.0 ∙ other.0 in absurd (omega (arith, e))
-one_form words (Check f t) (Check g s) is other = let a : Some f ≡ Some g = sym is.0.2 ∙ other.0.2 in let b : Some t ≡ Some s = sym is.1 ∙ other.1 in cc
-one_form words (Show f) (Show g) is other = let a : Some f ≡ Some g = sym is.2 ∙ other.2 in cc
+use Rattle.sync_driver.specs.declared.words.Form.TheVariants.{Sync, Full, Show, Check, Sweep, Compact}
+use Rattle.sync_driver.proofs.Spellings.{one_form}
 
 -- a source is of another format than its targets, and these than each other
 pub sync_apart : (words : Words) (source first : Kind) (second : Option Kind) → Spells words (Sync source first second) → AreApart source first second
@@ -84,6 +37,8 @@ module _ {S O : Type 0} (store : Ghosts S) (sink : sinks.Ghosts O) (formats : Fo
   Does place (Sync source first second) = IsBrought place modes.Sync source first second
   Does place (Full source first second) = IsBrought place modes.Full source first second
   Does place (Check source target) = Compares store sink formats place source target old new out_old out_new status
+  Does place (Sweep target) = SweepsTo store sink formats place target old new out_old out_new status
+  Does place Compact = TellsCompaction store sink old new out_old out_new status
 
   brought_by : (place : List ℕ) (mode : Mode) (source first : Kind) (second : Option Kind) → Does place (form_of mode source first second) → IsBrought place mode source first second
   brought_by place modes.Sync source first second does = does
@@ -95,6 +50,8 @@ module _ {S O : Type 0} (store : Ghosts S) (sink : sinks.Ghosts O) (formats : Fo
     brought = λ place mode source first second is. absurd (none place (form_of mode source first second) is);
     shown = λ place source is. absurd (none place (Show source) is);
     checked = λ place source target is. absurd (none place (Check source target) is);
+    swept = λ place target is. absurd (none place (Sweep target) is);
+    compacted = λ place is. absurd (none place Compact is);
   }
 
   module _ (place : List ℕ) (form : Form) (is : IsCommand words place form) where
@@ -113,6 +70,8 @@ module _ {S O : Type 0} (store : Ghosts S) (sink : sinks.Ghosts O) (formats : Fo
           brought = λ p mode source first second spelled. brought_by p mode source first second (at p (form_of mode source first second) spelled);
           shown = λ p source spelled. at p (Show source) spelled;
           checked = λ p source target spelled. at p (Check source target) spelled;
+          swept = λ p target spelled. at p (Sweep target) spelled;
+          compacted = λ p spelled. at p Compact spelled;
         }
 
     pub sync_command : (source first : Kind) (second : Option Kind) → form ≡ Sync source first second → IsBrought place modes.Sync source first second → Command store sink formats gives words old new out_old out_new status
@@ -126,3 +85,9 @@ module _ {S O : Type 0} (store : Ghosts S) (sink : sinks.Ghosts O) (formats : Fo
 
     pub check_command : (source target : Kind) → form ≡ Check source target → Compares store sink formats place source target old new out_old out_new status → Command store sink formats gives words old new out_old out_new status
     check_command source target here compares = does_command (subst (λ (f : Form). Does place f) (sym here) compares)
+
+    pub sweep_command : (target : Kind) → form ≡ Sweep target → SweepsTo store sink formats place target old new out_old out_new status → Command store sink formats gives words old new out_old out_new status
+    sweep_command target here sweeps = does_command (subst (λ (f : Form). Does place f) (sym here) sweeps)
+
+    pub compact_command : form ≡ Compact → TellsCompaction store sink old new out_old out_new status → Command store sink formats gives words old new out_old out_new status
+    compact_command here compacts = does_command (subst (λ (f : Form). Does place f) (sym here) compacts)

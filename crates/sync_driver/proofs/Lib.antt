@@ -10,3 +10,4 @@ pub mod Pairs
 pub mod Saying
 pub mod Shows
 pub mod Spellings
+pub mod SweepEnds

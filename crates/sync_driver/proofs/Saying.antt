@@ -12,8 +12,7 @@ use Rattle.table_history.specs.declared.kind.Kind.{Kind}
 use Rattle.table_history.specs.declared.table.Table.{Table}
 use Rattle.table_lines.specs.Lines.{line, printed}
 use Rattle.table_lines.specs.TableLines.{lines_over}
-use Rattle.sync_driver.specs.Shown.{put_status}
-use Rattle.sync_driver.specs.Tellings.{Puts, Tells, cut_of_put}
+use Rattle.sync_driver.specs.Tellings.{Puts, Tells, cut_of_put, put_status}
 use Rattle.target_sync.specs.declared.status.Status.{Status}
 use Rattle.target_sync.specs.declared.status.Status.TheVariants.{Done, Memory, SinkFault}
 

@@ -6,16 +6,18 @@ use Rattle.table_history.specs.declared.kind.Kind.{Kind}
 use Rattle.sync_driver.specs.Both.{SyncsBoth}
 use Rattle.sync_driver.specs.Checked.{Checks}
 use Rattle.sync_driver.specs.Commands.{Syncs}
+use Rattle.sync_driver.specs.Compacted.{TellsCompaction}
 use Rattle.sync_driver.specs.Formats.{Formats, FromSource, ToTarget}
 use Rattle.sync_driver.specs.Forms.{Words, IsCommand, IsNoCommand}
 use Rattle.sync_driver.specs.Lines.{refusal_line}
 use Rattle.sync_driver.specs.Shown.{Shows}
+use Rattle.sync_driver.specs.Swept.{TellsSweep}
 use Rattle.target_sync.specs.Sources.{SourceMeaning}
 use Rattle.sync_driver.specs.Tellings.{Tells}
 use Rattle.target_sync.specs.declared.plan.Mode.{Mode}
 use Rattle.target_sync.specs.declared.plan.Mode.TheVariants as modes
 use Rattle.sync_driver.specs.declared.words.Form.{Form}
-use Rattle.sync_driver.specs.declared.words.Form.TheVariants.{Check, Full, Show, Sync}
+use Rattle.sync_driver.specs.declared.words.Form.TheVariants.{Check, Compact, Full, Show, Sweep, Sync}
 use Rattle.target_sync.specs.declared.status.Status.{Status}
 use Rattle.target_sync.specs.declared.status.Status.TheVariants.{Memory, Usage}
 
@@ -66,6 +68,11 @@ Compares store sink formats place source target old new out_old out_new status =
 abbrev pub Prints : {S O : Type 0} → Ghosts S → sinks.Ghosts O → Formats → Kind → S → S → O → O → Status → Type 0
 Prints store sink formats source old new out_old out_new status = FromSource formats source (λ s. Shows store sink s old new out_old out_new status)
 
+-- The target of this format is swept; or memory ran out before anything was done.
+abbrev pub SweepsTo : {S O : Type 0} → Ghosts S → sinks.Ghosts O → Formats → List ℕ → Kind → S → S → O → O → Status → Type 0
+SweepsTo store sink formats place target old new out_old out_new status =
+    GivesUp old new out_old out_new status ⊎ ToTarget formats place target (λ t. TellsSweep store sink t old new out_old out_new status)
+
 -- A command's answer and what it has done. `now` is the time that the clock gave, one of those that it may give. Words that are no command look at no
 -- file.
 pub record Command {S O : Type 0} (store : Ghosts S) (sink : sinks.Ghosts O) (formats : Formats) (gives : ℕ → Type 0) (words : Words) (old new : S) (out_old out_new : O) (status : Status) : Type 0 where
@@ -74,3 +81,5 @@ pub record Command {S O : Type 0} (store : Ghosts S) (sink : sinks.Ghosts O) (fo
       → (now : ℕ) × gives now × Brings store sink formats place source first second mode now old new out_old out_new status
   pub shown : (place : List ℕ) (source : Kind) → IsCommand words place (Show source) → Prints store sink formats source old new out_old out_new status
   pub checked : (place : List ℕ) (source target : Kind) → IsCommand words place (Check source target) → Compares store sink formats place source target old new out_old out_new status
+  pub swept : (place : List ℕ) (target : Kind) → IsCommand words place (Sweep target) → SweepsTo store sink formats place target old new out_old out_new status
+  pub compacted : (place : List ℕ) → IsCommand words place Compact → TellsCompaction store sink old new out_old out_new status

@@ -7,7 +7,7 @@ use Rattle.table_history.specs.Words.{kind_named}
 use Rattle.sync_driver.specs.declared.words.Verb.{Verb}
 use Rattle.sync_driver.specs.declared.words.Verb.TheVariants as verb
 use Rattle.sync_driver.specs.declared.words.Form.{Form}
-use Rattle.sync_driver.specs.declared.words.Form.TheVariants.{Sync, Full, Show, Check}
+use Rattle.sync_driver.specs.declared.words.Form.TheVariants.{Sync, Full, Show, Check, Sweep, Compact}
 
 abbrev pub Words : Type 0
 Words = List (String Global)
@@ -25,10 +25,12 @@ verb_word verb.Sync = codes "sync"
 verb_word verb.Full = codes "full"
 verb_word verb.Show = codes "show"
 verb_word verb.Check = codes "check"
+verb_word verb.Sweep = codes "sweep"
+verb_word verb.Compact = codes "compact"
 
--- so many words, the first of them a place: behind it the verb and the source
+-- so many words, the first of them a place: behind it the verb and a format
 abbrev pub Begins : Words → ℕ → Verb → Kind → Type 0
-Begins words count v source = (length words ≡ count) × (word words 1 ≡ Some (verb_word v)) × (kind_at words 2 ≡ Some source)
+Begins words count v kind = (length words ≡ count) × (word words 1 ≡ Some (verb_word v)) × (kind_at words 2 ≡ Some kind)
 
 -- The words behind the place are this form. Source and targets are different from each other.
 abbrev pub Spells : Words → Form → Type 0
@@ -38,24 +40,29 @@ Spells words (Full f t None) = Begins words 4 verb.Full f × (kind_at words 3 �
 Spells words (Full f t (Some u)) = Begins words 5 verb.Full f × (kind_at words 3 ≡ Some t) × (kind_at words 4 ≡ Some u) × (f ≢ t) × (f ≢ u) × (t ≢ u)
 Spells words (Show f) = Begins words 3 verb.Show f
 Spells words (Check f t) = Begins words 4 verb.Check f × (kind_at words 3 ≡ Some t) × (f ≢ t)
+Spells words (Sweep t) = Begins words 3 verb.Sweep t
+Spells words Compact = (length words ≡ 2) × (word words 1 ≡ Some (verb_word verb.Compact))
 
-abbrev pub show_by : Verb → Kind → Option Form
-show_by verb.Sync f = None
-show_by verb.Full f = None
-show_by verb.Show f = Some (Show f)
-show_by verb.Check f = None
+-- the forms by how many words there are behind the verb
+abbrev pub plain_by : Verb → Option Form
+plain_by verb.Compact = Some Compact
+plain_by _ = None
+
+abbrev pub single_by : Verb → Option Kind → Option Form
+single_by verb.Show kind = option_map Show kind
+single_by verb.Sweep kind = option_map Sweep kind
+single_by _ kind = None
 
 abbrev pub pair_by : Verb → Kind → Kind → Option Form
 pair_by verb.Sync f t = Some (Sync f t None)
 pair_by verb.Full f t = Some (Full f t None)
-pair_by verb.Show f t = None
 pair_by verb.Check f t = Some (Check f t)
+pair_by _ f t = None
 
 abbrev pub triple_by : Verb → Kind → Kind → Kind → Option Form
 triple_by verb.Sync f t u = Some (Sync f t (Some u))
 triple_by verb.Full f t u = Some (Full f t (Some u))
-triple_by verb.Show f t u = None
-triple_by verb.Check f t u = None
+triple_by _ f t u = None
 
 -- a byte before a location, which ends with no slash
 abbrev pub before : ℕ → List ℕ → List ℕ

@@ -2,8 +2,10 @@ pub mod Answers
 pub mod Both
 pub mod Checked
 pub mod Commands
+pub mod Compacted
 pub mod Formats
 pub mod Forms
 pub mod Lines
 pub mod Shown
+pub mod Swept
 pub mod Tellings

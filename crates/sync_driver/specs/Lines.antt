@@ -1,6 +1,8 @@
 -- The lines that commands print.
-use Rattle.std.specs.Prelude.{ℕ, Bool, ◌==◌, length, List, [], ◌++◌, codes, Option, Some, None, if◌then◌else◌}
+use Rattle.std.specs.Prelude.{ℕ, Bool, ◌==◌, length, map, List, [], ◌++◌, codes, Option, Some, None, if◌then◌else◌}
 use Rattle.std.specs.Fmt.{decimal}
+use Rattle.std.specs.List.{concat}
+use Rattle.delta_compact.specs.declared.compacting.Compacted.{Compacted}
 use Rattle.table_history.specs.declared.kind.Kind.{Kind}
 use Rattle.table_history.specs.Words.{kind_word, feature_word, limit_word}
 use Rattle.table_lines.specs.Lines.{line}
@@ -56,3 +58,19 @@ report_line target report = line (kind_word target ++ (codes ": " ++ (way_word r
 -- the line of a target that has the source's rows
 abbrev pub same_line : Kind → Same → List ℕ
 same_line target same = line (kind_word target ++ (codes ": same, files " ++ (decimal same.files ++ (codes ", at " ++ same.at))))
+
+-- the line of a leftover that is removed
+abbrev pub removed_line : Kind → List ℕ → List ℕ
+removed_line target path = line (kind_word target ++ (codes ": removed " ++ path))
+
+-- the line of a target that is swept, of which so many leftovers are removed
+abbrev pub swept_line : Kind → ℕ → List ℕ
+swept_line target count = line (kind_word target ++ (codes ": swept " ++ decimal count))
+
+-- a line of each leftover that is removed, in this order, and then one of their number
+abbrev pub swept_lines : Kind → List (List ℕ) → List ℕ
+swept_lines target paths = concat (map (λ path. removed_line target path) paths) ++ swept_line target (length paths)
+
+-- the line of a Delta log that is compacted
+abbrev pub compacted_line : Compacted → List ℕ
+compacted_line compacted = line (codes "delta: compacted " ++ (decimal compacted.written ++ (codes ", kept " ++ (decimal compacted.kept ++ (codes ", files " ++ (decimal compacted.files ++ (codes ", at " ++ decimal compacted.head)))))))

@@ -5,8 +5,6 @@ use Rattle.lake_store.specs.Disk.{Files}
 use Rattle.lake_store.specs.Runs.{FailsBy, IsUncontestedBy, OnlyReads}
 use Rattle.lake_store.specs.declared.store.Store.{Ghosts}
 use Rattle.lake_store.specs.declared.sink.Sink as sinks
-use Rattle.lake_store.specs.declared.sink.SinkError.{SinkError}
-use Rattle.lake_store.specs.declared.sink.SinkError.TheVariants as sink_error
 use Rattle.table_history.specs.declared.table.Table.{Table}
 use Rattle.source_core.specs.Answers.{IsHeadRefusal, IsReadRefusal, IsReadable}
 use Rattle.source_core.specs.declared.error.SourceError.{SourceError}
@@ -19,12 +17,7 @@ use Rattle.sync_driver.specs.Lines.{pending_line, refusal_line}
 use Rattle.target_sync.specs.Sources.{SourceMeaning}
 use Rattle.sync_driver.specs.Tellings.{Tells}
 use Rattle.target_sync.specs.declared.status.Status.{Status}
-use Rattle.target_sync.specs.declared.status.Status.TheVariants.{Done, Memory, SinkFault}
-
-abbrev pub put_status : Result (Unit {0}) SinkError → Status
-put_status (Ok x) = Done
-put_status (Err sink_error.Memory) = Memory
-put_status (Err sink_error.Failed) = SinkFault
+use Rattle.target_sync.specs.declared.status.Status.TheVariants.{Done, Memory}
 
 -- These lines, or why the table wasn't read; none where the command ended before.
 abbrev pub ShowAnswer : Type 0

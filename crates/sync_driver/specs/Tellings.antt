@@ -22,6 +22,12 @@ pub record Tells {O : Type 0} (sink : Ghosts O) (old new : O) (line : List ℕ) 
   pub whole : sink.tells → IsSaid given → sink.output new ≡ sink.output old ++ line
   pub front : sink.tells → (n : ℕ) × (sink.output new ≡ sink.output old ++ take n line)
 
+-- how a command ends whose lines were put out so
+abbrev pub put_status : Result (Unit {0}) SinkError → Status
+put_status (Ok x) = Done
+put_status (Err sink_error.Memory) = Memory
+put_status (Err sink_error.Failed) = SinkFault
+
 -- the command goes on behind a put, or ends with it
 abbrev pub cut_of_put : Result (Unit {0}) SinkError → Result (Unit {0}) Status
 cut_of_put (Ok x) = Ok x

@@ -1,6 +1,6 @@
 //! The commands by the formats that the words name.
 ghost use Rattle.std.specs.Prelude.{◌≡◌, ◌≢◌, ◌⊎◌, ◌<◌, ◌^◌, ◌++◌, ◌∷◌, ℕ, List, []};
-ghost use Rattle.sync_driver.specs.Answers.{AreApart, Brings, BringsEach, BringsTo, BringsTwo, Compares, ComparesTo, GivesUp, Prints};
+ghost use Rattle.sync_driver.specs.Answers.{AreApart, Brings, BringsEach, BringsTo, BringsTwo, Compares, ComparesTo, GivesUp, Prints, SweepsTo};
 ghost use Rattle.sync_driver.specs.Both.{SyncsBoth};
 ghost use Rattle.sync_driver.specs.Formats.{ToTarget};
 ghost use Rattle.target_sync.specs.Sources.{source_meaning};
@@ -10,12 +10,16 @@ use crate::checking::check;
 use crate::command::sync_target;
 use crate::pair::sync_both;
 use crate::showing::show;
+use crate::sweeping::sweep_target;
 use lake_store::{Sink, Store};
 use source_core::Source;
 use source_delta::DeltaSource;
 use source_hudi::HudiSource;
 use source_iceberg::IcebergSource;
 use std::alloc::Global;
+use swept_targets::{
+    delta_reads_without_loose, hudi_reads_without_loose, iceberg_reads_without_loose,
+};
 use table_history::Kind;
 use target_core::Target;
 use target_delta::DeltaTarget;
@@ -335,5 +339,49 @@ pub(crate) fn compare<S: Store, O: Sink>(
         Kind::Delta => compare_from(alloc, &DeltaSource::new(), target, location, store, out),
         Kind::Iceberg => compare_from(alloc, &IcebergSource::new(), target, location, store, out),
         Kind::Hudi => compare_from(alloc, &HudiSource::new(), target, location, store, out),
+    }
+}
+
+/// Sweeps the target of this format at this location.
+pub(crate) fn sweep_at<S: Store, O: Sink>(
+    alloc: Global,
+    target: Kind,
+    location: &str,
+    store: &mut S,
+    out: &mut O,
+) -> Status
+    requires location { (front : List ℕ) → location.now ≡ front ++ 47 ∷ [] → ⊥ }
+    ensures { SweepsTo ⟦<S as Store>⟧ ⟦<O as Sink>⟧ (record {
+      delta = ⟦<DeltaSource as Source>⟧;
+      hudi = ⟦<HudiSource as Source>⟧;
+      iceberg = ⟦<IcebergSource as Source>⟧;
+      to_delta = ⟦<DeltaTarget as Target>⟧;
+      to_hudi = ⟦<HudiTarget as Target>⟧;
+      to_iceberg = ⟦<IcebergTarget as Target>⟧;
+    })
+        location.now target store.old store.new out.old out.new result }
+{
+    match target {
+        Kind::Delta => match DeltaTarget::new(alloc, location) {
+            Ok(target) => {
+                delta_reads_without_loose(&target);
+                sweep_target(alloc, &target, store, out)
+            }
+            Err(_) => Status::Memory,
+        },
+        Kind::Hudi => match HudiTarget::new(alloc, location) {
+            Ok(target) => {
+                hudi_reads_without_loose(&target);
+                sweep_target(alloc, &target, store, out)
+            }
+            Err(_) => Status::Memory,
+        },
+        Kind::Iceberg => match IcebergTarget::new(alloc, location) {
+            Ok(target) => {
+                iceberg_reads_without_loose(&target);
+                sweep_target(alloc, &target, store, out)
+            }
+            Err(_) => Status::Memory,
+        },
     }
 }

@@ -3,10 +3,12 @@
 
 mod checking;
 mod command;
+mod compacting;
 mod formats;
 mod line;
 mod pair;
 mod showing;
+mod sweeping;
 mod tell;
 mod top;
 mod words;

@@ -3,9 +3,10 @@ ghost use Rattle.std.specs.Prelude.{◌≡◌, ◌++◌, IfOk, Some, codes, stri
 ghost use Rattle.std.specs.Fmt.{decimal};
 ghost use Rattle.table_history.specs.Words.{kind_word, feature_word, limit_word};
 ghost use Rattle.table_lines.specs.Lines.{line};
-ghost use Rattle.sync_driver.specs.Lines.{side_word, position_word, path_part, pending_line, refusal_line, report_line, same_line, way_word};
+ghost use Rattle.sync_driver.specs.Lines.{side_word, position_word, path_part, compacted_line, pending_line, refusal_line, removed_line, report_line, same_line, swept_line, way_word};
 
 use crate::checking::Same;
+use delta_compact::Compacted;
 use lake_store::Text;
 use std::alloc::{AllocError, Global};
 use table_history::{Feature, Kind, LimitKind};
@@ -196,5 +197,38 @@ pub(crate) fn same_line(alloc: Global, target: Kind, same: &Same) -> Result<Vec<
     let files = same.files;
     let at = same.at.as_str();
     let text = format!(in alloc; "{target}: same, files {files}, at {at}")?;
+    line_of_text(alloc, text.as_str())
+}
+
+/// The line of a leftover that is removed.
+pub(crate) fn removed_line(alloc: Global, target: Kind, path: &Text) -> Result<Vec<u8>, AllocError>
+    ensures { IfOk result (λ bytes. bytes.items ≡ removed_line target path.now) }
+{
+    let target = target.word();
+    let path = path.as_str();
+    let text = format!(in alloc; "{target}: removed {path}")?;
+    line_of_text(alloc, text.as_str())
+}
+
+/// The line of a target that is swept, of which so many leftovers are removed.
+pub(crate) fn swept_line(alloc: Global, target: Kind, count: usize) -> Result<Vec<u8>, AllocError>
+    ensures { IfOk result (λ bytes. bytes.items ≡ swept_line target count) }
+{
+    let target = target.word();
+    let text = format!(in alloc; "{target}: swept {count}")?;
+    line_of_text(alloc, text.as_str())
+}
+
+/// The line of a Delta log that is compacted.
+pub(crate) fn compacted_line(alloc: Global, compacted: Compacted) -> Result<Vec<u8>, AllocError>
+    ensures { IfOk result (λ bytes. bytes.items ≡ compacted_line compacted) }
+{
+    let written = compacted.written;
+    let kept = compacted.kept;
+    let files = compacted.files;
+    let head = compacted.head;
+    let text = format!(in alloc;
+        "delta: compacted {written}, kept {kept}, files {files}, at {head}"
+    )?;
     line_of_text(alloc, text.as_str())
 }

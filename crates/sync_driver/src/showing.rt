@@ -3,29 +3,18 @@ ghost use Rattle.std.specs.Prelude.{◌≡◌, ℕ, List, IfErr, IfOk, Result, S
 ghost use Rattle.source_core.specs.Answers.{IsReadRefusal};
 ghost use Rattle.source_core.specs.declared.error.SourceError.{SourceError};
 ghost use Rattle.table_lines.specs.TableLines.{AreTableLines};
-ghost use Rattle.sync_driver.specs.Shown.{IsShow, Shows, put_status, shown_status, shown_text};
+ghost use Rattle.sync_driver.specs.Shown.{IsShow, Shows, shown_status, shown_text};
 ghost use Rattle.target_sync.specs.Sources.{source_meaning};
 ghost use Rattle.sync_driver.specs.Tellings.{Tells};
 
-use crate::tell::{put_pending, refuse};
+use crate::tell::{put_pending, refuse, status_of_put};
 use lake_basics::Text;
-use lake_store::{Sink, SinkError, Store};
+use lake_store::{Sink, Store};
 use source_core::{Head, Source, SourceError};
 use std::alloc::Global;
 use table_history::{Kind, Table};
 use table_lines::{put_lines, rows_in_order};
 use target_sync::{Status, status_of_source};
-
-/// How a command ends whose lines were put out so.
-fn status_of_put(put: Result<(), SinkError>) -> Status
-    ensures { result ≡ put_status put }
-{
-    match put {
-        Ok(()) => Status::Done,
-        Err(SinkError::Memory) => Status::Memory,
-        Err(SinkError::Failed) => Status::SinkFault,
-    }
-}
 
 /// Puts the table's lines out, and answers how that ended.
 fn put_table<O: Sink>(

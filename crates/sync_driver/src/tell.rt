@@ -1,7 +1,7 @@
 //! Putting a command's line out.
 ghost use Rattle.std.specs.Prelude.{◌≡◌, IfOk};
 ghost use Rattle.sync_driver.specs.Lines.{pending_line, refusal_line};
-ghost use Rattle.sync_driver.specs.Tellings.{Puts, Tells, cut_of_put};
+ghost use Rattle.sync_driver.specs.Tellings.{Puts, Tells, cut_of_put, put_status};
 
 use crate::line::{line_of_refusal, pending_line};
 use lake_store::{Sink, SinkError};
@@ -31,6 +31,17 @@ pub(crate) fn refuse<O: Sink>(alloc: Global, out: &mut O, due: Status) -> Status
     match line_of_refusal(alloc, &due) {
         Ok(line) => put_line(out, &line, due),
         Err(_) => Status::Memory,
+    }
+}
+
+/// How a command ends whose lines were put out so.
+pub(crate) fn status_of_put(put: Result<(), SinkError>) -> Status
+    ensures { result ≡ put_status put }
+{
+    match put {
+        Ok(()) => Status::Done,
+        Err(SinkError::Memory) => Status::Memory,
+        Err(SinkError::Failed) => Status::SinkFault,
     }
 }
 

@@ -4,7 +4,8 @@ ghost use Rattle.sync_driver.specs.Lines.{refusal_line};
 ghost use Rattle.sync_driver.specs.Tellings.{Tells};
 ghost use Rattle.target_sync.specs.declared.status.Status.TheVariants.{Usage};
 
-use crate::formats::{bring, compare, print};
+use crate::compacting::compact_log;
+use crate::formats::{bring, compare, print, sweep_at};
 use crate::tell::refuse;
 use crate::words::{Form, command_of};
 use lake_store::{Clock, Sink, Store};
@@ -78,5 +79,7 @@ pub fn run<S: Store, C: Clock, O: Sink>(
             )
         }
         Form::Check(source, target) => compare(alloc, source, target, location, store, out),
+        Form::Sweep(target) => sweep_at(alloc, target, location, store, out),
+        Form::Compact => compact_log(alloc, store, out),
     }
 }

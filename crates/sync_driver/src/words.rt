@@ -5,7 +5,7 @@ ghost use Rattle.std.specs.Option.{option_map};
 ghost use Rattle.table_history.specs.declared.kind.Kind.{Kind};
 ghost use Rattle.sync_driver.specs.declared.words.Verb.{Verb};
 ghost use Rattle.sync_driver.specs.declared.words.Form.{Form};
-ghost use Rattle.sync_driver.specs.Forms.{word, kind_at, verb_word, Spells, show_by, pair_by, triple_by, location, NamesPlace, IsCommand, IsNoCommand};
+ghost use Rattle.sync_driver.specs.Forms.{word, kind_at, verb_word, Spells, plain_by, single_by, pair_by, triple_by, location, NamesPlace, IsCommand, IsNoCommand};
 
 use table_history::Kind;
 
@@ -19,15 +19,20 @@ pub(crate) enum Verb {
     Full,
     Show,
     Check,
+    Sweep,
+    Compact,
 }
 
-/// What a command asks for: a source, and the targets.
+/// What a command asks for, and of which formats: of a source and of targets, of one of the two, or
+/// of a Delta log.
 #[derive(Clone, Copy, Debug, PartialEq, Eq)]
 pub(crate) enum Form {
     Sync(Kind, Kind, Option<Kind>),
     Full(Kind, Kind, Option<Kind>),
     Show(Kind),
     Check(Kind, Kind),
+    Sweep(Kind),
+    Compact,
 }
 
 fn word_at(words: &[String], place: usize) -> Option<&str>
@@ -54,18 +59,28 @@ fn verb_at(words: &[String], place: usize) -> Option<Verb>
         "full" => Some(Verb::Full),
         "show" => Some(Verb::Show),
         "check" => Some(Verb::Check),
+        "sweep" => Some(Verb::Sweep),
+        "compact" => Some(Verb::Compact),
         _ => None,
     }
 }
 
-fn show_form(verb: Verb, source: Kind) -> Option<Form>
-    ensures { result ≡ show_by verb source }
+fn plain_form(verb: Verb) -> Option<Form>
+    ensures { result ≡ plain_by verb }
 {
     match verb {
-        Verb::Show => Some(Form::Show(source)),
-        Verb::Sync => None,
-        Verb::Full => None,
-        Verb::Check => None,
+        Verb::Compact => Some(Form::Compact),
+        _ => None,
+    }
+}
+
+fn single_form(verb: Verb, kind: Option<Kind>) -> Option<Form>
+    ensures { result ≡ single_by verb kind }
+{
+    match verb {
+        Verb::Show => Some(Form::Show(kind?)),
+        Verb::Sweep => Some(Form::Sweep(kind?)),
+        _ => None,
     }
 }
 
@@ -75,8 +90,8 @@ fn pair_form(verb: Verb, source: Kind, target: Kind) -> Option<Form>
     match verb {
         Verb::Sync => Some(Form::Sync(source, target, None)),
         Verb::Full => Some(Form::Full(source, target, None)),
-        Verb::Show => None,
         Verb::Check => Some(Form::Check(source, target)),
+        _ => None,
     }
 }
 
@@ -86,8 +101,7 @@ fn triple_form(verb: Verb, source: Kind, first: Kind, second: Kind) -> Option<Fo
     match verb {
         Verb::Sync => Some(Form::Sync(source, first, Some(second))),
         Verb::Full => Some(Form::Full(source, first, Some(second))),
-        Verb::Show => None,
-        Verb::Check => None,
+        _ => None,
     }
 }
 
@@ -96,7 +110,8 @@ pub(crate) fn form_of(words: &[String]) -> Option<Form>
     ensures { MatchOption result ((form : Form) → Spells words.now form → ⊥) (λ form. Spells words.now form) }
 {
     match words.len() {
-        3 => show_form(verb_at(words, 1)?, kind_at(words, 2)?),
+        2 => plain_form(verb_at(words, 1)?),
+        3 => single_form(verb_at(words, 1)?, kind_at(words, 2)),
         4 => {
             let verb = verb_at(words, 1)?;
             let source = kind_at(words, 2)?;

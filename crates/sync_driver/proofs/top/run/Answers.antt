@@ -1,7 +1,7 @@
 use Rattle.std.proofs.Common.{refl, subst}
 use Rattle.sync_driver.specs.Forms.{Spells, word}
 use Rattle.sync_driver.specs.declared.words.Form.{Form}
-use Rattle.sync_driver.proofs.Commands.{check_command, full_apart, full_command, no_command, show_command, sync_apart, sync_command}
+use Rattle.sync_driver.proofs.Commands.{check_command, compact_command, full_apart, full_command, no_command, show_command, sweep_command, sync_apart, sync_command}
 use Rattle.sync_driver.proofs.Locations.{place_ends}
 use Rattle.sync_driver.proofs.top.run.Goals as goal
 
@@ -42,3 +42,16 @@ pub returns-in-Check : goal.returns-in-Check
 returns-in-Check g c =
     check_command g.S.Store g.O.Sink _ _ c.args.words.now c.args.store.now c.compare.new.store c.args.out.now c.compare.new.out c.compare.result c.in-Some.command.location.now c.in-Some.command.form c.in-Some.ensures
     c.in-Check.source c.in-Check.target c.in-Check.is c.compare.ensures
+
+pub sweep_at-requires : goal.sweep_at-requires
+sweep_at-requires g c = record { location = λ front is. place_ends (word c.args.words.now 0) c.in-Some.command.location.now c.in-Some.ensures.0.0 front is }
+
+pub returns-in-Sweep : goal.returns-in-Sweep
+returns-in-Sweep g c =
+    sweep_command g.S.Store g.O.Sink _ _ c.args.words.now c.args.store.now c.sweep_at.new.store c.args.out.now c.sweep_at.new.out c.sweep_at.result c.in-Some.command.location.now c.in-Some.command.form c.in-Some.ensures
+    c.in-Sweep.target c.in-Sweep.is c.sweep_at.ensures
+
+pub returns-in-Compact : goal.returns-in-Compact
+returns-in-Compact g c =
+    compact_command g.S.Store g.O.Sink _ _ c.args.words.now c.args.store.now c.compact_log.new.store c.args.out.now c.compact_log.new.out c.compact_log.result c.in-Some.command.location.now c.in-Some.command.form c.in-Some.ensures
+    c.in-Compact.is c.compact_log.ensures

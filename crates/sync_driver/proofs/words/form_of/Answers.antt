@@ -5,8 +5,11 @@ use Rattle.sync_driver.specs.Forms.{Spells}
 use Rattle.sync_driver.proofs.Spellings.{no_verb, exit, triple_spells}
 use Rattle.sync_driver.proofs.words.form_of.Goals as goal
 
+pub returns-in_err-verb_at-in-2 : goal.returns-in_err-verb_at-in-2
+returns-in_err-verb_at-in-2 c = exit c.args.words.now c.from_residual.result c.from_residual.ensures (no_verb c.args.words.now (c.in_err-verb_at-in-2.ensures))
+
 pub returns-in_err-verb_at-in-3 : goal.returns-in_err-verb_at-in-3
-returns-in_err-verb_at-in-3 c = exit c.args.words.now c.from_residual.result c.from_residual.ensures (no_verb c.args.words.now (c.in_err-verb_at-in-3.ensures))
+returns-in_err-verb_at-in-3 c = exit c.args.words.now _ c.from_residual-in_err-verb_at-in-3.ensures (no_verb c.args.words.now (c.in_err-verb_at-in-3.ensures))
 
 pub returns-in_err-verb-in-4 : goal.returns-in_err-verb-in-4
 returns-in_err-verb-in-4 c = exit c.args.words.now _ c.from_residual-in_err-verb-in-4.ensures (no_verb c.args.words.now (c.in_err-verb-in-4.ensures))
