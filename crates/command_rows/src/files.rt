@@ -4,13 +4,14 @@ use iceberg_manifest_reading::read_list;
 use lake_store::{Blob, FuseStore, MemoryStore, Names, Script, Store};
 use std::alloc::{AllocError, Global};
 
-/// The folders in which tables have metadata.
+/// The folders in which tables have metadata, and that of staged log compactions.
 pub(crate) const FOLDERS: &[&str] = &[
     "_delta_log",
     ".hoodie",
     ".hoodie/.lakebridge",
     ".hoodie/archived",
     "metadata",
+    ".lakebridge",
 ];
 
 /// A script by which no call goes wrong.
