@@ -44,8 +44,11 @@ fn run_over(rt: &HostRuntime, words: &[String], folder: String, out: &mut impl S
 // What the words do to the folder's files: `show` and `check` change none.
 fn access_of(words: &[String]) -> Access {
     match words.get(1) {
-        Some(word) if word.as_str() == "sync" || word.as_str() == "full" => Access::Writes,
-        _ => Access::Reads,
+        Some(word) => match word.as_str() {
+            "sync" | "full" | "sweep" | "compact" => Access::Writes,
+            _ => Access::Reads,
+        },
+        None => Access::Reads,
     }
 }
 
