@@ -4,14 +4,14 @@ _lakebridge() {
     case "${COMP_WORDS[2]:-}" in
         sync | full) most=5 ;;
         check) most=4 ;;
-        show) most=3 ;;
+        show | sweep) most=3 ;;
     esac
     COMPREPLY=()
     if [ "$COMP_CWORD" = 1 ]; then
         compopt -o filenames 2>/dev/null
         mapfile -t COMPREPLY < <(compgen -d -- "$word")
     elif [ "$COMP_CWORD" = 2 ]; then
-        mapfile -t COMPREPLY < <(compgen -W "sync full check show" -- "$word")
+        mapfile -t COMPREPLY < <(compgen -W "sync full check show sweep compact" -- "$word")
     elif [ "$COMP_CWORD" -le "$most" ]; then
         for format in delta hudi iceberg; do
             case " ${COMP_WORDS[*]:3:COMP_CWORD-3} " in

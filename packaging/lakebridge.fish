@@ -7,7 +7,7 @@ function __lakebridge_wants -d 'Which word comes next'
             set most 6
         case check
             set most 5
-        case show
+        case show sweep
             set most 4
     end
     set -l next (math (count $words) + 1)
@@ -27,6 +27,8 @@ complete -c lakebridge -n '__lakebridge_wants command' -a sync -d 'bring targets
 complete -c lakebridge -n '__lakebridge_wants command' -a full -d 'publish one commit with all that differs'
 complete -c lakebridge -n '__lakebridge_wants command' -a check -d 'compare a target with the source'
 complete -c lakebridge -n '__lakebridge_wants command' -a show -d 'print the table at its head'
+complete -c lakebridge -n '__lakebridge_wants command' -a sweep -d 'remove what interrupted runs left of a target'
+complete -c lakebridge -n '__lakebridge_wants command' -a compact -d 'write the log compactions of a Delta table'
 for format in delta hudi iceberg
     complete -c lakebridge -n "__lakebridge_wants $format" -a $format
 end
