@@ -16,4 +16,6 @@ mod words;
 pub use checking::{Same, check};
 pub use showing::show;
 pub use target_sync::{Mode, Plan, Report, Side, Status, apply_one, plan_one, sync_one};
+pub use tell::{put_line, refuse};
 pub use top::{refuse_words, run};
+pub use words::{location_in, location_of};

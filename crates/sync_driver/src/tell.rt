@@ -11,7 +11,7 @@ use target_sync::Status;
 
 /// Puts the line out, if it isn't empty. The answer is the status that is due, unless the line is
 /// cut.
-pub(crate) fn put_line<O: Sink>(out: &mut O, line: &[u8], due: Status) -> Status
+pub fn put_line<O: Sink>(out: &mut O, line: &[u8], due: Status) -> Status
     ensures { Tells ⟦<O as Sink>⟧ out.old out.new line.now due result }
 {
     if line.is_empty() {
@@ -25,7 +25,7 @@ pub(crate) fn put_line<O: Sink>(out: &mut O, line: &[u8], due: Status) -> Status
 }
 
 /// Puts the line of a refusal out.
-pub(crate) fn refuse<O: Sink>(alloc: Global, out: &mut O, due: Status) -> Status
+pub fn refuse<O: Sink>(alloc: Global, out: &mut O, due: Status) -> Status
     ensures { Tells ⟦<O as Sink>⟧ out.old out.new (refusal_line due) due result }
 {
     match line_of_refusal(alloc, &due) {

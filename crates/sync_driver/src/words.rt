@@ -145,7 +145,7 @@ fn without_slash(text: &str) -> Option<&str>
 }
 
 /// The place without the slashes at its end.
-fn location_of(place: &str) -> &str
+pub fn location_of(place: &str) -> &str
     ensures { result.now ≡ location place.now }
 {
     let mut left = place;
@@ -165,7 +165,8 @@ pub(crate) struct Command<'a> {
     pub(crate) form: Form,
 }
 
-fn location_in(words: &[String]) -> Option<&str>
+/// The location that the first word names: a place of 1 to 1,024 bytes without the slashes at its end.
+pub fn location_in(words: &[String]) -> Option<&str>
     ensures { MatchOption result ((place : List ℕ) → NamesPlace words.now place → ⊥) (λ place. NamesPlace words.now place.now) }
 {
     let location = location_of(word_at(words, 0)?);
