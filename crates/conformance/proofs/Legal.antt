@@ -72,7 +72,7 @@ module _ (number : ℕ) (stops : Bool) where
   one_more : (n : ℕ) → first_events (suc n) ≡ first_events n ++ commit_events number stops n
   one_more n = flat_map-append (commit_events number stops) (numbers_under n) (n ∷ []) ∙ ap (λ (l : List Event). first_events n ++ l) (append-nil (commit_events number stops n))
 
-  commits_are : (n : ℕ) → extensions (first_events n) ≡ map (drill_bytes number) (numbers_under n)
+  pub commits_are : (n : ℕ) → extensions (first_events n) ≡ map (drill_bytes number) (numbers_under n)
   commits_are zero = refl
   commits_are (suc n) =
       ap extensions (one_more n) ∙ extensions_append (first_events n) (commit_events number stops n)

@@ -1,7 +1,7 @@
 //! The events of the drill.
 ghost use Rattle.std.specs.Prelude.{◌≡◌, ◌<◌, ◌≤◌, ◌+◌, ◌++◌, ◌∷◌, [], IfOk, OnOk};
 ghost use Rattle.conformance.specs.Events.{commit_events, drill_events, is_stopped, is_sync_point, stopped_sync, sync_events, sync_points, syncs_behind, target_sync};
-ghost use Rattle.conformance.specs.Drill.{SaysDrill, SpellsDrill};
+ghost use Rattle.conformance.specs.Drill.{SaysDrill, SpellsDrill, commit_count};
 ghost use Rattle.conformance.specs.Histories.{AreLegal};
 
 use crate::commit::bytes_at;
@@ -165,4 +165,16 @@ pub fn events(alloc: Global, number: u64, stops: bool) -> Result<Items<Event>, A
         sync = next_sync(number, commit, sync);
     }
     Ok(Items::from_vec(events))
+}
+
+/// How often the drill of a number syncs its targets. A sync that is stopped and done again counts
+/// once.
+pub fn sync_points(number: u64) -> u64
+    ensures { result ≡ sync_points number commit_count }
+{
+    let mut sync = 0;
+    for commit in 0..COMMITS {
+        sync = next_sync(number, commit, sync);
+    }
+    sync
 }

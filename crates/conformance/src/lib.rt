@@ -8,6 +8,6 @@ mod event;
 mod file;
 mod vectors;
 
-pub use drill::events;
+pub use drill::{events, sync_points};
 pub use event::Event;
 pub use vectors::vector;
