@@ -47,7 +47,7 @@ use Rattle.target_sync.specs.declared.status.Side.{Side}
 use Rattle.target_sync.specs.declared.status.Side.TheVariants as side
 use Rattle.target_sync.specs.declared.status.Status.{Status}
 use Rattle.target_sync.specs.declared.status.Status.TheVariants as status
-use Rattle.lake_play.specs.Causes.{Before, HoldsLog, IsCauseAt, IsOver, IsUnfitBetween, LeadFrom, PassesNumber}
+use Rattle.lake_play.specs.Causes.{Before, IsCauseAt, IsOver, IsUnfitBetween, LeadFrom, PassesNumber}
 use Rattle.lake_play.specs.Formats.{from_delta, to_hudi, to_iceberg}
 use Rattle.lake_play.specs.Playing.{Brings, scripted, status_of}
 use Rattle.lake_play.specs.Scripted.{scripted_contests, scripted_store, some_of}
@@ -139,7 +139,7 @@ module _ (target : TargetFacts) (views : Views target) (mode : Mode) (now : ℕ)
 
   over : IsOver target (front ++ rest) commits files
   over = record {
-    log = record { first = first; holds = log.holds; only = log.only };
+    log = (first, record { holds = log.holds; only = log.only });
     stands = record { j = j; from_there = omega arith; up_to = was.stands.up_to; at = was.stands.at };
   }
 

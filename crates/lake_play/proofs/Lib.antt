@@ -1,8 +1,10 @@
 pub mod Causes
 pub mod Causing
+pub mod EachOnce
 pub mod Faults
 pub mod Histories
 pub mod Logs
+pub mod Once
 pub mod Plays
 pub mod Syncs
 pub mod Targets

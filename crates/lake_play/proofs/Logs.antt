@@ -8,7 +8,7 @@ use Rattle.std.specs.Cmp.Lexicographic.{slice_cmp}
 use Rattle.std.proofs.lemmas.Bool.{cases_lt}
 use Rattle.std.proofs.lemmas.List.{append_cancel_left, length-append}
 use Rattle.std.proofs.lemmas.Option.{slice_get_within}
-use Rattle.lake_store.specs.Disk.{Disk, Files, IsClean, empty_disk, removed, synced, written}
+use Rattle.lake_store.specs.Disk.{Disk, Files, IsClean, MayLeave, empty_disk, removed, synced, written}
 use Rattle.lake_store.specs.Runs.{IsIn}
 use Rattle.lake_store.proofs.DiskLaws.{clean-synced, contains-remove_here, contains-remove_other, get-insert_here, get-insert_other, get-remove_here, get-remove_other, path_cases}
 use Rattle.delta_log.specs.VersionName.{IsVersionName}
@@ -17,6 +17,7 @@ use Rattle.delta_table.specs.Versions.{HasVersion, HoldsVersion, IsVersionPath, 
 use Rattle.delta_table.proofs.PathLaws.{one_version, path_once}
 use Rattle.target_core.specs.Folders.{SameIn}
 use Rattle.lake_play.specs.Playing.{IsPathFrom, Sheds}
+use Rattle.lake_play.specs.Standing.{HoldsFrom}
 
 -- ---- versions and their paths
 
@@ -55,6 +56,15 @@ same_commits commits first a b same fewer h =
       holds = λ version bytes from is. holds_too a.files b.files to version bytes (h.holds version bytes from is);
       only = λ version has. h.only version (has_too b.files a.files (versions_sym a.files b.files to) version has);
       clean = λ path within. fewer path within (h.clean path within);
+    }
+
+-- what a crash may leave
+pub left_commits : (commits : List (List ℕ)) (first : ℕ) (disk : Disk) (image : Files) → MayLeave disk image → HoldsCommits commits first disk → HoldsFrom first commits image
+left_commits commits first disk image may h =
+    let to = own_versions disk.files image (λ path within. may path (h.clean path within)) in
+    record {
+      holds = λ version bytes from is. holds_too disk.files image to version bytes (h.holds version bytes from is);
+      only = λ version has. h.only version (has_too image disk.files (versions_sym disk.files image to) version has);
     }
 
 -- ---- one commit more

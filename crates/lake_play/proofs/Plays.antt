@@ -37,9 +37,9 @@ use Rattle.target_iceberg.specs.TableId.{table_id}
 use Rattle.target_iceberg.specs.declared.target.IcebergTarget.{IcebergTarget}
 use Rattle.lake_play.specs.Formats.{place, to_hudi, to_iceberg}
 use Rattle.lake_play.specs.Playing.{Brings, Crashes, Extends, IsSynced, Plays, PlaysAll, Shortens, nothing_played, with_answer}
-use Rattle.lake_play.specs.Standing.{BothStand, IsFresh, Stands, answer_count, is_done, floor_behind, floor_from, floor_of, meaning_of_hudi, meaning_of_iceberg}
+use Rattle.lake_play.specs.Standing.{BothStand, IsFresh, LogHolds, Stands, answer_count, is_done, first_from, floor_behind, floor_from, floor_of, meaning_of_hudi, meaning_of_iceberg}
 use Rattle.lake_play.specs.declared.playing.Progress.{Progress}
-use Rattle.lake_play.proofs.Logs.{HoldsCommits, some_same, extended_clean, extended_elsewhere, fewer_commits, no_commits, one_commit_more, same_commits, shed_elsewhere}
+use Rattle.lake_play.proofs.Logs.{HoldsCommits, some_same, extended_clean, extended_elsewhere, fewer_commits, left_commits, no_commits, one_commit_more, same_commits, shed_elsewhere}
 use Rattle.lake_play.proofs.Syncs.{brought, clean_beside, floor_other, floor_stays, same_beside, still_uncontested}
 use Rattle.lake_play.proofs.Targets.{IsPlayed, Laws, at_nothing, crash_played, hudi_laws, iceberg_laws, later_played, left_standing, same_played}
 
@@ -182,23 +182,25 @@ module _ (history : History) (commits : List (List ℕ)) (front behind : History
 
 -- ---- events one after another
 
--- These were the other answers, and each target stands at one of so many tables, not before its floor.
-pub record Ends (history : History) (events : List Event) (before after : Progress) (count total hudi iceberg : ℕ) (new : FuseStore) : Type 0 where
+-- These were the other answers, the log holds what the events leave of it, and each target stands at one of so many tables, not before its floor.
+pub record Ends (history : History) (events : List Event) (before after : Progress) (commits : List (List ℕ)) (total hudi iceberg : ℕ) (new : FuseStore) : Type 0 where
   pub answers : List Status
   pub told : after.answers ≡ before.answers ++ answers
-  pub to_hudi : IsPlayed meaning_of_hudi history (floor_from Hudi count hudi events answers) total (fuse_disk new)
-  pub to_iceberg : IsPlayed meaning_of_iceberg history (floor_from Iceberg count iceberg events answers) total (fuse_disk new)
+  pub log : HoldsCommits (commits ++ extensions events) (first_from before.first events) (fuse_disk new)
+  pub to_hudi : IsPlayed meaning_of_hudi history (floor_from Hudi (length commits) hudi events answers) total (fuse_disk new)
+  pub to_iceberg : IsPlayed meaning_of_iceberg history (floor_from Iceberg (length commits) iceberg events answers) total (fuse_disk new)
 
 module _ (history : History) (total now : ℕ) (few : total ≤ 2 ^ 64) where
   plays_on : (events : List Event) (commits : List (List ℕ)) (front behind : History) (hudi iceberg : ℕ) (before : Progress) (old : FuseStore) (after : Progress) (new : FuseStore)
       → Keeps history commits front behind before.first hudi iceberg old → before.next ≡ length commits → total ≡ length commits + length (extensions events)
       → PlaysAll now events before old after new → AreInOrder (length commits) events → IsHistoryFrom (length commits) (last_table None front) (extensions events) behind
-      → Ends history events before after (length commits) total hudi iceberg new
+      → Ends history events before after commits total hudi iceberg new
   plays_on [] commits front behind hudi iceberg before old after new keeps next all plays order made =
       let here : length commits ≡ total = omega (arith, all) in
       record {
         answers = [];
         told = sym (ap (λ (p : Progress). p.answers) plays.0) ∙ sym (append-nil before.answers);
+        log = subst (λ (l : List (List ℕ)). HoldsCommits l before.first (fuse_disk new)) (sym (append-nil commits)) (subst (λ (s : FuseStore). HoldsCommits commits before.first (fuse_disk s)) plays.1 keeps.log);
         to_hudi = subst (λ (n : ℕ). IsPlayed meaning_of_hudi history hudi n (fuse_disk new)) here (subst (λ (s : FuseStore). IsPlayed meaning_of_hudi history hudi (length commits) (fuse_disk s)) plays.1 keeps.to_hudi);
         to_iceberg = subst (λ (n : ℕ). IsPlayed meaning_of_iceberg history iceberg n (fuse_disk new)) here (subst (λ (s : FuseStore). IsPlayed meaning_of_iceberg history iceberg (length commits) (fuse_disk s)) plays.1 keeps.to_iceberg);
       }
@@ -217,6 +219,7 @@ module _ (history : History) (total now : ℕ) (few : total ≤ 2 ^ 64) where
       record {
         answers = ends.answers;
         told = ends.told;
+        log = subst (λ (l : List (List ℕ)). HoldsCommits l (first_from before.first events) (fuse_disk new)) (append_assoc commits (bytes ∷ []) (extensions events)) ends.log;
         to_hudi = subst (λ (n : ℕ). IsPlayed meaning_of_hudi history (floor_from Hudi n hudi events ends.answers) total (fuse_disk new)) grown ends.to_hudi;
         to_iceberg = subst (λ (n : ℕ). IsPlayed meaning_of_iceberg history (floor_from Iceberg n iceberg events ends.answers) total (fuse_disk new)) grown ends.to_iceberg;
       }
@@ -228,33 +231,39 @@ module _ (history : History) (total now : ℕ) (few : total ≤ 2 ^ 64) where
       let rest : PlaysAll now events mid between after new = subst (λ (m : Progress). PlaysAll now events m between after new) plays.2.1 plays.3 in
       let kept = shorten_keeps history commits front behind before.first hudi iceberg old between keeps (min below before.next) plays.2.0 (omega (arith, to, low)) in
       let ends = plays_on events commits front behind hudi iceberg mid between after new kept next all rest order.1 made in
-      record { answers = ends.answers; told = ends.told; to_hudi = ends.to_hudi; to_iceberg = ends.to_iceberg }
+      record {
+        answers = ends.answers;
+        told = ends.told;
+        log = subst (λ (n : ℕ). HoldsCommits (commits ++ extensions events) (first_from (max before.first n) events) (fuse_disk new)) to ends.log;
+        to_hudi = ends.to_hudi;
+        to_iceberg = ends.to_iceberg;
+      }
   plays_on (event.Sync target ∷ events) commits front behind hudi iceberg before old after new keeps next all plays order made =
       let between = plays.1 in
       let given = plays.2.0 in
       let rest : PlaysAll now events (with_answer before given) between after new = subst (λ (m : Progress). PlaysAll now events m between after new) plays.2.2 plays.3 in
       let kept = sync_keeps history commits front behind before.first hudi iceberg old between keeps (omega (arith, all, few)) modes.Sync now given target plays.2.1 in
       let ends = plays_on events commits front behind (floor_behind Hudi target (length commits) hudi given) (floor_behind Iceberg target (length commits) iceberg given) (with_answer before given) between after new kept next all rest order.1 made in
-      record { answers = given ∷ ends.answers; told = ends.told ∙ append_assoc before.answers (given ∷ []) ends.answers; to_hudi = ends.to_hudi; to_iceberg = ends.to_iceberg }
+      record { answers = given ∷ ends.answers; told = ends.told ∙ append_assoc before.answers (given ∷ []) ends.answers; log = ends.log; to_hudi = ends.to_hudi; to_iceberg = ends.to_iceberg }
   plays_on (event.Full target ∷ events) commits front behind hudi iceberg before old after new keeps next all plays order made =
       let between = plays.1 in
       let given = plays.2.0 in
       let rest : PlaysAll now events (with_answer before given) between after new = subst (λ (m : Progress). PlaysAll now events m between after new) plays.2.2 plays.3 in
       let kept = sync_keeps history commits front behind before.first hudi iceberg old between keeps (omega (arith, all, few)) modes.Full now given target plays.2.1 in
       let ends = plays_on events commits front behind (floor_behind Hudi target (length commits) hudi given) (floor_behind Iceberg target (length commits) iceberg given) (with_answer before given) between after new kept next all rest order.1 made in
-      record { answers = given ∷ ends.answers; told = ends.told ∙ append_assoc before.answers (given ∷ []) ends.answers; to_hudi = ends.to_hudi; to_iceberg = ends.to_iceberg }
+      record { answers = given ∷ ends.answers; told = ends.told ∙ append_assoc before.answers (given ∷ []) ends.answers; log = ends.log; to_hudi = ends.to_hudi; to_iceberg = ends.to_iceberg }
   plays_on (event.Stop call ∷ events) commits front behind hudi iceberg before old after new keeps next all plays order made =
       let between = plays.1 in
       let rest : PlaysAll now events before between after new = subst (λ (m : Progress). PlaysAll now events m between after new) plays.2.1 plays.3 in
       let kept = nothing_keeps history commits front behind before.first hudi iceberg old between keeps (Some call) plays.2.0 in
       let ends = plays_on events commits front behind hudi iceberg before between after new kept next all rest order made in
-      record { answers = ends.answers; told = ends.told; to_hudi = ends.to_hudi; to_iceberg = ends.to_iceberg }
+      record { answers = ends.answers; told = ends.told; log = ends.log; to_hudi = ends.to_hudi; to_iceberg = ends.to_iceberg }
   plays_on (event.Crash choices ∷ events) commits front behind hudi iceberg before old after new keeps next all plays order made =
       let between = plays.1 in
       let rest : PlaysAll now events before between after new = subst (λ (m : Progress). PlaysAll now events m between after new) plays.2.1 plays.3 in
       let kept = crash_keeps history commits front behind before.first hudi iceberg old between keeps choices plays.2.0 in
       let ends = plays_on events commits front behind hudi iceberg before between after new kept next all rest order made in
-      record { answers = ends.answers; told = ends.told; to_hudi = ends.to_hudi; to_iceberg = ends.to_iceberg }
+      record { answers = ends.answers; told = ends.told; log = ends.log; to_hudi = ends.to_hudi; to_iceberg = ends.to_iceberg }
 
 pub begins : (history : History) (store : FuseStore) → IsFresh store → Keeps history [] [] history 0 0 0 store
 begins history store fresh = record {
@@ -273,6 +282,12 @@ stand_after now events old after new few plays order fresh history is image may 
       subst (λ (answers : List Status). Stands meaning_of_hudi events answers history image) (sym ends.told) (left_standing meaning_of_hudi hudi_laws history (floor_of Hudi events ends.answers) (length (extensions events)) (fuse_disk new) image may ends.to_hudi),
       subst (λ (answers : List Status). Stands meaning_of_iceberg events answers history image) (sym ends.told) (left_standing meaning_of_iceberg iceberg_laws history (floor_of Iceberg events ends.answers) (length (extensions events)) (fuse_disk new) image may ends.to_iceberg),
     )
+
+pub log_after : (now : ℕ) (events : List Event) (old : FuseStore) (after : Progress) (new : FuseStore) → length (extensions events) ≤ 2 ^ 64 → PlaysAll now events nothing_played old after new → AreInOrder 0 events → IsFresh old
+    → (history : History) → IsHistoryOf events history → LogHolds events (fuse_disk new)
+log_after now events old after new few plays order fresh history is image may =
+    let ends = plays_on history (length (extensions events)) now few events [] [] history 0 0 nothing_played old after new (begins history old fresh) refl (omega arith) plays order is in
+    left_commits (extensions events) (first_from 0 events) (fuse_disk new) image may ends.log
 
 -- ---- how many answers there are, and how many commits
 

@@ -114,7 +114,7 @@ module _ (target : TargetFacts) (mode : Mode) (now : ℕ) (old new : FuseStore) 
       let few : IsOfSync target.files.kind e = subst (λ (a : Result Report Status). IsFew target.files.kind (Some a)) is sync.sync.few in
       none (sync.sync.contest.allowed (ap (λ (a : Result Report Status). Some a) is ∙ ap (λ (s : Status). Some (Err s)) (contest_of target.files.kind e few contest)))
 
-  alone : IsUndisturbed (Some brings.answer)
+  pub alone : IsUndisturbed (Some brings.answer)
   alone = undisturbed brings.answer refl
 
   going : (history : History) (k : ℕ) (view : View) → ShowsTable Delta target.files.image history k view → GoesOn Delta view

@@ -140,7 +140,7 @@ module _ (target : Meaning) (laws : Laws target) (history : History) where
 
 -- ---- the first tables of a history
 
-first_get : {X : Type 0} (front behind : List X) (i : ℕ) → i < length front → slice_get (front ++ behind) i ≡ slice_get front i
+pub first_get : {X : Type 0} (front behind : List X) (i : ℕ) → i < length front → slice_get (front ++ behind) i ≡ slice_get front i
 first_get [] behind i within = absurd (omega (arith, within))
 first_get (x ∷ front) behind zero within = refl
 first_get (x ∷ front) behind (suc i) within = first_get front behind i (omega (arith, within))

@@ -3,7 +3,6 @@ use Rattle.std.specs.Prelude.{◌≡◌, ◌⊎◌, ◌≤◌, ◌<◌, ◌+◌,
 use Rattle.conformance.specs.Histories.{extensions}
 use Rattle.conformance.specs.declared.event.Event.{Event}
 use Rattle.conformance.specs.declared.event.Event.TheVariants as event
-use Rattle.delta_table.specs.Versions.{HasVersion, HoldsVersion}
 use Rattle.lake_store.specs.Cause.{Rose}
 use Rattle.lake_store.specs.Disk.{Files}
 use Rattle.lake_store.specs.Fuse.{CanFail}
@@ -32,7 +31,7 @@ use Rattle.target_sync.specs.declared.status.Side.TheVariants as side
 use Rattle.target_sync.specs.declared.status.Status.{Status}
 use Rattle.target_sync.specs.declared.status.Status.TheVariants as status
 use Rattle.lake_play.specs.Formats.{from_delta, place, to_hudi, to_iceberg}
-use Rattle.lake_play.specs.Standing.{StandsWithin}
+use Rattle.lake_play.specs.Standing.{HoldsFrom, StandsWithin}
 
 -- ---- what was played before an answer
 
@@ -57,10 +56,8 @@ behind (event.Crash choices) before = record before { stopped = false }
 -- ---- the files that a sync is over
 
 -- The source's log holds the commits from one of them on, and no other version.
-pub record HoldsLog (commits : List (List ℕ)) (files : Files) : Type 0 where
-  pub first : ℕ
-  pub holds : (version : ℕ) (bytes : List ℕ) → first ≤ version → slice_get commits version ≡ Some bytes → HoldsVersion files version bytes
-  pub only : (version : ℕ) → HasVersion files version → (first ≤ version) × (version < length commits)
+abbrev pub HoldsLog : List (List ℕ) → Files → Type 0
+HoldsLog commits files = (first : ℕ) × HoldsFrom first commits files
 
 -- The files hold these commits, and the target stands at one of the tables that they make.
 pub record IsOver (target : TargetFacts) (history : History) (commits : List (List ℕ)) (files : Files) : Type 0 where

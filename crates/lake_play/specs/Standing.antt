@@ -1,8 +1,9 @@
--- Where lists of events leave the targets.
-use Rattle.std.specs.Prelude.{◌≡◌, ◌≤◌, ◌+◌, ◌&&◌, ℕ, Bool, true, false, List, [], ◌∷◌, length, if◌then◌else◌}
+-- Where lists of events leave the source and the targets.
+use Rattle.std.specs.Prelude.{◌≡◌, ◌⊎◌, ◌≤◌, ◌<◌, ◌+◌, ◌&&◌, max, ℕ, Bool, true, false, List, [], ◌∷◌, length, slice_get, Some, if◌then◌else◌}
 use Rattle.conformance.specs.Histories.{extensions}
 use Rattle.conformance.specs.declared.event.Event.{Event}
 use Rattle.conformance.specs.declared.event.Event.TheVariants as event
+use Rattle.delta_table.specs.Versions.{HasVersion, HoldsVersion}
 use Rattle.lake_store.specs.Disk.{Disk, Files, MayLeave, empty_disk}
 use Rattle.lake_store.specs.Fuse.{contests_of, faults_of, fuse_disk}
 use Rattle.lake_store.specs.declared.fuse.FuseStore.{FuseStore}
@@ -62,6 +63,27 @@ floor_from target count floor (event.Crash choices ∷ events) answers = floor_f
 abbrev pub floor_of : Kind → List Event → List Status → ℕ
 floor_of target events answers = floor_from target 0 0 events answers
 
+-- ---- the source
+
+-- The log holds the commits from one of them on, each as the version of its place, and no other version.
+pub record HoldsFrom (first : ℕ) (commits : List (List ℕ)) (files : Files) : Type 0 where
+  pub holds : (version : ℕ) (bytes : List ℕ) → first ≤ version → slice_get commits version ≡ Some bytes → HoldsVersion files version bytes
+  pub only : (version : ℕ) → HasVersion files version → (first ≤ version) × (version < length commits)
+
+-- the first version that Shortens leave, where those below this one are gone
+abbrev pub first_from : ℕ → List Event → ℕ
+first_from first [] = first
+first_from first (event.Extend bytes ∷ events) = first_from first events
+first_from first (event.Shorten below ∷ events) = first_from (max first below) events
+first_from first (event.Sync target ∷ events) = first_from first events
+first_from first (event.Full target ∷ events) = first_from first events
+first_from first (event.Stop call ∷ events) = first_from first events
+first_from first (event.Crash choices ∷ events) = first_from first events
+
+-- The log holds all commits but those of the versions that a Shorten names, in the files and in each image of a crash.
+abbrev pub LogHolds : List Event → Disk → Type 0
+LogHolds events disk = (image : Files) → MayLeave disk image → HoldsFrom (first_from 0 events) (extensions events) image
+
 -- ---- the targets
 
 -- No file is there and no path is dirty, no publication is to find another writer's file, and nothing was counted.
@@ -91,3 +113,26 @@ Stands target events answers history files = StandsWithin target history (floor_
 -- So do both targets, in the files and in each image of a crash, one of which the files are themselves.
 abbrev pub BothStand : List Event → List Status → History → Disk → Type 0
 BothStand events answers history disk = (image : Files) → MayLeave disk image → Stands meaning_of_hudi events answers history image × Stands meaning_of_iceberg events answers history image
+
+-- ---- each commit once
+
+-- After so many commits, and with this floor: each commit but the first comes behind a sync of the target that was done. Nothing but syncs brings the
+-- target on, and no version is removed.
+abbrev pub IsSyncedEarly : Kind → ℕ → ℕ → List Event → List Status → Type 0
+IsSyncedEarly target count floor [] answers = Unit {0}
+IsSyncedEarly target count floor (event.Extend bytes ∷ events) answers = ((count ≡ 0) ⊎ (0 < floor)) × IsSyncedEarly target (count + 1) floor events answers
+IsSyncedEarly target count floor (event.Shorten below ∷ events) answers = ⊥
+IsSyncedEarly target count floor (event.Sync synced ∷ events) [] = Unit {0}
+IsSyncedEarly target count floor (event.Sync synced ∷ events) (given ∷ answers) = IsSyncedEarly target count (floor_behind target synced count floor given) events answers
+IsSyncedEarly target count floor (event.Full synced ∷ events) [] = Unit {0}
+IsSyncedEarly target count floor (event.Full synced ∷ events) (given ∷ answers) = (is_same target synced ≡ false) × IsSyncedEarly target count floor events answers
+IsSyncedEarly target count floor (event.Stop call ∷ events) answers = IsSyncedEarly target count floor events answers
+IsSyncedEarly target count floor (event.Crash choices ∷ events) answers = IsSyncedEarly target count floor events answers
+
+-- A target that was synced so has one commit for each table up to the one at which it stands.
+abbrev pub HasEachOnce : Meaning → List Event → List Status → History → Files → Type 0
+HasEachOnce target events answers history files = IsSyncedEarly target.kind 0 0 events answers → (j : ℕ) → IsAt Delta target history files j → target.commits_in files ≡ j
+
+-- So have both targets, in the files and in each image of a crash.
+abbrev pub BothHaveEachOnce : List Event → List Status → History → Disk → Type 0
+BothHaveEachOnce events answers history disk = (image : Files) → MayLeave disk image → HasEachOnce meaning_of_hudi events answers history image × HasEachOnce meaning_of_iceberg events answers history image

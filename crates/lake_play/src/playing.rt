@@ -6,7 +6,8 @@ ghost use Rattle.lake_store.specs.Fuse.{faults_of, fuse_disk, script_of};
 ghost use Rattle.table_history.specs.History.{History};
 ghost use Rattle.lake_play.specs.Causes.{AreCaused, IsFaulty, nothing_before};
 ghost use Rattle.lake_play.specs.Playing.{Crashes, Plays, PlaysAll, nothing_played, with_answer};
-ghost use Rattle.lake_play.specs.Standing.{BothStand, IsFresh, answer_count};
+ghost use Rattle.lake_play.specs.declared.playing.Progress.{Progress as Played};
+ghost use Rattle.lake_play.specs.Standing.{BothHaveEachOnce, BothStand, IsFresh, LogHolds, answer_count};
 
 use crate::log::{extend, shorten};
 use crate::syncing::sync;
@@ -140,14 +141,29 @@ pub fn play(
 ) -> Result<Items<Status>, AllocError>
     requires now { now_ms < 2 ^ 63 }
 
+    // The events were played one after another, each over what those before it left.
+    ensures plays { IfOk result (λ answers. (after : Played) × (after.answers ≡ answers)
+        × PlaysAll now_ms events.now nothing_played store.old after store.new) }
+
     // There is one answer for each Sync and Full.
     ensures answered { IfOk result (λ answers. length answers ≡ answer_count events.now) }
+
+    // The log holds the commits, but for those that were removed.
+    ensures log { AreInOrder 0 events.now → IsFresh store.old → IfOk result (λ _.
+        (history : History) → IsHistoryOf events.now history
+        → LogHolds events.now (fuse_disk store.new)) }
 
     // Each target stands at a table of the history that the commits make, whatever else happens, and
     // not before the one where a sync was last done.
     ensures stand { AreInOrder 0 events.now → IsFresh store.old → IfOk result (λ answers.
         (history : History) → IsHistoryOf events.now history
         → BothStand events.now answers history (fuse_disk store.new)) }
+
+    // A target that was synced before each commit but the first has one commit for each table.
+    ensures once { AreInOrder 0 events.now → IsFresh store.old → IfOk result (λ answers.
+        (history : History) → IsHistoryOf events.now history
+        → BothHaveEachOnce events.now answers history (fuse_disk store.new)) }
+
     // Each answer has its cause.
     ensures caused { AreInOrder 0 events.now → IsFresh store.old → IfOk result (λ answers.
         (history : History) → IsHistoryOf events.now history
