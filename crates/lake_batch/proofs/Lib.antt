@@ -1,0 +1,5 @@
+pub mod FenceLaws
+pub mod PartAnswers
+pub mod PartCalls
+pub mod PartLaws
+pub mod PartNames

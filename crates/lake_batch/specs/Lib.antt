@@ -1,0 +1,4 @@
+pub mod Fence
+pub mod Part
+pub mod PartAt
+pub mod PartImages
