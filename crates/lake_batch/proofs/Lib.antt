@@ -1,3 +1,6 @@
+pub mod BatchFolders
+pub mod BatchLaws
+pub mod BatchReads
 pub mod FenceLaws
 pub mod PartAnswers
 pub mod PartCalls

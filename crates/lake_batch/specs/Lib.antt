@@ -1,4 +1,6 @@
+pub mod Batch
 pub mod Fence
 pub mod Part
 pub mod PartAt
 pub mod PartImages
+pub mod Reading
