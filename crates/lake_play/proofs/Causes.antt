@@ -1,29 +1,25 @@
 -- The cause of each answer of a list of events.
-use Rattle.std.proofs.Common.{◌≡◌, ◌≢◌, ◌↔◌, ◌⊎◌, inl, inr, ⊎_elim, ℕ, zero, suc, ◌+◌, ◌-◌, ◌^◌, ◌≤◌, ◌<◌, min, Bool, true, false, List, [], ◌∷◌, ◌++◌, drop, length, Option, Some, None, Result, Ok, Err, refl, sym, ap, subst, ◌∙◌, arith}
-use Rattle.std.specs.Prelude.{IsSome, slice_get}
+use Rattle.std.proofs.Common.{◌≡◌, ◌≢◌, ◌⊎◌, inl, inr, ⊎_elim, ℕ, zero, suc, ◌+◌, ◌-◌, ◌^◌, ◌≤◌, ◌<◌, Bool, true, false, List, [], ◌∷◌, ◌++◌, length, Some, None, Result, Ok, Err, refl, sym, ap, subst, ◌∙◌, arith}
 use Rattle.std.specs.Fmt.{decimal}
 use Rattle.std.proofs.lemmas.Bool.{cases_lt}
-use Rattle.lake_store.specs.Cause.{Rose, count_of}
-use Rattle.lake_store.specs.Disk.{Disk, Files}
-use Rattle.lake_store.specs.Fuse.{CanFail, FuseCanBeContested, FuseCanFail, contests_of, faults_of, fuse_disk, with_stop}
+use Rattle.lake_store.specs.Disk.{Files}
+use Rattle.lake_store.specs.Fuse.{CanFail, FuseCanBeContested, FuseCanFail, contests_of, fuse_disk, with_stop}
 use Rattle.lake_store.specs.declared.fuse.FuseStore.{FuseStore}
 use Rattle.lake_store.specs.declared.fuse.Script.{Script}
 use Rattle.conformance.specs.Histories.{IsHistoryFrom}
-use Rattle.source_core.specs.Histories.{IsAt, IsLike, LeadAlong, ShowsEntry, ShowsTable}
+use Rattle.source_core.specs.Histories.{IsAt, IsLike, ShowsEntry, ShowsTable}
 use Rattle.source_core.specs.declared.error.SourceError.{SourceError}
 use Rattle.source_core.specs.declared.error.SourceError.TheVariants as source
 use Rattle.source_delta.specs.Heads.{IsAbsent}
 use Rattle.source_delta.specs.Histories.{HoldsHistory}
 use Rattle.source_delta.specs.Since.{ShowsFromPosition}
-use Rattle.table_history.specs.History.{FitsColumn, History, IsHistory, column_type}
+use Rattle.table_history.specs.History.{History}
 use Rattle.table_history.specs.TypeTree.{ColumnTrees}
 use Rattle.table_history.specs.declared.feature.Feature.{Feature}
 use Rattle.table_history.specs.declared.kind.Kind.{Kind}
-use Rattle.table_history.specs.declared.kind.Kind.TheVariants.{Delta, Hudi, Iceberg}
+use Rattle.table_history.specs.declared.kind.Kind.TheVariants.{Delta}
 use Rattle.table_history.specs.declared.limit.LimitKind.{LimitKind}
-use Rattle.table_history.specs.declared.row.PartValue.{PartValue}
 use Rattle.table_history.specs.declared.table.Table.{Table}
-use Rattle.target_core.specs.Conditions.{GoesOn}
 use Rattle.target_core.specs.Views.{IsOfSource, IsPublished, IsUnpublished, SameView, Standing, View}
 use Rattle.target_core.specs.declared.target.TargetError.TheVariants as target_error
 use Rattle.target_hudi.specs.InspectLemmas as hudi_inspect
@@ -35,7 +31,7 @@ use Rattle.target_iceberg.specs.ViewLemmas as iceberg_view
 use Rattle.target_iceberg.specs.WideLemmas as iceberg_wide
 use Rattle.target_iceberg.specs.declared.target.IcebergTarget.{IcebergTarget}
 use Rattle.target_sync.proofs.Along.{KeepsKinds}
-use Rattle.target_sync.specs.Along.{IsToLast, IsWholeSync}
+use Rattle.target_sync.specs.Along.{IsWholeSync}
 use Rattle.target_sync.specs.Answered.{IsCaused, IsFew, IsOfSync, IsRefusal, IsSourceFault, IsUnfit}
 use Rattle.target_sync.specs.Dues.{AreSinceMark, Due, IsInFull, IsSinceFault, TakesCommits}
 use Rattle.target_sync.specs.Others.{IsIdle}
@@ -51,9 +47,8 @@ use Rattle.lake_play.specs.Causes.{Before, IsCauseAt, IsOver, IsUnfitBetween, Le
 use Rattle.lake_play.specs.Formats.{from_delta, to_hudi, to_iceberg}
 use Rattle.lake_play.specs.Playing.{Brings, scripted, status_of}
 use Rattle.lake_play.specs.Scripted.{scripted_contests, scripted_store, some_of}
-use Rattle.lake_play.specs.Standing.{StandsWithin}
 use Rattle.lake_play.proofs.Faults.{IsPlayedFault, at_head_fault, from_position_fault, from_scratch_fault}
-use Rattle.lake_play.proofs.Histories.{entry_of, holds_history, is_absent, is_history, not_absent, same_length}
+use Rattle.lake_play.proofs.Histories.{entry_of, holds_history, is_history, not_absent, same_length}
 use Rattle.lake_play.proofs.Logs.{HoldsCommits}
 use Rattle.lake_play.proofs.Targets.{IsPlayed, at_front, shows_whole}
 

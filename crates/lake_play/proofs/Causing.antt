@@ -1,8 +1,8 @@
 -- The causes of all answers of a list of events.
-use Rattle.std.proofs.Common.{◌≡◌, ◌⊎◌, inl, inr, ⊎_elim, ℕ, zero, suc, ◌+◌, ◌-◌, ◌^◌, ◌≤◌, ◌<◌, max, min, Bool, true, false, List, [], ◌∷◌, ◌++◌, length, Option, Some, None, Result, Ok, Err, refl, sym, ap, subst, ◌∙◌, arith}
+use Rattle.std.proofs.Common.{◌≡◌, inl, inr, ℕ, ◌+◌, ◌^◌, ◌≤◌, ◌<◌, max, min, true, List, [], ◌∷◌, ◌++◌, length, Option, Some, None, Result, Err, refl, sym, ap, subst, ◌∙◌, arith}
 use Rattle.std.proofs.lemmas.List.{append-nil, append_assoc, length-append}
 use Rattle.lake_store.specs.Cause.{Rose}
-use Rattle.lake_store.specs.Fuse.{CanFail, contests_of, faults_of, fuse_disk}
+use Rattle.lake_store.specs.Fuse.{faults_of, fuse_disk}
 use Rattle.lake_store.specs.declared.fuse.FuseStore.{FuseStore}
 use Rattle.lake_store.specs.declared.fuse.Script.{Script}
 use Rattle.conformance.specs.Histories.{AreInOrder, IsHistoryFrom, IsHistoryOf, extensions}

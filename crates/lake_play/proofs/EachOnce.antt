@@ -1,5 +1,5 @@
 -- A target that is synced before each commit but the first has one commit for each table, whatever else happens.
-use Rattle.std.proofs.Common.{◌≡◌, ◌⊎◌, inl, inr, ⊎_elim, ℕ, zero, suc, ◌+◌, ◌^◌, ◌≤◌, ◌<◌, max, min, Bool, true, false, List, [], ◌∷◌, ◌++◌, length, Option, Some, None, refl, sym, ap, subst, ◌∙◌, arith}
+use Rattle.std.proofs.Common.{◌≡◌, ◌⊎◌, inl, inr, ⊎_elim, ℕ, ◌+◌, ◌^◌, ◌≤◌, ◌<◌, max, min, Bool, true, false, List, [], ◌∷◌, ◌++◌, length, Option, Some, None, refl, sym, ap, subst, ◌∙◌, arith}
 use Rattle.std.specs.Prelude.{slice_get}
 use Rattle.std.proofs.lemmas.Bool.{cases_lt, false≢true}
 use Rattle.std.proofs.lemmas.Option.{slice_get_within}
@@ -18,12 +18,9 @@ use Rattle.table_history.specs.declared.kind.Kind.TheVariants.{Delta, Hudi, Iceb
 use Rattle.table_history.specs.declared.table.Table.{Table}
 use Rattle.target_core.specs.Folders.{SameIn, folder_of}
 use Rattle.target_core.specs.Meaning.{Meaning}
-use Rattle.target_hudi.specs.SettledLemmas as hudi_settled
 use Rattle.target_hudi.specs.ViewLemmas as hudi_view
-use Rattle.target_hudi.specs.declared.target.HudiTarget.{HudiTarget}
 use Rattle.target_iceberg.specs.CountLemmas as iceberg_count
 use Rattle.target_iceberg.specs.IcebergMeaning.{iceberg_meaning}
-use Rattle.target_iceberg.specs.OwnLemmas as iceberg_own
 use Rattle.target_iceberg.specs.TableId.{table_id}
 use Rattle.target_iceberg.specs.ViewLemmas as iceberg_view
 use Rattle.target_iceberg.specs.declared.target.IcebergTarget.{IcebergTarget}

@@ -1,19 +1,15 @@
 -- The histories of a list of commits: they are histories of a table, and what is there of the commits holds them.
-use Rattle.std.proofs.Common.{◌≡◌, ◌≢◌, ◌⊎◌, inl, inr, ⊎_elim, ℕ, zero, suc, ◌+◌, ◌-◌, ◌^◌, ◌≤◌, ◌<◌, false, List, [], ◌∷◌, ◌++◌, length, map, All, Contains, Option, Some, None, Result, Ok, refl, sym, ap, subst, ◌∙◌, arith}
+use Rattle.std.proofs.Common.{◌≡◌, ⊎_elim, ℕ, zero, suc, ◌+◌, ◌-◌, ◌^◌, ◌≤◌, ◌<◌, false, List, [], ◌∷◌, length, Contains, Option, Some, None, Result, Ok, refl, sym, ap, subst, ◌∙◌, arith}
 use Rattle.std.specs.Prelude.{option_map, slice_get}
 use Rattle.std.specs.Fmt.{decimal}
 use Rattle.std.specs.List.{IsDistinct}
 use Rattle.std.specs.Str.{bytes_eq}
-use Rattle.std.proofs.lemmas.Bool.{cases_lt}
 use Rattle.std.proofs.lemmas.Fmt.{decimal_injective}
-use Rattle.std.proofs.lemmas.List.Elements.{All-cons, All-nil}
 use Rattle.std.proofs.lemmas.Map.Keys.{IsDistinct-cons}
-use Rattle.lake_basics.specs.declared.limits.TheConstants.{MAX_DELTA_VERSION}
-use Rattle.lake_store.specs.Disk.{Disk, Files}
+use Rattle.lake_store.specs.Disk.{Disk}
 use Rattle.table_history.proofs.RowListLemmas.{Contains-none}
 use Rattle.table_history.specs.History.{FitColumns, History, IsHistory, IsSoundTable, positions_of}
 use Rattle.table_history.specs.Row.{Row}
-use Rattle.table_history.specs.Rows.{HasDistinctPaths}
 use Rattle.table_history.specs.declared.table.Table.{Table}
 use Rattle.delta_change.proofs.KindLemmas.{values_still_fit}
 use Rattle.delta_change.proofs.TableLemmas.{kinds_stay, partition_kept}
@@ -22,17 +18,16 @@ use Rattle.delta_live.proofs.ValueLemmas.{values_fit}
 use Rattle.delta_log.specs.Readable.{IsReadableCommit}
 use Rattle.delta_log.specs.declared.action.LineAction.{LineAction}
 use Rattle.delta_log.specs.declared.commit.DeltaCommit.{DeltaCommit}
-use Rattle.delta_table.specs.Log.{IsStep, SaysCommit}
+use Rattle.delta_table.specs.Log.{IsStep}
 use Rattle.conformance.specs.Histories.{IsExtension, IsHistoryFrom}
 use Rattle.std.specs.Prelude.{option_to_list, unwrap_or}
 use Rattle.std.specs.List.{AllByRecursion}
 use Rattle.std.proofs.lemmas.Bool.{false_from_ne_true}
 use Rattle.std.proofs.lemmas.List.Elements.{All-from_recursion}
 use Rattle.std.proofs.lemmas.Slice.Eq.{bytes_eq-Decides}
-use Rattle.delta_change.specs.Change.{Shows, commit_features}
-use Rattle.delta_change.specs.TableBehind.{IsSchemaBehind, StatesSchema, partition_behind, rows_before}
+use Rattle.delta_change.specs.TableBehind.{IsSchemaBehind, StatesSchema, rows_before}
 use Rattle.delta_change.proofs.KindLemmas.{KeepKinds}
-use Rattle.delta_live.specs.Live.{ActsOn, AddsRow, IsRowBehind, PartColumns}
+use Rattle.delta_live.specs.Live.{ActsOn, AddsRow}
 use Rattle.delta_log.specs.Grammar.{line_action}
 use Rattle.delta_log.specs.Judging.{lines_of}
 use Rattle.delta_log.specs.Readable.{States}
@@ -40,7 +35,7 @@ use Rattle.delta_log.specs.declared.commit.FileAction.{FileAction}
 use Rattle.delta_log.specs.declared.commit.FileAction.TheVariants as file
 use Rattle.delta_log.specs.declared.commit.MetaData.{MetaData}
 use Rattle.delta_log.specs.declared.error.LineFault.{LineFault}
-use Rattle.delta_table.specs.Versions.{AreVersions, HasVersion, HoldsVersion}
+use Rattle.delta_table.specs.Versions.{AreVersions, HasVersion}
 use Rattle.delta_table.specs.declared.versions.Versions.{Versions}
 use Rattle.delta_table.proofs.PathLaws.{bytes_once}
 use Rattle.lake_basics.specs.Outcome.{each}

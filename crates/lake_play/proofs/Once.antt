@@ -28,7 +28,7 @@ use Rattle.target_core.specs.Meaning.{Meaning}
 use Rattle.target_core.specs.Views.{IsAdvancedAll, IsUnpublished, Origin, SameView, Standing, View, standing_at}
 use Rattle.target_sync.specs.Along.{GoesOnAlong, HasGoneTo, LeadsAsFar, StandsFrom}
 use Rattle.target_sync.specs.Answered.{IsDone, IsUndisturbed}
-use Rattle.target_sync.specs.Dues.{AreSinceMark, Due, IsIdBehind, IsInFull, IsWhole, MayBeSame, TakesCommits, origin_of}
+use Rattle.target_sync.specs.Dues.{AreSinceMark, Due, IsIdBehind, IsInFull, MayBeSame, TakesCommits, origin_of}
 use Rattle.target_sync.specs.Synced.{IsAsBefore, with_columns}
 use Rattle.target_sync.specs.Targets.{TargetFacts}
 use Rattle.target_sync.specs.declared.plan.Mode.TheVariants as modes

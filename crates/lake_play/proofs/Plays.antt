@@ -1,10 +1,9 @@
 -- What stays true of the source and of both targets while events are played.
-use Rattle.std.proofs.Common.{◌≡◌, ◌⊎◌, inl, inr, ⊎_elim, ℕ, zero, suc, ◌+◌, ◌^◌, ◌≤◌, ◌<◌, max, min, Bool, false, List, [], ◌∷◌, ◌++◌, drop, length, Option, Some, None, refl, sym, ap, subst, ◌∙◌, arith}
+use Rattle.std.proofs.Common.{◌≡◌, inl, inr, ℕ, zero, suc, ◌+◌, ◌^◌, ◌≤◌, ◌<◌, max, min, false, List, [], ◌∷◌, ◌++◌, drop, length, Option, Some, None, refl, sym, ap, subst, ◌∙◌, arith}
 use Rattle.std.specs.Fmt.{decimal}
 use Rattle.std.specs.Prelude.{slice_get}
 use Rattle.std.proofs.lemmas.Bool.{false≢true}
 use Rattle.std.proofs.lemmas.List.{append-nil, append_assoc, length-append}
-use Rattle.std.specs.FinMap as map
 use Rattle.std.specs.FinSet as set
 use Rattle.std.specs.Ordering.{nat_cmp}
 use Rattle.std.specs.Cmp.Lexicographic.{slice_cmp}
@@ -14,17 +13,15 @@ use Rattle.conformance.specs.declared.event.Event.TheVariants as event
 use Rattle.conformance.proofs.Legal.{history_more, last_more, last_table}
 use Rattle.delta_table.specs.SameVersions.{version_in}
 use Rattle.delta_table.specs.Versions.{log_folder}
-use Rattle.lake_store.specs.Disk.{Disk, Files, IsClean, MayLeave, empty_disk}
+use Rattle.lake_store.specs.Disk.{Disk, Files, IsClean}
 use Rattle.lake_store.specs.Fuse.{FuseCanBeContested, fuse_disk, with_stop}
 use Rattle.lake_store.specs.Runs.{IsIn}
 use Rattle.lake_store.specs.declared.fuse.FuseStore.{FuseStore}
-use Rattle.lake_store.specs.declared.fuse.Script.{Script}
 use Rattle.table_history.specs.History.{History}
 use Rattle.table_history.specs.declared.kind.Kind.{Kind}
 use Rattle.table_history.specs.declared.kind.Kind.TheVariants.{Delta, Hudi, Iceberg}
 use Rattle.table_history.specs.declared.table.Table.{Table}
 use Rattle.target_core.specs.Folders.{SameIn, after_crash, folder_of}
-use Rattle.target_core.specs.Meaning.{Meaning}
 use Rattle.target_core.proofs.Apart.{folders_apart}
 use Rattle.target_sync.specs.Targets.{TargetFacts, target_facts}
 use Rattle.target_sync.specs.declared.plan.Mode.{Mode}
@@ -41,7 +38,7 @@ use Rattle.lake_play.specs.Standing.{BothStand, IsFresh, LogHolds, Stands, answe
 use Rattle.lake_play.specs.declared.playing.Progress.{Progress}
 use Rattle.lake_play.proofs.Logs.{HoldsCommits, some_same, extended_clean, extended_elsewhere, fewer_commits, left_commits, no_commits, one_commit_more, same_commits, shed_elsewhere}
 use Rattle.lake_play.proofs.Syncs.{brought, clean_beside, floor_other, floor_stays, same_beside, still_uncontested}
-use Rattle.lake_play.proofs.Targets.{IsPlayed, Laws, at_nothing, crash_played, hudi_laws, iceberg_laws, later_played, left_standing, same_played}
+use Rattle.lake_play.proofs.Targets.{IsPlayed, at_nothing, crash_played, hudi_laws, iceberg_laws, later_played, left_standing, same_played}
 
 -- So many commits were played, which made these first tables of the history. The source holds those of them that weren't removed, and each target stands
 -- at one of the tables, not before its floor, where a crash can't change it.

@@ -1,26 +1,24 @@
 -- What a sync of one target leaves is what the next one asks.
-use Rattle.std.proofs.Common.{◌≡◌, ◌⊎◌, inl, inr, ⊎_elim, ℕ, zero, suc, ◌+◌, ◌^◌, ◌≤◌, ◌<◌, Bool, true, false, ◌&&◌, List, [], ◌∷◌, ◌++◌, length, Option, Some, None, Result, Ok, Err, refl, sym, ap, subst, ◌∙◌, arith, if◌then◌else◌}
+use Rattle.std.proofs.Common.{◌≡◌, inl, inr, ⊎_elim, ℕ, zero, suc, ◌^◌, ◌≤◌, ◌<◌, Bool, true, false, ◌&&◌, List, [], ◌∷◌, ◌++◌, length, Some, None, Result, Ok, Err, refl, sym, ap, subst, ◌∙◌, arith, if◌then◌else◌}
 use Rattle.std.proofs.lemmas.Bool.{cases_lt, false≢true}
 use Rattle.std.specs.FinMap as map
-use Rattle.lake_store.specs.Disk.{Disk, Files, IsClean}
+use Rattle.lake_store.specs.Disk.{IsClean}
 use Rattle.lake_store.specs.Fuse.{FuseCanBeContested, fuse_disk}
 use Rattle.lake_store.specs.Runs.{IsIn, IsOutside, OnlyReads}
 use Rattle.lake_store.specs.declared.fuse.FuseStore.{FuseStore}
 use Rattle.conformance.specs.Histories.{IsHistoryFrom}
 use Rattle.source_core.specs.Histories.{IsAt, ShowsTable}
 use Rattle.source_delta.specs.Heads.{IsAbsent}
-use Rattle.table_history.specs.History.{History, IsHistory}
+use Rattle.table_history.specs.History.{History}
 use Rattle.table_history.specs.declared.kind.Kind.{Kind}
-use Rattle.table_history.specs.declared.kind.Kind.TheVariants.{Delta, Hudi, Iceberg}
+use Rattle.table_history.specs.declared.kind.Kind.TheVariants.{Delta}
 use Rattle.target_core.specs.Conditions.{GoesOn}
 use Rattle.target_core.specs.Folders.{SameIn, folder_of}
-use Rattle.target_core.specs.Meaning.{Meaning}
 use Rattle.target_core.specs.Views.{View}
 use Rattle.target_core.proofs.Apart.{folders_apart}
 use Rattle.target_sync.specs.Along.{GoesOnAlong, IsWholeSync}
 use Rattle.target_sync.specs.Answered.{IsContest, IsDone, IsFew, IsOfSync, IsReady, IsReported, IsUndisturbed, StopsSo}
 use Rattle.target_sync.specs.Dues.{Due}
-use Rattle.target_sync.specs.Sources.{SourceMeaning}
 use Rattle.target_sync.specs.Targets.{TargetFacts}
 use Rattle.target_sync.specs.declared.apply.Report.{Report}
 use Rattle.target_sync.specs.declared.plan.Mode.{Mode}
@@ -29,11 +27,10 @@ use Rattle.target_sync.specs.declared.status.Status.TheVariants as status
 use Rattle.lake_play.specs.Formats.{from_delta}
 use Rattle.lake_play.specs.Playing.{Brings, scripted, status_of}
 use Rattle.lake_play.specs.Scripted.{scripted_store}
-use Rattle.lake_play.specs.Standing.{StandsWithin, floor_behind, is_done, is_same}
-use Rattle.lake_play.specs.declared.scripted.Scripted.{Scripted}
+use Rattle.lake_play.specs.Standing.{floor_behind, is_done, is_same}
 use Rattle.lake_play.proofs.Histories.{holds_history, is_absent, is_history, same_length}
 use Rattle.lake_play.proofs.Logs.{HoldsCommits}
-use Rattle.lake_play.proofs.Targets.{IsPlayed, Laws, at_front, at_whole}
+use Rattle.lake_play.proofs.Targets.{IsPlayed, at_front, at_whole}
 
 -- ---- answers
 

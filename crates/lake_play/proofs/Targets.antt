@@ -1,20 +1,18 @@
 -- A target while events are played: what changes nothing of it, and what a crash leaves.
-use Rattle.std.proofs.Common.{◌≡◌, ◌⊎◌, inl, inr, ⊎_elim, ℕ, zero, suc, ◌+◌, ◌≤◌, ◌<◌, List, [], ◌∷◌, ◌++◌, length, Contains, Option, Some, None, refl, sym, ap, subst, ◌∙◌, arith}
+use Rattle.std.proofs.Common.{◌≡◌, inl, ℕ, zero, suc, ◌≤◌, ◌<◌, List, [], ◌∷◌, ◌++◌, length, Contains, Option, Some, None, refl, sym, ap, subst, ◌∙◌, arith}
 use Rattle.std.specs.Prelude.{IsSome, slice_get}
 use Rattle.std.specs.FinMap as map
 use Rattle.std.specs.FinSet as set
 use Rattle.std.specs.Ordering.{nat_cmp}
 use Rattle.std.specs.Cmp.Lexicographic.{slice_cmp}
-use Rattle.lake_store.specs.Disk.{Disk, Files, IsClean, IsName, MayLeave, empty_disk, front_of, names_in}
+use Rattle.lake_store.specs.Disk.{Disk, Files, IsClean, MayLeave, empty_disk, front_of, names_in}
 use Rattle.lake_store.specs.Runs.{IsIn}
 use Rattle.lake_store.proofs.OrderLaws.{names_in_listed}
 use Rattle.source_core.specs.Histories.{IsAt, ShowsTable}
 use Rattle.table_history.proofs.RowListLemmas.{Contains-head, Contains-none}
 use Rattle.table_history.specs.History.{History}
 use Rattle.table_history.specs.TypeTree.{ColumnTrees}
-use Rattle.table_history.specs.declared.kind.Kind.{Kind}
-use Rattle.table_history.specs.declared.kind.Kind.TheVariants.{Delta, Hudi, Iceberg}
-use Rattle.table_history.specs.declared.table.Table.{Table}
+use Rattle.table_history.specs.declared.kind.Kind.TheVariants.{Delta}
 use Rattle.hudi_commit.specs.Names.{timeline_folder, timeline_path}
 use Rattle.iceberg_table.specs.Folder.{metadata_folder}
 use Rattle.target_core.specs.Folders.{MayLeaveIn, SameIn, after_crash, folder_of}

@@ -9,10 +9,8 @@ use Rattle.source_delta.specs.Histories.{HoldsHistory}
 use Rattle.source_delta.specs.Reading.{ShowsAtHead, ShowsFromScratch}
 use Rattle.source_delta.specs.Since.{IsSince, Reaches, ShowsFromPosition}
 use Rattle.table_history.specs.declared.kind.Kind.TheVariants.{Delta, Hudi, Iceberg}
-use Rattle.target_core.specs.Meaning.{Meaning}
 use Rattle.target_core.specs.declared.target.Target.{Ghosts}
 use Rattle.target_hudi.specs.Fitting as hudi_fitting
-use Rattle.target_hudi.specs.FitLemmas as hudi_unfit
 use Rattle.target_hudi.specs.HudiMeaning as hudi
 use Rattle.target_hudi.specs.Inspecting as hudi_inspecting
 use Rattle.target_hudi.specs.Kept as hudi_kept

@@ -1,9 +1,9 @@
 -- What events do to a store, one after another. Nothing is said here of tables.
-use Rattle.std.specs.Prelude.{◌≡◌, ◌⊎◌, ℕ, ◌+◌, ◌≤◌, ◌<◌, min, max, List, [], ◌∷◌, ◌++◌, Option, Some, None, Result, Ok, Err}
+use Rattle.std.specs.Prelude.{◌≡◌, ◌⊎◌, ℕ, ◌+◌, ◌≤◌, ◌<◌, min, max, List, [], ◌∷◌, ◌++◌, Some, None, Result, Ok, Err}
 use Rattle.std.specs.FinMap as map
 use Rattle.delta_table.specs.Versions.{IsVersionPath}
 use Rattle.lake_store.specs.Crash.{IsCrashed}
-use Rattle.lake_store.specs.Disk.{Disk, IsClean, MayLeave, removed, synced, written}
+use Rattle.lake_store.specs.Disk.{Disk, IsClean, MayLeave, synced, written}
 use Rattle.lake_store.specs.Fuse.{fuse_disk, with_stop}
 use Rattle.lake_store.specs.declared.fuse.FuseStore.{FuseStore}
 use Rattle.conformance.specs.declared.event.Event.{Event}

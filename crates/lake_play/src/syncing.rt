@@ -1,7 +1,9 @@
 //! A target, brought to the source's head.
 ghost use Rattle.std.specs.Prelude.{◌≡◌, ◌<◌, ◌^◌};
+ghost use Rattle.lake_store.specs.Fuse.{CanFail, script_of};
 ghost use Rattle.target_sync.specs.Targets.{target_facts};
 ghost use Rattle.lake_play.specs.Playing.{Brings, IsSynced, status_of};
+ghost use Rattle.lake_play.specs.Standing.{IsFresh};
 
 use crate::scripted::Scripted;
 use lake_store::{FuseStore, MemoryStore, Script};
@@ -18,7 +20,10 @@ use target_sync::{Mode, Report, Status, sync_one};
 pub(crate) const LOCATION: &str = "/t";
 
 /// A fuse that never fails by a script, round a store without files.
-pub(crate) fn empty_fuse(alloc: Global) -> FuseStore {
+pub(crate) fn empty_fuse(alloc: Global) -> FuseStore
+    ensures fresh { IsFresh result }
+    ensures unscripted { ¬ CanFail (script_of result) }
+{
     let script = Script {
         failing: Vec::new(alloc),
         stop: None,

@@ -1,4 +1,4 @@
-use Rattle.std.proofs.Common.{◌≡◌, ◌≤◌, ◌+◌, ℕ, inl, inr, ⊎_elim, refl, sym, subst, arith}
+use Rattle.std.proofs.Common.{◌≡◌, ◌≤◌, ℕ, inl, inr, ⊎_elim, refl, subst, arith}
 use Rattle.lake_store.specs.Memory.{disk_of}
 use Rattle.lake_play.specs.Playing.{Sheds}
 use Rattle.lake_play.proofs.Logs.{sheds_fewer, sheds_more, sheds_none}

@@ -1,0 +1,88 @@
+-- How a drill ends.
+use Rattle.std.proofs.Common.{◌≡◌, ◌⊎◌, inl, inr, ⊎_elim, ℕ, List, ◌++◌, length, take, refl, sym, ap, subst, ◌∙◌, arith}
+use Rattle.std.proofs.lemmas.List.{take_all}
+use Rattle.lake_store.specs.Cause.{HasFault}
+use Rattle.lake_store.specs.Fuse.{fuse_disk}
+use Rattle.lake_store.specs.declared.fuse.FuseStore.{FuseStore}
+use Rattle.lake_store.specs.declared.sink.Sink.{Ghosts}
+use Rattle.target_sync.specs.declared.status.Status.{Status}
+use Rattle.target_sync.specs.declared.status.Status.TheVariants as status
+use Rattle.lake_play.specs.Drilled.{Drills, IsCutShort, IsDrillEnd, IsDrilled, IsReadEnd, PutsText}
+
+done_memory : status.Done ≡ status.Memory → ⊥
+done_memory is = cc
+
+-- what reading refuses ends a drill
+pub read_end : (number : ℕ) (store : FuseStore) (given : Status) → IsReadEnd (fuse_disk store).files given → IsDrillEnd number store given
+read_end number store status.Done is = absurd is
+read_end number store status.Memory is = inl refl
+read_end number store status.Usage is = absurd is
+read_end number store status.Absent is = absurd is
+read_end number store (status.Malformed path) is = absurd is
+read_end number store (status.Unsupported of feature path) is = absurd is
+read_end number store (status.Limit of which n) is = inr (inl is)
+read_end number store (status.Foreign target path) is = absurd is
+read_end number store (status.Contested target) is = absurd is
+read_end number store status.StoreFault is = absurd is
+read_end number store status.SinkFault is = absurd is
+read_end number store (status.Behind target at head) is = absurd is
+read_end number store (status.Differs target path) is = absurd is
+read_end number store (status.Stale path) is = absurd is
+
+module _ {O : Type 0} (sink : Ghosts O) (number : ℕ) (old : O) (store : FuseStore) where
+  never_done : (given : Status) → IsDrillEnd number store given → given ≡ status.Done → ⊥
+  never_done given end is =
+      ⊎_elim
+      (λ (memory : given ≡ status.Memory). done_memory (sym is ∙ memory))
+      (λ (short : IsCutShort number store given). subst (IsCutShort number store) is short)
+      end
+
+  never_cut : {given : Status} (other : Status) → given ≡ other → (IsCutShort number store other → ⊥) → IsCutShort number store given → ⊥
+  never_cut other is refuted short = refuted (subst (IsCutShort number store) is short)
+
+  -- nothing was put
+  pub nothing_put : (given : Status) → IsDrillEnd number store given → Drills sink number old old given store
+  nothing_put given end = record {
+    later = omega arith;
+    can_fail = λ can. can;
+    ends = ⊎_elim (λ (memory : given ≡ status.Memory). inr (inl memory)) (λ (short : IsCutShort number store given). inr (inr (inr short))) end;
+    cut = λ short. refl;
+    done = λ done. absurd (never_done given end done);
+    front = λ told. inl refl;
+  }
+
+  -- the lines were put
+  pub lines_put : (new : O) (lines : List ℕ) (given : Status) → IsDrilled number (fuse_disk store).files lines → PutsText sink old new lines given → Drills sink number old new given store
+  lines_put new lines given drilled puts = record {
+    later = puts.later;
+    can_fail = puts.can_fail;
+    ends = ⊎_elim (λ done. inl done) (λ other. inr (⊎_elim (λ memory. inl memory) (λ fault. inr (inl fault)) other)) puts.ends;
+    cut = λ short. absurd (⊎_elim (λ done. never_cut status.Done done (λ is. is) short) (λ other. ⊎_elim (λ memory. never_cut status.Memory memory (λ is. is) short) (λ fault. never_cut status.SinkFault fault.0 (λ is. is) short) other) puts.ends);
+    done = λ done. (lines, drilled, puts.done done);
+    front = λ told. let put = puts.front told in inr (lines, put.0, drilled, put.1);
+  }
+
+-- ---- how the puts ended
+
+module _ {O : Type 0} (sink : Ghosts O) (old new : O) (text : List ℕ) {Refused : Type 0} (cause : HasFault sink.faults sink.may_fail old new Refused) where
+  pub put_done : (sink.tells → sink.output new ≡ sink.output old ++ text) → PutsText sink old new text status.Done
+  put_done ok = record {
+    later = cause.later;
+    can_fail = cause.still;
+    ends = inl refl;
+    done = λ done. ok;
+    front = λ told. (length text, ok told ∙ ap (λ (l : List ℕ). sink.output old ++ l) (sym (take_all (length text) text (omega arith))));
+  }
+
+  pub put_cut : (given : Status) → (given ≡ status.Done → ⊥) → (given ≡ status.Memory) ⊎ ((given ≡ status.SinkFault) × Refused) → (sink.tells → (n : ℕ) × (sink.output new ≡ sink.output old ++ take n text)) → PutsText sink old new text given
+  put_cut given not_done why front = record {
+    later = cause.later;
+    can_fail = cause.still;
+    ends = inr (⊎_elim (λ memory. inl memory) (λ failed. inr (failed.0, cause.rose failed.1, cause.allowed failed.1)) why);
+    done = λ done. absurd (not_done done);
+    front = front;
+  }
+
+-- the texts of three lines
+pub three_texts : {a b c x y z : List ℕ} → a ≡ x → b ≡ y → c ≡ z → a ++ (b ++ c) ≡ x ++ (y ++ z)
+three_texts {a} {b} {c} {x} {y} {z} one two three = ap (λ (l : List ℕ). l ++ (b ++ c)) one ∙ ap (λ (l : List ℕ). x ++ (l ++ c)) two ∙ ap (λ (l : List ℕ). x ++ (y ++ l)) three

@@ -1,0 +1,277 @@
+-- What the clauses of `play` say of the events of a drill.
+use Rattle.std.proofs.Common.{◌≡◌, ◌≢◌, inl, inr, ⊎_elim, ℕ, zero, suc, ◌+◌, ◌≤◌, ◌<◌, Bool, true, false, ◌&&◌, List, [], ◌∷◌, ◌++◌, length, map, Some, None, refl, sym, ap, subst, ◌∙◌, append_assoc, arith, if◌then◌else◌}
+use Rattle.std.specs.List.{AllByRecursion}
+use Rattle.std.specs.Prelude.{flat_map, slice_get}
+use Rattle.std.proofs.lemmas.Bool.{cases_lt}
+use Rattle.std.proofs.lemmas.List.{map-append}
+use Rattle.std.proofs.lemmas.Option.{slice_get_within}
+use Rattle.conformance.specs.Drill.{drill_bytes, drill_time, numbers_under}
+use Rattle.conformance.specs.Events.{commit_events, drill_events, is_stopped, is_sync_point, stopped_sync, sync_events, sync_points, target_sync}
+use Rattle.conformance.specs.Histories.{AreInOrder, AreLegal, IsHistoryOf, extensions}
+use Rattle.conformance.specs.declared.event.Event.{Event}
+use Rattle.conformance.specs.declared.event.Event.TheVariants as event
+use Rattle.conformance.proofs.Legal.{commits_are}
+use Rattle.conformance.proofs.Numbers.{length_map}
+use Rattle.lake_store.specs.Disk.{Files, MayLeave}
+use Rattle.lake_store.specs.Fuse.{CanFail, faults_of, fuse_disk, script_of}
+use Rattle.lake_store.specs.declared.fuse.FuseStore.{FuseStore}
+use Rattle.lake_store.specs.declared.fuse.Script.{Script}
+use Rattle.source_core.specs.Histories.{IsAt}
+use Rattle.table_history.specs.History.{History}
+use Rattle.table_history.specs.declared.kind.Kind.{Kind}
+use Rattle.table_history.specs.declared.kind.Kind.TheVariants.{Delta, Hudi, Iceberg}
+use Rattle.target_core.specs.Meaning.{Meaning}
+use Rattle.target_sync.specs.Targets.{TargetFacts, target_facts}
+use Rattle.target_sync.specs.declared.plan.Mode.{Mode}
+use Rattle.target_sync.specs.declared.plan.Mode.TheVariants as modes
+use Rattle.target_sync.specs.declared.status.Side.TheVariants as side
+use Rattle.target_sync.specs.declared.status.Status.{Status}
+use Rattle.target_sync.specs.declared.status.Status.TheVariants as status
+use Rattle.lake_play.specs.Causes.{AreCaused, Before, IsCause, IsCauseAt, IsFaulty, behind, nothing_before}
+use Rattle.lake_play.specs.Drilled.{IsBrought, IsDrillEnd, IsEnded, IsRefusedSync, LeavesDrill}
+use Rattle.lake_play.specs.Formats.{to_hudi, to_iceberg}
+use Rattle.lake_play.specs.Playing.{PlaysAll, nothing_played}
+use Rattle.lake_play.specs.Standing.{BothHaveEachOnce, BothStand, HasEachOnce, HoldsFrom, IsFresh, IsSyncedEarly, LogHolds, StandsWithin, answer_count, first_from, floor_of, meaning_of_hudi, meaning_of_iceberg}
+use Rattle.lake_play.specs.declared.playing.Progress.{Progress}
+use Rattle.lake_play.proofs.Ends.{at_place}
+use Rattle.lake_play.proofs.Folds.{Folds, GoWell, IsGood, drill_folds, none_removed}
+use Rattle.lake_play.proofs.Logs.{some_same}
+use Rattle.lake_play.proofs.Targets.{first_get}
+
+-- ---- the commits
+
+numbers_at : (f : ℕ → List ℕ) (n i : ℕ) → i < n → slice_get (map f (numbers_under n)) i ≡ Some (f i)
+numbers_at f zero i less = absurd (omega (arith, less))
+numbers_at f (suc n) i less =
+    let front : List (List ℕ) = map f (numbers_under n) in
+    let count : length front ≡ n = length_map f n in
+    ap (λ (l : List (List ℕ)). slice_get l i) (map-append f (numbers_under n) (n ∷ []))
+    ∙ ⊎_elim
+    (λ (earlier : i < n). first_get front (f n ∷ []) i (omega (arith, earlier, count)) ∙ numbers_at f n i earlier)
+    (λ (past : n ≤ i).
+    let last : i ≡ length front = omega (arith, less, past, count) in
+    let same : n ≡ i = omega (arith, less, past) in
+    ap (slice_get (front ++ f n ∷ [])) last ∙ at_place front (f n) [] ∙ ap (λ (k : ℕ). Some (f k)) same)
+    (cases_lt i n)
+
+-- what stands there is that of its place
+pub numbers_back : (f : ℕ → List ℕ) (n i : ℕ) (x : List ℕ) → slice_get (map f (numbers_under n)) i ≡ Some x → (i < n) × (f i ≡ x)
+numbers_back f n i x at =
+    let count = length_map f n in
+    let within : i < length (map f (numbers_under n)) = slice_get_within (map f (numbers_under n)) i x at in
+    let less : i < n = omega (arith, within, count) in
+    (less, some_same (f i) x (sym (numbers_at f n i less) ∙ at))
+
+-- ---- the events
+
+-- Nothing but commits, syncs behind a first commit, stops and crashes.
+abbrev IsPlain : Bool → List Event → Type 0
+IsPlain some [] = Unit {0}
+IsPlain some (event.Extend bytes ∷ events) = IsPlain true events
+IsPlain some (event.Shorten below ∷ events) = ⊥
+IsPlain some (event.Sync target ∷ events) = (some ≡ true) × IsPlain some events
+IsPlain some (event.Full target ∷ events) = ⊥
+IsPlain some (event.Stop call ∷ events) = IsPlain some events
+IsPlain some (event.Crash choices ∷ events) = IsPlain some events
+
+module _ (number : ℕ) where
+  plain_sync : (e : ℕ) (target : Kind) (rest : List Event) → IsPlain true rest → IsPlain true (target_sync number true e target ++ rest)
+  plain_sync e target rest plain = by (true && is_stopped number e)
+    where
+      by : (b : Bool) → IsPlain true ((if b then stopped_sync number e target else (event.Sync target ∷ [])) ++ rest)
+      by true = (refl, (refl, plain))
+      by false = (refl, plain)
+
+  plain_syncs : (e : ℕ) (rest : List Event) → IsPlain true rest → IsPlain true (sync_events number true e ++ rest)
+  plain_syncs e rest plain =
+      subst (IsPlain true) (sym (append_assoc (target_sync number true e Hudi) (target_sync number true e Iceberg) rest))
+      (plain_sync e Hudi (target_sync number true e Iceberg ++ rest) (plain_sync e Iceberg rest plain))
+
+  plain_commit : (some : Bool) (place : ℕ) (rest : List Event) → IsPlain true rest → IsPlain some (commit_events number true place ++ rest)
+  plain_commit some place rest plain = by (is_sync_point number place)
+    where
+      by : (b : Bool) → IsPlain true ((if b then sync_events number true (sync_points number place) else []) ++ rest)
+      by true = plain_syncs (sync_points number place) rest plain
+      by false = plain
+
+  plain_places : (some : Bool) (places : List ℕ) → IsPlain some (flat_map (commit_events number true) places)
+  plain_places some [] = tt
+  plain_places some (place ∷ places) = plain_commit some place (flat_map (commit_events number true) places) (plain_places true places)
+
+  plain : IsPlain false (drill_events number true)
+  plain = plain_places false (numbers_under 200)
+
+-- ---- one answer
+
+-- the answer of a sync of a target behind a commit, with no version removed, has its cause
+record IsAnswered (faulty : Before → Type 0) (now : ℕ) (history : History) (given : Status) : Type 0 where
+  target : Kind
+  other : target ≢ Delta
+  before : Before
+  kept : before.shortened ≡ false
+  some : before.commits ≡ [] → ⊥
+  cause : IsCause target modes.Sync now history before (faulty before) given
+
+none_there : (given : Status) → None ≡ Some given → ⊥
+none_there given is = cc
+
+not_empty : (xs : List (List ℕ)) (x : List ℕ) → xs ++ x ∷ [] ≡ [] → ⊥
+not_empty [] x is = cc
+not_empty (y ∷ xs) x is = cc
+
+module _ (faulty : Before → Type 0) (now : ℕ) (history : History) where
+  answered : (events : List Event) (some : Bool) (count : ℕ) (before : Before) (answers : List Status) → IsPlain some events → AreInOrder count events → AreCaused faulty now history before events answers → length answers ≡ answer_count events
+      → before.shortened ≡ false → (some ≡ true → before.commits ≡ [] → ⊥) → (place : ℕ) (given : Status) → slice_get answers place ≡ Some given → IsAnswered faulty now history given
+  answered [] some count before [] plain order caused sum kept behind_some place given at = absurd (none_there given at)
+  answered [] some count before (first ∷ answers) plain order caused sum kept behind_some place given at = absurd (omega (arith, sum))
+  answered (event.Extend bytes ∷ events) some count before answers plain order caused sum kept behind_some place given at =
+      answered events true (count + 1) (behind (event.Extend bytes) before) answers plain order caused sum kept (λ is. not_empty before.commits bytes) place given at
+  answered (event.Shorten below ∷ events) some count before answers plain order caused sum kept behind_some place given at = absurd plain
+  answered (event.Sync target ∷ events) some count before [] plain order caused sum kept behind_some place given at = absurd caused
+  answered (event.Sync target ∷ events) some count before (first ∷ answers) plain order caused sum kept behind_some zero given at =
+      subst (IsAnswered faulty now history) (some_same first given at) (record { target = target; other = order.0; before = before; kept = kept; some = behind_some plain.0; cause = caused.0 })
+  answered (event.Sync target ∷ events) some count before (first ∷ answers) plain order caused sum kept behind_some (suc place) given at =
+      answered events some count before answers plain.1 order.1 caused.1 (omega (arith, sum)) kept behind_some place given at
+  answered (event.Full target ∷ events) some count before answers plain order caused sum kept behind_some place given at = absurd plain
+  answered (event.Stop call ∷ events) some count before answers plain order caused sum kept behind_some place given at =
+      answered events some count (behind (event.Stop call) before) answers plain order caused sum kept behind_some place given at
+  answered (event.Crash choices ∷ events) some count before answers plain order caused sum kept behind_some place given at =
+      answered events some count (behind (event.Crash choices) before) answers plain order caused sum kept behind_some place given at
+
+-- ---- the causes
+
+module _ (mode : Mode) (now : ℕ) (history : History) (before : Before) (Faulty : Type 0) where
+  at_target : {P : Type 0} (given : Status) (target : Kind) → target ≢ Delta → IsCause target mode now history before Faulty given → (given ≡ status.Memory → ⊥) → ((facts : TargetFacts) → IsCauseAt facts mode now history before Faulty given → P) → P
+  at_target given Delta other cause not_memory on = absurd (other refl)
+  at_target given Hudi other (inl is) not_memory on = absurd (not_memory is)
+  at_target given Hudi other (inr is) not_memory on = on (target_facts to_hudi is.0) is.2
+  at_target given Iceberg other (inl is) not_memory on = absurd (not_memory is)
+  at_target given Iceberg other (inr is) not_memory on = on (target_facts to_iceberg is.0) is.2
+
+-- ---- a store that stopped
+
+module _ (script : Script) (from to now : ℕ) (history : History) (unscripted : CanFail script → ⊥) where
+  no_usage : status.StoreFault ≡ status.Usage → ⊥
+  no_usage is = cc
+
+  no_memory : status.StoreFault ≡ status.Memory → ⊥
+  no_memory is = cc
+
+  stopped : (mode : Mode) (before : Before) (target : Kind) → IsCause target mode now history before (IsFaulty script from to before) status.StoreFault → before.stopped ≡ true
+  stopped mode before Delta is = absurd (no_usage is)
+  stopped mode before Hudi is = at_target mode now history before (IsFaulty script from to before) status.StoreFault Hudi (λ e. cc) is no_memory (λ facts faulty. ⊎_elim (λ can. absurd (unscripted can)) (λ stop. stop) faulty.1)
+  stopped mode before Iceberg is = at_target mode now history before (IsFaulty script from to before) status.StoreFault Iceberg (λ e. cc) is no_memory (λ facts faulty. ⊎_elim (λ can. absurd (unscripted can)) (λ stop. stop) faulty.1)
+
+  good : (mode : Mode) (before : Before) (target : Kind) (given : Status) → IsCause target mode now history before (IsFaulty script from to before) given → IsEnded given → IsGood before.stopped given
+  good mode before target given cause (inl done) = inl done
+  good mode before target given cause (inr fault) = inr (fault, stopped mode before target (subst (IsCause target mode now history before (IsFaulty script from to before)) fault cause))
+
+  go_well : (events : List Event) (before : Before) (answers : List Status) → AreCaused (IsFaulty script from to) now history before events answers → AllByRecursion IsEnded answers → GoWell before.stopped events answers
+  go_well [] before answers caused ended = tt
+  go_well (event.Extend bytes ∷ events) before answers caused ended = go_well events (behind (event.Extend bytes) before) answers caused ended
+  go_well (event.Shorten below ∷ events) before answers caused ended = go_well events (behind (event.Shorten below) before) answers caused ended
+  go_well (event.Sync target ∷ events) before [] caused ended = absurd caused
+  go_well (event.Sync target ∷ events) before (given ∷ answers) caused ended = (good modes.Sync before target given caused.0 ended.0, go_well events before answers caused.1 ended.1)
+  go_well (event.Full target ∷ events) before [] caused ended = absurd caused
+  go_well (event.Full target ∷ events) before (given ∷ answers) caused ended = (good modes.Full before target given caused.0 ended.0, go_well events before answers caused.1 ended.1)
+  go_well (event.Stop call ∷ events) before answers caused ended = go_well events (behind (event.Stop call) before) answers caused ended
+  go_well (event.Crash choices ∷ events) before answers caused ended = go_well events (behind (event.Crash choices) before) answers caused ended
+
+-- ---- what is played
+
+-- what the clauses of `play` say of these events, which are legal
+pub record IsPlayedSo (events : List Event) (old new : FuseStore) (answers : List Status) : Type 0 where
+  pub legal : AreLegal events
+  pub after : Progress
+  pub told : after.answers ≡ answers
+  pub plays : PlaysAll drill_time events nothing_played old after new
+  pub sum : length answers ≡ answer_count events
+  pub log : (history : History) → IsHistoryOf events history → LogHolds events (fuse_disk new)
+  pub stand : (history : History) → IsHistoryOf events history → BothStand events answers history (fuse_disk new)
+  pub once : (history : History) → IsHistoryOf events history → BothHaveEachOnce events answers history (fuse_disk new)
+  pub caused : (history : History) → IsHistoryOf events history → AreCaused (IsFaulty (script_of old) (faults_of old) (faults_of new)) drill_time history nothing_before events answers
+
+module _ (number : ℕ) (old new : FuseStore) (answers : List Status) (played : IsPlayedSo (drill_events number true) old new answers) where
+  abbrev events : List Event
+  events = drill_events number true
+
+  abbrev files : Files
+  files = (fuse_disk new).files
+
+  abbrev faulty : Before → Type 0
+  faulty = IsFaulty (script_of old) (faults_of old) (faults_of new)
+
+  -- ---- an answer that ends it
+
+  false_true : false ≡ true → ⊥
+  false_true is = cc
+
+  why : (history : History) → IsHistoryOf events history → (place : ℕ) (given : Status) → slice_get answers place ≡ Some given → IsAnswered faulty drill_time history given
+  why history is place given at =
+      answered faulty drill_time history events false 0 nothing_before answers (plain number) played.legal.order (played.caused history is) played.sum refl (λ some. absurd (false_true some)) place given at
+
+  module _ (fresh : IsFresh old) (unscripted : CanFail (script_of old) → ⊥) (place : ℕ) where
+    refused : (given : Status) → slice_get answers place ≡ Some given → IsRefusedSync number new given
+    refused given at = record { start = old; fresh = fresh; unscripted = unscripted; after = played.after; plays = played.plays; place = place; answered = ap (λ (l : List Status). slice_get l place) played.told ∙ at }
+
+    never : (given : Status) → slice_get answers place ≡ Some given → (given ≡ status.Memory → ⊥) → ((before : Before) → before.shortened ≡ false → (before.commits ≡ [] → ⊥) → (facts : TargetFacts) → IsCauseAt facts modes.Sync drill_time played.legal.history before (faulty before) given → ⊥) → ⊥
+    never given at not_memory refuted =
+        let a = why played.legal.history played.legal.is place given at in
+        at_target modes.Sync drill_time played.legal.history a.before (faulty a.before) given a.target a.other a.cause not_memory (refuted a.before a.kept a.some)
+
+    pub end_of : (given : Status) → slice_get answers place ≡ Some given → (IsEnded given → ⊥) → IsDrillEnd number new given
+    end_of status.Done at not_ended = absurd (not_ended (inl refl))
+    end_of status.Memory at not_ended = inl refl
+    end_of status.Usage at not_ended = absurd (never status.Usage at (λ is. cc) (λ before kept some facts c. c))
+    end_of status.Absent at not_ended = absurd (never status.Absent at (λ is. cc) (λ before kept some facts c. some c))
+    end_of (status.Malformed path) at not_ended = absurd (never (status.Malformed path) at (λ is. cc) (λ before kept some facts c. c))
+    end_of (status.Unsupported side.Source feature path) at not_ended = absurd (never (status.Unsupported side.Source feature path) at (λ is. cc) (λ before kept some facts c. false_true (sym kept ∙ c.1)))
+    end_of (status.Unsupported (side.Target kind) feature path) at not_ended = inr (refused (status.Unsupported (side.Target kind) feature path) at)
+    end_of (status.Limit of which n) at not_ended = inr (inr (refused (status.Limit of which n) at))
+    end_of (status.Foreign kind path) at not_ended = absurd (never (status.Foreign kind path) at (λ is. cc) (λ before kept some facts c. c))
+    end_of (status.Contested kind) at not_ended = absurd (never (status.Contested kind) at (λ is. cc) (λ before kept some facts c. c))
+    end_of status.StoreFault at not_ended = absurd (not_ended (inr refl))
+    end_of status.SinkFault at not_ended = absurd (never status.SinkFault at (λ is. cc) (λ before kept some facts c. c))
+    end_of (status.Behind kind mark head) at not_ended = absurd (never (status.Behind kind mark head) at (λ is. cc) (λ before kept some facts c. c))
+    end_of (status.Differs kind path) at not_ended = absurd (never (status.Differs kind path) at (λ is. cc) (λ before kept some facts c. c))
+    end_of (status.Stale path) at not_ended = absurd (never (status.Stale path) at (λ is. cc) (λ before kept some facts c. c))
+
+  -- ---- where all syncs ended as they may
+
+  module _ (unscripted : CanFail (script_of old) → ⊥) (ended : AllByRecursion IsEnded answers) where
+    folds : Folds number answers
+    folds = drill_folds number answers (go_well (script_of old) (faults_of old) (faults_of new) drill_time played.legal.history unscripted events nothing_before answers (played.caused played.legal.history played.legal.is) ended)
+
+    may : MayLeave (fuse_disk new) files
+    may path clean = refl
+
+    abbrev commits : List (List ℕ)
+    commits = map (drill_bytes number) (numbers_under 200)
+
+    are : extensions events ≡ commits
+    are = commits_are number true 200
+
+    holds : HoldsFrom 0 commits files
+    holds = subst (λ (n : ℕ). HoldsFrom n commits files) (none_removed number) (subst (λ (l : List (List ℕ)). HoldsFrom (first_from 0 events) l files) are (played.log played.legal.history played.legal.is files may))
+
+    brought : (target : Meaning) (history : History) → StandsWithin target history (floor_of target.kind events answers) (length (extensions events)) files → floor_of target.kind events answers ≡ 200 → HasEachOnce target events answers history files
+        → IsSyncedEarly target.kind 0 0 events answers → IsBrought target history files
+    brought target history stands floor once early =
+        let low = stands.from_there in
+        let up = stands.up_to in
+        let count : length (extensions events) ≡ 200 = ap (λ (l : List (List ℕ)). length l) are ∙ length_map (drill_bytes number) 200 in
+        let last : stands.j ≡ 200 = omega (arith, low, up, floor, count) in
+        let at : IsAt Delta target history files 200 = subst (IsAt Delta target history files) last stands.at in
+        record { at = at; commits = once early 200 at }
+
+    pub leaves : LeavesDrill number files
+    leaves = record {
+      legal = played.legal;
+      holds = λ version less. holds.holds version (drill_bytes number version) (omega arith) (numbers_at (drill_bytes number) 200 version less);
+      only = λ version has.
+          let within = (holds.only version has).1 in
+          let count : length commits ≡ 200 = length_map (drill_bytes number) 200 in
+          omega (arith, within, count);
+      hudi = λ history is. brought meaning_of_hudi history (played.stand history is files may).0 folds.hudi_floor (played.once history is files may).0 folds.hudi_early;
+      iceberg = λ history is. brought meaning_of_iceberg history (played.stand history is files may).1 folds.iceberg_floor (played.once history is files may).1 folds.iceberg_early;
+    }

@@ -1,0 +1,25 @@
+-- Lists, item by item.
+use Rattle.std.proofs.Common.{◌≡◌, List, [], ◌∷◌, ◌++◌, length, Some, ap, refl, sym, ◌∙◌, append_assoc, arith}
+use Rattle.std.proofs.lemmas.List.{append-nil}
+use Rattle.std.specs.List.{AllByRecursion}
+use Rattle.std.specs.Prelude.{slice_get}
+
+pub all_push : {X : Type 0} (P : X → Type 0) (xs : List X) (x : X) → AllByRecursion P xs → P x → AllByRecursion P (xs ++ x ∷ [])
+all_push P [] x all one = (one, tt)
+all_push P (y ∷ xs) x all one = (all.0, all_push P xs x all.1 one)
+
+pub at_place : {X : Type 0} (front : List X) (x : X) (rest : List X) → slice_get (front ++ x ∷ rest) (length front) ≡ Some x
+at_place [] x rest = refl
+at_place (y ∷ front) x rest = at_place front x rest
+
+-- ---- a list of which a front is gone
+
+pub nothing_left : {X : Type 0} (all front rest : List X) → all ≡ front ++ rest → length rest ≡ 0 → all ≡ front
+nothing_left all front [] is none = is ∙ append-nil front
+nothing_left all front (x ∷ rest) is none = absurd (omega (arith, none))
+
+pub one_gone : {X : Type 0} (all front rest : List X) (x : X) → all ≡ front ++ x ∷ rest → all ≡ (front ++ x ∷ []) ++ rest
+one_gone all front rest x is = is ∙ sym (append_assoc front (x ∷ []) rest)
+
+pub one_next : {X : Type 0} (all front rest more : List X) (x : X) → all ≡ front ++ rest → rest ≡ x ∷ more → all ≡ front ++ x ∷ more
+one_next all front rest more x is next = is ∙ ap (λ l. front ++ l) next
