@@ -29,6 +29,7 @@ complete -c lakebridge -n '__lakebridge_wants command' -a check -d 'compare a ta
 complete -c lakebridge -n '__lakebridge_wants command' -a show -d 'print the table at its head'
 complete -c lakebridge -n '__lakebridge_wants command' -a sweep -d 'remove what interrupted runs left of a target'
 complete -c lakebridge -n '__lakebridge_wants command' -a compact -d 'write the log compactions of a Delta table'
+complete -c lakebridge -n '__lakebridge_wants command' -a drill -d 'play a made-up table in memory'
 for format in delta hudi iceberg
     complete -c lakebridge -n "__lakebridge_wants $format" -a $format
 end

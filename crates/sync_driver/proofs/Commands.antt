@@ -4,7 +4,7 @@ use Rattle.std.specs.Prelude.{Option, Some, None}
 use Rattle.lake_store.specs.declared.store.Store.{Ghosts}
 use Rattle.lake_store.specs.declared.sink.Sink as sinks
 use Rattle.table_history.specs.declared.kind.Kind.{Kind}
-use Rattle.sync_driver.specs.Answers.{AreApart, Brings, Command, Compares, Prints, SweepsTo, form_of}
+use Rattle.sync_driver.specs.Answers.{AreApart, Brings, Command, Compares, PlaysDrill, Prints, SweepsTo, form_of}
 use Rattle.sync_driver.specs.Compacted.{TellsCompaction}
 use Rattle.sync_driver.specs.Formats.{Formats}
 use Rattle.sync_driver.specs.Forms.{Words, IsCommand, IsNoCommand, Spells}
@@ -15,7 +15,7 @@ use Rattle.target_sync.specs.declared.plan.Mode.TheVariants as modes
 use Rattle.target_sync.specs.declared.status.Status.{Status}
 use Rattle.target_sync.specs.declared.status.Status.TheVariants.{Usage}
 use Rattle.sync_driver.specs.declared.words.Form.{Form}
-use Rattle.sync_driver.specs.declared.words.Form.TheVariants.{Sync, Full, Show, Check, Sweep, Compact}
+use Rattle.sync_driver.specs.declared.words.Form.TheVariants.{Sync, Full, Show, Check, Sweep, Compact, Drill}
 use Rattle.sync_driver.proofs.Spellings.{one_form}
 
 -- a source is of another format than its targets, and these than each other
@@ -39,6 +39,7 @@ module _ {S O : Type 0} (store : Ghosts S) (sink : sinks.Ghosts O) (formats : Fo
   Does place (Check source target) = Compares store sink formats place source target old new out_old out_new status
   Does place (Sweep target) = SweepsTo store sink formats place target old new out_old out_new status
   Does place Compact = TellsCompaction store sink old new out_old out_new status
+  Does place (Drill number) = PlaysDrill sink number old new out_old out_new status
 
   brought_by : (place : List ℕ) (mode : Mode) (source first : Kind) (second : Option Kind) → Does place (form_of mode source first second) → IsBrought place mode source first second
   brought_by place modes.Sync source first second does = does
@@ -52,6 +53,7 @@ module _ {S O : Type 0} (store : Ghosts S) (sink : sinks.Ghosts O) (formats : Fo
     checked = λ place source target is. absurd (none place (Check source target) is);
     swept = λ place target is. absurd (none place (Sweep target) is);
     compacted = λ place is. absurd (none place Compact is);
+    drilled = λ place number is. absurd (none place (Drill number) is);
   }
 
   module _ (place : List ℕ) (form : Form) (is : IsCommand words place form) where
@@ -72,6 +74,7 @@ module _ {S O : Type 0} (store : Ghosts S) (sink : sinks.Ghosts O) (formats : Fo
           checked = λ p source target spelled. at p (Check source target) spelled;
           swept = λ p target spelled. at p (Sweep target) spelled;
           compacted = λ p spelled. at p Compact spelled;
+          drilled = λ p number spelled. at p (Drill number) spelled;
         }
 
     pub sync_command : (source first : Kind) (second : Option Kind) → form ≡ Sync source first second → IsBrought place modes.Sync source first second → Command store sink formats gives words old new out_old out_new status
@@ -91,3 +94,6 @@ module _ {S O : Type 0} (store : Ghosts S) (sink : sinks.Ghosts O) (formats : Fo
 
     pub compact_command : form ≡ Compact → TellsCompaction store sink old new out_old out_new status → Command store sink formats gives words old new out_old out_new status
     compact_command here compacts = does_command (subst (λ (f : Form). Does place f) (sym here) compacts)
+
+    pub drill_command : (number : ℕ) → form ≡ Drill number → PlaysDrill sink number old new out_old out_new status → Command store sink formats gives words old new out_old out_new status
+    drill_command number here plays = does_command (subst (λ (f : Form). Does place f) (sym here) plays)

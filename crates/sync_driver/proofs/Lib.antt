@@ -4,6 +4,7 @@ pub mod Commanding
 pub mod Commands
 pub mod Differences
 pub mod Locations
+pub mod Numbers
 pub mod PairEnds
 pub mod PairExits
 pub mod Pairs

@@ -1,5 +1,7 @@
 -- What a command does.
 use Rattle.std.specs.Prelude.{◌≡◌, ◌≢◌, ◌⊎◌, ℕ, List, Option, Some, None}
+use Rattle.lake_play.specs.Drilled.{Drills}
+use Rattle.lake_store.specs.declared.fuse.FuseStore.{FuseStore}
 use Rattle.lake_store.specs.declared.store.Store.{Ghosts}
 use Rattle.lake_store.specs.declared.sink.Sink as sinks
 use Rattle.table_history.specs.declared.kind.Kind.{Kind}
@@ -17,7 +19,7 @@ use Rattle.sync_driver.specs.Tellings.{Tells}
 use Rattle.target_sync.specs.declared.plan.Mode.{Mode}
 use Rattle.target_sync.specs.declared.plan.Mode.TheVariants as modes
 use Rattle.sync_driver.specs.declared.words.Form.{Form}
-use Rattle.sync_driver.specs.declared.words.Form.TheVariants.{Check, Compact, Full, Show, Sweep, Sync}
+use Rattle.sync_driver.specs.declared.words.Form.TheVariants.{Check, Compact, Drill, Full, Show, Sweep, Sync}
 use Rattle.target_sync.specs.declared.status.Status.{Status}
 use Rattle.target_sync.specs.declared.status.Status.TheVariants.{Memory, Usage}
 
@@ -73,6 +75,10 @@ abbrev pub SweepsTo : {S O : Type 0} → Ghosts S → sinks.Ghosts O → Formats
 SweepsTo store sink formats place target old new out_old out_new status =
     GivesUp old new out_old out_new status ⊎ ToTarget formats place target (λ t. TellsSweep store sink t old new out_old out_new status)
 
+-- The drill of this number is played over a store of its own. The command's store stays as it is.
+abbrev pub PlaysDrill : {S O : Type 0} → sinks.Ghosts O → ℕ → S → S → O → O → Status → Type 0
+PlaysDrill sink number old new out_old out_new status = (new ≡ old) × ((store : FuseStore) × Drills sink number out_old out_new status store)
+
 -- A command's answer and what it has done. `now` is the time that the clock gave, one of those that it may give. Words that are no command look at no
 -- file.
 pub record Command {S O : Type 0} (store : Ghosts S) (sink : sinks.Ghosts O) (formats : Formats) (gives : ℕ → Type 0) (words : Words) (old new : S) (out_old out_new : O) (status : Status) : Type 0 where
@@ -83,3 +89,4 @@ pub record Command {S O : Type 0} (store : Ghosts S) (sink : sinks.Ghosts O) (fo
   pub checked : (place : List ℕ) (source target : Kind) → IsCommand words place (Check source target) → Compares store sink formats place source target old new out_old out_new status
   pub swept : (place : List ℕ) (target : Kind) → IsCommand words place (Sweep target) → SweepsTo store sink formats place target old new out_old out_new status
   pub compacted : (place : List ℕ) → IsCommand words place Compact → TellsCompaction store sink old new out_old out_new status
+  pub drilled : (place : List ℕ) (number : ℕ) → IsCommand words place (Drill number) → PlaysDrill sink number old new out_old out_new status

@@ -1,5 +1,6 @@
 -- How a command is spelled.
-use Rattle.std.specs.Prelude.{◌≡◌, ◌≢◌, ◌<◌, ◌≤◌, ◌==◌, ℕ, List, [], ◌∷◌, length, slice_get, codes, String, string_bytes, Option, Some, None, option_and_then, if◌then◌else◌}
+use Rattle.std.specs.Prelude.{◌≡◌, ◌≢◌, ◌<◌, ◌≤◌, ◌==◌, ◌^◌, ℕ, List, [], ◌∷◌, length, slice_get, codes, String, string_bytes, Option, Some, None, option_and_then, if◌then◌else◌}
+use Rattle.std.specs.Fmt.{decimal}
 use Rattle.std.specs.Option.{option_map}
 use Rattle.std.specs.declared.alloc.Global.{Global}
 use Rattle.table_history.specs.declared.kind.Kind.{Kind}
@@ -7,7 +8,7 @@ use Rattle.table_history.specs.Words.{kind_named}
 use Rattle.sync_driver.specs.declared.words.Verb.{Verb}
 use Rattle.sync_driver.specs.declared.words.Verb.TheVariants as verb
 use Rattle.sync_driver.specs.declared.words.Form.{Form}
-use Rattle.sync_driver.specs.declared.words.Form.TheVariants.{Sync, Full, Show, Check, Sweep, Compact}
+use Rattle.sync_driver.specs.declared.words.Form.TheVariants.{Sync, Full, Show, Check, Sweep, Compact, Drill}
 
 abbrev pub Words : Type 0
 Words = List (String Global)
@@ -27,12 +28,13 @@ verb_word verb.Show = codes "show"
 verb_word verb.Check = codes "check"
 verb_word verb.Sweep = codes "sweep"
 verb_word verb.Compact = codes "compact"
+verb_word verb.Drill = codes "drill"
 
 -- so many words, the first of them a place: behind it the verb and a format
 abbrev pub Begins : Words → ℕ → Verb → Kind → Type 0
 Begins words count v kind = (length words ≡ count) × (word words 1 ≡ Some (verb_word v)) × (kind_at words 2 ≡ Some kind)
 
--- The words behind the place are this form. Source and targets are different from each other.
+-- The words behind the place are this form. Source and targets are different from each other. A drill's number is under 2^64 and has no leading zeros.
 abbrev pub Spells : Words → Form → Type 0
 Spells words (Sync f t None) = Begins words 4 verb.Sync f × (kind_at words 3 ≡ Some t) × (f ≢ t)
 Spells words (Sync f t (Some u)) = Begins words 5 verb.Sync f × (kind_at words 3 ≡ Some t) × (kind_at words 4 ≡ Some u) × (f ≢ t) × (f ≢ u) × (t ≢ u)
@@ -42,16 +44,18 @@ Spells words (Show f) = Begins words 3 verb.Show f
 Spells words (Check f t) = Begins words 4 verb.Check f × (kind_at words 3 ≡ Some t) × (f ≢ t)
 Spells words (Sweep t) = Begins words 3 verb.Sweep t
 Spells words Compact = (length words ≡ 2) × (word words 1 ≡ Some (verb_word verb.Compact))
+Spells words (Drill n) = (length words ≡ 3) × (word words 1 ≡ Some (verb_word verb.Drill)) × (word words 2 ≡ Some (decimal n)) × (n < 2 ^ 64)
 
 -- the forms by how many words there are behind the verb
 abbrev pub plain_by : Verb → Option Form
 plain_by verb.Compact = Some Compact
 plain_by _ = None
 
-abbrev pub single_by : Verb → Option Kind → Option Form
-single_by verb.Show kind = option_map Show kind
-single_by verb.Sweep kind = option_map Sweep kind
-single_by _ kind = None
+abbrev pub single_by : Verb → Option Kind → Option ℕ → Option Form
+single_by verb.Show kind number = option_map Show kind
+single_by verb.Sweep kind number = option_map Sweep kind
+single_by verb.Drill kind number = option_map Drill number
+single_by _ kind number = None
 
 abbrev pub pair_by : Verb → Kind → Kind → Option Form
 pair_by verb.Sync f t = Some (Sync f t None)

@@ -1,4 +1,6 @@
 //! The top call.
+ghost use Rattle.lake_play.specs.Drilled.{Drills};
+ghost use Rattle.lake_store.specs.declared.fuse.FuseStore.{FuseStore};
 ghost use Rattle.sync_driver.specs.Answers.{Command};
 ghost use Rattle.sync_driver.specs.Lines.{refusal_line};
 ghost use Rattle.sync_driver.specs.Tellings.{Tells};
@@ -8,6 +10,7 @@ use crate::compacting::compact_log;
 use crate::formats::{bring, compare, print, sweep_at};
 use crate::tell::refuse;
 use crate::words::{Form, command_of};
+use lake_play::drill;
 use lake_store::{Clock, Sink, Store};
 use source_core::Source;
 use source_delta::DeltaSource;
@@ -25,6 +28,15 @@ pub fn refuse_words<O: Sink>(alloc: Global, out: &mut O) -> Status
     ensures { Tells ⟦<O as Sink>⟧ out.old out.new (refusal_line Usage) Usage result }
 {
     refuse(alloc, out, Status::Usage)
+}
+
+/// Plays the drill of a number over a store of its own, which is let go, and answers how it ended.
+fn play_drill<O: Sink>(alloc: Global, number: u64, out: &mut O) -> Status
+    ensures { (store : FuseStore) × Drills ⟦<O as Sink>⟧ number out.old out.new result store }
+{
+    let (status, store) = drill(alloc, number, out);
+    drop(store);
+    status
 }
 
 /// Does what the words ask for, puts its line out, and answers how it ended. The first word is the
@@ -81,5 +93,6 @@ pub fn run<S: Store, C: Clock, O: Sink>(
         Form::Check(source, target) => compare(alloc, source, target, location, store, out),
         Form::Sweep(target) => sweep_at(alloc, target, location, store, out),
         Form::Compact => compact_log(alloc, store, out),
+        Form::Drill(number) => play_drill(alloc, number, out),
     }
 }

@@ -1,5 +1,6 @@
 //! The words of a command: the table's place, and one form.
-ghost use Rattle.std.specs.Prelude.{◌≡◌, ◌++◌, ◌∷◌, ℕ, List, [], IfSome, MatchOption, Some};
+ghost use Rattle.std.specs.Prelude.{◌≡◌, ◌++◌, ◌∷◌, ◌<◌, ◌^◌, ℕ, List, [], IfSome, MatchOption, Some};
+ghost use Rattle.std.specs.Fmt.{decimal};
 ghost use Rattle.std.specs.Str.{IsUtf8};
 ghost use Rattle.std.specs.Option.{option_map};
 ghost use Rattle.table_history.specs.declared.kind.Kind.{Kind};
@@ -21,10 +22,11 @@ pub(crate) enum Verb {
     Check,
     Sweep,
     Compact,
+    Drill,
 }
 
-/// What a command asks for, and of which formats: of a source and of targets, of one of the two, or
-/// of a Delta log.
+/// What a command asks for, and of which formats: of a source and of targets, of one of the two, of a
+/// Delta log, or of a drill of this number.
 #[derive(Clone, Copy, Debug, PartialEq, Eq)]
 pub(crate) enum Form {
     Sync(Kind, Kind, Option<Kind>),
@@ -33,6 +35,7 @@ pub(crate) enum Form {
     Check(Kind, Kind),
     Sweep(Kind),
     Compact,
+    Drill(u64),
 }
 
 fn word_at(words: &[String], place: usize) -> Option<&str>
@@ -61,8 +64,34 @@ fn verb_at(words: &[String], place: usize) -> Option<Verb>
         "check" => Some(Verb::Check),
         "sweep" => Some(Verb::Sweep),
         "compact" => Some(Verb::Compact),
+        "drill" => Some(Verb::Drill),
         _ => None,
     }
+}
+
+/// The number under 2^64 that a text spells in decimal without leading zeros.
+fn number_of(text: &str) -> Option<u64>
+    ensures { MatchOption result ((n : ℕ) → n < 2 ^ 64 → text.now ≡ decimal n → ⊥)
+        (λ n. (n < 2 ^ 64) × (text.now ≡ decimal n)) }
+{
+    let digits = text.as_bytes();
+    if digits.is_empty() {
+        return None;
+    }
+    if digits[0] == b'+' {
+        return None;
+    }
+    if digits[0] == b'0' && digits.len() != 1 {
+        return None;
+    }
+    text.parse::<u64>().ok()
+}
+
+fn number_at(words: &[String], place: usize) -> Option<u64>
+    ensures { MatchOption result ((n : ℕ) → n < 2 ^ 64 → word words.now place ≡ Some (decimal n) → ⊥)
+        (λ n. (n < 2 ^ 64) × (word words.now place ≡ Some (decimal n))) }
+{
+    number_of(word_at(words, place)?)
 }
 
 fn plain_form(verb: Verb) -> Option<Form>
@@ -74,12 +103,13 @@ fn plain_form(verb: Verb) -> Option<Form>
     }
 }
 
-fn single_form(verb: Verb, kind: Option<Kind>) -> Option<Form>
-    ensures { result ≡ single_by verb kind }
+fn single_form(verb: Verb, kind: Option<Kind>, number: Option<u64>) -> Option<Form>
+    ensures { result ≡ single_by verb kind number }
 {
     match verb {
         Verb::Show => Some(Form::Show(kind?)),
         Verb::Sweep => Some(Form::Sweep(kind?)),
+        Verb::Drill => Some(Form::Drill(number?)),
         _ => None,
     }
 }
@@ -111,7 +141,7 @@ pub(crate) fn form_of(words: &[String]) -> Option<Form>
 {
     match words.len() {
         2 => plain_form(verb_at(words, 1)?),
-        3 => single_form(verb_at(words, 1)?, kind_at(words, 2)),
+        3 => single_form(verb_at(words, 1)?, kind_at(words, 2), number_at(words, 2)),
         4 => {
             let verb = verb_at(words, 1)?;
             let source = kind_at(words, 2)?;

@@ -1,7 +1,7 @@
 use Rattle.std.proofs.Common.{refl, subst}
 use Rattle.sync_driver.specs.Forms.{Spells, word}
 use Rattle.sync_driver.specs.declared.words.Form.{Form}
-use Rattle.sync_driver.proofs.Commands.{check_command, compact_command, full_apart, full_command, no_command, show_command, sweep_command, sync_apart, sync_command}
+use Rattle.sync_driver.proofs.Commands.{check_command, compact_command, drill_command, full_apart, full_command, no_command, show_command, sweep_command, sync_apart, sync_command}
 use Rattle.sync_driver.proofs.Locations.{place_ends}
 use Rattle.sync_driver.proofs.top.run.Goals as goal
 
@@ -55,3 +55,8 @@ pub returns-in-Compact : goal.returns-in-Compact
 returns-in-Compact g c =
     compact_command g.S.Store g.O.Sink _ _ c.args.words.now c.args.store.now c.compact_log.new.store c.args.out.now c.compact_log.new.out c.compact_log.result c.in-Some.command.location.now c.in-Some.command.form c.in-Some.ensures
     c.in-Compact.is c.compact_log.ensures
+
+pub returns-in-Drill : goal.returns-in-Drill
+returns-in-Drill g c =
+    drill_command g.S.Store g.O.Sink _ _ c.args.words.now c.args.store.now c.args.store.now c.args.out.now c.play_drill.new.out c.play_drill.result c.in-Some.command.location.now c.in-Some.command.form c.in-Some.ensures
+    c.in-Drill.number c.in-Drill.is (refl, c.play_drill.ensures)
