@@ -25,6 +25,7 @@ impl Definitions {
     ghost use Rattle.avro_schema.specs.Reading.{start};
     ghost use Rattle.avro_schema.specs.State.{state_of as state_in};
 
+    /// Where the reading of a schema begins: no name, and room for 262,144 types.
     pub fn new(alloc: Global) -> Definitions
         ensures { state_in result ≡ start }
     {

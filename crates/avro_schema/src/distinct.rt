@@ -9,6 +9,7 @@ use indexmap::IndexSet;
 use lake_basics::Text;
 use std::alloc::{AllocError, Global};
 
+/// Whether no text stands twice.
 pub fn texts_are_distinct(alloc: Global, texts: &Vec<Text>) -> Result<bool, AllocError>
     ensures { IfOk result (λ b. b ≡ are_distinct texts.now.items) }
 {

@@ -32,6 +32,7 @@ impl Model for Blob {
 }
 
 impl Blob {
+    /// No bytes.
     pub fn new(alloc: Global) -> Blob
         ensures { result ≡ [] }
     {
@@ -40,6 +41,7 @@ impl Blob {
         }
     }
 
+    /// A copy of the bytes. Its one error is want of memory.
     pub fn from_slice(alloc: Global, bytes: &[u8]) -> Result<Blob, AllocError>
         ensures { IfOk result (λ blob. blob ≡ bytes.now) }
     {
@@ -48,6 +50,7 @@ impl Blob {
         })
     }
 
+    /// The same bytes, without a copy.
     pub fn from_vec(content: Vec<u8>) -> Blob
         ensures { result ≡ content.items }
     {
@@ -63,12 +66,14 @@ impl Blob {
         })
     }
 
+    /// Equal bytes in memory of their own.
     pub fn copy(&self, alloc: Global) -> Result<Blob, AllocError>
         ensures { IfOk result (λ blob. blob ≡ self.now) }
     {
         Blob::from_slice(alloc, self.as_slice())
     }
 
+    /// The bytes, to be read.
     pub fn as_slice(&self) -> &[u8]
         ensures value { result.now ≡ self.now }
         ensures short { length self.now < 2 ^ 63 }
@@ -76,6 +81,7 @@ impl Blob {
         self.content.as_slice()
     }
 
+    /// The same bytes as a vector, without a copy.
     pub fn into_vec(self) -> Vec<u8>
         ensures { result.items ≡ self }
     {

@@ -21,6 +21,7 @@ impl<T> Model for Items<T> {
 }
 
 impl<T> Items<T> {
+    /// No items.
     pub fn new(alloc: Global) -> Self
         ensures { result ≡ [] }
     {
@@ -29,12 +30,14 @@ impl<T> Items<T> {
         }
     }
 
+    /// The same items, without a copy.
     pub fn from_vec(content: Vec<T>) -> Self
         ensures { result ≡ content.items }
     {
         Items { content }
     }
 
+    /// The same items as a vector, without a copy.
     pub fn into_vec(self) -> Vec<T>
         ensures { result.items ≡ self }
     {
@@ -42,30 +45,35 @@ impl<T> Items<T> {
         content
     }
 
+    /// How many items there are.
     pub fn len(&self) -> usize
         ensures { result ≡ length self.now }
     {
         self.content.len()
     }
 
+    /// Whether there are no items.
     pub fn is_empty(&self) -> bool
         ensures { IsTrue result ↔ (length self.now ≡ 0) }
     {
         self.content.is_empty()
     }
 
+    /// The items, to be read.
     pub fn as_slice(&self) -> &[T]
         ensures { result.now ≡ self.now }
     {
         self.content.as_slice()
     }
 
+    /// The item at a place, counted from 0. None from the end on.
     pub fn get(&self, place: usize) -> Option<&T>
         ensures { option_copied result ≡ slice_get self.now place }
     {
         self.content.get(place)
     }
 
+    /// Adds an item at the end. Where memory is short, the items stay as they were.
     pub fn push(&mut self, item: T) -> Result<(), AllocError>
     where
         T: Drop,

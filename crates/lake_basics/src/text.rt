@@ -86,6 +86,7 @@ impl Text {
         Text::from_str(alloc, self.as_str())
     }
 
+    /// The text, to be read.
     pub fn as_str(&self) -> &str
         ensures value { result.now ≡ self.now }
         ensures utf8 { IsUtf8 self.now }
@@ -94,6 +95,7 @@ impl Text {
         self.content.as_str()
     }
 
+    /// The bytes of the text in UTF-8 (RFC 3629).
     pub fn as_bytes(&self) -> &[u8]
         ensures value { result.now ≡ self.now }
         ensures utf8 { IsUtf8 self.now }

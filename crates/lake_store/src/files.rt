@@ -41,6 +41,7 @@ impl Model for FileMap {
 }
 
 impl FileMap {
+    /// No files.
     pub fn new(alloc: Global) -> FileMap
         ensures { result ≡ map.empty }
     {
@@ -49,6 +50,7 @@ impl FileMap {
         }
     }
 
+    /// The bytes of the file at a path. None where no file is there.
     pub fn get(&self, path: &str) -> Option<&Blob>
         ensures { option_copied result ≡ map.get self.now path.now }
     {
@@ -78,6 +80,7 @@ impl FileMap {
         self.files.remove(path)
     }
 
+    /// Equal files in memory of their own.
     pub fn copy(&self) -> Result<FileMap, AllocError>
         ensures { IfOk result (λ files. files ≡ self.now) }
     {
@@ -261,6 +264,7 @@ impl Model for PathSet {
 }
 
 impl PathSet {
+    /// No paths.
     pub fn new(alloc: Global) -> PathSet
         ensures { result ≡ set.empty }
     {
@@ -269,6 +273,7 @@ impl PathSet {
         }
     }
 
+    /// Whether a path is among them.
     pub fn contains(&self, path: &str) -> bool
         ensures { result ≡ set.contains self.now path.now }
     {

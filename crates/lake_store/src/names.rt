@@ -39,6 +39,7 @@ impl Model for Names {
 }
 
 impl Names {
+    /// No names.
     pub fn new(alloc: Global) -> Names
         ensures { result ≡ [] }
     {
@@ -65,6 +66,7 @@ impl Names {
         Names { content }
     }
 
+    /// The names, in byte order and each once.
     pub fn as_slice(&self) -> &[Text]
         ensures value { result.now ≡ self.now }
         ensures sorted { IsStrictlySortedBy (slice_cmp nat_cmp) self.now }
@@ -72,6 +74,7 @@ impl Names {
         self.content.as_slice()
     }
 
+    /// How many names there are.
     pub fn len(&self) -> usize
         ensures value { result ≡ length self.now }
         ensures sorted { IsStrictlySortedBy (slice_cmp nat_cmp) self.now }
@@ -79,6 +82,7 @@ impl Names {
         self.content.len()
     }
 
+    /// Whether there are no names.
     pub fn is_empty(&self) -> bool
         ensures value { IsTrue result ↔ (length self.now ≡ 0) }
         ensures sorted { IsStrictlySortedBy (slice_cmp nat_cmp) self.now }
