@@ -24,10 +24,12 @@ use Rattle.delta_log.specs.declared.error.Fault.TheVariants.{Malformed, Unsuppor
 use Rattle.delta_log.specs.declared.error.LineFault.{LineFault}
 use Rattle.delta_log.specs.declared.error.LineFault.TheVariants as line_faults
 use Rattle.delta_log.specs.Commit.{file_paths}
+use Rattle.delta_log.specs.Actions.{LineSays}
 use Rattle.delta_log.specs.Grammar.{line_action}
 use Rattle.delta_log.specs.Judging.{acts_on, with_new_file, with_action, with_line, judged, error_at}
 use Rattle.table_history.specs.First.{IsFirst, NoneOf}
 use Rattle.delta_log.specs.Readable.{States, protocol_in, meta_in, path_in, protocols, metas, paths, files, NamesNoPath, ShowsOnLine, line_features, HasLongPath, IsMisplaced, ActsAgain, IsAtFault}
+use Rattle.delta_log.proofs.SaysLemmas.{says_action, says_none}
 use Rattle.delta_log.proofs.StepLemmas.{names_other, inside_not_none, inside_not_outside, inside_not_long, no_uri, decoded}
 
 -- ---- lists
@@ -63,10 +65,10 @@ placed before a uri p m =
 abbrev FaultIs : List LineAction → List ℕ → ℕ → Fault → Type 0
 FaultIs before line n f = IsAtFault before line n (error_at n f)
 
-is_malformed : (before : List LineAction) (line : List ℕ) (n : ℕ) (a : LineAction) (f : Fault) → line_action line ≡ Ok a → Malformed ≡ f → IsMisplaced before a → FaultIs before line n f
+is_malformed : (before : List LineAction) (line : List ℕ) (n : ℕ) (a : LineAction) (f : Fault) → LineSays line a → Malformed ≡ f → IsMisplaced before a → FaultIs before line n f
 is_malformed before line n a f is same misplaced = subst (FaultIs before line n) same (refl, inr (a, is, misplaced))
 
-is_unsupported : (before : List LineAction) (line : List ℕ) (n : ℕ) (a : LineAction) (g : _) (f : Fault) → line_action line ≡ Ok a → Unsupported g ≡ f → (IsMisplaced before a → ⊥) → IsFirst (λ x. ShowsOnLine x a) line_features g → FaultIs before line n f
+is_unsupported : (before : List LineAction) (line : List ℕ) (n : ℕ) (a : LineAction) (g : _) (f : Fault) → LineSays line a → Unsupported g ≡ f → (IsMisplaced before a → ⊥) → IsFirst (λ x. ShowsOnLine x a) line_features g → FaultIs before line n f
 is_unsupported before line n a g f is same fits first = subst (FaultIs before line n) same (refl, a, (is, fits), first)
 
 some_first : {A : Type 0} (o : Option A) (x : A) (xs : List A) → o ≡ Some x → option_to_list o ≡ xs → 0 < length xs
@@ -76,11 +78,11 @@ none_before : {A : Type 0} (o : Option A) (xs : List A) → o ≡ None → optio
 none_before o xs is says some = let empty : [] ≡ xs = ap option_to_list (sym is) ∙ says in let less : 0 < 0 = subst (λ l. 0 < length l) (sym empty) some in omega (arith, less)
 
 module _ (before : List LineAction) (c : DeltaCommit) (line : List ℕ) (n : ℕ) (says : Says before c) where
-  protocol_fault : (o : Option Protocol) (p : Protocol) (f : Fault) → line_action line ≡ Ok (action.Protocol p) → c.protocol ≡ o → cond (is_some o) (Err Malformed) (Ok (record c { protocol = Some p })) ≡ Err f → FaultIs before line n f
+  protocol_fault : (o : Option Protocol) (p : Protocol) (f : Fault) → LineSays line (action.Protocol p) → c.protocol ≡ o → cond (is_some o) (Err Malformed) (Ok (record c { protocol = Some p })) ≡ Err f → FaultIs before line n f
   protocol_fault None p f is o h = absurd (cc)
   protocol_fault (Some q) p f is o h = is_malformed before line n (action.Protocol p) f is (cc) (inr (inl (omega arith, some_first c.protocol q (protocols before) o says.states.protocol)))
 
-  meta_fault : (o : Option MetaData) (b : Bool) (m : MetaData) (f : Fault) → line_action line ≡ Ok (action.MetaData m b) → c.meta ≡ o → cond (is_some o) (Err Malformed) (cond b (Ok (record c { meta = Some m })) (Err (Unsupported FileFormat))) ≡ Err f
+  meta_fault : (o : Option MetaData) (b : Bool) (m : MetaData) (f : Fault) → LineSays line (action.MetaData m b) → c.meta ≡ o → cond (is_some o) (Err Malformed) (cond b (Ok (record c { meta = Some m })) (Err (Unsupported FileFormat))) ≡ Err f
       → FaultIs before line n f
   meta_fault None true m f is o h = absurd (cc)
   meta_fault None false m f is o h =
@@ -90,7 +92,7 @@ module _ (before : List LineAction) (c : DeltaCommit) (line : List ℕ) (n : ℕ
   meta_fault (Some q) b m f is o h = is_malformed before line n (action.MetaData m b) f is (cc) (inr (inr (omega arith, some_first c.meta q (metas before) o says.states.meta)))
 
   -- an action on a path of the table that shows nothing
-  file_fault : (full again : Bool) (path : List ℕ) (g : FileAction) (a : LineAction) (f : Fault) → line_action line ≡ Ok a → nat_le MAX_ACTIONS (length c.files) ≡ full → acts_on path c.files ≡ again
+  file_fault : (full again : Bool) (path : List ℕ) (g : FileAction) (a : LineAction) (f : Fault) → LineSays line a → nat_le MAX_ACTIONS (length c.files) ≡ full → acts_on path c.files ≡ again
       → cond full (Err (Limit Actions)) (cond again (Err DoublePath) (Ok (with_new_file c g))) ≡ Err f → (IsMisplaced before a → ⊥) → NoneOf (λ x. ShowsOnLine x a) line_features → (HasLongPath a → ⊥) → path_in a ≡ Some path → FaultIs before line n f
   file_fault true again path g a f is room new h fits supported short named =
       let many : MAX_ACTIONS ≤ length c.files = grind (arith, common_steps) in
@@ -107,7 +109,7 @@ module _ (before : List LineAction) (c : DeltaCommit) (line : List ℕ) (n : ℕ
   file_fault false false path g a f is room new h fits supported short named = absurd (cc)
 
   add_fault : (u : UriPath) (v : Bool) (count : Option ℕ) (uri : List ℕ) (values : List (List ℕ × Option (List ℕ))) (size : ℕ) (f : Fault) → uri_path uri ≡ u
-      → line_action line ≡ Ok (action.Add uri values size count v) → with_action c (action.Add uri values size count v) ≡ Err f → FaultIs before line n f
+      → LineSays line (action.Add uri values size count v) → with_action c (action.Add uri values size count v) ≡ Err f → FaultIs before line n f
   add_fault no_path v count uri values size f u is h = let k = rw u at h in is_malformed before line n (action.Add uri values size count v) f is (cc) (inl (uri, refl, u))
   add_fault (inside_table path) true count uri values size f u is h =
       let k = rw u at h in let a = action.Add uri values size count true in
@@ -145,7 +147,7 @@ module _ (before : List LineAction) (c : DeltaCommit) (line : List ℕ) (n : ℕ
       ((λ g. cc), ((λ g. names_other a uri (inside_table path) outside_table refl u (inside_not_outside path) g.0 g.1 g.2), ((λ g. cc), ((λ g. g), tt))))
       (λ g. names_other a uri (inside_table path) (too_long g.1) refl u (inside_not_long path g.1) g.0 g.2 g.3) (ap Some (sym (decoded uri path u)))
 
-  remove_fault : (u : UriPath) (v : Bool) (uri : List ℕ) (f : Fault) → uri_path uri ≡ u → line_action line ≡ Ok (action.Remove uri v) → with_action c (action.Remove uri v) ≡ Err f → FaultIs before line n f
+  remove_fault : (u : UriPath) (v : Bool) (uri : List ℕ) (f : Fault) → uri_path uri ≡ u → LineSays line (action.Remove uri v) → with_action c (action.Remove uri v) ≡ Err f → FaultIs before line n f
   remove_fault no_path v uri f u is h = let k = rw u at h in is_malformed before line n (action.Remove uri v) f is (cc) (inl (uri, refl, u))
   remove_fault (inside_table path) true uri f u is h =
       let k = rw u at h in let a = action.Remove uri true in
@@ -175,7 +177,7 @@ module _ (before : List LineAction) (c : DeltaCommit) (line : List ℕ) (n : ℕ
       ((λ g. cc), ((λ g. names_other a uri (inside_table path) outside_table refl u (inside_not_outside path) g.0 g.1 g.2), ((λ g. g), ((λ g. g), tt))))
       (λ g. names_other a uri (inside_table path) (too_long g.1) refl u (inside_not_long path g.1) g.0 g.2 g.3) (ap Some (sym (decoded uri path u)))
 
-  action_fault : (a : LineAction) (f : Fault) → line_action line ≡ Ok a → with_action c a ≡ Err f → FaultIs before line n f
+  action_fault : (a : LineAction) (f : Fault) → LineSays line a → with_action c a ≡ Err f → FaultIs before line n f
   action_fault action.NoAction f is h = absurd (cc)
   action_fault (action.Protocol p) f is h = protocol_fault c.protocol p f is refl h
   action_fault (action.MetaData m b) f is h = meta_fault c.meta b m f is refl h
@@ -183,8 +185,8 @@ module _ (before : List LineAction) (c : DeltaCommit) (line : List ℕ) (n : ℕ
   action_fault (action.Remove uri v) f is h = remove_fault (uri_path uri) v uri f refl is h
 
   reading_fault : (r : Result LineAction LineFault) (f : Fault) → line_action line ≡ r → (with_fault judged r >>= with_action c) ≡ Err f → FaultIs before line n f
-  reading_fault (Ok a) f is h = action_fault a f is h
-  reading_fault (Err line_faults.Malformed) f is h = let same : Malformed ≡ f = cc in subst (FaultIs before line n) same (refl, inl is)
+  reading_fault (Ok a) f is h = action_fault a f (says_action line a is) h
+  reading_fault (Err line_faults.Malformed) f is h = let same : Malformed ≡ f = cc in subst (FaultIs before line n) same (refl, inl (says_none line is))
 
   pub line_fault : (f : Fault) → with_line c line ≡ Err f → IsAtFault before line n (error_at n f)
   unfolding with_line

@@ -26,6 +26,7 @@ use Rattle.delta_log.specs.Judging.{acts_on, with_action, with_line, with_lines,
 use Rattle.table_history.specs.First.{IsFirst, NoneOf}
 use Rattle.delta_log.specs.Readable.{States, protocol_in, meta_in, path_in, file_in, protocols, metas, paths, files, NamesNoPath, ShowsOnLine, line_features, HasLongPath, PassesOnLine, line_limits, AreLinesInGrammar, AreReadable, IsReadableCommit, IsMisplaced, ActsAgain, IsAtFault, IsFirstFault, IsRefusal, IsGrammarError}
 use Rattle.delta_log.proofs.EachLemmas.{each_push, cut_each, Cuts}
+use Rattle.delta_log.proofs.SaysLemmas.{says_action, reads_action, says_each, reads_each}
 use Rattle.delta_log.proofs.StepLemmas.{Step, step_of}
 use Rattle.delta_log.proofs.FaultLemmas.{Says, push_of, line_fault}
 
@@ -59,7 +60,7 @@ one_at_most (Some x) xs is = subst (λ l. length l ≤ 1) is (omega arith)
 readable_of : (front : List (List ℕ)) (before : List LineAction) (c : DeltaCommit) → Holds front before c → AreReadable front before
 readable_of front before c h = record {
   grammar = record {
-    read = h.read;
+    says = says_each front before h.read;
     protocols = one_at_most c.protocol (protocols before) h.says.states.protocol;
     metas = one_at_most c.meta (metas before) h.says.states.meta;
     uris = h.uris;
@@ -259,9 +260,9 @@ first_in P (y ∷ ys) x first = ⊎_elim (λ h. subst P (sym h.0) h.1) (λ h. fi
 grammar_fault : (lines : List (List ℕ)) (line : List ℕ) (before : List LineAction) (a : LineAction) (rest : List LineAction) (n : ℕ) (e : DeltaError) → line_action line ≡ Ok a → AreLinesInGrammar lines (before ++ a ∷ rest) → IsGrammarError e → IsAtFault before line n e → ⊥
 grammar_fault lines line before a rest n errors.Memory is grammar kind fault = fault
 grammar_fault lines line before a rest n (errors.Malformed m) is grammar kind fault =
-    ⊎_elim (λ h. cc) (λ h. let one = h.1 in let same : h.0 ≡ a = cc in misplaced_excluded lines before a rest grammar (subst (IsMisplaced before) same h.2)) fault.1
+    ⊎_elim (λ h. h a (says_action line a is)) (λ h. let one = reads_action line h.0 h.1 in let same : h.0 ≡ a = cc in misplaced_excluded lines before a rest grammar (subst (IsMisplaced before) same h.2)) fault.1
 grammar_fault lines line before a rest n (errors.DoublePath m) is grammar kind fault =
-    let one = fault.2.0 in let same : fault.1 ≡ a = cc in again_excluded lines before a rest grammar (subst (ActsAgain before) same fault.5)
+    let one = reads_action line fault.1 fault.2.0 in let same : fault.1 ≡ a = cc in again_excluded lines before a rest grammar (subst (ActsAgain before) same fault.5)
 grammar_fault lines line before a rest n (errors.Unsupported f m) is grammar kind fault = kind
 grammar_fault lines line before a rest n (errors.Limit w) is grammar kind fault = kind
 
@@ -270,10 +271,10 @@ any_fault lines line before a rest n errors.Memory is readable fault = fault
 any_fault lines line before a rest n (errors.Malformed m) is readable fault = grammar_fault lines line before a rest n (errors.Malformed m) is readable.grammar tt fault
 any_fault lines line before a rest n (errors.DoublePath m) is readable fault = grammar_fault lines line before a rest n (errors.DoublePath m) is readable.grammar tt fault
 any_fault lines line before a rest n (errors.Unsupported f m) is readable fault =
-    let one = fault.2.0 in let same : fault.1 ≡ a = cc in
+    let one = reads_action line fault.1 fault.2.0 in let same : fault.1 ≡ a = cc in
     none_first (λ g. ShowsOnLine g a) line_features f (all_middle (λ x. NoneOf (λ g. ShowsOnLine g x) line_features) before a rest readable.supported) (subst (λ x. IsFirst (λ g. ShowsOnLine g x) line_features f) same fault.3)
 any_fault lines line before a rest n (errors.Limit w) is readable fault =
-    let one = fault.1.0 in let same : fault.0 ≡ a = cc in
+    let one = reads_action line fault.0 fault.1.0 in let same : fault.0 ≡ a = cc in
     let supported = all_middle (λ x. NoneOf (λ g. ShowsOnLine g x) line_features) before a rest readable.supported in
     limit_excluded lines before a rest w readable supported (subst (λ x. PassesOnLine before x w) same (first_in (PassesOnLine before fault.0) line_limits w fault.3))
 
@@ -314,13 +315,13 @@ same_stated actions c d says also =
 pub fault_excluded : (bytes : List ℕ) (c : DeltaCommit) (e : DeltaError) → IsReadableCommit bytes c → IsFirstFault bytes e → ⊥
 unfolding Found
 fault_excluded bytes c e whole first =
-    let found = found_at (lines_of bytes) first.front first.line first.behind first.before whole.actions first.split first.readable.grammar.read whole.readable.grammar.read in
+    let found = found_at (lines_of bytes) first.front first.line first.behind first.before whole.actions first.split (reads_each first.front first.before first.readable.grammar.says) (reads_each (lines_of bytes) whole.actions whole.readable.grammar.says) in
     any_fault (lines_of bytes) first.line first.before found.0 found.1 (1 + length first.front) e found.2 (subst (AreReadable (lines_of bytes)) found.3 whole.readable) first.fault
 
 read_by : (bytes : List ℕ) (c : DeltaCommit) (r : Result DeltaCommit DeltaError) → commit_of bytes ≡ r → Reads bytes r → IsReadableCommit bytes c → r ≡ Ok c
 unfolding Reads Found
 read_by bytes c (Ok d) is reads whole =
-    let one = reads.readable.grammar.read in let other = whole.readable.grammar.read in let same : reads.actions ≡ whole.actions = cc in
+    let one = reads_each (lines_of bytes) reads.actions reads.readable.grammar.says in let other = reads_each (lines_of bytes) whole.actions whole.readable.grammar.says in let same : reads.actions ≡ whole.actions = cc in
     let says : States whole.actions d = subst (λ l. States l d) same reads.states in
     ap Ok (same_stated whole.actions d c says whole.states)
 read_by bytes c (Err e) is reads whole = absurd (fault_excluded bytes c e whole reads)
@@ -349,7 +350,7 @@ fault_by bytes (Err (errors.Limit w)) gives = reads_whole bytes (Err (errors.Lim
 grammar_fails : (bytes : List ℕ) (e : DeltaError) → IsFirstFault bytes e → IsGrammarError e → (actions : List LineAction) → AreLinesInGrammar (lines_of bytes) actions → ⊥
 unfolding Found
 grammar_fails bytes e first kind actions grammar =
-    let found = found_at (lines_of bytes) first.front first.line first.behind first.before actions first.split first.readable.grammar.read grammar.read in
+    let found = found_at (lines_of bytes) first.front first.line first.behind first.before actions first.split (reads_each first.front first.before first.readable.grammar.says) (reads_each (lines_of bytes) actions grammar.says) in
     grammar_fault (lines_of bytes) first.line first.before found.0 found.1 (1 + length first.front) e found.2 (subst (AreLinesInGrammar (lines_of bytes)) found.3 grammar) kind first.fault
 
 pub grammar_by : (bytes : List ℕ) (r : Result DeltaCommit DeltaError) → Answers r (commit_of bytes) → IfErr r (λ e. IsGrammarError e → (actions : List LineAction) → AreLinesInGrammar (lines_of bytes) actions → ⊥)

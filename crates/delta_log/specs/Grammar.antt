@@ -1,4 +1,4 @@
--- What one line of a commit says, by the JSON that it is (Delta protocol, "Actions").
+-- What one line of a commit says, as a function of the line, or that it says nothing. It gives just what Actions states.
 use Rattle.std.specs.Prelude.{ℕ, ℤ, pos, negsuc, ◌==◌, ◌||◌, ◌&&◌, List, [], length, Bool, false, Option, Some, None, option_map, is_some, is_none, Result, Ok, Err, if◌then◌else◌, codes}
 use Rattle.std.specs.List.{list_all}
 use Rattle.std.specs.Str.{bytes_eq}
@@ -51,7 +51,7 @@ features (Some d) = do
   texts ← each (text Malformed) (items names)
   Ok (Some texts)
 
--- the reader version from which on a protocol lists its reader features
+-- the reader version at which a protocol lists its reader features
 abbrev pub lists_features : ℤ → Bool
 lists_features (pos version) = version == 3
 lists_features (negsuc n) = false

@@ -1,4 +1,5 @@
 pub mod Commit
+pub mod Actions
 pub mod Grammar
 pub mod Sound
 pub mod Judging

@@ -1,10 +1,9 @@
 -- Which bytes are a commit, which features and limits its lines show, and which line is the first at fault.
-use Rattle.std.specs.Prelude.{◌≡◌, ◌⊎◌, ℕ, ◌+◌, ◌<◌, ◌≤◌, List, [], ◌∷◌, ◌++◌, length, flat_map, All, false, true, Option, Some, None, option_to_list, Ok, Err}
-use Rattle.std.specs.List.{IsDistinct}
+use Rattle.std.specs.Prelude.{◌≡◌, ◌⊎◌, ℕ, ◌+◌, ◌<◌, ◌≤◌, List, [], ◌∷◌, ◌++◌, length, flat_map, All, false, true, Option, Some, None, option_to_list}
+use Rattle.std.specs.List.{AllZip, IsDistinct}
 use Rattle.std.specs.Str.{bytes_eq}
 use Rattle.percent_encoding.specs.Percent.{percent_decode}
 use Rattle.lake_basics.specs.declared.limits.TheConstants.{MAX_ACTIONS}
-use Rattle.lake_basics.specs.Outcome.{each}
 use Rattle.table_history.specs.First.{IsFirst, NoneOf}
 use Rattle.table_history.specs.declared.feature.Feature.{Feature}
 use Rattle.table_history.specs.declared.feature.Feature.TheVariants.{DeletionVector, OutsideTable, NoRecordCount, FileFormat}
@@ -20,8 +19,7 @@ use Rattle.delta_log.specs.declared.commit.MetaData.{MetaData}
 use Rattle.delta_log.specs.declared.commit.Protocol.{Protocol}
 use Rattle.delta_log.specs.declared.error.DeltaError.{DeltaError}
 use Rattle.delta_log.specs.declared.error.DeltaError.TheVariants as errors
-use Rattle.delta_log.specs.declared.error.LineFault.TheVariants.{Malformed}
-use Rattle.delta_log.specs.Grammar.{line_action}
+use Rattle.delta_log.specs.Actions.{LineSays}
 use Rattle.delta_log.specs.Judging.{lines_of}
 
 -- ---- what an action says
@@ -80,9 +78,9 @@ pub record States (actions : List LineAction) (c : DeltaCommit) : Type 0 where
 abbrev pub NamesNoPath : LineAction → Type 0
 NamesNoPath a = (uri : List ℕ) × (uri_in a ≡ Some uri) × (uri_path uri ≡ no_path)
 
--- The lines are in the grammar of lines, with these actions: at most one of them is a protocol and one the table's metadata, each URI names something, and no two are on one path without escapes.
+-- The lines are in the grammar of lines: line by line they say these actions, at most one of them is a protocol and one the table's metadata, each URI names something, and no two are on one path without escapes.
 pub record AreLinesInGrammar (lines : List (List ℕ)) (actions : List LineAction) : Type 0 where
-  pub read : each line_action lines ≡ Ok actions
+  pub says : AllZip LineSays lines actions
   pub protocols : length (protocols actions) ≤ 1
   pub metas : length (metas actions) ≤ 1
   pub uris : All (λ a. ¬ NamesNoPath a) actions
@@ -156,9 +154,9 @@ IsSecond before a = (0 < length (protocols (a ∷ [])) × 0 < length (protocols 
 abbrev pub IsMisplaced : List LineAction → LineAction → Type 0
 IsMisplaced before a = NamesNoPath a ⊎ IsSecond before a
 
--- The line is one of this action, which may stand behind these.
+-- The line says this action, which may stand behind these.
 abbrev pub IsPlaced : List LineAction → List ℕ → LineAction → Type 0
-IsPlaced before line a = (line_action line ≡ Ok a) × ¬ IsMisplaced before a
+IsPlaced before line a = LineSays line a × ¬ IsMisplaced before a
 
 -- The action is on a path on which one of these is.
 abbrev pub ActsAgain : List LineAction → LineAction → Type 0
@@ -167,7 +165,7 @@ ActsAgain before a = ¬ IsDistinct bytes_eq (paths (before ++ a ∷ []))
 -- A line behind these actions, the n-th of the commit, has this fault. On one line Malformed goes before Unsupported, that before Limit, and that before DoublePath.
 abbrev pub IsAtFault : List LineAction → List ℕ → ℕ → DeltaError → Type 0
 IsAtFault before line n errors.Memory = ⊥
-IsAtFault before line n (errors.Malformed m) = (m ≡ n) × ((line_action line ≡ Err Malformed) ⊎ ((a : LineAction) × (line_action line ≡ Ok a) × IsMisplaced before a))
+IsAtFault before line n (errors.Malformed m) = (m ≡ n) × (((a : LineAction) → ¬ LineSays line a) ⊎ ((a : LineAction) × LineSays line a × IsMisplaced before a))
 IsAtFault before line n (errors.Unsupported f m) = (m ≡ n) × (a : LineAction) × IsPlaced before line a × IsFirst (λ g. ShowsOnLine g a) line_features f
 IsAtFault before line n (errors.Limit w) = (a : LineAction) × IsPlaced before line a × NoneOf (λ g. ShowsOnLine g a) line_features × IsFirst (PassesOnLine before a) line_limits w
 IsAtFault before line n (errors.DoublePath m) =
