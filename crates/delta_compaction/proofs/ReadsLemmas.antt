@@ -15,6 +15,7 @@ use Rattle.delta_log.specs.Judging.{lines_of}
 use Rattle.delta_log.specs.Readable.{AreReadable, HasLongPath, NamesNoPath, ShowsOnLine, States, line_features, paths}
 use Rattle.table_history.specs.First.{NoneOf}
 use Rattle.delta_log.proofs.EachLemmas.{Splits, split_each, each_cons}
+use Rattle.delta_log.proofs.SaysLemmas.{reads_each as lines_read}
 use Rattle.delta_log.proofs.StepLemmas.{IsFair}
 use Rattle.delta_compaction.specs.declared.key.LineKey.{LineKey}
 use Rattle.delta_compaction.specs.declared.kind.LineKind.TheVariants as kind
@@ -51,7 +52,7 @@ reads_by (line ∷ lines) (a ∷ actions) e uris supported short =
     )
 
 pub reads_of : (lines : List (List ℕ)) (actions : List LineAction) → AreReadable lines actions → Reads lines actions
-reads_of lines actions h = reads_by lines actions h.grammar.read h.grammar.uris h.supported h.short
+reads_of lines actions h = reads_by lines actions (lines_read lines actions h.grammar.says) h.grammar.uris h.supported h.short
 
 pub reads_each : (lines : List (List ℕ)) (actions : List LineAction) → Reads lines actions → each line_action lines ≡ Ok actions
 reads_each [] [] h = refl

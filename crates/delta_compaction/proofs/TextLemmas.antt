@@ -28,6 +28,7 @@ use Rattle.delta_log.specs.Judging.{lines_of}
 use Rattle.delta_log.specs.Readable.{AreReadable, HasLongPath, IsReadableCommit, NamesNoPath, ShowsOnLine, file_in, files, line_features, meta_in, metas, path_in, paths, protocol_in, protocols}
 use Rattle.delta_log.proofs.EachLemmas.{each_push}
 use Rattle.delta_log.proofs.FaultLemmas.{push_of}
+use Rattle.delta_log.proofs.SaysLemmas.{says_each, reads_each as lines_read}
 use Rattle.delta_log.proofs.StepLemmas.{IsFair}
 use Rattle.delta_compaction.specs.declared.key.LineKey.{LineKey}
 use Rattle.delta_compaction.specs.declared.key.LineKey.TheVariants as key
@@ -268,7 +269,7 @@ module _ (entries : Entries) (told : List LineAction) (sorted : IsStrictlySorted
       let one_meta = few_given meta_in key.MetaData meta_matches entries told sorted tied in
       record {
         grammar = record {
-          read = ap (each line_action) lines ∙ each_push line_action (values_of entries) [] told action.NoAction (reads_each (values_of entries) told reads) refl;
+          says = says_each (lines_of (text_of entries)) all (ap (each line_action) lines ∙ each_push line_action (values_of entries) [] told action.NoAction (reads_each (values_of entries) told reads) refl);
           protocols = subst (λ l. length l ≤ 1) (sym (blank_more protocol_in told refl)) one_protocol;
           metas = subst (λ l. length l ≤ 1) (sym (blank_more meta_in told refl)) one_meta;
           uris = All-push (λ a. NamesNoPath a → ⊥) told action.NoAction (all_uris (values_of entries) told reads) no_action.uri;
@@ -285,7 +286,7 @@ module _ (entries : Entries) (told : List LineAction) (sorted : IsStrictlySorted
       let lines : lines_of (text_of entries) ≡ values_of entries ++ [] ∷ [] = lines_of_text (values_of entries) (tied_lines entries told tied) in
       let mine : each line_action (lines_of (text_of entries)) ≡ Ok (told ++ action.NoAction ∷ []) =
       ap (each line_action) lines ∙ each_push line_action (values_of entries) [] told action.NoAction (reads_each (values_of entries) told reads) refl in
-      let theirs : each line_action (lines_of (text_of entries)) ≡ Ok readable.actions = readable.readable.grammar.read in
+      let theirs : each line_action (lines_of (text_of entries)) ≡ Ok readable.actions = lines_read (lines_of (text_of entries)) readable.actions readable.readable.grammar.says in
       let same : readable.actions ≡ told ++ action.NoAction ∷ [] = cc in
       record {
         protocol = readable.states.protocol ∙ ap protocols same ∙ blank_more protocol_in told refl;

@@ -23,6 +23,7 @@ use Rattle.delta_change.specs.Change.{HasLargeSchema, IsChangeRefusal, Shows, co
 use Rattle.delta_change.specs.TableBehind.{IsSchemaBehind}
 use Rattle.delta_log.proofs.EachLemmas.{Cuts, cut_each}
 use Rattle.delta_log.proofs.ReadableLemmas.{distinct_front, misplaced_excluded, none_first}
+use Rattle.delta_log.proofs.SaysLemmas.{says_action, reads_action, reads_each}
 use Rattle.delta_log.specs.Grammar.{line_action}
 use Rattle.delta_log.specs.Judging.{lines_of}
 use Rattle.delta_log.specs.Readable.{ActsAgain, AreLinesInGrammar, IsAtFault, IsFirstFault, IsMisplaced, IsReadableCommit, ShowsOnLine, line_features, path_in, paths}
@@ -72,20 +73,20 @@ IsPlain a = NoneOf (λ f. ShowsOnLine f a) line_features
 line_mild : (lines : List (List ℕ)) (line : List ℕ) (before : List LineAction) (a : LineAction) (rest : List LineAction) (n : ℕ) (e : DeltaError) → line_action line ≡ Ok a → AreLinesInGrammar lines (before ++ a ∷ rest) → All IsPlain (before ++ a ∷ rest) → IsAtFault before line n e → IsMild e
 line_mild lines line before a rest n errors.Memory is grammar plain fault = tt
 line_mild lines line before a rest n (errors.Malformed m) is grammar plain fault =
-    ⊎_elim (λ h. cc) (λ h. let one = h.1 in let same : h.0 ≡ a = cc in misplaced_excluded lines before a rest grammar (subst (IsMisplaced before) same h.2)) fault.1
+    ⊎_elim (λ h. h a (says_action line a is)) (λ h. let one = reads_action line h.0 h.1 in let same : h.0 ≡ a = cc in misplaced_excluded lines before a rest grammar (subst (IsMisplaced before) same h.2)) fault.1
 line_mild lines line before a rest n (errors.DoublePath m) is grammar plain fault =
-    let one = fault.2.0 in let same : fault.1 ≡ a = cc in again_excluded lines before a rest grammar (subst (ActsAgain before) same fault.5)
+    let one = reads_action line fault.1 fault.2.0 in let same : fault.1 ≡ a = cc in again_excluded lines before a rest grammar (subst (ActsAgain before) same fault.5)
 line_mild lines line before a rest n (errors.Unsupported f m) is grammar plain fault =
-    let one = fault.2.0 in let same : fault.1 ≡ a = cc in
+    let one = reads_action line fault.1 fault.2.0 in let same : fault.1 ≡ a = cc in
     none_first (λ g. ShowsOnLine g a) line_features f (all_middle IsPlain before a rest plain) (subst (λ x. IsFirst (λ g. ShowsOnLine g x) line_features f) same fault.3)
 line_mild lines line before a rest n (errors.Limit w) is grammar plain fault = tt
 
 extension_mild : (bytes : List ℕ) (base : Option Table) (next : Table) (e : DeltaError) → IsExtension bytes base next → IsFirstFault bytes e → IsMild e
 unfolding Cuts
 extension_mild bytes base next e made first =
-    let cut = cut_each line_action first.front first.line first.behind made.actions (ap (each line_action) (sym first.split) ∙ made.grammar.read) in
+    let cut = cut_each line_action first.front first.line first.behind made.actions (ap (each line_action) (sym first.split) ∙ reads_each (lines_of bytes) made.actions made.grammar.says) in
     let one = cut.3 in
-    let other = first.readable.grammar.read in
+    let other = reads_each first.front first.before first.readable.grammar.says in
     let same : cut.0 ≡ first.before = cc in
     let split : made.actions ≡ first.before ++ cut.1 ∷ cut.2 = cut.5 ∙ ap (λ l. l ++ cut.1 ∷ cut.2) same in
     line_mild (lines_of bytes) first.line first.before cut.1 cut.2 (1 + length first.front) e cut.4 (subst (AreLinesInGrammar (lines_of bytes)) split made.grammar) (subst (All IsPlain) split made.supported) first.fault

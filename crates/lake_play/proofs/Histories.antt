@@ -28,6 +28,7 @@ use Rattle.std.proofs.lemmas.Slice.Eq.{bytes_eq-Decides}
 use Rattle.delta_change.specs.TableBehind.{IsSchemaBehind, StatesSchema, rows_before}
 use Rattle.delta_change.proofs.KindLemmas.{KeepKinds}
 use Rattle.delta_live.specs.Live.{ActsOn, AddsRow}
+use Rattle.delta_log.proofs.SaysLemmas.{reads_each}
 use Rattle.delta_log.specs.Grammar.{line_action}
 use Rattle.delta_log.specs.Judging.{lines_of}
 use Rattle.delta_log.specs.Readable.{States}
@@ -193,7 +194,7 @@ one_commit actions c d a b =
 -- What is read of the bytes is the commit that makes the next table.
 pub says_extension : (bytes : List ℕ) (base : Option Table) (next : Table) (c : DeltaCommit) → IsExtension bytes base next → IsReadableCommit bytes c → IsStep c base next
 says_extension bytes base next c made readable =
-    let actions : readable.actions ≡ made.actions = ok_same (each line_action (lines_of bytes)) readable.actions made.actions readable.readable.grammar.read made.grammar.read in
+    let actions : readable.actions ≡ made.actions = ok_same (each line_action (lines_of bytes)) readable.actions made.actions (reads_each (lines_of bytes) readable.actions readable.readable.grammar.says) (reads_each (lines_of bytes) made.actions made.grammar.says) in
     let same = one_commit made.actions made.commit c made.states (subst (λ (l : List LineAction). States l c) actions readable.states) in
     subst (λ (d : DeltaCommit). IsStep d base next) same made.step
 
