@@ -1,5 +1,5 @@
 -- A sync takes a target along each history that the source's files hold.
-use Rattle.std.proofs.Common.{◌≡◌, ◌↔◌, ◌⊎◌, inl, inr, ⊎_elim, ℕ, zero, suc, ◌+◌, ◌≤◌, ◌<◌, Bool, true, false, List, [], ◌∷◌, ◌++◌, length, take, drop, All, Option, Some, refl, sym, ap, subst, ◌∙◌, arith}
+use Rattle.std.proofs.Common.{◌≡◌, ◌↔◌, ◌⊎◌, inl, inr, ⊎_elim, ℕ, zero, suc, ◌+◌, ◌≤◌, ◌<◌, Bool, true, false, List, [], ◌∷◌, ◌++◌, length, take, drop, All, Contains, Option, Some, refl, sym, ap, subst, ◌∙◌, arith}
 use Rattle.std.specs.Prelude.{slice_get}
 use Rattle.std.proofs.lemmas.List.Elements.{All-get_or}
 use Rattle.std.proofs.lemmas.Option.{get_or_from_slice_get, slice_get_within}
@@ -9,7 +9,7 @@ use Rattle.lake_store.proofs.MomentLaws.{weaker}
 use Rattle.source_core.specs.Histories.{IsAt, IsLast, IsLike, LeadAlong, SameTable, ShowsEntry, ShowsTable}
 use Rattle.source_core.specs.declared.head.Head.{Head}
 use Rattle.source_core.proofs.Histories.{along_length, entry_after, entry_same}
-use Rattle.table_history.specs.History.{FitsColumn, History, IsHistory, IsSoundTable, column_type}
+use Rattle.table_history.specs.History.{FitsColumn, History, IsHistory, IsSoundTable, column_type, positions_of}
 use Rattle.table_history.specs.Rows.{HasDistinctPaths}
 use Rattle.table_history.specs.TypeTree.{ColumnTrees}
 use Rattle.table_history.specs.declared.table.Commit.{Commit}
@@ -22,11 +22,11 @@ use Rattle.target_core.specs.Meaning.{Meaning}
 use Rattle.target_core.specs.Views.{IsAdvanced, IsAdvancedAll, IsPublished, IsSchemaAfter, IsUnpublished, Origin, SameView, Standing, View, absent, standing_at}
 use Rattle.target_core.specs.Folders.{after_crash}
 use Rattle.target_core.proofs.Same.{same_refl, same_trans}
-use Rattle.target_sync.specs.Along.{EndsAlong, GoesOnAlong, HasEachTable, HasGoneTo, IsAlong, IsAtLast, IsToLast, IsWholeSync, LeadsAsFar, StandsFrom, StaysOrEnds}
+use Rattle.target_sync.specs.Along.{EndsAlong, GoesOnAlong, HasEachTable, HasEnded, HasGoneTo, IsAlong, IsAstray, IsAtLast, IsOfAnotherTable, IsToLast, IsWholeSync, LeadsAsFar, StandsFrom, StaysOrEnds}
 use Rattle.target_sync.specs.Answered.{Answer, IsDone, IsReady, IsSync, IsUndisturbed}
 use Rattle.target_sync.specs.Targets.{TargetFacts}
 use Rattle.target_core.specs.Conditions.{GoesOn}
-use Rattle.target_sync.specs.Dues.{AreSinceMark, Due, IsInFull, TakesCommits, origin_of}
+use Rattle.target_sync.specs.Dues.{AreSinceMark, Due, IsInFull, IsMarked, IsWhole, MayBeSame, TakesCommits, origin_of}
 use Rattle.target_sync.specs.Sources.{SourceMeaning}
 use Rattle.target_sync.specs.Synced.{HasTable, IsAsBefore, IsAsBeforeOrUnderway, IsAtHead, IsUnderway, Synced, with_columns}
 use Rattle.target_sync.specs.declared.plan.Mode.{Mode}
@@ -58,6 +58,8 @@ pub record HistoryLaws (source : SourceMeaning) : Type 0 where
       → (last : List ℕ × Table) × IsLast history last × (last.0 ≡ head.position) × ((table : Table) → source.is_table files table → SameTable table last.1)
   pub along : (files : Files) (front behind : History) (entry : List ℕ × Table) (base : Table) (commits : List Commit) → IsHistory (front ++ entry ∷ behind) → source.holds files (front ++ entry ∷ behind) → IsLike base entry.1
       → source.reaches files entry.0 → source.is_since files entry.0 base commits → LeadAlong entry.1 behind commits
+  pub one_head : (files : Files) (a b : Head) → source.is_head files a → source.is_head files b → a ≡ b
+  pub reached_held : (files : Files) (history : History) (position : List ℕ) → source.holds files history → source.reaches files position → Contains (positions_of history) position
 
 abbrev pub KeepsKinds : (ColumnTrees → Option ColumnTrees) → Type 0
 KeepsKinds image = (schema held : ColumnTrees) → image schema ≡ Some held → (name : List ℕ) (value : PartValue) → FitsColumn (column_type schema name) value ↔ FitsColumn (column_type held name) value
@@ -211,6 +213,20 @@ module _ (source : SourceMeaning) (laws : HistoryLaws source) (target : Meaning)
       all_taken o zero next last is = is
       all_taken o (suc n) next last is = is
 
+-- one commit in full leads to the last table
+to_last : (source : SourceMeaning) → HistoryLaws source → (mode : Mode) (before : Files) (history : History) → IsHistory history → source.holds before history → (start : View) (head : Head) → source.is_head before head → (partition : List (List ℕ)) (commits : List Commit) (full : Bool) → IsInFull source mode before start head partition commits full → IsToLast history start commits
+to_last source laws mode before history is holds start head is_head partition commits full are =
+    let last = laws.last before history head is holds is_head in
+    let same : SameTable are.table last.0.1 = last.3 are.table are.is_table in
+    record {
+      entry = last.0;
+      last = last.1;
+      commit = are.commit;
+      only = are.only;
+      position = are.position ∙ sym last.2;
+      rows = change_of_same_rows start.table.rows start.table.rows are.table.rows last.0.1.rows are.commit.change.removed are.commit.change.added (λ row. (λ there. there, λ there. there)) same.rows are.change.rows;
+    }
+
 at_last : (source : SourceMeaning) → HistoryLaws source → (target : Meaning) (before : Files) (history : History) → IsHistory history → source.holds before history → (head : Head) → source.is_head before head → (files : Files) → IsAt source.kind target history files (length history) → IsAtLast source target history before files
 at_last source laws target before history is holds head is_head files at = record { at = at; equals = each_table source laws target modes.Sync before history is holds files head is_head (length history) refl at }
 
@@ -334,43 +350,56 @@ module _ (source : SourceMeaning) (laws : HistoryLaws source) (target : Meaning)
     due_full : (due : Due source mode before start) → IsInFull source mode before start due.head due.partition due.commits due.full
     due_full due = ⊎_elim (λ (are : AreSinceMark source mode before start due.partition due.commits due.full). absurd (full (are.sync, (are.marked.0, are.marked.1, are.marked.2.0)))) (λ are. are) due.way
 
-    full_or : (files : Files) (due : Due source mode before start) (n : ℕ) → (due.partition ≡ start.table.partition) ⊎ IsUnpublished start → Gained target (origin_of due) (with_columns due.partition start) before due.commits n files → StaysOrEnds source target history start before files
+    -- the one commit of it is published
+    ended : (files : Files) (due : Due source mode before start) (n : ℕ) → (due.partition ≡ start.table.partition) ⊎ IsUnpublished start → Gained target (origin_of due) (with_columns due.partition start) before due.commits n files → n ≡ 1 → HasEnded source target mode history start before files
+    ended files due n columns gained once =
+        let are = due_full due in
+        record {
+          due = due;
+          full = are.way;
+          only = to_last source laws mode before history is holds start due.head due.is_head due.partition due.commits due.full are;
+          columns = columns;
+          gained = subst (λ (m : ℕ). Gained target (origin_of due) (with_columns due.partition start) before due.commits m files) once gained;
+          last = at_last source laws target before history is holds due.head due.is_head files
+              (full_at source laws target mode before history is holds start due.head due.is_head due.partition due.commits due.full are due.id files n gained (omega (arith, once)));
+        }
+
+    one_due : (due : Due source mode before start) → length due.commits ≡ 1
+    one_due due = ap (λ (cs : List Commit). length cs) (due_full due).only
+
+    full_or : (files : Files) (due : Due source mode before start) (n : ℕ) → (due.partition ≡ start.table.partition) ⊎ IsUnpublished start → Gained target (origin_of due) (with_columns due.partition start) before due.commits n files → StaysOrEnds source target mode history start before files
     full_or files due zero columns gained = inl (stays files due.partition (origin_of due) due.commits columns gained)
-    full_or files due (suc n) columns gained = inr (full_at source laws target mode before history is holds start due.head due.is_head due.partition due.commits due.full (due_full due) due.id files (suc n) gained (omega arith))
+    full_or files due (suc n) columns gained =
+        let one = one_due due in
+        let within = gained.within in
+        inr (ended files due (suc n) columns gained (omega (arith, one, within)))
 
-    full_end : (files : Files) → IsAtHead source target mode start before files → IsAt source.kind target history files (length history)
-    full_end files on =
-        let are = due_full on.due in
-        let one : length on.due.commits ≡ 1 = ap (λ (cs : List Commit). length cs) are.only in
-        full_at source laws target mode before history is holds start on.due.head on.due.is_head on.due.partition on.due.commits on.due.full are on.due.id files (length on.due.commits) on.gained (omega (arith, one))
-
-    pub ends_along : {S : Type 0} (store : Ghosts S) (U D : Type 0) (old new : S) → store.tells → (store.disk old).files ≡ before → Synced store source target mode start U D old new → EndsAlong store source target history start U D old new
+    pub ends_along : {S : Type 0} (store : Ghosts S) (U D : Type 0) (old new : S) → store.tells → (store.disk old).files ≡ before → Synced store source target mode start U D old new → EndsAlong store source target mode history start U D old new
     ends_along store U D old new told here synced =
-        let either : (files : Files) → IsAsBeforeOrUnderway source target mode start before files → StaysOrEnds source target history start (store.disk old).files files = λ files stands.
-        subst (λ (f : Files). StaysOrEnds source target history start f files) (sym here) (⊎_elim (λ was. inl was) (λ (on : IsUnderway source target mode start before files). full_or files on.due on.gained.count on.columns on.gained.gained) stands) in
-        let end : (files : Files) → IsAtHead source target mode start before files → IsAtLast source target history (store.disk old).files files = λ files on.
-        subst (λ (f : Files). IsAtLast source target history f files) (sym here) (at_last source laws target before history is holds on.due.head on.due.is_head files (full_end files on)) in
+        let either : (files : Files) → IsAsBeforeOrUnderway source target mode start before files → StaysOrEnds source target mode history start (store.disk old).files files = λ files stands.
+        subst (λ (f : Files). StaysOrEnds source target mode history start f files) (sym here) (⊎_elim (λ was. inl was) (λ (on : IsUnderway source target mode start before files). full_or files on.due on.gained.count on.columns on.gained.gained) stands) in
+        let end : (files : Files) → IsAtHead source target mode start before files → HasEnded source target mode history start (store.disk old).files files = λ files on.
+        subst (λ (f : Files). HasEnded source target mode history start f files) (sym here) (ended files on.due (length on.due.commits) on.columns on.gained (one_due on.due)) in
         record {
           at_return = λ u. either (store.disk new).files (subst (λ (f : Files). IsAsBeforeOrUnderway source target mode start f (store.disk new).files) here (synced.at_return u));
-          moments = λ u. weaker store old new (λ image. IsAsBeforeOrUnderway source target mode start (store.disk old).files image × target.settled (after_crash image)) (StaysOrEnds source target history start (store.disk old).files)
+          moments = λ u. weaker store old new (λ image. IsAsBeforeOrUnderway source target mode start (store.disk old).files image × target.settled (after_crash image)) (StaysOrEnds source target mode history start (store.disk old).files)
               (λ image stands. either image (subst (λ (f : Files). IsAsBeforeOrUnderway source target mode start f image) here stands.0)) (λ t. synced.moments u) told;
           done = λ d. end (store.disk new).files (subst (λ (f : Files). IsAtHead source target mode start f (store.disk new).files) here (synced.done d));
           since = λ d image left. end image (subst (λ (f : Files). IsAtHead source target mode start f image) here (synced.since d image left));
         }
 
--- one commit in full leads to the last table
-to_last : (source : SourceMeaning) → HistoryLaws source → (mode : Mode) (before : Files) (history : History) → IsHistory history → source.holds before history → (start : View) (head : Head) → source.is_head before head → (partition : List (List ℕ)) (commits : List Commit) (full : Bool) → IsInFull source mode before start head partition commits full → IsToLast history start commits
-to_last source laws mode before history is holds start head is_head partition commits full are =
-    let last = laws.last before history head is holds is_head in
-    let same : SameTable are.table last.0.1 = last.3 are.table are.is_table in
-    record {
-      entry = last.0;
-      last = last.1;
-      commit = are.commit;
-      only = are.only;
-      position = are.position ∙ sym last.2;
-      rows = change_of_same_rows start.table.rows start.table.rows are.table.rows last.0.1.rows are.commit.change.removed are.commit.change.added (λ row. (λ there. there, λ there. there)) same.rows are.change.rows;
-    }
+-- the history since the mark of a target that is astray isn't whole
+pub astray_lost : (source : SourceMeaning) → HistoryLaws source → (files : Files) (history : History) → source.holds files history → (start : View) → IsAstray source history files start → ¬ IsMarked start (IsWhole source files)
+astray_lost source laws files history holds start astray whole =
+    let standing = whole.0 in
+    let one : standing ≡ astray.standing = one_standing start standing astray.standing whole.1 astray.mark in
+    ⊎_elim
+    (λ (another : IsOfAnotherTable source files astray.standing).
+    let head : whole.2.0.head ≡ another.head = laws.one_head files whole.2.0.head another.head whole.2.0.is_head another.is_head in
+    another.other (subst (λ (h : Head). MayBeSame h.table astray.standing.origin.table) head (subst (λ (s : Standing). MayBeSame whole.2.0.head.table s.origin.table) one whole.2.0.table)))
+    (λ (unknown : ¬ Contains (positions_of history) astray.standing.to).
+    unknown (subst (λ (s : Standing). Contains (positions_of history) s.to) one (laws.reached_held files history standing.to holds whole.2.1)))
+    astray.strays
 
 -- ---- what a sync does
 
@@ -390,6 +419,13 @@ sync_along store source laws target kinds published absent_any other mode now ol
   ends = λ told history is holds start reads goes settled full.
       let ready : IsReady source target (store.disk old).files start (target.files.settled (store.disk old)) = record { reads = reads; goes_on = goes; settled = settled } in
       ends_along source laws target.files kinds published mode (store.disk old).files history is holds start full absent_any store (IsUndisturbed answer) (IsDone answer) old new told refl (sync.synced told start ready);
+  astray = λ told history is holds start reads astray.
+      let lost = astray_lost source laws (store.disk old).files history holds start astray in (
+        lost,
+        λ settled.
+            let ready : IsReady source target (store.disk old).files start (target.files.settled (store.disk old)) = record { reads = reads; goes_on = inr (astray.standing, astray.mark, astray.format); settled = settled } in
+            ends_along source laws target.files kinds published mode (store.disk old).files history is holds start (λ takes. lost takes.1) absent_any store (IsUndisturbed answer) (IsDone answer) old new told refl (sync.synced told start ready),
+      );
   in_full = λ told history is holds start due full.
       ⊎_elim (λ (are : AreSinceMark source mode (store.disk old).files start due.partition due.commits due.full). absurd (since_full source mode (store.disk old).files start due.partition due.commits due.full are full))
       (λ (are : IsInFull source mode (store.disk old).files start due.head due.partition due.commits due.full). to_last source laws mode (store.disk old).files history is holds start due.head due.is_head due.partition due.commits due.full are) due.way;

@@ -54,7 +54,7 @@ returns-in-Err g c =
     } in
     let e = c.in-Err.error in
     let along : AlongLaws source target.files = record {
-      histories = record { last = g.met.F.Source.last f; along = g.met.F.Source.along f };
+      histories = record { last = g.met.F.Source.last f; along = g.met.F.Source.along f; one_head = g.met.F.Source.one_head f; reached_held = g.met.F.Source.reached_held f };
       kinds = g.met.T.Target.image_kinds t;
       published = g.met.T.Target.published t;
       absent_any = g.met.T.Target.absent_any t;
@@ -95,7 +95,7 @@ returns-in-Ok-put_pending g c =
     let head = c.in-Ok.head in
     let answer = c.sync_from-answer.result in
     let along : AlongLaws source target.files = record {
-      histories = record { last = g.met.F.Source.last f; along = g.met.F.Source.along f };
+      histories = record { last = g.met.F.Source.last f; along = g.met.F.Source.along f; one_head = g.met.F.Source.one_head f; reached_held = g.met.F.Source.reached_held f };
       kinds = g.met.T.Target.image_kinds t;
       published = g.met.T.Target.published t;
       absent_any = g.met.T.Target.absent_any t;
@@ -138,7 +138,7 @@ returns g c =
     } in
     let head = c.in-Ok.head in
     let along : AlongLaws source target.files = record {
-      histories = record { last = g.met.F.Source.last f; along = g.met.F.Source.along f };
+      histories = record { last = g.met.F.Source.last f; along = g.met.F.Source.along f; one_head = g.met.F.Source.one_head f; reached_held = g.met.F.Source.reached_held f };
       kinds = g.met.T.Target.image_kinds t;
       published = g.met.T.Target.published t;
       absent_any = g.met.T.Target.absent_any t;

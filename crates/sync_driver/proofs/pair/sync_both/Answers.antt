@@ -74,10 +74,10 @@ pair_laws g f t u far far_second apart = record {
 -- ---- the answers
 
 first_along : (g : Over) (f : g.row.F.Denot) (t : g.row.T.Denot) → AlongLaws (source_meaning g.F.Source f) (meaning g.T.Target t)
-first_along g f t = record { histories = record { last = g.met.F.Source.last f; along = g.met.F.Source.along f }; kinds = g.met.T.Target.image_kinds t; published = g.met.T.Target.published t; absent_any = g.met.T.Target.absent_any t }
+first_along g f t = record { histories = record { last = g.met.F.Source.last f; along = g.met.F.Source.along f; one_head = g.met.F.Source.one_head f; reached_held = g.met.F.Source.reached_held f }; kinds = g.met.T.Target.image_kinds t; published = g.met.T.Target.published t; absent_any = g.met.T.Target.absent_any t }
 
 second_along : (g : Over) (f : g.row.F.Denot) (u : g.row.U.Denot) → AlongLaws (source_meaning g.F.Source f) (meaning g.U.Target u)
-second_along g f u = record { histories = record { last = g.met.F.Source.last f; along = g.met.F.Source.along f }; kinds = g.met.U.Target.image_kinds u; published = g.met.U.Target.published u; absent_any = g.met.U.Target.absent_any u }
+second_along g f u = record { histories = record { last = g.met.F.Source.last f; along = g.met.F.Source.along f; one_head = g.met.F.Source.one_head f; reached_held = g.met.F.Source.reached_held f }; kinds = g.met.U.Target.image_kinds u; published = g.met.U.Target.published u; absent_any = g.met.U.Target.absent_any u }
 
 pub sync_both_from-requires-clause-head : goal.sync_both_from-requires-clause-head
 sync_both_from-requires-clause-head g c told = subst (λ (d : Disk). g.F.Source.is_head c.args.source.now d.files c.in-Ok.head) (sym (c.in-Ok.ensures.only_reads told).disk) (c.in-Ok.ensures.head told).1

@@ -44,7 +44,7 @@ returns-in-Ok g c =
       not_foreign = g.met.T.Target.not_foreign t;
     } in
     let along : AlongLaws (source_meaning g.F.Source f) (meaning g.T.Target t) = record {
-      histories = record { last = g.met.F.Source.last f; along = g.met.F.Source.along f };
+      histories = record { last = g.met.F.Source.last f; along = g.met.F.Source.along f; one_head = g.met.F.Source.one_head f; reached_held = g.met.F.Source.reached_held f };
       kinds = g.met.T.Target.image_kinds t;
       published = g.met.T.Target.published t;
       absent_any = g.met.T.Target.absent_any t;
@@ -77,7 +77,7 @@ returns-in-Err g c =
       not_foreign = g.met.T.Target.not_foreign t;
     } in
     let along : AlongLaws (source_meaning g.F.Source f) (meaning g.T.Target t) = record {
-      histories = record { last = g.met.F.Source.last f; along = g.met.F.Source.along f };
+      histories = record { last = g.met.F.Source.last f; along = g.met.F.Source.along f; one_head = g.met.F.Source.one_head f; reached_held = g.met.F.Source.reached_held f };
       kinds = g.met.T.Target.image_kinds t;
       published = g.met.T.Target.published t;
       absent_any = g.met.T.Target.absent_any t;
