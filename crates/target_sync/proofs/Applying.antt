@@ -25,7 +25,7 @@ use Rattle.target_core.specs.Views.{Origin, Standing, View, standing_at}
 use Rattle.target_core.proofs.Steps.{gained_none}
 use Rattle.target_core.specs.declared.target.TargetError.{TargetError}
 use Rattle.target_core.specs.declared.target.TargetError.TheVariants.{Memory, StoreFault, Contested, Limit, Unsupported}
-use Rattle.target_sync.specs.Applied.{Applies, IsApplyRefusal, IsLimitedAt, IsTold, PassesIn, StayShown}
+use Rattle.target_sync.specs.Applied.{Applies, IsApplyRefusal, IsLimitedAt, IsTold, PassesAtFirst, PassesIn, StayShown}
 use Rattle.target_sync.specs.Targets.{IsStart}
 use Rattle.target_sync.specs.declared.apply.Report.{Report}
 use Rattle.target_sync.proofs.Counting.{contested_as, contested_never, fails_as, fails_never}
@@ -127,7 +127,7 @@ module _ {S : Type 0} (store : Ghosts S) (target : Meaning) (origin : Origin) (s
           reported = tt;
           stopped = λ told stands. inl (reading told);
           contested = λ told stands is_contest. absurd (no_contest e is (err_same e Contested is_contest));
-          limited = λ told stands which number is_limit. inl (reading told);
+          limited = λ told stands which number is_limit. inl (reading told, inl (subst (IsFitsRefusal unfit) (err_same e (Limit which number) is_limit) is));
           refused = λ told. unfit_refusal (OnlyReads store s s) (PassesIn passes commits) e (reading told) is;
           fault = fails_never store.faults store.may_fail s _ (λ same. no_fault e is (err_same e StoreFault same));
           contest = contested_never store.contests store.may_contest s _ (λ same. no_contest e is (err_same e Contested same));
@@ -140,6 +140,9 @@ module _ {S : Type 0} (store : Ghosts S) (target : Meaning) (origin : Origin) (s
       refusal_at Idle place within Contested is = tt
       refusal_at Idle place within (Limit which number) is = inr (place, within, is)
       refusal_at Idle place within (Unsupported feature path) is = absurd is
+
+      passed_first : (place : ℕ) → place ≡ 0 → place < length commits → (which : LimitKind) (number : ℕ) → passes (take (place + 1) commits) which number → PassesAtFirst passes commits which number
+      passed_first place first within which number passed = (omega (arith, within), subst (λ (n : ℕ). passes (take (n + 1) commits) which number) first passed)
 
       has_some : (cs : List Commit) (place : ℕ) → place < length cs → cs ≢ []
       has_some [] place within none = omega (arith, within)
@@ -192,7 +195,10 @@ module _ {S : Type 0} (store : Ghosts S) (target : Meaning) (origin : Origin) (s
             (λ names. inr (limited_with (λ other. absurd (other names))))
             (λ other. ⊎_elim
             (λ some. inr (limited_with (λ _. (some, at.untouched stands which number same other))))
-            (λ none. inl (at.unmoved which number same other (omega (arith, none))))
+            (λ none.
+            let first : at.place ≡ 0 = omega (arith, none) in
+            let passed : IsCommitRefusal (passes (take (at.place + 1) commits)) (Limit which number) = subst (λ (x : TargetError). IsCommitRefusal (passes (take (at.place + 1) commits)) x) same at.cause in
+            inl (at.unmoved which number same other first, inr (passed_first at.place first at.within which number passed)))
             (cases_lt 0 at.place))
             (names_or which);
         refused = λ told. refusal_at (OnlyReads store old new) (refused told).place (refused told).within e (refused told).cause;

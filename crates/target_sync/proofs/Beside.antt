@@ -19,7 +19,7 @@ use Rattle.target_core.specs.Written.{IsAsLeft, StayAfter}
 use Rattle.target_core.proofs.Apart.{folders_apart}
 use Rattle.target_core.proofs.Same.{same_refl}
 use Rattle.target_core.proofs.Steps.{count_taken}
-use Rattle.target_sync.specs.Answered.{Answer, IsDone, IsReady, IsReported, IsSync, IsUndisturbed, StandsAtHead, Leaves, StopsSo}
+use Rattle.target_sync.specs.Answered.{Answer, IsDone, IsOverAtFirst, IsReady, IsReported, IsSync, IsUndisturbed, StandsAtHead, Leaves, StopsSo}
 use Rattle.target_sync.specs.Applied.{StayShown}
 use Rattle.target_sync.specs.Dues.{origin_of}
 use Rattle.target_sync.specs.Others.{IsOutsideBoth}
@@ -32,7 +32,7 @@ use Rattle.target_sync.proofs.Applying.{CrashLaws}
 use Rattle.target_sync.proofs.Counting.{fails_then}
 use Rattle.target_sync.proofs.Following.{caused_as, source_of_others}
 use Rattle.target_sync.proofs.Mixing.{whole_image, whole_may_leave, whole_same}
-use Rattle.target_sync.proofs.Owning.{FaultLaws, OwnLaws, absent_of_two, absent_own, as_before_own, at_head_own, at_head_since, can_own, caused_own, due_own, either_own, either_since, gained_own, gained_since, same_back, stands_at_head, status_own}
+use Rattle.target_sync.proofs.Owning.{FaultLaws, OwnLaws, absent_of_two, absent_own, as_before_own, at_head_own, at_head_since, can_own, caused_own, due_own, either_own, either_since, gained_own, gained_since, over_own, same_back, stands_at_head, status_own}
 use Rattle.target_sync.proofs.Standing.{SourceLaws}
 
 -- what may be left now may be left since any time before
@@ -255,9 +255,9 @@ module _ {S : Type 0} (store : Ghosts S) (only_now : NowOnly store) (now_counts 
         stay = shown_on (origin_of is.due) start.commits is.due.commits is.stay;
       }
 
-      limited_on : (which : LimitKind) (number : ℕ) → OnlyReads store old mid ⊎ IsLimited store source target.files passes_now (Leaves target None now) mode start before mid which number
-          → ChangesOnlyIn store beside old new ⊎ IsLimited store source target.files passes_now (Leaves target (Some other) now) mode start before new which number
-      limited_on which number (inl idle) = inl (idle_on told idle)
+      limited_on : (which : LimitKind) (number : ℕ) → (OnlyReads store old mid × IsOverAtFirst source target mode now before which number) ⊎ IsLimited store source target.files passes_now (Leaves target None now) mode start before mid which number
+          → (ChangesOnlyIn store beside old new × IsOverAtFirst source target mode now before which number) ⊎ IsLimited store source target.files passes_now (Leaves target (Some other) now) mode start before new which number
+      limited_on which number (inl idle) = inl (idle_on told idle.0, idle.1)
       limited_on which number (inr is) = inr (record {
         due = is.due;
         columns = is.columns;
@@ -442,10 +442,10 @@ module _ {S : Type 0} (store : Ghosts S) (only_now : NowOnly store) (now_counts 
         stay = shown_since (origin_of is.due) is.due.commits is.stay;
       }
 
-      limited_since : (which : LimitKind) (number : ℕ) → OnlyReads store mid new ⊎ IsLimited store source target.files passes_now (Leaves target None now) mode start middle new which number
-          → ChangesOnlyIn store beside old new ⊎ IsLimited store source target.files passes_now (Leaves target (Some other) now) mode start first new which number
+      limited_since : (which : LimitKind) (number : ℕ) → (OnlyReads store mid new × IsOverAtFirst source target mode now middle which number) ⊎ IsLimited store source target.files passes_now (Leaves target None now) mode start middle new which number
+          → (ChangesOnlyIn store beside old new × IsOverAtFirst source target mode now first which number) ⊎ IsLimited store source target.files passes_now (Leaves target (Some other) now) mode start first new which number
       unfolding due_own
-      limited_since which number (inl idle) = inl (idle_since told idle)
+      limited_since which number (inl idle) = inl (idle_since told idle.0, over_own source laws faults target own mode now middle first (source_back told) (back told) which number idle.1)
       limited_since which number (inr is) = inr (record {
         due = due_own source laws middle first (source_back told) mode start is.due;
         columns = is.columns;

@@ -1,5 +1,5 @@
 -- How a sync of one target ends, by what inspecting the target found and by what reading the source gave.
-use Rattle.std.proofs.Common.{◌≡◌, inr, ℕ, List, Option, Some, None, refl, ap, subst}
+use Rattle.std.proofs.Common.{◌≡◌, inl, inr, ℕ, List, Option, Some, None, refl, sym, ap, subst, ◌∙◌}
 use Rattle.std.specs.Prelude.{IfErr, Result, Err, IsErrOf}
 use Rattle.lake_store.specs.Disk.{Disk, Files}
 use Rattle.lake_store.specs.Runs.{FailsBy, IsUncontestedBy, OnlyReads}
@@ -11,6 +11,7 @@ use Rattle.source_core.specs.declared.error.SourceError.TheVariants as source_er
 use Rattle.source_core.specs.declared.head.Head.{Head}
 use Rattle.source_core.specs.declared.source.Source as sources
 use Rattle.table_history.specs.declared.kind.Kind.{Kind}
+use Rattle.table_history.specs.declared.limit.LimitKind.{LimitKind}
 use Rattle.target_core.specs.TargetMeanings.{meaning}
 use Rattle.target_core.specs.Views.{Origin, View}
 use Rattle.target_core.specs.declared.target.Target as targets
@@ -23,6 +24,7 @@ use Rattle.target_sync.specs.Targets.{HaveWritten, target_facts}
 use Rattle.target_sync.specs.declared.apply.Report.{Report}
 use Rattle.target_sync.specs.declared.plan.Mode.{Mode}
 use Rattle.target_sync.specs.declared.plan.Plan.{Plan}
+use Rattle.target_sync.specs.declared.status.Side.TheVariants as side
 use Rattle.target_sync.specs.declared.status.Status.{Status}
 use Rattle.target_sync.specs.declared.status.Status.TheVariants as status
 use Rattle.target_sync.proofs.Counting.{fails_as, fails_then, uncontested_then}
@@ -59,6 +61,18 @@ no_source_contest kind (source_error.Unsupported feature path) is = cc is
 no_source_contest kind (source_error.Limit which number) is = cc is
 no_source_contest kind source_error.StoreFault is = cc is
 
+-- a refusal of the source isn't a number that a target passes
+no_source_limit : (kind : Kind) (which : LimitKind) (number : ℕ) (e : SourceError) → status_of_source e ≡ status.Limit (side.Target kind) which number → ⊥
+no_source_limit kind which number source_error.Memory is = cc is
+no_source_limit kind which number source_error.Absent is = cc is
+no_source_limit kind which number (source_error.Malformed path) is = cc is
+no_source_limit kind which number (source_error.Unsupported feature path) is = cc is
+no_source_limit kind which number (source_error.Limit other count) is = cc is
+no_source_limit kind which number source_error.StoreFault is = cc is
+
+no_foreign_limit : (kind : Kind) (path : List ℕ) (which : LimitKind) (number : ℕ) → ◌≡◌ {A = Status} (status.Foreign kind path) (status.Limit (side.Target kind) which number) → ⊥
+no_foreign_limit kind path which number is = cc is
+
 -- what is found of ours is of the source's format
 pub found_of_source : {K : Type 0} (view : K → View) (kind : Kind) (found : Option K) → IsFoundOurs view kind found → IsFoundOfSource view kind found
 found_of_source view kind None ours = tt
@@ -78,6 +92,7 @@ module _ {S F T K : Type 0} (store : Ghosts S) (only_now : NowOnly store) (sourc
       (λ told. refusal_of_head (source_meaning source f) (target_facts target t) mode now files (OnlyReads store old new) (reading told) e (refused told))
       (λ told absent. absence_of_head (source_meaning source f) (target_facts target t) mode now files (OnlyReads store old new) (reading told) e (refused told) absent)
       (λ told path foreign. inr (before_of_head (source_meaning source f) (target_facts target t) mode now files (OnlyReads store old new) (reading told) e (refused told)))
+      (λ told which number is. absurd (no_source_limit (target.kind t) which number e is))
 
   -- inspecting was refused, or the target is foreign
   pub early_refused : {X : Type 0} (old new : S) (e : Status) → IsOfSync (target.kind t) e → (store.tells → OnlyReads store old new) → FailsBy store old new (IsErrOf {T = X} (Err e) status.StoreFault) → IsUncontestedBy store old new (IsErrOf {T = X} (Err e) (status.Contested (target.kind t)))
@@ -92,10 +107,16 @@ module _ {S F T K : Type 0} (store : Ghosts S) (only_now : NowOnly store) (sourc
       (λ told. refusal_of_early (source_meaning source f) (target_facts target t) mode now files (OnlyReads store old new) (reading told) (has told) e (early told))
       (λ told absent. absurd (there told absent))
       (λ told path foreign. foreign_of_early (source_meaning source f) (target_facts target t) mode now files (OnlyReads store old new) (reading told) (has told) (one_path (source.kind f) files) path foreign e (early told))
+      (λ told which number is. inl (subst (λ (s : Status). IsEarly (source_meaning source f) (target_facts target t) files s) is (early told)).1)
 
   -- what is read over a target that is gone on from isn't read over a foreign one
   no_read_fault : (files : Files) (path : List ℕ) → target.is_foreign t (source.kind f) files path → (e : SourceError) → IsReadFault (source_meaning source f) (target_facts target t) mode files e → ⊥
   no_read_fault files path foreign e fault = not_foreign store only_now source f target t laws mode now files path fault.1.0 foreign fault.1.1 fault.1.2.0
+
+  -- planning passes no number of the target
+  no_plan_limit : (files : Files) (which : LimitKind) (number : ℕ) (e : Status) → e ≡ status.Limit (side.Target (target.kind t)) which number → IsPlanRefusal (source_meaning source f) (target_facts target t) mode files e → ⊥
+  no_plan_limit files which number e is (inl foreign) = no_foreign_limit (target.kind t) foreign.0 which number (sym foreign.1 ∙ is)
+  no_plan_limit files which number e is (inr fault) = no_source_limit (target.kind t) which number fault.0 (sym fault.1 ∙ is)
 
   module _ (old mid : S) (reading : store.tells → OnlyReads store old mid) (A B : Type 0) (cause : FailsBy store old mid A) (quiet : IsUncontestedBy store old mid B) (there : store.tells → ¬ source.is_absent f (store.disk old).files) where
     abbrev before : Files
@@ -116,6 +137,7 @@ module _ {S F T K : Type 0} (store : Ghosts S) (only_now : NowOnly store) (sourc
         (λ told. refusal_of_plan (source_meaning source f) (target_facts target t) mode now before (OnlyReads store old new) (all told) (has told) e (here told))
         (λ told absent. absurd (there told absent))
         (λ told path foreign. foreign_of_plan (source_meaning source f) (target_facts target t) mode now before (OnlyReads store old new) (all told) (one_path (source.kind f) before) path foreign (no_read_fault before path foreign) e (here told))
+        (λ told which number is. absurd (no_plan_limit before which number e is (here told)))
 
     -- reading the source was refused
     pub read_refused : {X : Type 0} → (store.tells → HasHead (source_meaning source f) before) → (new : S) (e : SourceError) → (store.tells → OnlyReads store mid new) → FailsBy store mid new (IsErrOf {T = X} (Err e) source_error.StoreFault) → IsUncontestedBy store mid new ⊥

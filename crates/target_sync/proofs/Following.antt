@@ -10,7 +10,7 @@ use Rattle.table_history.specs.declared.limit.LimitKind.{LimitKind}
 use Rattle.target_core.specs.Folders.{folder_of}
 use Rattle.target_core.specs.Views.{View}
 use Rattle.target_core.proofs.Apart.{folders_apart}
-use Rattle.target_sync.specs.Answered.{Answer, CanSync, IsAbsent, IsCaused, IsContest, IsReady, IsRefusal, IsReported, IsStatus, IsSync, Leaves, StandsAtHead, StopsSo}
+use Rattle.target_sync.specs.Answered.{Answer, CanSync, IsAbsent, IsCaused, IsContest, IsOverAtFirst, IsReady, IsRefusal, IsReported, IsStatus, IsSync, Leaves, StandsAtHead, StopsSo}
 use Rattle.target_sync.specs.Dues.{origin_of}
 use Rattle.target_sync.specs.Others.{ChangesTargets, CountsContest, IsApart, IsIdle, IsOutsideBoth}
 use Rattle.target_sync.specs.Sources.{SourceMeaning}
@@ -126,9 +126,10 @@ module _ {S : Type 0} (store : Ghosts S) (source : SourceMeaning) (target : Targ
         settled = subst (λ (d : Disk). target.files.settled d) (sym (reading told).disk) ready.settled;
       }
 
-      limited_old : store.tells → (start : View) (which : LimitKind) (number : ℕ) → IsIdle store other mid new ⊎ IsLimited store source target.files (λ files partition origin. target.passes files partition origin now) (Leaves target other now) mode start (store.disk mid).files new which number
-          → IsIdle store other old new ⊎ IsLimited store source target.files (λ files partition origin. target.passes files partition origin now) (Leaves target other now) mode start (store.disk old).files new which number
-      limited_old told start which number (inl idle) = inl (idle_behind store old mid new reading other told idle)
+      limited_old : store.tells → (start : View) (which : LimitKind) (number : ℕ)
+          → (IsIdle store other mid new × IsOverAtFirst source target mode now (store.disk mid).files which number) ⊎ IsLimited store source target.files (λ files partition origin. target.passes files partition origin now) (Leaves target other now) mode start (store.disk mid).files new which number
+          → (IsIdle store other old new × IsOverAtFirst source target mode now (store.disk old).files which number) ⊎ IsLimited store source target.files (λ files partition origin. target.passes files partition origin now) (Leaves target other now) mode start (store.disk old).files new which number
+      limited_old told start which number (inl idle) = inl (idle_behind store old mid new reading other told idle.0, subst (λ (d : Disk). IsOverAtFirst source target mode now d.files which number) (reading told).disk idle.1)
       limited_old told start which number (inr at) = inr (subst (λ (d : Disk). IsLimited store source target.files (λ files partition origin. target.passes files partition origin now) (Leaves target other now) mode start d.files new which number) (reading told).disk at)
 
       stopped_old : store.tells → (start : View) (given : Answer) → StopsSo store source target other mode now start mid new given → StopsSo store source target other mode now start old new given

@@ -18,7 +18,7 @@ use Rattle.target_core.specs.Views.{Origin, Standing, View, standing_at}
 use Rattle.target_core.specs.declared.target.Target as targets
 use Rattle.target_core.specs.declared.target.TargetError.{TargetError}
 use Rattle.target_core.specs.declared.target.TargetError.TheVariants as target_error
-use Rattle.target_sync.specs.Answered.{Answer, CameBefore, CanSync, IsAbsence, IsAbsent, IsCaused, IsPassed, IsReadFault, IsRefusal, IsSourceFault, IsStatus, IsUnfit, StandsAtHead}
+use Rattle.target_sync.specs.Answered.{Answer, CameBefore, CanSync, IsAbsence, IsAbsent, IsCaused, IsOverAtFirst, IsPassed, IsPassedAtFirst, IsReadFault, IsRefusal, IsSourceFault, IsStatus, IsUnfit, StandsAtHead}
 use Rattle.target_sync.specs.Dues.{AreSinceMark, Due, IsIdBehind, IsInFull, IsMarked, IsSinceFault, IsWhole, TakesCommits, origin_of}
 use Rattle.target_sync.specs.Plans.{IsDuePlan}
 use Rattle.target_sync.specs.Sources.{HasHead, SourceMeaning}
@@ -240,6 +240,20 @@ module _ (source : SourceMeaning) (laws : SourceLaws source) (faults : FaultLaws
         own.reads a b is.0 same is.1,
         (is.2.0, (due_own source laws a b source_same mode is.0 due, (passed.0, passed.1, own.passes a b due.partition (origin_of due) now (take (passed.0 + 1) due.commits) which number same passed.2))),
       )
+
+  passed_first_own : (which : LimitKind) (number : ℕ) → IsPassedAtFirst source target mode now a which number → IsPassedAtFirst source target mode now b which number
+  unfolding due_own
+  passed_first_own which number is =
+      let due = is.2.1.0 in (
+        is.0,
+        own.reads a b is.0 same is.1,
+        (is.2.0, (due_own source laws a b source_same mode is.0 due, (is.2.1.1.0, own.passes a b due.partition (origin_of due) now (take 1 due.commits) which number same is.2.1.1.1))),
+      )
+
+  pub over_own : (which : LimitKind) (number : ℕ) → IsOverAtFirst source target mode now a which number → IsOverAtFirst source target mode now b which number
+  over_own which number (inl crowded) = inl (own.crowded a b source.kind which number same crowded)
+  over_own which number (inr (inl unfit)) = inr (inl (unfit_own (target_error.Limit which number) unfit))
+  over_own which number (inr (inr passed)) = inr (inr (passed_first_own which number passed))
 
   limit_own : (Idle : Type 0) (which : LimitKind) (number : ℕ)
       → (Idle × HasHead source a × target.is_crowded source.kind a which number) ⊎ ((Idle × IsUnfit source target mode a (target_error.Limit which number)) ⊎ IsPassed source target mode now a which number)

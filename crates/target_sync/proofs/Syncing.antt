@@ -21,8 +21,8 @@ use Rattle.target_core.specs.Written.{StayAfter}
 use Rattle.target_core.specs.declared.target.Target as targets
 use Rattle.target_core.specs.declared.target.TargetError.{TargetError}
 use Rattle.target_core.specs.declared.target.TargetError.TheVariants as target_error
-use Rattle.target_sync.specs.Answered.{CameBefore, CanSync, IsAbsence, IsCaused, IsComplete, IsContest, IsDone, IsFew, IsLate, IsOfSync, IsOneInFull, IsPassed, IsReady, IsRefusal, IsReport, IsReported, IsSync, IsUndisturbed, IsUnfit, Leaves, StandsAtHead, StopsSo}
-use Rattle.target_sync.specs.Applied.{Applies, IsContestedAt, IsLimitedAt, IsStoppedAt, PassesIn, answer_of_target, position_at, status_of_target}
+use Rattle.target_sync.specs.Answered.{CameBefore, CanSync, IsAbsence, IsCaused, IsComplete, IsContest, IsDone, IsFew, IsLate, IsOfSync, IsOneInFull, IsOverAtFirst, IsPassed, IsPassedAtFirst, IsReady, IsRefusal, IsReport, IsReported, IsSync, IsUndisturbed, IsUnfit, Leaves, StandsAtHead, StopsSo}
+use Rattle.target_sync.specs.Applied.{Applies, IsContestedAt, IsLimitedAt, IsStoppedAt, PassesAtFirst, PassesIn, answer_of_target, position_at, status_of_target}
 use Rattle.target_sync.specs.Dues.{AreSinceMark, Due, IsIdBehind, IsInFull, origin_of}
 use Rattle.target_sync.specs.Sources.{source_meaning}
 use Rattle.target_sync.specs.Synced.{IsContested, IsLimited, Synced}
@@ -112,8 +112,9 @@ module _ {S F T K : Type 0} (store : Ghosts S) (only_now : NowOnly store) (sourc
       → (store.tells → IsRefusal (OnlyReads store old new) (source_meaning source f) (target_facts target t) mode now (store.disk old).files e)
       → (store.tells → source.is_absent f (store.disk old).files → IsAbsence (source_meaning source f) (store.disk old).files e)
       → (store.tells → (path : List ℕ) → target.is_foreign t (source.kind f) (store.disk old).files path → (e ≡ status.Foreign (target.kind t) path) ⊎ CameBefore (source_meaning source f) (target_facts target t) (store.disk old).files e)
+      → (store.tells → (which : LimitKind) (number : ℕ) → e ≡ status.Limit (side.Target (target.kind t)) which number → IsOverAtFirst (source_meaning source f) (target_facts target t) mode now (store.disk old).files which number)
       → IsSync store (source_meaning source f) (target_facts target t) None mode now old new (Some (Err e))
-  sync_idle old new e few reading cause contest refused absent foreign =
+  sync_idle old new e few reading cause contest refused absent foreign over =
       let folder = folder_of (target.kind t) in
       let alone : store.tells → ChangesOnlyIn store folder old new = λ told. alone_by_reading store (IsOutside folder) old new (reading told) in
       record {
@@ -124,7 +125,7 @@ module _ {S F T K : Type 0} (store : Ghosts S) (only_now : NowOnly store) (sourc
         in_full = tt;
         still = λ told sync done start reads goes at. absurd done;
         contested = λ told is start ready. absurd (contest.never (some_err e (status.Contested (target.kind t)) is));
-        limited = λ told which number is start ready. inl (reading told);
+        limited = λ told which number is start ready. inl (reading told, over told which number (some_err e (status.Limit (side.Target (target.kind t)) which number) is));
         stopped = λ told start ready. inl (reading told);
         few = few;
         caused = refused;
@@ -183,6 +184,10 @@ module _ {S F T K : Type 0} (store : Ghosts S) (only_now : NowOnly store) (sourc
       is_passed : (which : LimitKind) (number : ℕ) → PassesIn (target.passes t kept before origin now) commits which number → IsPassed (source_meaning source f) (target_facts target t) mode now before which number
       unfolding due due_here
       is_passed which number passed = (v, kept_reads told, (goes_on, (due, (passed.0, passed.1, (kept, is_kept told, passed.2)))))
+
+      is_passed_first : (which : LimitKind) (number : ℕ) → PassesAtFirst (target.passes t kept before origin now) commits which number → IsPassedAtFirst (source_meaning source f) (target_facts target t) mode now before which number
+      unfolding due due_here
+      is_passed_first which number passed = (v, kept_reads told, (goes_on, (due, (passed.0, (kept, is_kept told, passed.1)))))
 
       disk_same : store.disk mid ≡ store.disk old
       disk_same = (reading told).disk
@@ -269,9 +274,17 @@ module _ {S F T K : Type 0} (store : Ghosts S) (only_now : NowOnly store) (sourc
       passes_at files names at = (target_facts target t).passes files names at now
 
       limited_is : (start : View) → IsReady (source_meaning source f) (target_facts target t) before start (target.settled t (store.disk old)) → (which : LimitKind) (number : ℕ)
-          → OnlyReads store mid new ⊎ IsLimitedAt store (meaning target t) (target.passes t kept (store.disk mid).files origin now) (HaveWritten target t kept (store.disk mid).files origin now) origin v partition commits mid new which number
-          → OnlyReads store old new ⊎ IsLimited store (source_meaning source f) (meaning target t) passes_at (Leaves (target_facts target t) None now) mode start before new which number
-      limited_is start ready which number (inl idle) = inl (reading_further store old mid new reading (λ t. idle) told)
+          → (OnlyReads store mid new × (target.unfit t kept partition commits (target_error.Limit which number) ⊎ PassesAtFirst (target.passes t kept (store.disk mid).files origin now) commits which number))
+          ⊎ IsLimitedAt store (meaning target t) (target.passes t kept (store.disk mid).files origin now) (HaveWritten target t kept (store.disk mid).files origin now) origin v partition commits mid new which number
+          → (OnlyReads store old new × IsOverAtFirst (source_meaning source f) (target_facts target t) mode now before which number)
+          ⊎ IsLimited store (source_meaning source f) (meaning target t) passes_at (Leaves (target_facts target t) None now) mode start before new which number
+      limited_is start ready which number (inl idle) = inl (
+        reading_further store old mid new reading (λ t. idle.0) told,
+        ⊎_elim (λ (unfit : target.unfit t kept partition commits (target_error.Limit which number)). inr (inl (is_unfit (target_error.Limit which number) unfit)))
+            (λ (passed : PassesAtFirst (target.passes t kept (store.disk mid).files origin now) commits which number).
+            inr (inr (is_passed_first which number (subst (λ (d : Disk). PassesAtFirst (target.passes t kept d.files origin now) commits which number) disk_same passed))))
+            idle.1,
+      )
       limited_is start ready which number (inr at) =
           let passed : target.passes t kept before origin now (take (at.place + 1) commits) which number = subst (λ (d : Disk). target.passes t kept d.files origin now (take (at.place + 1) commits) which number) disk_same at.passed in
           let gained = subst (λ (d : Disk). Gained (meaning target t) origin v d.files commits at.place (store.disk new).files) disk_same at.gained in

@@ -18,7 +18,7 @@ use Rattle.target_core.specs.Gained.{Gained}
 use Rattle.target_core.specs.Views.{IsAdvancedAll, IsUnpublished, Origin, View}
 use Rattle.target_core.specs.declared.target.TargetError.{TargetError}
 use Rattle.target_core.specs.declared.target.TargetError.TheVariants as target_error
-use Rattle.target_sync.specs.Applied.{PassesIn, status_of_source}
+use Rattle.target_sync.specs.Applied.{PassesAtFirst, PassesIn, status_of_source}
 use Rattle.target_sync.specs.Dues.{Due, IsMarked, IsSinceFault, IsWhole, TakesCommits, origin_of}
 use Rattle.target_sync.specs.Others.{ChangesTargets, CountsContest, HasWritten, IsApart, IsIdle}
 use Rattle.target_sync.specs.Sources.{HasHead, SourceMeaning}
@@ -58,6 +58,17 @@ IsUnfit source target mode files e = StandsAt target files (λ start. GoesOn sou
 abbrev pub IsPassed : SourceMeaning → TargetFacts → Mode → ℕ → Files → LimitKind → ℕ → Type 0
 IsPassed source target mode now files which number = StandsAt target files (λ start. GoesOn source.kind start
     × ((due : Due source mode files start) × PassesIn (target.passes files due.partition (origin_of due) now) due.commits which number))
+
+-- the first of the commits that are due passes this number
+abbrev pub IsPassedAtFirst : SourceMeaning → TargetFacts → Mode → ℕ → Files → LimitKind → ℕ → Type 0
+IsPassedAtFirst source target mode now files which number = StandsAt target files (λ start. GoesOn source.kind start
+    × ((due : Due source mode files start) × PassesAtFirst (target.passes files due.partition (origin_of due) now) due.commits which number))
+
+-- This number is passed before anything is published: by what inspecting the target lists or reads, by the list of the commits that are due, or by the
+-- first of them.
+abbrev pub IsOverAtFirst : SourceMeaning → TargetFacts → Mode → ℕ → Files → LimitKind → ℕ → Type 0
+IsOverAtFirst source target mode now files which number =
+    target.is_crowded source.kind files which number ⊎ (IsUnfit source target mode files (target_error.Limit which number) ⊎ IsPassedAtFirst source target mode now files which number)
 
 -- Why a sync is refused. Want of memory and a fault of the store have no cause in the files, nor has a contest. `Idle` says that no file of the target
 -- changed.
@@ -288,9 +299,10 @@ pub record IsSync {S : Type 0} (store : Ghosts S) (source : SourceMeaning) (targ
   -- Where another writer was in the way, the commits published before stay, and nothing is published behind that writer's.
   pub contested : store.tells → answer ≡ Some (Err (status.Contested target.files.kind)) → (start : View) → IsReady source target (store.disk old).files start (target.files.settled (store.disk old))
       → IsContested store source target.files (Leaves target other now) mode start (store.disk old).files old new
-  -- Where a number is passed, the target's files stay, or just the commits before the one that passes it are published.
+  -- Where a number is passed, the target's files stay where that is before anything is published, and else just the commits before the one that passes it
+  -- are published.
   pub limited : store.tells → (which : LimitKind) (number : ℕ) → answer ≡ Some (Err (status.Limit (side.Target target.files.kind) which number)) → (start : View) → IsReady source target (store.disk old).files start (target.files.settled (store.disk old))
-      → IsIdle store other old new ⊎ IsLimited store source target.files (λ files partition origin. target.passes files partition origin now) (Leaves target other now) mode start (store.disk old).files new which number
+      → (IsIdle store other old new × IsOverAtFirst source target mode now (store.disk old).files which number) ⊎ IsLimited store source target.files (λ files partition origin. target.passes files partition origin now) (Leaves target other now) mode start (store.disk old).files new which number
   -- Whatever refuses it, the commits published before left just what they write, and what they reach stays byte for byte.
   pub stopped : store.tells → (start : View) → IsReady source target (store.disk old).files start (target.files.settled (store.disk old)) → StopsSo store source target other mode now start old new answer
   -- Each refusal is one of a sync, and a target's names this target.

@@ -116,6 +116,10 @@ pub record IsStoppedAt {S : Type 0} (store : Ghosts S) (target : Meaning) (writt
 abbrev pub PassesIn : (List Commit → LimitKind → ℕ → Type 0) → List Commit → LimitKind → ℕ → Type 0
 PassesIn passes commits which number = (place : ℕ) × (place < length commits) × passes (take (place + 1) commits) which number
 
+-- The first commit of the list passes the number.
+abbrev pub PassesAtFirst : (List Commit → LimitKind → ℕ → Type 0) → List Commit → LimitKind → ℕ → Type 0
+PassesAtFirst passes commits which number = (0 < length commits) × passes (take 1 commits) which number
+
 -- The commits don't fit, and no file changed; or publishing one of them was refused.
 abbrev pub IsApplyRefusal : Type 0 → (TargetError → Type 0) → (LimitKind → ℕ → Type 0) → TargetError → Type 0
 IsApplyRefusal Idle unfit passes Memory = Unit {0}
@@ -142,6 +146,7 @@ pub record Applies {S : Type 0} (store : Ghosts S) (target : Meaning) (unfit : T
   pub refused : store.tells → IfErr answer (IsApplyRefusal (OnlyReads store old new) unfit (PassesIn passes commits))
   pub stopped : store.tells → Stands → IfErr answer (λ e. OnlyReads store old new ⊎ IsStoppedAt store target written (e ≡ Contested → ⊥) origin start commits old new)
   pub contested : store.tells → Stands → IsErrOf answer Contested → IsContestedAt store target written origin start partition commits old new
-  pub limited : store.tells → Stands → (which : LimitKind) (number : ℕ) → IsErrOf answer (Limit which number) → OnlyReads store old new ⊎ IsLimitedAt store target passes written origin start partition commits old new which number
+  pub limited : store.tells → Stands → (which : LimitKind) (number : ℕ) → IsErrOf answer (Limit which number)
+      → (OnlyReads store old new × (unfit (Limit which number) ⊎ PassesAtFirst passes commits which number)) ⊎ IsLimitedAt store target passes written origin start partition commits old new which number
   pub fault : FailsBy store old new (IsErrOf answer StoreFault)
   pub contest : IsContestedBy store old new (IsErrOf answer Contested)
