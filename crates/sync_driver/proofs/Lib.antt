@@ -1,5 +1,6 @@
 pub mod CheckEnds
 pub mod Checks
+pub mod CommandEnds
 pub mod Commanding
 pub mod Commands
 pub mod Differences
