@@ -4,3 +4,5 @@ pub mod Commits
 pub mod Syncs
 pub mod Tables
 pub mod Legal
+pub mod Texts
+pub mod Bounds

@@ -1,5 +1,5 @@
 -- The paths of the drill's files are paths of a table, and no two files have one.
-use Rattle.std.proofs.Common.{◌≡◌, ◌≢◌, ⊎_elim, ℕ, ◌+◌, ◌%◌, ◌<◌, ◌≤◌, ◌^◌, Bool, true, false, get_or, drop, List, [], ◌∷◌, ◌++◌, length, All, refl, sym, ap, subst, ◌∙◌, arith}
+use Rattle.std.proofs.Common.{◌≡◌, ◌≢◌, ⊎_elim, ℕ, ◌+◌, ◌-◌, ◌%◌, ◌<◌, ◌≤◌, ◌^◌, Bool, true, false, get_or, drop, take, List, [], ◌∷◌, ◌++◌, length, All, refl, sym, ap, subst, ◌∙◌, arith}
 use Rattle.std.specs.Prelude.{◌==◌, ◌&&◌, not, nat_le, nat_lt, codes}
 use Rattle.std.specs.Fmt.{decimal}
 use Rattle.std.specs.List.{AllByRecursion, list_all}
@@ -12,6 +12,7 @@ use Rattle.std.proofs.lemmas.List.Elements.{All-append, All-cons, All-get_or, Al
 use Rattle.std.proofs.lemmas.List.Folds.{list_all-append}
 use Rattle.std.proofs.lemmas.List.Splits.{slice_split_at, slice_split_none}
 use Rattle.std.proofs.lemmas.Str.{IsUtf8-from_ascii}
+use Rattle.partition_map.specs.Folder.{folder_components}
 use Rattle.table_history.specs.Path.{IsPath, IsSegment, is_slash}
 use Rattle.conformance.specs.Drill.{folder_at, path_at}
 
@@ -87,6 +88,13 @@ module _ (first second : List ℕ) (first_plain : list_all is_plain first ≡ tr
     short = let both = length-append first (47 ∷ second) in omega (arith, both, short);
   }
 
+  -- the only part of its folder
+  one_folder : folder_components (first ++ 47 ∷ second) ≡ first ∷ []
+  one_folder =
+      ap (λ (parts : List (List ℕ)). take (length parts - 1) parts)
+      (slice_split_at is_slash first 47 second (All-weaker IsPlain (λ b. is_slash b ≡ false) (λ b p. p.whole) first all_first) refl
+      ∙ ap (λ (l : List (List ℕ)). first ∷ l) (slice_split_none is_slash second (All-weaker IsPlain (λ b. is_slash b ≡ false) (λ b p. p.whole) second all_second)))
+
 -- ---- the path of a file
 
 abbrev name_at : ℕ → ℕ → List ℕ
@@ -123,6 +131,13 @@ module _ (number i j : ℕ) where
         (segment 100 (61 ∷ (48 + folder_at number i j) ∷ []) (λ is. omega (arith, is)))
         (segment 102 (45 ∷ name_at i j) (λ is. omega (arith, is)))
         (omega (arith, small)))
+
+    pub folder_is : folder_components (path_at number i j) ≡ (codes "d=" ++ ((48 + folder_at number i j) ∷ [])) ∷ []
+    folder_is =
+        ap folder_components path_form
+        ∙ one_folder (codes "d=" ++ ((48 + folder_at number i j) ∷ [])) (codes "f-" ++ name_at i j)
+        (both_plain (codes "d=") ((48 + folder_at number i j) ∷ []) refl (plain_one (folder_at number i j) digit))
+        second_plain
 
 -- ---- one file for each path
 

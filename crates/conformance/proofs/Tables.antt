@@ -45,13 +45,13 @@ use Rattle.std.proofs.lemmas.Map.Keys.{IsDistinct-cons}
 abbrev pub row_at : ℕ → ℕ → ℕ → Row
 row_at number i j = record { path = path_at number i j; values = value.Int (pos (folder_at number i j)) ∷ []; count = count_at number j; size = 1000 + count_at number j }
 
-abbrev stays : ℕ → ℕ → Row → Bool
+abbrev pub stays : ℕ → ℕ → Row → Bool
 stays number i row = not (acts_on row.path (drill_files number i))
 
-abbrev kept_rows : ℕ → ℕ → List Row → List Row
+abbrev pub kept_rows : ℕ → ℕ → List Row → List Row
 kept_rows number i before = filter (stays number i) before
 
-abbrev new_rows : ℕ → ℕ → List Row
+abbrev pub new_rows : ℕ → ℕ → List Row
 new_rows number i = map (row_at number i) (numbers_under file_count)
 
 -- the rows after so many commits
@@ -75,13 +75,13 @@ module _ (g : ℕ) (small : g < 10) where
   is_number : IsDecimal (decimal g) (pos g)
   is_number = decimal_written (pos g) (omega (arith, small))
 
-  fits : FitsSigned w32 (pos g)
+  pub fits : FitsSigned w32 (pos g)
   fits = record { sfits = omega (arith, small) }
 
-  abbrev digit_of : List ℕ
+  abbrev pub digit_of : List ℕ
   digit_of = (48 + g) ∷ []
 
-  digit_is : IsDecimal digit_of (pos g)
+  pub digit_is : IsDecimal digit_of (pos g)
   digit_is = subst (λ t. IsDecimal t (pos g)) (decimal_digit g small) is_number
 
   stands : DeltaStands kind.Int (Some (decimal g)) (value.Int (pos g))
@@ -121,7 +121,7 @@ path_acts (x ∷ files) f there =
     (λ later. Contains-tail (file_path x) (file_paths files) (file_path f) (path_acts files f later))
     (Contains-cases x files f there)
 
-row_of_path : (rows : List Row) (path : List ℕ) → Contains (paths_of rows) path → (row : Row) × Contains rows row × (row.path ≡ path)
+pub row_of_path : (rows : List Row) (path : List ℕ) → Contains (paths_of rows) path → (row : Row) × Contains rows row × (row.path ≡ path)
 row_of_path [] path there = absurd (Contains-none path there)
 row_of_path (r ∷ rows) path there =
     ⊎_elim
@@ -137,7 +137,7 @@ module _ (number i : ℕ) where
   added_there j lt = Contains-append_left (map (added_file number i) (numbers_under file_count)) (removed_files number i) (added_file number i j) (in_map (added_file number i) 50 j lt)
 
   -- an action that isn't a removal is an add of the commit
-  added_or_not : (f : FileAction) (P : FileAction → Type 0) → ((k j : ℕ) → P (removed_file number k j) → ⊥) → Contains files f → P f → (j : ℕ) × (j < 50) × (added_file number i j ≡ f)
+  pub added_or_not : (f : FileAction) (P : FileAction → Type 0) → ((k j : ℕ) → P (removed_file number k j) → ⊥) → Contains files f → P f → (j : ℕ) × (j < 50) × (added_file number i j ≡ f)
   added_or_not f P none there holds =
       ⊎_elim
       (λ (added : Contains (map (added_file number i) (numbers_under file_count)) f). from_map (added_file number i) 50 f added)
@@ -299,7 +299,7 @@ is_later i = grind (arith, nat_tests)
 no_protocol : (number i : ℕ) → (drill_commit number (suc i)).protocol ≡ None
 no_protocol number i = ap (λ (b : Bool). if b then Some drill_protocol else None) (is_later i)
 
-no_meta : (number i : ℕ) → (drill_commit number (suc i)).meta ≡ None
+pub no_meta : (number i : ℕ) → (drill_commit number (suc i)).meta ≡ None
 no_meta number i = ap (λ (b : Bool). if b then Some drill_meta else None) (is_later i)
 
 later_plain : (number i : ℕ) → IsPlain number (suc i) (Some (table_after number (suc i)))

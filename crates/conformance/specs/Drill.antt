@@ -1,5 +1,5 @@
 -- The commits of the drill of a number. The source is a Delta table with two columns, a long `id` and an int `d`, by which it is partitioned.
-use Rattle.std.specs.Prelude.{◌≡◌, ℕ, zero, suc, ◌+◌, ◌-◌, ◌%◌, ◌==◌, nat_le, pos, Bool, true, ◌&&◌, List, [], ◌∷◌, ◌++◌, map, Option, Some, None, Ok, codes, if◌then◌else◌}
+use Rattle.std.specs.Prelude.{◌≡◌, ℕ, zero, suc, ◌+◌, ◌-◌, ◌%◌, ◌<◌, ◌==◌, nat_le, pos, Bool, true, ◌&&◌, List, [], ◌∷◌, ◌++◌, map, Option, Some, None, Ok, codes, if◌then◌else◌}
 use Rattle.std.specs.Fmt.{decimal}
 use Rattle.table_history.specs.TypeTree.{ColumnTrees, column, no_columns, int, long}
 use Rattle.schema_delta.specs.Delta.{delta_schema_of}
@@ -92,3 +92,8 @@ SpellsDrill = delta_schema_of (delta_text drill_schema) ≡ Ok drill_schema
 -- the bytes of commit i are it
 abbrev pub SaysDrill : ℕ → ℕ → Type 0
 SaysDrill number i = IsReadableCommit (drill_bytes number i) (drill_commit number i)
+
+-- The text of the schema spells it, and the bytes of each commit are it.
+pub record AreSaid (number : ℕ) : Type 0 where
+  pub spells : SpellsDrill
+  pub says : (i : ℕ) → i < commit_count → SaysDrill number i

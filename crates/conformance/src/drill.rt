@@ -1,7 +1,7 @@
 //! The events of the drill.
 ghost use Rattle.std.specs.Prelude.{◌≡◌, ◌<◌, ◌≤◌, ◌+◌, ◌++◌, ◌∷◌, [], IfOk, OnOk};
 ghost use Rattle.conformance.specs.Events.{commit_events, drill_events, is_stopped, is_sync_point, stopped_sync, sync_events, sync_points, syncs_behind, target_sync};
-ghost use Rattle.conformance.specs.Drill.{SaysDrill, SpellsDrill, commit_count};
+ghost use Rattle.conformance.specs.Drill.{AreSaid, SaysDrill, SpellsDrill, commit_count};
 ghost use Rattle.conformance.specs.Histories.{AreLegal};
 
 use crate::commit::bytes_at;
@@ -154,9 +154,11 @@ fn push_commit(
 
 /// The events of the drill of a number: 200 commits of a Delta table, and at some of them a sync of
 /// Hudi and one of Iceberg; where there are stops, some syncs are stopped, crash and are done again.
+/// What is read of a commit's bytes is the commit. Want of memory alone is refused.
 pub fn events(alloc: Global, number: u64, stops: bool) -> Result<Items<Event>, AllocError>
     ensures events { IfOk result (λ events. events ≡ drill_events number stops) }
     ensures legal { IfOk result AreLegal }
+    ensures said { OnOk result (AreSaid number) }
 {
     let mut events = Vec::new(alloc);
     let mut sync = 0;

@@ -39,3 +39,11 @@ returns-clause-legal c =
     let end : c.loop-commit.commit ≡ 200 = omega (arith, bound, past) in
     subst AreLegal (sym (c.from_vec.ensures ∙ so_far.events ∙ ap (λ (n : ℕ). flat_map (commit_events c.args.number c.args.stops) (numbers_under n)) end))
     (legal c.args.number c.args.stops (so_far.spells (omega (arith, end))) (λ i lt. so_far.says i (omega (arith, lt, end))))
+
+pub returns-clause-said : goal.returns-clause-said
+returns-clause-said c =
+    let so_far = c.loop-commit.invariant in
+    let bound = so_far.bound in
+    let past = c.loop-commit-test.false in
+    let end : c.loop-commit.commit ≡ 200 = omega (arith, bound, past) in
+    record { spells = so_far.spells (omega (arith, end)); says = λ i lt. so_far.says i (omega (arith, lt, end)) }
