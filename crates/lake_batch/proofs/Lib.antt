@@ -2,7 +2,11 @@ pub mod BatchFolders
 pub mod BatchLaws
 pub mod BatchReads
 pub mod FenceLaws
+pub mod FileLaws
 pub mod PartAnswers
 pub mod PartCalls
 pub mod PartLaws
 pub mod PartNames
+pub mod Parts
+pub mod Runs
+pub mod TopLaws

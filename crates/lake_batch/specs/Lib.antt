@@ -4,3 +4,5 @@ pub mod Part
 pub mod PartAt
 pub mod PartImages
 pub mod Reading
+pub mod Tables
+pub mod Whole

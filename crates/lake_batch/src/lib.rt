@@ -3,8 +3,14 @@
 
 mod batch;
 mod calls;
+mod command;
 mod fence;
+mod file;
+mod lines;
 mod part;
+mod tables;
+mod top;
 
 pub use batch::{Batch, BatchError, Item, Why, read_batch};
 pub use part::Under;
+pub use top::{BatchStatus, run_all};
