@@ -11,7 +11,7 @@ _lakebridge() {
         compopt -o filenames 2>/dev/null
         mapfile -t COMPREPLY < <(compgen -d -- "$word")
     elif [ "$COMP_CWORD" = 2 ]; then
-        mapfile -t COMPREPLY < <(compgen -W "sync full check show sweep compact drill" -- "$word")
+        mapfile -t COMPREPLY < <(compgen -W "sync full check show sweep compact drill batch" -- "$word")
     elif [ "$COMP_CWORD" -le "$most" ]; then
         for format in delta hudi iceberg; do
             case " ${COMP_WORDS[*]:3:COMP_CWORD-3} " in

@@ -30,6 +30,7 @@ complete -c lakebridge -n '__lakebridge_wants command' -a show -d 'print the tab
 complete -c lakebridge -n '__lakebridge_wants command' -a sweep -d 'remove what interrupted runs left of a target'
 complete -c lakebridge -n '__lakebridge_wants command' -a compact -d 'write the log compactions of a Delta table'
 complete -c lakebridge -n '__lakebridge_wants command' -a drill -d 'play a made-up table in memory'
+complete -c lakebridge -n '__lakebridge_wants command' -a batch -d 'run a command for each table of a file'
 for format in delta hudi iceberg
     complete -c lakebridge -n "__lakebridge_wants $format" -a $format
 end

@@ -1,43 +1,53 @@
 //! The program: reads one lake table's metadata and writes the others' beside it.
 #![tactic(auto)]
 
+use lake_batch::{BatchStatus, run_all};
 use lake_store::Sink;
 use lake_system::{Access, FolderStore, HeldFolder, StdSink, SystemClock, lock_folder};
 use std::alloc::{AllocError, Global};
 use std::env::{self, Env};
 use std::io::ErrorKind;
 use std::process::ExitCode;
-use sync_driver::{Status, refuse_words, run};
+use sync_driver::{Status, refuse_words};
 
 fn main(rt: HostRuntime) -> ExitCode {
     ExitCode::from(run_words(&rt).number())
 }
 
-fn run_words(rt: &HostRuntime) -> Status {
+fn run_words(rt: &HostRuntime) -> BatchStatus {
     let alloc = rt.alloc();
     let mut out = StdSink::new(rt);
     let words = match words_after_name(rt) {
         Ok(words) => words,
-        Err(refusal) => return refuse(alloc, &mut out, refusal),
+        Err(refusal) => return BatchStatus::Run(refuse(alloc, &mut out, refusal)),
     };
     let Ok(folder) = place(alloc, &words) else {
-        return Status::Memory;
+        return BatchStatus::Run(Status::Memory);
     };
     run_over(rt, &words, folder, &mut out)
 }
 
 // Runs the words over the folder, locked for as long as they take. Where it can't be had, since another run holds it,
 // each call of the store fails.
-fn run_over(rt: &HostRuntime, words: &[String], folder: String, out: &mut impl Sink) -> Status {
+fn run_over(
+    rt: &HostRuntime,
+    words: &[String],
+    folder: String,
+    out: &mut impl Sink,
+) -> BatchStatus {
     let alloc = rt.alloc();
     let mut clock = SystemClock::new(rt);
     let access = access_of(words);
     match lock_folder(rt, folder.as_str(), access) {
         Ok(_lock) => {
-            let mut store = FolderStore::new(rt, alloc, folder, access);
-            run(alloc, words, &mut store, &mut clock, out)
+            let store = FolderStore::new(rt, alloc, folder, access);
+            let (_, status) = run_all(alloc, words, store, &mut clock, out);
+            status
         }
-        Err(_) => run(alloc, words, &mut HeldFolder::new(), &mut clock, out),
+        Err(_) => {
+            let (_, status) = run_all(alloc, words, HeldFolder::new(), &mut clock, out);
+            status
+        }
     }
 }
 
@@ -45,7 +55,7 @@ fn run_over(rt: &HostRuntime, words: &[String], folder: String, out: &mut impl S
 fn access_of(words: &[String]) -> Access {
     match words.get(1) {
         Some(word) => match word.as_str() {
-            "sync" | "full" | "sweep" | "compact" => Access::Writes,
+            "sync" | "full" | "sweep" | "compact" | "batch" => Access::Writes,
             _ => Access::Reads,
         },
         None => Access::Reads,
