@@ -41,9 +41,9 @@ pub record EndsBy {S O : Type 0} (store : Ghosts S) (sink : sinks.Ghosts O) (old
 
 stable : (a b : ℕ) → ¬ ¬ (a ≤ b) → a ≤ b
 stable a b maybe = elim (nat_le a b) as (λ t. nat_le a b ≡ t → a ≤ b) [
-    | true ↦ λ is. grind (arith, nat_tests, is)
-    | false ↦ λ is. absurd (maybe (λ le. grind (arith, nat_tests, le, is)))
-  ] refl
+  | true ↦ λ is. grind (arith, nat_tests, is)
+  | false ↦ λ is. absurd (maybe (λ le. grind (arith, nat_tests, le, is)))
+] refl
 
 three : {A B C D : Type 0} → A ⊎ B ⊎ C → (A → D) → (B → D) → (C → D) → D
 three (inl a) f g h = f a
