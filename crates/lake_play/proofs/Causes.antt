@@ -1,17 +1,20 @@
 -- The cause of each answer of a list of events.
-use Rattle.std.proofs.Common.{◌≡◌, ◌≢◌, ◌⊎◌, inl, inr, ⊎_elim, ℕ, zero, suc, ◌+◌, ◌-◌, ◌^◌, ◌≤◌, ◌<◌, Bool, true, false, List, [], ◌∷◌, ◌++◌, length, Some, None, Result, Ok, Err, refl, sym, ap, subst, ◌∙◌, arith}
+use Rattle.std.proofs.Common.{◌≡◌, ◌≢◌, ◌⊎◌, inl, inr, ⊎_elim, ℕ, zero, suc, ◌+◌, ◌-◌, ◌^◌, ◌≤◌, ◌<◌, Bool, true, false, List, [], ◌∷◌, ◌++◌, drop, length, Contains, Option, Some, None, Result, Ok, Err, refl, sym, ap, subst, ◌∙◌, arith}
+use Rattle.std.specs.Prelude.{slice_get, unwrap_or}
 use Rattle.std.specs.Fmt.{decimal}
 use Rattle.std.proofs.lemmas.Bool.{cases_lt}
+use Rattle.std.proofs.lemmas.List.Elements.{Contains-append_right}
 use Rattle.lake_store.specs.Disk.{Files}
 use Rattle.lake_store.specs.Fuse.{CanFail, FuseCanBeContested, FuseCanFail, contests_of, fuse_disk, with_stop}
 use Rattle.lake_store.specs.declared.fuse.FuseStore.{FuseStore}
 use Rattle.lake_store.specs.declared.fuse.Script.{Script}
 use Rattle.conformance.specs.Histories.{IsHistoryFrom}
-use Rattle.source_core.specs.Histories.{IsAt, IsLike, ShowsEntry, ShowsTable}
+use Rattle.source_core.specs.Histories.{IsAt, IsLast, IsLike, LeadAlong, SameTable, ShowsEntry, ShowsTable}
 use Rattle.source_core.specs.declared.error.SourceError.{SourceError}
 use Rattle.source_core.specs.declared.error.SourceError.TheVariants as source
-use Rattle.source_delta.specs.Heads.{IsAbsent}
+use Rattle.source_delta.specs.Heads.{IsAbsent, IsTableAtHead}
 use Rattle.source_delta.specs.Histories.{HoldsHistory}
+use Rattle.source_delta.specs.HistoryLemmas as source_history
 use Rattle.source_delta.specs.Since.{ShowsFromPosition}
 use Rattle.table_history.specs.History.{History}
 use Rattle.table_history.specs.TypeTree.{ColumnTrees}
@@ -19,7 +22,9 @@ use Rattle.table_history.specs.declared.feature.Feature.{Feature}
 use Rattle.table_history.specs.declared.kind.Kind.{Kind}
 use Rattle.table_history.specs.declared.kind.Kind.TheVariants.{Delta}
 use Rattle.table_history.specs.declared.limit.LimitKind.{LimitKind}
+use Rattle.table_history.specs.declared.table.Commit.{Commit}
 use Rattle.table_history.specs.declared.table.Table.{Table}
+use Rattle.table_history.proofs.RowListLemmas.{Contains-cases, Contains-head, Contains-none, Contains-one, Contains-tail}
 use Rattle.target_core.specs.Views.{IsOfSource, IsPublished, IsUnpublished, SameView, Standing, View}
 use Rattle.target_core.specs.declared.target.TargetError.TheVariants as target_error
 use Rattle.target_hudi.specs.InspectLemmas as hudi_inspect
@@ -43,13 +48,13 @@ use Rattle.target_sync.specs.declared.status.Side.{Side}
 use Rattle.target_sync.specs.declared.status.Side.TheVariants as side
 use Rattle.target_sync.specs.declared.status.Status.{Status}
 use Rattle.target_sync.specs.declared.status.Status.TheVariants as status
-use Rattle.lake_play.specs.Causes.{Before, IsCauseAt, IsOver, IsUnfitBetween, LeadFrom, PassesNumber}
+use Rattle.lake_play.specs.Causes.{Before, HasColumns, IsCauseAt, IsOver, IsUnfitBetween, LeadFrom, PassesNumber, StateSchemasOf}
 use Rattle.lake_play.specs.Formats.{from_delta, to_hudi, to_iceberg}
 use Rattle.lake_play.specs.Playing.{Brings, scripted, status_of}
 use Rattle.lake_play.specs.Scripted.{scripted_contests, scripted_store, some_of}
 use Rattle.lake_play.proofs.Faults.{IsPlayedFault, at_head_fault, from_position_fault, from_scratch_fault}
 use Rattle.lake_play.proofs.Histories.{entry_of, holds_history, is_history, not_absent, same_length}
-use Rattle.lake_play.proofs.Logs.{HoldsCommits}
+use Rattle.lake_play.proofs.Logs.{HoldsCommits, some_same}
 use Rattle.lake_play.proofs.Targets.{IsPlayed, at_front, shows_whole}
 
 -- ---- the laws of a target that are used
@@ -109,45 +114,17 @@ module _ (script : Script) (stopped : Bool) (old new : FuseStore) (may : MayFail
         inr (none_of new.script.failing.items none_now, omega (arith, same, before, count))) may.named;
   }
 
--- ---- one answer
+-- ---- views of the same files
 
-module _ (target : TargetFacts) (views : Views target) (mode : Mode) (now : ℕ) (old new : FuseStore) (given : Status) (brings : Brings target mode now old new given) (none : FuseCanBeContested old → ⊥)
-    (commits : List (List ℕ)) (first : ℕ) (log : HoldsCommits commits first (fuse_disk old)) (front rest : History) (is : IsHistoryFrom 0 None commits front) (few : length commits ≤ 2 ^ 64)
-    (floor : ℕ) (was : IsPlayed target.files (front ++ rest) floor (length commits) (fuse_disk old)) where
-  abbrev files : Files
-  files = (fuse_disk old).files
+pub marked_none : (view : View) (standing : Standing) → IsUnpublished view → view.mark ≡ Some standing → ⊥
+marked_none view standing unpublished mark = let no : view.mark ≡ None = ap (λ (v : View). v.mark) unpublished in cc
 
-  abbrev sync : IsWholeSync scripted_store from_delta target None mode now (scripted old) (scripted new) (Some brings.answer)
-  sync = brings.sync
+same_standing : (a b : Standing) → Some a ≡ Some b → a ≡ b
+same_standing a b e = cc
 
-  abbrev j : ℕ
-  j = was.stands.j
-
-  whole : length front ≡ length commits
-  whole = same_length 0 None commits front is
-
-  within : j ≤ length front
-  within = let up = was.stands.up_to in let e = whole in omega (arith, up, e)
-
-  here : IsAt Delta target.files front files j
-  here = at_front target.files front rest files j within was.stands.at
-
-  over : IsOver target (front ++ rest) commits files
-  over = record {
-    log = (first, record { holds = log.holds; only = log.only });
-    stands = record { j = j; from_there = omega arith; up_to = was.stands.up_to; at = was.stands.at };
-  }
-
-  -- ---- what is read of the source
-
-  marked_none : (view : View) (standing : Standing) → IsUnpublished view → view.mark ≡ Some standing → ⊥
-  marked_none view standing unpublished mark = let no : view.mark ≡ None = ap (λ (v : View). v.mark) unpublished in cc
-
-  same_standing : (a b : Standing) → Some a ≡ Some b → a ≡ b
-  same_standing a b e = cc
-
+module _ (target : TargetFacts) (views : Views target) (history : History) (files : Files) where
   -- what reads the same files shows the same table
-  shows_start : (n : ℕ) (view start : View) → target.files.reads files view → target.files.reads files start → ShowsTable Delta target.files.image front n view → ShowsTable Delta target.files.image front n start
+  pub shows_start : (n : ℕ) (view start : View) → target.files.reads files view → target.files.reads files start → ShowsTable Delta target.files.image history n view → ShowsTable Delta target.files.image history n start
   shows_start zero view start reads other shows =
       ⊎_elim
       (λ (same : SameView start view).
@@ -173,12 +150,66 @@ module _ (target : TargetFacts) (views : Views target) (mode : Mode) (now : ℕ)
       (λ (both : IsUnpublished start × IsUnpublished view). absurd (marked_none view entry.standing both.1 entry.mark))
       (views.one_view files start view other reads)
 
-  like_entry : (entry : List ℕ × Table) (view : View) → ShowsEntry Delta target.files.image entry view → IsLike view.table entry.1
+  pub like_entry : (entry : List ℕ × Table) (view : View) → ShowsEntry Delta target.files.image entry view → IsLike view.table entry.1
   like_entry entry view shows = record {
     rows = shows.rows;
     partition = shows.partition;
     kinds = λ name there v. let both = views.kinds entry.1.schema view.table.schema shows.schema name v in (both.1, both.0);
   }
+
+-- ---- the tables along which commits lead
+
+pub in_drop : {X : Type 0} (n : ℕ) (xs : List X) (x : X) → Contains (drop n xs) x → Contains xs x
+in_drop zero xs x there = there
+in_drop (suc n) [] x there = there
+in_drop (suc n) (y ∷ xs) x there = Contains-tail y xs x (in_drop n xs x there)
+
+pub at_contains : {X : Type 0} (xs : List X) (i : ℕ) (x : X) → slice_get xs i ≡ Some x → Contains xs x
+at_contains [] i x is = absurd cc
+at_contains (y ∷ xs) zero x is = subst (λ z. Contains (y ∷ xs) z) (some_same y x is) (Contains-head y xs)
+at_contains (y ∷ xs) (suc i) x is = Contains-tail y xs x (at_contains xs i x is)
+
+-- a schema that one of them states is that of the table to which it leads
+stated_along : (before : Table) (history : History) (commits : List Commit) → LeadAlong before history commits → (commit : Commit) (schema : ColumnTrees) → Contains commits commit → commit.change.schema ≡ Some schema
+    → (entry : List ℕ × Table) × Contains history entry × (entry.1.schema ≡ schema)
+stated_along before [] commits along commit schema there states = absurd (Contains-none commit (subst (λ (l : List Commit). Contains l commit) along there))
+stated_along before (after ∷ history) [] along commit schema there states = absurd along
+stated_along before (after ∷ history) (c ∷ commits) along commit schema there states =
+    ⊎_elim
+    (λ (here : c ≡ commit). (after, Contains-head after history, along.0.schema ∙ ap (λ (o : Option ColumnTrees). unwrap_or o before.schema) (ap (λ (x : Commit). x.change.schema) here ∙ states)))
+    (λ later. let found = stated_along after.1 history commits along.1 commit schema later states in (found.0, Contains-tail after history found.0 found.1, found.2))
+    (Contains-cases c commits commit there)
+
+-- ---- one answer
+
+module _ (target : TargetFacts) (views : Views target) (mode : Mode) (now : ℕ) (old new : FuseStore) (given : Status) (brings : Brings target mode now old new given) (none : FuseCanBeContested old → ⊥)
+    (commits : List (List ℕ)) (first : ℕ) (log : HoldsCommits commits first (fuse_disk old)) (front rest : History) (is : IsHistoryFrom 0 None commits front) (few : length commits ≤ 2 ^ 64)
+    (floor : ℕ) (was : IsPlayed target.files (front ++ rest) floor (length commits) (fuse_disk old)) where
+  abbrev files : Files
+  files = (fuse_disk old).files
+
+  abbrev sync : IsWholeSync scripted_store from_delta target None mode now (scripted old) (scripted new) (Some brings.answer)
+  sync = brings.sync
+
+  abbrev j : ℕ
+  j = was.stands.j
+
+  whole : length front ≡ length commits
+  whole = same_length 0 None commits front is
+
+  within : j ≤ length front
+  within = let up = was.stands.up_to in let e = whole in omega (arith, up, e)
+
+  here : IsAt Delta target.files front files j
+  here = at_front target.files front rest files j within was.stands.at
+
+  over : IsOver target (front ++ rest) commits files
+  over = record {
+    log = (first, record { holds = log.holds; only = log.only; alone = log.alone });
+    stands = record { j = j; from_there = omega arith; up_to = was.stands.up_to; at = was.stands.at };
+  }
+
+  -- ---- what is read of the source
 
   since_by : (n : ℕ) (start : View) → n ≤ length front → ShowsTable Delta target.files.image front n start → (e : SourceError) → IsSinceFault from_delta files start e → IsPlayedFault first e
   since_by zero start le shows e since = absurd (marked_none start since.0 shows since.1)
@@ -189,7 +220,7 @@ module _ (target : TargetFacts) (views : Views target) (mode : Mode) (now : ℕ)
       let none_added : 0 + k ≡ k = omega arith in
       let one : since.0 ≡ shows.2.standing = same_standing since.0 shows.2.standing (sym since.1 ∙ shows.2.mark) in
       let to : since.0.to ≡ decimal k = ap (λ (s : Standing). s.to) one ∙ shows.2.position ∙ at.position ∙ ap decimal none_added in
-      from_position_fault commits first (fuse_disk old) log front is k entry start.table e shows.1 (omega (arith, le, len, few)) (like_entry entry start shows.2)
+      from_position_fault commits first (fuse_disk old) log front is k entry start.table e shows.1 (omega (arith, le, len, few)) (like_entry target views front files entry start shows.2)
       (subst (λ (p : List ℕ). ShowsFromPosition files p start.table e) to since.2.1)
 
   source_fault : (e : SourceError) → IsSourceFault from_delta target mode files e → IsPlayedFault first e
@@ -197,7 +228,7 @@ module _ (target : TargetFacts) (views : Views target) (mode : Mode) (now : ℕ)
   source_fault e (inr read) =
       let start = read.1.0 in
       ⊎_elim
-      (λ (since : (mode ≡ modes.Sync) × IsSinceFault from_delta files start e). since_by j start within (shows_start j here.view start here.reads read.1.1 here.shows) e since.1)
+      (λ (since : (mode ≡ modes.Sync) × IsSinceFault from_delta files start e). since_by j start within (shows_start target views front files j here.view start here.reads read.1.1 here.shows) e since.1)
       (λ (scratch : (¬ TakesCommits from_delta mode files start) × from_delta.from_scratch files e). from_scratch_fault commits first (fuse_disk old) log front is e scratch.1)
       read.1.2.1
 
@@ -216,6 +247,9 @@ module _ (target : TargetFacts) (views : Views target) (mode : Mode) (now : ℕ)
     holds : HoldsHistory files front
     holds = holds_history commits first (fuse_disk old) log some front is
 
+    along_by : (k : ℕ) (shows : ShowsTable Delta target.files.image front (suc k) start) → due.full ≡ false → LeadAlong shows.0.1 (drop (k + 1) front) due.commits
+    along_by k shows full = sync.along.each_once tt front (is_history commits front is few) holds k shows.0 shows.1 start shows.2 due full
+
     lead_by : (n : ℕ) → ShowsTable Delta target.files.image front n start → (b : Bool) → due.full ≡ b → LeadFrom front n start due.commits
     lead_by n shows true full = inr (sync.along.in_full tt front (is_history commits front is few) holds start due full)
     lead_by zero shows false full =
@@ -225,13 +259,43 @@ module _ (target : TargetFacts) (views : Views target) (mode : Mode) (now : ℕ)
         due.way
     lead_by (suc k) shows false full =
         let one : suc k ≡ k + 1 = omega arith in
-        inl (k, shows.0, one, shows.1, sync.along.each_once tt front (is_history commits front is few) holds k shows.0 shows.1 start shows.2 due full)
+        inl (k, shows.0, one, shows.1, along_by k shows full)
+
+    -- The schemas that are stated, and the partition columns, are those of tables of the history.
+    in_full : due.full ≡ true → IsInFull from_delta mode files start due.head due.partition due.commits due.full
+    in_full full = ⊎_elim (λ (since : AreSinceMark from_delta mode files start due.partition due.commits due.full). absurd (true_false (sym full ∙ since.way))) (λ is. is) due.way
+
+    since : due.full ≡ false → AreSinceMark from_delta mode files start due.partition due.commits due.full
+    since full = ⊎_elim (λ is. is) (λ (whole : IsInFull from_delta mode files start due.head due.partition due.commits due.full). absurd (true_false (sym whole.way ∙ full))) due.way
+
+    last : (last : List ℕ × Table) × IsLast front last × (last.0 ≡ due.head.position) × ((table : Table) → IsTableAtHead files table → SameTable table last.1)
+    last = source_history.last files front due.head holds due.is_head
+
+    last_there : Contains front last.0
+    last_there = subst (λ (h : History). Contains h last.0) (sym last.1.1) (Contains-append_right last.1.0 (last.0 ∷ []) last.0 (Contains-head last.0 []))
+
+    states_by : (n : ℕ) → ShowsTable Delta target.files.image front n start → (b : Bool) → due.full ≡ b → StateSchemasOf front due.commits
+    states_by n shows true full commit schema there states =
+        let whole = in_full full in
+        let one : whole.commit ≡ commit = Contains-one whole.commit commit (subst (λ (l : List Commit). Contains l commit) whole.only there) in
+        let stated : Some whole.table.schema ≡ Some schema = sym whole.change.schema ∙ ap (λ (c : Commit). c.change.schema) one ∙ states in
+        let same : whole.table.schema ≡ schema = cc in
+        (last.0, last_there, sym (last.3 whole.table whole.is_table).schema ∙ same)
+    states_by zero shows false full commit schema there states = let is = since full in absurd (marked_none start is.marked.0 shows is.marked.1)
+    states_by (suc k) shows false full commit schema there states =
+        let found = stated_along shows.0.1 (drop (k + 1) front) due.commits (along_by k shows full) commit schema there states in
+        (found.0, in_drop (k + 1) front found.0 found.1, found.2)
+
+    columns_by : (n : ℕ) → ShowsTable Delta target.files.image front n start → (b : Bool) → due.full ≡ b → HasColumns front due.partition
+    columns_by n shows true full = let whole = in_full full in (last.0, last_there, sym (whole.columns ∙ (last.3 whole.table whole.is_table).partition))
+    columns_by zero shows false full = let is = since full in absurd (marked_none start is.marked.0 shows is.marked.1)
+    columns_by (suc k) shows false full = let is = since full in (shows.0, at_contains front k shows.0 shows.1, sym (is.columns ∙ shows.2.partition))
 
   unfit_between : (feature : Feature) (path : List ℕ) → IsUnfit from_delta target mode files (target_error.Unsupported feature path) → IsUnfitBetween target (front ++ rest) commits feature path
   unfit_between feature path unfit =
       let start = unfit.0 in
       let due = unfit.2.1.0 in
-      let shows = shows_start j here.view start here.reads unfit.1 here.shows in
+      let shows = shows_start target views front files j here.view start here.reads unfit.1 here.shows in
       record {
         files = files;
         over = over;
@@ -245,7 +309,9 @@ module _ (target : TargetFacts) (views : Views target) (mode : Mode) (now : ℕ)
         count = whole;
         due = due.commits;
         leads = lead_by (some_due start due) start due j shows due.full refl;
+        schemas = states_by (some_due start due) start due j shows due.full refl;
         partition = due.partition;
+        columns = columns_by (some_due start due) start due j shows due.full refl;
         unfit = unfit.2.1.1;
       }
 

@@ -5,6 +5,7 @@ use Rattle.lake_store.specs.Cause.{HasFault}
 use Rattle.lake_store.specs.Fuse.{fuse_disk}
 use Rattle.lake_store.specs.declared.fuse.FuseStore.{FuseStore}
 use Rattle.lake_store.specs.declared.sink.Sink.{Ghosts}
+use Rattle.target_sync.specs.declared.status.Side.TheVariants as side
 use Rattle.target_sync.specs.declared.status.Status.{Status}
 use Rattle.target_sync.specs.declared.status.Status.TheVariants as status
 use Rattle.lake_play.specs.Drilled.{Drills, IsCutShort, IsDrillEnd, IsDrilled, IsReadEnd, PutsText}
@@ -20,7 +21,8 @@ read_end number store status.Usage is = absurd is
 read_end number store status.Absent is = absurd is
 read_end number store (status.Malformed path) is = absurd is
 read_end number store (status.Unsupported of feature path) is = absurd is
-read_end number store (status.Limit of which n) is = inr (inl is)
+read_end number store (status.Limit side.Source which n) is = absurd is
+read_end number store (status.Limit (side.Target target) which n) is = inr (inl is)
 read_end number store (status.Foreign target path) is = absurd is
 read_end number store (status.Contested target) is = absurd is
 read_end number store status.StoreFault is = absurd is

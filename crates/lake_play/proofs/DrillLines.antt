@@ -4,8 +4,8 @@ use Rattle.std.specs.Prelude.{slice_get}
 use Rattle.std.specs.FinSet as set
 use Rattle.std.specs.Ordering.{nat_cmp}
 use Rattle.std.specs.Cmp.Lexicographic.{slice_cmp}
-use Rattle.std.proofs.lemmas.List.{length-append}
-use Rattle.conformance.specs.Drill.{drill_bytes, numbers_under}
+use Rattle.std.proofs.lemmas.List.{append-nil, length-append}
+use Rattle.conformance.specs.Drill.{AreSaid, drill_bytes, numbers_under}
 use Rattle.conformance.specs.Events.{drill_events}
 use Rattle.conformance.specs.Histories.{IsHistoryFrom, IsHistoryOf}
 use Rattle.conformance.proofs.Legal.{commits_are}
@@ -18,6 +18,7 @@ use Rattle.source_core.specs.declared.error.SourceError.TheVariants as source
 use Rattle.source_core.specs.declared.head.Head.{Head}
 use Rattle.source_delta.specs.Heads.{IsDeltaHead, IsTableAtHead}
 use Rattle.source_delta.specs.HistoryLemmas as source_history
+use Rattle.source_delta.specs.Reading.{ShowsAtHead, ShowsFromScratch}
 use Rattle.table_history.proofs.Laws.{in_order_same}
 use Rattle.table_history.specs.History.{History}
 use Rattle.table_history.specs.Row.{Row}
@@ -29,12 +30,13 @@ use Rattle.target_sync.specs.Applied.{status_of_source}
 use Rattle.lake_play.specs.Drilled.{AreDrillLines, AreLastRows, IsBrought, IsBroughtOnce, IsReadEnd, IsTableRefusal, LeavesDrill, TellsLast, TellsOf, TellsTarget}
 use Rattle.lake_play.specs.Lines.{source_line, target_line}
 use Rattle.lake_play.specs.Standing.{meaning_of_hudi, meaning_of_iceberg}
-use Rattle.lake_play.proofs.Drills.{numbers_back}
+use Rattle.lake_play.proofs.DrillLog.{IsDrillLog, at_head_small, drill_log, from_scratch_small}
 use Rattle.lake_play.proofs.Ends.{at_place}
 use Rattle.lake_play.proofs.Faults.{at_head_fault, from_scratch_fault}
 use Rattle.lake_play.proofs.Histories.{holds_history, same_length}
 use Rattle.lake_play.proofs.Logs.{HoldsCommits, some_same}
 use Rattle.lake_play.proofs.Once.{Counts}
+use Rattle.lake_play.proofs.Places.{numbers_back}
 
 -- ---- the last entry
 
@@ -85,8 +87,12 @@ module _ (number : ℕ) (files : Files) (leaves : LeavesDrill number files) wher
         let within = leaves.only version has in
         let count = long in
         (omega arith, omega (arith, within, count));
+    alone = leaves.alone;
     clean = λ path within. set.contains-empty (slice_cmp nat_cmp) path;
   }
+
+  drilled : IsDrillLog number files
+  drilled = drill_log number files commits ([], append-nil commits) (0, record { holds = holds.holds; only = holds.only; alone = holds.alone })
 
   module _ (history : History) (is : IsHistoryOf (drill_events number true) history) where
     made : IsHistoryFrom 0 None commits history
@@ -109,19 +115,20 @@ module _ (number : ℕ) (files : Files) (leaves : LeavesDrill number files) wher
           tells.3,
         )
 
-    fault_end : (e : SourceError) → IsTableRefusal files e → IsReadEnd files (status_of_source e)
-    fault_end source.Memory refusal = tt
-    fault_end source.Absent refusal = absurd (⊎_elim (λ absent. absent 0 (drill_bytes number 0, leaves.holds 0 (omega arith))) (λ never. never) refusal.0)
-    fault_end (source.Malformed path) refusal =
+    fault_end : AreSaid number → (e : SourceError) → IsTableRefusal files e → IsReadEnd files (status_of_source e)
+    fault_end said source.Memory refusal = tt
+    fault_end said source.Absent refusal = absurd (⊎_elim (λ absent. absent 0 (drill_bytes number 0, leaves.holds 0 (omega arith))) (λ never. never) refusal.0)
+    fault_end said (source.Malformed path) refusal =
         absurd (⊎_elim (λ head. at_head_fault commits 0 disk holds history made (source.Malformed path) head.1) (λ whole. from_scratch_fault commits 0 disk holds history made (source.Malformed path) whole) refusal.0)
-    fault_end (source.Unsupported feature path) refusal =
+    fault_end said (source.Unsupported feature path) refusal =
         absurd (⊎_elim (λ head. let played = at_head_fault commits 0 disk holds history made (source.Unsupported feature path) head.1 in none_less played.1)
         (λ whole. let played = from_scratch_fault commits 0 disk holds history made (source.Unsupported feature path) whole in none_less played.1) refusal.0)
       where
         none_less : 0 < 0 → ⊥
         none_less less = omega (arith, less)
-    fault_end (source.Limit which n) refusal = refusal.0
-    fault_end source.StoreFault refusal = absurd (refusal.1 refl)
+    fault_end said (source.Limit which n) refusal =
+        absurd (⊎_elim (λ (head : ShowsAtHead files (source.Limit which n)). at_head_small number said files drilled which n head) (λ (whole : ShowsFromScratch files (source.Limit which n)). from_scratch_small number said files drilled which n whole) refusal.0)
+    fault_end said source.StoreFault refusal = absurd (refusal.1 refl)
 
     -- ---- a target
 
@@ -141,8 +148,8 @@ module _ (number : ℕ) (files : Files) (leaves : LeavesDrill number files) wher
     pub brought_once : (target : Meaning) → IsBrought target history files → IsBroughtOnce target files
     brought_once target brought = let entry = brought.at.shows in (brought.at.view, (brought.at.reads, (entry.2.standing, entry.2.mark, entry.2.format)))
 
-  pub table_end : (e : SourceError) → IsTableRefusal files e → IsReadEnd files (status_of_source e)
-  table_end e refusal = fault_end leaves.legal.history leaves.legal.is e refusal
+  pub table_end : AreSaid number → (e : SourceError) → IsTableRefusal files e → IsReadEnd files (status_of_source e)
+  table_end said e refusal = fault_end leaves.legal.history leaves.legal.is said e refusal
 
   pub hudi_once : IsBroughtOnce meaning_of_hudi files
   hudi_once = brought_once leaves.legal.history leaves.legal.is meaning_of_hudi (leaves.hudi leaves.legal.history leaves.legal.is)

@@ -2,14 +2,12 @@
 use Rattle.std.proofs.Common.{◌≡◌, ◌≢◌, inl, inr, ⊎_elim, ℕ, zero, suc, ◌+◌, ◌≤◌, ◌<◌, Bool, true, false, ◌&&◌, List, [], ◌∷◌, ◌++◌, length, map, Some, None, refl, sym, ap, subst, ◌∙◌, append_assoc, arith, if◌then◌else◌}
 use Rattle.std.specs.List.{AllByRecursion}
 use Rattle.std.specs.Prelude.{flat_map, slice_get}
-use Rattle.std.proofs.lemmas.Bool.{cases_lt}
-use Rattle.std.proofs.lemmas.List.{map-append}
-use Rattle.std.proofs.lemmas.Option.{slice_get_within}
-use Rattle.conformance.specs.Drill.{drill_bytes, drill_time, numbers_under}
+use Rattle.conformance.specs.Drill.{AreSaid, drill_bytes, drill_time, numbers_under}
 use Rattle.conformance.specs.Events.{commit_events, drill_events, is_stopped, is_sync_point, stopped_sync, sync_events, sync_points, target_sync}
-use Rattle.conformance.specs.Histories.{AreInOrder, AreLegal, IsHistoryOf, extensions}
+use Rattle.conformance.specs.Histories.{AreInOrder, AreLegal, IsHistoryFrom, IsHistoryOf, extensions}
 use Rattle.conformance.specs.declared.event.Event.{Event}
 use Rattle.conformance.specs.declared.event.Event.TheVariants as event
+use Rattle.conformance.proofs.Bounds.{are_history, drill_history}
 use Rattle.conformance.proofs.Legal.{commits_are}
 use Rattle.conformance.proofs.Numbers.{length_map}
 use Rattle.lake_store.specs.Disk.{Files, MayLeave}
@@ -18,9 +16,13 @@ use Rattle.lake_store.specs.declared.fuse.FuseStore.{FuseStore}
 use Rattle.lake_store.specs.declared.fuse.Script.{Script}
 use Rattle.source_core.specs.Histories.{IsAt}
 use Rattle.table_history.specs.History.{History}
+use Rattle.table_history.specs.declared.feature.Feature.{Feature}
+use Rattle.table_history.specs.declared.feature.Feature.TheVariants.{TypeChange}
 use Rattle.table_history.specs.declared.kind.Kind.{Kind}
 use Rattle.table_history.specs.declared.kind.Kind.TheVariants.{Delta, Hudi, Iceberg}
 use Rattle.target_core.specs.Meaning.{Meaning}
+use Rattle.target_hudi.specs.declared.target.HudiTarget.{HudiTarget}
+use Rattle.target_iceberg.specs.declared.target.IcebergTarget.{IcebergTarget}
 use Rattle.target_sync.specs.Targets.{TargetFacts, target_facts}
 use Rattle.target_sync.specs.declared.plan.Mode.{Mode}
 use Rattle.target_sync.specs.declared.plan.Mode.TheVariants as modes
@@ -28,39 +30,18 @@ use Rattle.target_sync.specs.declared.status.Side.TheVariants as side
 use Rattle.target_sync.specs.declared.status.Status.{Status}
 use Rattle.target_sync.specs.declared.status.Status.TheVariants as status
 use Rattle.lake_play.specs.Causes.{AreCaused, Before, IsCause, IsCauseAt, IsFaulty, behind, nothing_before}
-use Rattle.lake_play.specs.Drilled.{IsBrought, IsDrillEnd, IsEnded, IsRefusedSync, LeavesDrill}
+use Rattle.lake_play.specs.Drilled.{IsBrought, IsCutShort, IsDrillEnd, IsEnded, IsRefusedSync, LeavesDrill}
 use Rattle.lake_play.specs.Formats.{to_hudi, to_iceberg}
 use Rattle.lake_play.specs.Playing.{PlaysAll, nothing_played}
 use Rattle.lake_play.specs.Standing.{BothHaveEachOnce, BothStand, HasEachOnce, HoldsFrom, IsFresh, IsSyncedEarly, LogHolds, StandsWithin, answer_count, first_from, floor_of, meaning_of_hudi, meaning_of_iceberg}
 use Rattle.lake_play.specs.declared.playing.Progress.{Progress}
-use Rattle.lake_play.proofs.Ends.{at_place}
+use Rattle.lake_play.proofs.Causes.{Views, hudi_views, iceberg_views}
+use Rattle.lake_play.proofs.DrillFits.{hudi_fits, iceberg_fits}
+use Rattle.lake_play.proofs.DrillLog.{AreFirst}
+use Rattle.lake_play.proofs.DrillReading.{source_within}
 use Rattle.lake_play.proofs.Folds.{Folds, GoWell, IsGood, drill_folds, none_removed}
 use Rattle.lake_play.proofs.Logs.{some_same}
-use Rattle.lake_play.proofs.Targets.{first_get}
-
--- ---- the commits
-
-numbers_at : (f : ℕ → List ℕ) (n i : ℕ) → i < n → slice_get (map f (numbers_under n)) i ≡ Some (f i)
-numbers_at f zero i less = absurd (omega (arith, less))
-numbers_at f (suc n) i less =
-    let front : List (List ℕ) = map f (numbers_under n) in
-    let count : length front ≡ n = length_map f n in
-    ap (λ (l : List (List ℕ)). slice_get l i) (map-append f (numbers_under n) (n ∷ []))
-    ∙ ⊎_elim
-    (λ (earlier : i < n). first_get front (f n ∷ []) i (omega (arith, earlier, count)) ∙ numbers_at f n i earlier)
-    (λ (past : n ≤ i).
-    let last : i ≡ length front = omega (arith, less, past, count) in
-    let same : n ≡ i = omega (arith, less, past) in
-    ap (slice_get (front ++ f n ∷ [])) last ∙ at_place front (f n) [] ∙ ap (λ (k : ℕ). Some (f k)) same)
-    (cases_lt i n)
-
--- what stands there is that of its place
-pub numbers_back : (f : ℕ → List ℕ) (n i : ℕ) (x : List ℕ) → slice_get (map f (numbers_under n)) i ≡ Some x → (i < n) × (f i ≡ x)
-numbers_back f n i x at =
-    let count = length_map f n in
-    let within : i < length (map f (numbers_under n)) = slice_get_within (map f (numbers_under n)) i x at in
-    let less : i < n = omega (arith, within, count) in
-    (less, some_same (f i) x (sym (numbers_at f n i less) ∙ at))
+use Rattle.lake_play.proofs.Places.{numbers_at}
 
 -- ---- the events
 
@@ -104,12 +85,14 @@ module _ (number : ℕ) where
 -- ---- one answer
 
 -- the answer of a sync of a target behind a commit, with no version removed, has its cause
-record IsAnswered (faulty : Before → Type 0) (now : ℕ) (history : History) (given : Status) : Type 0 where
+record IsAnswered (faulty : Before → Type 0) (now : ℕ) (history : History) (all : List (List ℕ)) (given : Status) : Type 0 where
   target : Kind
   other : target ≢ Delta
   before : Before
   kept : before.shortened ≡ false
   some : before.commits ≡ [] → ⊥
+  behind : List (List ℕ)
+  first : before.commits ++ behind ≡ all
   cause : IsCause target modes.Sync now history before (faulty before) given
 
 none_there : (given : Status) → None ≡ Some given → ⊥
@@ -119,34 +102,41 @@ not_empty : (xs : List (List ℕ)) (x : List ℕ) → xs ++ x ∷ [] ≡ [] → 
 not_empty [] x is = cc
 not_empty (y ∷ xs) x is = cc
 
-module _ (faulty : Before → Type 0) (now : ℕ) (history : History) where
+module _ (faulty : Before → Type 0) (now : ℕ) (history : History) (all : List (List ℕ)) where
   answered : (events : List Event) (some : Bool) (count : ℕ) (before : Before) (answers : List Status) → IsPlain some events → AreInOrder count events → AreCaused faulty now history before events answers → length answers ≡ answer_count events
-      → before.shortened ≡ false → (some ≡ true → before.commits ≡ [] → ⊥) → (place : ℕ) (given : Status) → slice_get answers place ≡ Some given → IsAnswered faulty now history given
-  answered [] some count before [] plain order caused sum kept behind_some place given at = absurd (none_there given at)
-  answered [] some count before (first ∷ answers) plain order caused sum kept behind_some place given at = absurd (omega (arith, sum))
-  answered (event.Extend bytes ∷ events) some count before answers plain order caused sum kept behind_some place given at =
-      answered events true (count + 1) (behind (event.Extend bytes) before) answers plain order caused sum kept (λ is. not_empty before.commits bytes) place given at
-  answered (event.Shorten below ∷ events) some count before answers plain order caused sum kept behind_some place given at = absurd plain
-  answered (event.Sync target ∷ events) some count before [] plain order caused sum kept behind_some place given at = absurd caused
-  answered (event.Sync target ∷ events) some count before (first ∷ answers) plain order caused sum kept behind_some zero given at =
-      subst (IsAnswered faulty now history) (some_same first given at) (record { target = target; other = order.0; before = before; kept = kept; some = behind_some plain.0; cause = caused.0 })
-  answered (event.Sync target ∷ events) some count before (first ∷ answers) plain order caused sum kept behind_some (suc place) given at =
-      answered events some count before answers plain.1 order.1 caused.1 (omega (arith, sum)) kept behind_some place given at
-  answered (event.Full target ∷ events) some count before answers plain order caused sum kept behind_some place given at = absurd plain
-  answered (event.Stop call ∷ events) some count before answers plain order caused sum kept behind_some place given at =
-      answered events some count (behind (event.Stop call) before) answers plain order caused sum kept behind_some place given at
-  answered (event.Crash choices ∷ events) some count before answers plain order caused sum kept behind_some place given at =
-      answered events some count (behind (event.Crash choices) before) answers plain order caused sum kept behind_some place given at
+      → before.shortened ≡ false → (some ≡ true → before.commits ≡ [] → ⊥) → before.commits ++ extensions events ≡ all → (place : ℕ) (given : Status) → slice_get answers place ≡ Some given → IsAnswered faulty now history all given
+  answered [] some count before [] plain order caused sum kept behind_some whole place given at = absurd (none_there given at)
+  answered [] some count before (first ∷ answers) plain order caused sum kept behind_some whole place given at = absurd (omega (arith, sum))
+  answered (event.Extend bytes ∷ events) some count before answers plain order caused sum kept behind_some whole place given at =
+      answered events true (count + 1) (behind (event.Extend bytes) before) answers plain order caused sum kept (λ is. not_empty before.commits bytes) (append_assoc before.commits (bytes ∷ []) (extensions events) ∙ whole) place given at
+  answered (event.Shorten below ∷ events) some count before answers plain order caused sum kept behind_some whole place given at = absurd plain
+  answered (event.Sync target ∷ events) some count before [] plain order caused sum kept behind_some whole place given at = absurd caused
+  answered (event.Sync target ∷ events) some count before (first ∷ answers) plain order caused sum kept behind_some whole zero given at =
+      subst (IsAnswered faulty now history all) (some_same first given at) (record { target = target; other = order.0; before = before; kept = kept; some = behind_some plain.0; behind = extensions events; first = whole; cause = caused.0 })
+  answered (event.Sync target ∷ events) some count before (first ∷ answers) plain order caused sum kept behind_some whole (suc place) given at =
+      answered events some count before answers plain.1 order.1 caused.1 (omega (arith, sum)) kept behind_some whole place given at
+  answered (event.Full target ∷ events) some count before answers plain order caused sum kept behind_some whole place given at = absurd plain
+  answered (event.Stop call ∷ events) some count before answers plain order caused sum kept behind_some whole place given at =
+      answered events some count (behind (event.Stop call) before) answers plain order caused sum kept behind_some whole place given at
+  answered (event.Crash choices ∷ events) some count before answers plain order caused sum kept behind_some whole place given at =
+      answered events some count (behind (event.Crash choices) before) answers plain order caused sum kept behind_some whole place given at
 
 -- ---- the causes
 
 module _ (mode : Mode) (now : ℕ) (history : History) (before : Before) (Faulty : Type 0) where
-  at_target : {P : Type 0} (given : Status) (target : Kind) → target ≢ Delta → IsCause target mode now history before Faulty given → (given ≡ status.Memory → ⊥) → ((facts : TargetFacts) → IsCauseAt facts mode now history before Faulty given → P) → P
-  at_target given Delta other cause not_memory on = absurd (other refl)
-  at_target given Hudi other (inl is) not_memory on = absurd (not_memory is)
-  at_target given Hudi other (inr is) not_memory on = on (target_facts to_hudi is.0) is.2
-  at_target given Iceberg other (inl is) not_memory on = absurd (not_memory is)
-  at_target given Iceberg other (inr is) not_memory on = on (target_facts to_iceberg is.0) is.2
+  -- of Hudi or of Iceberg
+  at_either : {P : Type 0} (given : Status) (target : Kind) → target ≢ Delta → IsCause target mode now history before Faulty given → (given ≡ status.Memory → ⊥)
+      → ((t : HudiTarget) → IsCauseAt (target_facts to_hudi t) mode now history before Faulty given → P) → ((t : IcebergTarget) → IsCauseAt (target_facts to_iceberg t) mode now history before Faulty given → P) → P
+  at_either given Delta other cause not_memory hudi iceberg = absurd (other refl)
+  at_either given Hudi other (inl is) not_memory hudi iceberg = absurd (not_memory is)
+  at_either given Hudi other (inr is) not_memory hudi iceberg = hudi is.0 is.2
+  at_either given Iceberg other (inl is) not_memory hudi iceberg = absurd (not_memory is)
+  at_either given Iceberg other (inr is) not_memory hudi iceberg = iceberg is.0 is.2
+
+  at_target : {P : Type 0} (given : Status) (target : Kind) → target ≢ Delta → IsCause target mode now history before Faulty given → (given ≡ status.Memory → ⊥)
+      → ((facts : TargetFacts) → Views facts → IsCauseAt facts mode now history before Faulty given → P) → P
+  at_target given target other cause not_memory on =
+      at_either given target other cause not_memory (λ t at. on (target_facts to_hudi t) (hudi_views t) at) (λ t at. on (target_facts to_iceberg t) (iceberg_views t) at)
 
 -- ---- a store that stopped
 
@@ -159,8 +149,8 @@ module _ (script : Script) (from to now : ℕ) (history : History) (unscripted :
 
   stopped : (mode : Mode) (before : Before) (target : Kind) → IsCause target mode now history before (IsFaulty script from to before) status.StoreFault → before.stopped ≡ true
   stopped mode before Delta is = absurd (no_usage is)
-  stopped mode before Hudi is = at_target mode now history before (IsFaulty script from to before) status.StoreFault Hudi (λ e. cc) is no_memory (λ facts faulty. ⊎_elim (λ can. absurd (unscripted can)) (λ stop. stop) faulty.1)
-  stopped mode before Iceberg is = at_target mode now history before (IsFaulty script from to before) status.StoreFault Iceberg (λ e. cc) is no_memory (λ facts faulty. ⊎_elim (λ can. absurd (unscripted can)) (λ stop. stop) faulty.1)
+  stopped mode before Hudi is = at_target mode now history before (IsFaulty script from to before) status.StoreFault Hudi (λ e. cc) is no_memory (λ facts views faulty. ⊎_elim (λ can. absurd (unscripted can)) (λ stop. stop) faulty.1)
+  stopped mode before Iceberg is = at_target mode now history before (IsFaulty script from to before) status.StoreFault Iceberg (λ e. cc) is no_memory (λ facts views faulty. ⊎_elim (λ can. absurd (unscripted can)) (λ stop. stop) faulty.1)
 
   good : (mode : Mode) (before : Before) (target : Kind) (given : Status) → IsCause target mode now history before (IsFaulty script from to before) given → IsEnded given → IsGood before.stopped given
   good mode before target given cause (inl done) = inl done
@@ -206,39 +196,67 @@ module _ (number : ℕ) (old new : FuseStore) (answers : List Status) (played : 
   false_true : false ≡ true → ⊥
   false_true is = cc
 
-  why : (history : History) → IsHistoryOf events history → (place : ℕ) (given : Status) → slice_get answers place ≡ Some given → IsAnswered faulty drill_time history given
-  why history is place given at =
-      answered faulty drill_time history events false 0 nothing_before answers (plain number) played.legal.order (played.caused history is) played.sum refl (λ some. absurd (false_true some)) place given at
+  module _ (fresh : IsFresh old) (unscripted : CanFail (script_of old) → ⊥) (said : AreSaid number) (place : ℕ) where
+    abbrev tables : History
+    tables = drill_history number 200
 
-  module _ (fresh : IsFresh old) (unscripted : CanFail (script_of old) → ⊥) (place : ℕ) where
+    all_are : extensions events ≡ map (drill_bytes number) (numbers_under 200)
+    all_are = commits_are number true 200
+
+    tables_are : IsHistoryOf events tables
+    tables_are = subst (λ (l : List (List ℕ)). IsHistoryFrom 0 None l tables) (sym all_are) (are_history number said 200 (omega arith)).0
+
+    why : (given : Status) → slice_get answers place ≡ Some given → IsAnswered faulty drill_time tables (map (drill_bytes number) (numbers_under 200)) given
+    why given at =
+        answered faulty drill_time tables (map (drill_bytes number) (numbers_under 200)) events false 0 nothing_before answers (plain number) played.legal.order (played.caused tables tables_are) played.sum refl (λ some. absurd (false_true some)) all_are place given at
+
     refused : (given : Status) → slice_get answers place ≡ Some given → IsRefusedSync number new given
     refused given at = record { start = old; fresh = fresh; unscripted = unscripted; after = played.after; plays = played.plays; place = place; answered = ap (λ (l : List Status). slice_get l place) played.told ∙ at }
 
-    never : (given : Status) → slice_get answers place ≡ Some given → (given ≡ status.Memory → ⊥) → ((before : Before) → before.shortened ≡ false → (before.commits ≡ [] → ⊥) → (facts : TargetFacts) → IsCauseAt facts modes.Sync drill_time played.legal.history before (faulty before) given → ⊥) → ⊥
+    never : (given : Status) → slice_get answers place ≡ Some given → (given ≡ status.Memory → ⊥)
+        → ((before : Before) → before.shortened ≡ false → (before.commits ≡ [] → ⊥) → AreFirst number before.commits → (facts : TargetFacts) → Views facts → IsCauseAt facts modes.Sync drill_time tables before (faulty before) given → ⊥) → ⊥
     never given at not_memory refuted =
-        let a = why played.legal.history played.legal.is place given at in
-        at_target modes.Sync drill_time played.legal.history a.before (faulty a.before) given a.target a.other a.cause not_memory (refuted a.before a.kept a.some)
+        let a = why given at in
+        at_target modes.Sync drill_time tables a.before (faulty a.before) given a.target a.other a.cause not_memory (refuted a.before a.kept a.some (a.behind, a.first))
+
+    -- The commits fit, but for the type of a column in Iceberg.
+    unfit_end : (kind : Kind) (feature : Feature) (path : List ℕ) → slice_get answers place ≡ Some (status.Unsupported (side.Target kind) feature path) → IsCutShort number new (status.Unsupported (side.Target kind) feature path)
+    unfit_end kind feature path at =
+        let given : Status = status.Unsupported (side.Target kind) feature path in
+        let a = why given at in
+        at_either modes.Sync drill_time tables a.before (faulty a.before) given a.target a.other a.cause (λ is. cc)
+        (λ t cause. absurd (hudi_fits number t a.before.commits feature path cause.1))
+        (λ t cause.
+        let one : feature ≡ TypeChange = iceberg_fits number t a.before.commits feature path cause.1 in
+        let of : kind ≡ Iceberg = cause.0 in
+        subst (λ (k : Kind). IsCutShort number new (status.Unsupported (side.Target k) feature path)) (sym of)
+        (subst (λ (f : Feature). IsCutShort number new (status.Unsupported (side.Target Iceberg) f path)) (sym one)
+        (refused (status.Unsupported (side.Target Iceberg) TypeChange path)
+        (subst (λ (f : Feature). slice_get answers place ≡ Some (status.Unsupported (side.Target Iceberg) f path)) one (subst (λ (k : Kind). slice_get answers place ≡ Some (status.Unsupported (side.Target k) feature path)) of at)))))
 
     pub end_of : (given : Status) → slice_get answers place ≡ Some given → (IsEnded given → ⊥) → IsDrillEnd number new given
     end_of status.Done at not_ended = absurd (not_ended (inl refl))
     end_of status.Memory at not_ended = inl refl
-    end_of status.Usage at not_ended = absurd (never status.Usage at (λ is. cc) (λ before kept some facts c. c))
-    end_of status.Absent at not_ended = absurd (never status.Absent at (λ is. cc) (λ before kept some facts c. some c))
-    end_of (status.Malformed path) at not_ended = absurd (never (status.Malformed path) at (λ is. cc) (λ before kept some facts c. c))
-    end_of (status.Unsupported side.Source feature path) at not_ended = absurd (never (status.Unsupported side.Source feature path) at (λ is. cc) (λ before kept some facts c. false_true (sym kept ∙ c.1)))
-    end_of (status.Unsupported (side.Target kind) feature path) at not_ended = inr (refused (status.Unsupported (side.Target kind) feature path) at)
-    end_of (status.Limit of which n) at not_ended = inr (inr (refused (status.Limit of which n) at))
-    end_of (status.Foreign kind path) at not_ended = absurd (never (status.Foreign kind path) at (λ is. cc) (λ before kept some facts c. c))
-    end_of (status.Contested kind) at not_ended = absurd (never (status.Contested kind) at (λ is. cc) (λ before kept some facts c. c))
+    end_of status.Usage at not_ended = absurd (never status.Usage at (λ is. cc) (λ before kept some first facts views c. c))
+    end_of status.Absent at not_ended = absurd (never status.Absent at (λ is. cc) (λ before kept some first facts views c. some c))
+    end_of (status.Malformed path) at not_ended = absurd (never (status.Malformed path) at (λ is. cc) (λ before kept some first facts views c. c))
+    end_of (status.Unsupported side.Source feature path) at not_ended =
+        absurd (never (status.Unsupported side.Source feature path) at (λ is. cc) (λ before kept some first facts views c. false_true (sym kept ∙ c.1)))
+    end_of (status.Unsupported (side.Target kind) feature path) at not_ended = inr (unfit_end kind feature path at)
+    end_of (status.Limit side.Source which n) at not_ended =
+        absurd (never (status.Limit side.Source which n) at (λ is. cc) (λ before kept some first facts views c. source_within number said facts views modes.Sync drill_time before.commits first which n c))
+    end_of (status.Limit (side.Target kind) which n) at not_ended = inr (inr (refused (status.Limit (side.Target kind) which n) at))
+    end_of (status.Foreign kind path) at not_ended = absurd (never (status.Foreign kind path) at (λ is. cc) (λ before kept some first facts views c. c))
+    end_of (status.Contested kind) at not_ended = absurd (never (status.Contested kind) at (λ is. cc) (λ before kept some first facts views c. c))
     end_of status.StoreFault at not_ended = absurd (not_ended (inr refl))
-    end_of status.SinkFault at not_ended = absurd (never status.SinkFault at (λ is. cc) (λ before kept some facts c. c))
-    end_of (status.Behind kind mark head) at not_ended = absurd (never (status.Behind kind mark head) at (λ is. cc) (λ before kept some facts c. c))
-    end_of (status.Differs kind path) at not_ended = absurd (never (status.Differs kind path) at (λ is. cc) (λ before kept some facts c. c))
-    end_of (status.Stale path) at not_ended = absurd (never (status.Stale path) at (λ is. cc) (λ before kept some facts c. c))
+    end_of status.SinkFault at not_ended = absurd (never status.SinkFault at (λ is. cc) (λ before kept some first facts views c. c))
+    end_of (status.Behind kind mark head) at not_ended = absurd (never (status.Behind kind mark head) at (λ is. cc) (λ before kept some first facts views c. c))
+    end_of (status.Differs kind path) at not_ended = absurd (never (status.Differs kind path) at (λ is. cc) (λ before kept some first facts views c. c))
+    end_of (status.Stale path) at not_ended = absurd (never (status.Stale path) at (λ is. cc) (λ before kept some first facts views c. c))
 
   -- ---- where all syncs ended as they may
 
-  module _ (unscripted : CanFail (script_of old) → ⊥) (ended : AllByRecursion IsEnded answers) where
+  module _ (fresh : IsFresh old) (unscripted : CanFail (script_of old) → ⊥) (ended : AllByRecursion IsEnded answers) where
     folds : Folds number answers
     folds = drill_folds number answers (go_well (script_of old) (faults_of old) (faults_of new) drill_time played.legal.history unscripted events nothing_before answers (played.caused played.legal.history played.legal.is) ended)
 
@@ -266,12 +284,23 @@ module _ (number : ℕ) (old new : FuseStore) (answers : List Status) (played : 
 
     pub leaves : LeavesDrill number files
     leaves = record {
+      played = record {
+        start = old;
+        fresh = fresh;
+        unscripted = unscripted;
+        after = played.after;
+        end = new;
+        plays = played.plays;
+        ended = subst (λ (l : List Status). AllByRecursion IsEnded l) (sym played.told) ended;
+        left = refl;
+      };
       legal = played.legal;
       holds = λ version less. holds.holds version (drill_bytes number version) (omega arith) (numbers_at (drill_bytes number) 200 version less);
       only = λ version has.
           let within = (holds.only version has).1 in
           let count : length commits ≡ 200 = length_map (drill_bytes number) 200 in
           omega (arith, within, count);
+      alone = holds.alone;
       hudi = λ history is. brought meaning_of_hudi history (played.stand history is files may).0 folds.hudi_floor (played.once history is files may).0 folds.hudi_early;
       iceberg = λ history is. brought meaning_of_iceberg history (played.stand history is files may).1 folds.iceberg_floor (played.once history is files may).1 folds.iceberg_early;
     }

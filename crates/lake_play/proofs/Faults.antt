@@ -101,7 +101,7 @@ schema_once (Some m) base schema c which is behind large =
     let text = ap (λ (x : MetaData). x.schema) same in
     let fault = large.2 in cc
 
-readable_step : (c : DeltaCommit) (base : Option Table) (next : Table) → IsStep c base next → IsReadableOver c base
+pub readable_step : (c : DeltaCommit) (base : Option Table) (next : Table) → IsStep c base next → IsReadableOver c base
 readable_step c base next step = record { grammar = step.grammar; supported = step.supported; schema = λ which large. schema_once c.meta base next.schema c which refl step.schema large }
 
 change_mild : (c : DeltaCommit) (base : Option Table) (e : DeltaError) → IsReadableOver c base → IsChangeRefusal c base e → IsMild e

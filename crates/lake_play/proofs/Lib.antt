@@ -1,7 +1,10 @@
 pub mod Causes
 pub mod Causing
 pub mod DrillEnds
+pub mod DrillFits
 pub mod DrillLines
+pub mod DrillLog
+pub mod DrillReading
 pub mod Drills
 pub mod EachOnce
 pub mod Ends
@@ -11,6 +14,7 @@ pub mod Histories
 pub mod Logs
 pub mod Looking
 pub mod Once
+pub mod Places
 pub mod Plays
 pub mod Reading
 pub mod Syncs

@@ -1,11 +1,11 @@
 -- The source's log while events are played: which versions are there, and with which bytes.
-use Rattle.std.proofs.Common.{◌≡◌, ◌≢◌, ◌⊎◌, inl, inr, ⊎_elim, ℕ, zero, suc, ◌+◌, ◌≤◌, ◌<◌, max, List, [], ◌∷◌, ◌++◌, length, Some, None, refl, sym, ap, subst, ◌∙◌, arith, codes}
-use Rattle.std.specs.Prelude.{slice_get}
+use Rattle.std.proofs.Common.{◌≡◌, ◌≢◌, ◌⊎◌, inl, inr, ⊎_elim, ℕ, zero, suc, ◌+◌, ◌≤◌, ◌<◌, max, List, [], ◌∷◌, ◌++◌, length, Option, Some, None, refl, sym, ap, subst, ◌∙◌, arith, codes}
+use Rattle.std.specs.Prelude.{IsSome, slice_get}
 use Rattle.std.specs.FinMap as map
 use Rattle.std.specs.FinSet as set
 use Rattle.std.specs.Ordering.{nat_cmp}
 use Rattle.std.specs.Cmp.Lexicographic.{slice_cmp}
-use Rattle.std.proofs.lemmas.Bool.{cases_lt}
+use Rattle.std.proofs.lemmas.Bool.{cases_lt, false≢true}
 use Rattle.std.proofs.lemmas.List.{append_cancel_left, length-append}
 use Rattle.lake_store.specs.Disk.{Disk, Files, IsClean, MayLeave, empty_disk, removed, synced, written}
 use Rattle.lake_store.specs.Runs.{IsIn}
@@ -16,7 +16,7 @@ use Rattle.delta_table.specs.Versions.{HasVersion, HoldsVersion, IsVersionPath, 
 use Rattle.delta_table.proofs.PathLaws.{one_version, path_once}
 use Rattle.target_core.specs.Folders.{SameIn}
 use Rattle.lake_play.specs.Playing.{Sheds}
-use Rattle.lake_play.specs.Standing.{HoldsFrom}
+use Rattle.lake_play.specs.Standing.{HasVersionsAlone, HoldsFrom}
 
 -- ---- versions and their paths
 
@@ -27,22 +27,31 @@ one_path p v w a b =
 
 -- ---- what is there
 
--- These are the commits so far. Those of them from the first version on are there, each at its version, and no other one, and no path of the log is dirty.
+-- These are the commits so far. Those of them from the first version on are there, each at its version, and no other file, and no path of the log is dirty.
 -- The newest is there, where there is one.
 pub record HoldsCommits (commits : List (List ℕ)) (first : ℕ) (disk : Disk) : Type 0 where
   pub newest : ((first ≡ 0) × (length commits ≡ 0)) ⊎ (first < length commits)
   pub holds : (version : ℕ) (bytes : List ℕ) → first ≤ version → slice_get commits version ≡ Some bytes → HoldsVersion disk.files version bytes
   pub only : (version : ℕ) → HasVersion disk.files version → (first ≤ version) × (version < length commits)
+  pub alone : HasVersionsAlone disk.files
   pub clean : (path : List ℕ) → IsIn log_folder path → IsClean disk path
 
 some_none : (x : List ℕ) → None ≡ Some x → ⊥
 some_none x is = cc
+
+not_there : (o : Option (List ℕ)) → o ≡ None → IsSome o → ⊥
+not_there o is there = false≢true (subst (λ (q : Option (List ℕ)). IsSome q) is there)
+
+-- what is there stays so in files that are the same in the log's folder
+alone_too : (a b : Files) → SameIn log_folder a b → HasVersionsAlone a → HasVersionsAlone b
+alone_too a b same alone path within there = alone path within (subst (λ (o : Option (List ℕ)). IsSome o) (same path within) there)
 
 pub no_commits : HoldsCommits [] 0 empty_disk
 no_commits = record {
   newest = inl (refl, refl);
   holds = λ version bytes from is. absurd (some_none bytes is);
   only = λ version has. absurd (some_none has.0 (sym (map.get-empty (slice_cmp nat_cmp) has.1.path) ∙ has.1.there));
+  alone = λ path within there. absurd (not_there (map.get empty_disk.files path) (map.get-empty (slice_cmp nat_cmp) path) there);
   clean = λ path within. set.contains-empty (slice_cmp nat_cmp) path;
 }
 
@@ -54,6 +63,7 @@ same_commits commits first a b same fewer h =
       newest = h.newest;
       holds = λ version bytes from is. holds_too a.files b.files to version bytes (h.holds version bytes from is);
       only = λ version has. h.only version (has_too b.files a.files (versions_sym a.files b.files to) version has);
+      alone = alone_too a.files b.files same h.alone;
       clean = λ path within. fewer path within (h.clean path within);
     }
 
@@ -64,6 +74,7 @@ left_commits commits first disk image may h =
     record {
       holds = λ version bytes from is. holds_too disk.files image to version bytes (h.holds version bytes from is);
       only = λ version has. h.only version (has_too image disk.files (versions_sym disk.files image to) version has);
+      alone = alone_too disk.files image (λ path within. may path (h.clean path within)) h.alone;
     }
 
 -- ---- one commit more
@@ -116,11 +127,19 @@ module _ (commits : List (List ℕ)) (first : ℕ) (old new : Disk) (path bytes 
       same_or : (a b : ℕ) → (a ≡ b) ⊎ (a ≢ b)
       same_or a b = ⊎_elim (λ less. inr (λ e. omega (arith, less, e))) (λ le. ⊎_elim (λ more. inr (λ e. omega (arith, more, e))) (λ ge. inl (omega (arith, le, ge))) (cases_lt b a)) (cases_lt a b)
 
+  grown_alone : HasVersionsAlone after
+  grown_alone p within there =
+      ⊎_elim
+      (λ (here : p ≡ path). (length commits, subst (λ (q : List ℕ). IsVersionPath q (length commits)) (sym here) is))
+      (λ (off : p ≢ path). h.alone p within (subst (λ (o : Option (List ℕ)). IsSome o) (get-insert_other old.files path bytes p off) there))
+      (path_cases p path)
+
   pub one_commit_more : HoldsCommits (commits ++ bytes ∷ []) first new
   one_commit_more = subst (HoldsCommits (commits ++ bytes ∷ []) first) (sym becomes) (record {
     newest = ⊎_elim (λ (none : (first ≡ 0) × (length commits ≡ 0)). let zero_first = none.0 in inr (omega (arith, zero_first, grown))) (λ (less : first < length commits). inr (omega (arith, less, grown))) h.newest;
     holds = holds;
     only = only;
+    alone = grown_alone;
     clean = λ p within. clean-synced (written old path bytes) p;
   })
 
@@ -157,6 +176,15 @@ module _ (commits : List (List ℕ)) (first to : ℕ) (old new : Disk) (sheds : 
       (λ (from : to ≤ version). (from, (has.0, record { path = has.1.path; is = has.1.is; there = sym (kept version has.1.path from has.1.is) ∙ has.1.there })))
       (cases_lt version to)
 
+  -- a file that is there was there
+  was_there : (path : List ℕ) → IsSome (map.get new.files path) → (o : Option (List ℕ)) → map.get old.files path ≡ o → IsSome o
+  was_there path there (Some bytes) is = refl
+  was_there path there None is =
+      absurd (not_there (map.get new.files path) (sheds.others path (λ of. not_there (map.get new.files path) (sheds.gone path of) there) ∙ is) there)
+
+  left_alone : HasVersionsAlone new.files
+  left_alone path within there = h.alone path within (was_there path there (map.get old.files path) refl)
+
   pub fewer_commits : HoldsCommits commits (max first to) new
   fewer_commits = record {
     newest = ⊎_elim (λ (none : (first ≡ 0) × (length commits ≡ 0)). let no = none.1 in absurd (omega (arith, no, few))) (λ (less : first < length commits). inr (omega (arith, less, few))) h.newest;
@@ -169,6 +197,7 @@ module _ (commits : List (List ℕ)) (first to : ℕ) (old new : Disk) (sheds : 
         let was = h.only version here.1 in
         let low = was.0 in
         (omega (arith, from, low), was.1);
+    alone = left_alone;
     clean = λ path within. sheds.clean path (h.clean path within);
   }
 

@@ -1,5 +1,5 @@
 -- Why the syncs of a list of events are answered so.
-use Rattle.std.specs.Prelude.{◌≡◌, ◌⊎◌, ◌+◌, ℕ, Bool, true, false, List, [], ◌∷◌, ◌++◌, drop, length, slice_get, Some}
+use Rattle.std.specs.Prelude.{◌≡◌, ◌⊎◌, ◌+◌, ℕ, Bool, true, false, List, [], ◌∷◌, ◌++◌, drop, length, slice_get, Contains, Some}
 use Rattle.conformance.specs.declared.event.Event.{Event}
 use Rattle.conformance.specs.declared.event.Event.TheVariants as event
 use Rattle.lake_store.specs.Cause.{Rose}
@@ -8,6 +8,7 @@ use Rattle.lake_store.specs.Fuse.{CanFail}
 use Rattle.lake_store.specs.declared.fuse.Script.{Script}
 use Rattle.source_core.specs.Histories.{LeadAlong, ShowsTable}
 use Rattle.table_history.specs.History.{History}
+use Rattle.table_history.specs.TypeTree.{ColumnTrees}
 use Rattle.table_history.specs.declared.feature.Feature.{Feature}
 use Rattle.table_history.specs.declared.feature.Feature.TheVariants.{NeedsCheckpoint}
 use Rattle.table_history.specs.declared.kind.Kind.{Kind}
@@ -68,7 +69,16 @@ pub record IsOver (target : TargetFacts) (history : History) (commits : List (Li
 abbrev pub LeadFrom : History → ℕ → View → List Commit → Type 0
 LeadFrom history j start commits = ((k : ℕ) × (entry : List ℕ × Table) × (j ≡ k + 1) × (slice_get history k ≡ Some entry) × LeadAlong entry.1 (drop (k + 1) history) commits) ⊎ IsToLast history start commits
 
--- Commits that lead from one table of the history to a later one don't fit the target that stands there, for this feature.
+-- Each schema that one of the commits states is that of a table of the history.
+abbrev pub StateSchemasOf : History → List Commit → Type 0
+StateSchemasOf history commits = (commit : Commit) (schema : ColumnTrees) → Contains commits commit → commit.change.schema ≡ Some schema → (entry : List ℕ × Table) × Contains history entry × (entry.1.schema ≡ schema)
+
+-- a table of the history has these partition columns
+abbrev pub HasColumns : History → List (List ℕ) → Type 0
+HasColumns history partition = (entry : List ℕ × Table) × Contains history entry × (entry.1.partition ≡ partition)
+
+-- Commits that lead from one table of the history to a later one, of a source of its partition columns, don't fit the target that stands there, for this
+-- feature.
 pub record IsUnfitBetween (target : TargetFacts) (history : History) (commits : List (List ℕ)) (feature : Feature) (path : List ℕ) : Type 0 where
   pub files : Files
   pub over : IsOver target history commits files
@@ -82,7 +92,9 @@ pub record IsUnfitBetween (target : TargetFacts) (history : History) (commits : 
   pub count : length front ≡ length commits
   pub due : List Commit
   pub leads : LeadFrom front j start due
+  pub schemas : StateSchemasOf front due
   pub partition : List (List ℕ)
+  pub columns : HasColumns front partition
   pub unfit : target.unfit files partition due (target_error.Unsupported feature path)
 
 -- This number is passed in what is read, or in what would be written.

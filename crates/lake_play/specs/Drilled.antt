@@ -1,5 +1,6 @@
 -- What a drill leaves in its store, and what it prints of that.
 use Rattle.std.specs.Prelude.{◌≡◌, ◌⊎◌, ◌≤◌, ◌<◌, ℕ, true, List, ◌++◌, Some, slice_get, take}
+use Rattle.std.specs.List.{AllByRecursion}
 use Rattle.conformance.specs.Drill.{commit_count, drill_bytes, drill_time}
 use Rattle.conformance.specs.Events.{drill_events}
 use Rattle.conformance.specs.Histories.{AreLegal, IsHistoryOf}
@@ -18,6 +19,7 @@ use Rattle.source_delta.specs.Reading.{ShowsAtHead, ShowsFromScratch}
 use Rattle.table_history.specs.History.{History}
 use Rattle.table_history.specs.Row.{Row}
 use Rattle.table_history.specs.Rows.{IsInPathOrder, SameRows}
+use Rattle.table_history.specs.declared.feature.Feature.TheVariants.{TypeChange}
 use Rattle.table_history.specs.declared.kind.Kind.{Kind}
 use Rattle.table_history.specs.declared.kind.Kind.TheVariants.{Delta, Hudi, Iceberg}
 use Rattle.table_history.specs.declared.limit.LimitKind.{LimitKind}
@@ -26,13 +28,12 @@ use Rattle.target_core.specs.Meaning.{Meaning}
 use Rattle.target_core.specs.Views.{IsOfSource, View}
 use Rattle.target_hudi.specs.Inspecting as hudi
 use Rattle.target_iceberg.specs.Inspecting as iceberg
-use Rattle.target_sync.specs.declared.status.Side.{Side}
 use Rattle.target_sync.specs.declared.status.Side.TheVariants as side
 use Rattle.target_sync.specs.declared.status.Status.{Status}
 use Rattle.target_sync.specs.declared.status.Status.TheVariants as status
 use Rattle.lake_play.specs.Lines.{source_line, target_line}
 use Rattle.lake_play.specs.Playing.{PlaysAll, nothing_played}
-use Rattle.lake_play.specs.Standing.{IsFresh, meaning_of_hudi, meaning_of_iceberg}
+use Rattle.lake_play.specs.Standing.{HasVersionsAlone, IsFresh, meaning_of_hudi, meaning_of_iceberg}
 use Rattle.lake_play.specs.declared.playing.Progress.{Progress}
 
 -- ---- what is left
@@ -42,12 +43,29 @@ pub record IsBrought (target : Meaning) (history : History) (files : Files) : Ty
   pub at : IsAt Delta target history files commit_count
   pub commits : target.commits_in files ≡ commit_count
 
--- The log holds the drill's commits as its versions from 0 on, and no other version. Of each history that they make, and there is one, both targets stand
--- at the last table.
+-- a sync is done, or the store failed in it
+abbrev pub IsEnded : Status → Type 0
+IsEnded given = (given ≡ status.Done) ⊎ (given ≡ status.StoreFault)
+
+-- The drill was played from a store without files that fails by no script, and each sync of it was done, or the store stopped in it. It left these files.
+pub record IsPlayedThrough (number : ℕ) (files : Files) : Type 0 where
+  pub start : FuseStore
+  pub fresh : IsFresh start
+  pub unscripted : ¬ CanFail (script_of start)
+  pub after : Progress
+  pub end : FuseStore
+  pub plays : PlaysAll drill_time (drill_events number true) nothing_played start after end
+  pub ended : AllByRecursion IsEnded after.answers
+  pub left : (fuse_disk end).files ≡ files
+
+-- The drill was played through. The log holds its commits as its versions from 0 on, and its folder has no other file. Of each history that they make, and
+-- there is one, both targets stand at the last table.
 pub record LeavesDrill (number : ℕ) (files : Files) : Type 0 where
+  pub played : IsPlayedThrough number files
   pub legal : AreLegal (drill_events number true)
   pub holds : (version : ℕ) → version < commit_count → HoldsVersion files version (drill_bytes number version)
   pub only : (version : ℕ) → HasVersion files version → version < commit_count
+  pub alone : HasVersionsAlone files
   pub hudi : (history : History) → IsHistoryOf (drill_events number true) history → IsBrought meaning_of_hudi history files
   pub iceberg : (history : History) → IsHistoryOf (drill_events number true) history → IsBrought meaning_of_iceberg history files
 
@@ -86,17 +104,16 @@ TellsTarget target files text = (view : View) → target.reads files view → Te
 
 -- ---- what isn't ruled out
 
--- what is read of the files at the end passes this number
-abbrev pub IsReadPast : Files → Side → LimitKind → ℕ → Type 0
-IsReadPast files side.Source which n = ShowsAtHead files (source_error.Limit which n) ⊎ ShowsFromScratch files (source_error.Limit which n)
-IsReadPast files (side.Target Delta) which n = ⊥
-IsReadPast files (side.Target Hudi) which n = hudi.IsCrowded Delta files which n
-IsReadPast files (side.Target Iceberg) which n = iceberg.IsCrowded Delta files which n
+-- what inspecting the target of this format reads of the files at the end passes this number
+abbrev pub IsReadPast : Files → Kind → LimitKind → ℕ → Type 0
+IsReadPast files Delta which n = ⊥
+IsReadPast files Hudi which n = hudi.IsCrowded Delta files which n
+IsReadPast files Iceberg which n = iceberg.IsCrowded Delta files which n
 
--- memory ran out, or what is read at the end passes a number
+-- memory ran out, or what is read of a target at the end passes a number
 abbrev pub IsReadEnd : Files → Status → Type 0
 IsReadEnd files status.Memory = Unit {0}
-IsReadEnd files (status.Limit of which n) = IsReadPast files of which n
+IsReadEnd files (status.Limit (side.Target target) which n) = IsReadPast files target which n
 IsReadEnd files _ = ⊥
 
 -- memory ran out, or what inspecting a target of this format reads passes a number
@@ -118,21 +135,15 @@ pub record IsRefusedSync (number : ℕ) (store : FuseStore) (given : Status) : T
   pub place : ℕ
   pub answered : slice_get after.answers place ≡ Some given
 
--- A number is passed, or commits don't fit a target.
+-- A number is passed in a target, or the type of a column of the Iceberg target would change.
 abbrev pub IsCutShort : ℕ → FuseStore → Status → Type 0
-IsCutShort number store (status.Limit of which n) = IsReadPast (fuse_disk store).files of which n ⊎ IsRefusedSync number store (status.Limit of which n)
-IsCutShort number store (status.Unsupported (side.Target target) feature path) = IsRefusedSync number store (status.Unsupported (side.Target target) feature path)
+IsCutShort number store (status.Limit (side.Target target) which n) = IsReadPast (fuse_disk store).files target which n ⊎ IsRefusedSync number store (status.Limit (side.Target target) which n)
+IsCutShort number store (status.Unsupported (side.Target Iceberg) TypeChange path) = IsRefusedSync number store (status.Unsupported (side.Target Iceberg) TypeChange path)
 IsCutShort number store _ = ⊥
 
 -- memory ran out, or the drill is cut short
 abbrev pub IsDrillEnd : ℕ → FuseStore → Status → Type 0
 IsDrillEnd number store given = (given ≡ status.Memory) ⊎ IsCutShort number store given
-
--- ---- answers of syncs
-
--- a sync is done, or the store failed in it
-abbrev pub IsEnded : Status → Type 0
-IsEnded given = (given ≡ status.Done) ⊎ (given ≡ status.StoreFault)
 
 -- ---- putting
 

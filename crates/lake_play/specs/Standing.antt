@@ -1,11 +1,13 @@
 -- Where lists of events leave the source and the targets.
-use Rattle.std.specs.Prelude.{◌≡◌, ◌⊎◌, ◌≤◌, ◌<◌, ◌+◌, ◌&&◌, max, ℕ, Bool, true, false, List, [], ◌∷◌, length, slice_get, Some, if◌then◌else◌}
+use Rattle.std.specs.Prelude.{◌≡◌, ◌⊎◌, ◌≤◌, ◌<◌, ◌+◌, ◌&&◌, max, ℕ, Bool, true, false, List, [], ◌∷◌, length, slice_get, IsSome, Some, if◌then◌else◌}
+use Rattle.std.specs.FinMap as map
 use Rattle.conformance.specs.Histories.{extensions}
 use Rattle.conformance.specs.declared.event.Event.{Event}
 use Rattle.conformance.specs.declared.event.Event.TheVariants as event
-use Rattle.delta_table.specs.Versions.{HasVersion, HoldsVersion}
+use Rattle.delta_table.specs.Versions.{HasVersion, HoldsVersion, IsVersionPath, log_folder}
 use Rattle.lake_store.specs.Disk.{Disk, Files, MayLeave, empty_disk}
 use Rattle.lake_store.specs.Fuse.{contests_of, faults_of, fuse_disk}
+use Rattle.lake_store.specs.Runs.{IsIn}
 use Rattle.lake_store.specs.declared.fuse.FuseStore.{FuseStore}
 use Rattle.source_core.specs.Histories.{IsAt}
 use Rattle.table_history.specs.History.{History}
@@ -65,10 +67,15 @@ floor_of target events answers = floor_from target 0 0 events answers
 
 -- ---- the source
 
--- The log holds the commits from one of them on, each as the version of its place, and no other version.
+-- Each file in the log's folder is that of a version.
+abbrev pub HasVersionsAlone : Files → Type 0
+HasVersionsAlone files = (path : List ℕ) → IsIn log_folder path → IsSome (map.get files path) → (version : ℕ) × IsVersionPath path version
+
+-- The log holds the commits from one of them on, each as the version of its place, and its folder has no other file.
 pub record HoldsFrom (first : ℕ) (commits : List (List ℕ)) (files : Files) : Type 0 where
   pub holds : (version : ℕ) (bytes : List ℕ) → first ≤ version → slice_get commits version ≡ Some bytes → HoldsVersion files version bytes
   pub only : (version : ℕ) → HasVersion files version → (first ≤ version) × (version < length commits)
+  pub alone : HasVersionsAlone files
 
 -- the first version that Shortens leave, where those below this one are gone
 abbrev pub first_from : ℕ → List Event → ℕ

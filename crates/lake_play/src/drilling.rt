@@ -1,6 +1,7 @@
 //! The drill: a table's history of 200 commits, brought to two targets through stops and crashes.
 ghost use Rattle.std.specs.Prelude.{◌≡◌, ◌++◌, ℕ, List, false, slice_get, true, IfErr, IfOk, OnOk, Some, string_bytes};
 ghost use Rattle.std.specs.List.{AllByRecursion};
+ghost use Rattle.conformance.specs.Drill.{AreSaid};
 ghost use Rattle.conformance.specs.Events.{drill_events};
 ghost use Rattle.conformance.specs.Histories.{IsHistoryOf};
 ghost use Rattle.lake_store.specs.Fuse.{CanFail, fuse_disk, script_of};
@@ -63,6 +64,7 @@ fn play_drill(alloc: Global, number: u64, store: &mut FuseStore) -> Result<(), S
     requires fresh { IsFresh store.old }
     requires unscripted { ¬ CanFail (script_of store.old) }
     ensures leaves { OnOk result (LeavesDrill number (fuse_disk store.new).files) }
+    ensures said { OnOk result (AreSaid number) }
     ensures refused { IfErr result (IsDrillEnd number store.new) }
 {
     let Ok(events) = events(alloc, number, true) else {
@@ -92,6 +94,7 @@ fn source_table(alloc: Global, store: &mut MemoryStore) -> Result<Table, SourceE
 /// The line of the source of the drill of a number, which has its commits.
 fn line_of_source(alloc: Global, number: u64, store: &mut MemoryStore) -> Result<String, Status>
     requires leaves { LeavesDrill number (disk_of store.old).files }
+    requires said { AreSaid number }
     ensures line { IfOk result (λ text. (history : History)
         → IsHistoryOf (drill_events number true) history
         → TellsLast (source_line number) history (string_bytes text)) }
@@ -179,6 +182,7 @@ fn line_of_iceberg(alloc: Global, store: &mut MemoryStore) -> Result<String, Sta
 /// The lines that tell of the source and of both targets.
 fn lines_of(alloc: Global, number: u64, store: &mut MemoryStore) -> Result<Summary, Status>
     requires leaves { LeavesDrill number (disk_of store.old).files }
+    requires said { AreSaid number }
     ensures lines { IfOk result (λ lines. (history : History)
         → IsHistoryOf (drill_events number true) history
         → AreDrillLines number history (string_bytes lines.source
@@ -213,7 +217,8 @@ fn drill_over<O: Sink>(alloc: Global, number: u64, store: &mut FuseStore, out: &
 
 /// Plays the drill of a number over a store that it makes, prints a line of the source and one of
 /// each target by a put of its own, and hands the store back as it stands. It ends with Done,
-/// with Memory, with SinkFault where the sink failed, or as a sync ended for which a number is passed.
+/// with Memory, with SinkFault where the sink failed, or as a sync of a target ended for which a
+/// number is passed, or the type of a column of the Iceberg target would change.
 pub fn drill<O: Sink>(alloc: Global, number: u64, out: &mut O) -> (Status, FuseStore)
     ensures { Drills ⟦<O as Sink>⟧ number out.old out.new result.0 result.1 }
 {

@@ -6,7 +6,7 @@ use Rattle.lake_play.proofs.DrillEnds.{lines_put, nothing_put, read_end}
 use Rattle.lake_play.proofs.drilling.drill_over.Goals as goal
 
 pub lines_of-requires : goal.lines_of-requires
-lines_of-requires g c = record { leaves = subst (λ (m : Memory). LeavesDrill c.args.number (disk_of m).files) (sym c.inner.ensures.inner) c.in-Ok.ensures.leaves }
+lines_of-requires g c = record { leaves = subst (λ (m : Memory). LeavesDrill c.args.number (disk_of m).files) (sym c.inner.ensures.inner) c.in-Ok.ensures.leaves; said = c.in-Ok.ensures.said }
 
 pub returns-in-Ok-lines_of : goal.returns-in-Ok-lines_of
 returns-in-Ok-lines_of g c =

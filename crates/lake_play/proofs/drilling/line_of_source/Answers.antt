@@ -13,4 +13,4 @@ returns-in-Ok-source_line-clause-line c history is =
 
 pub returns-clause-refused : goal.returns-clause-refused
 returns-clause-refused c =
-    subst (IsReadEnd (disk_of c.args.store.now).files) (sym c.status_of_source.ensures) (table_end c.args.number (disk_of c.args.store.now).files c.requires.leaves c.in-Err.error c.in-Err.ensures.refused)
+    subst (IsReadEnd (disk_of c.args.store.now).files) (sym c.status_of_source.ensures) (table_end c.args.number (disk_of c.args.store.now).files c.requires.leaves c.requires.said c.in-Err.error c.in-Err.ensures.refused)

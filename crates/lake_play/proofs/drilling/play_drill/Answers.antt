@@ -3,7 +3,7 @@ use Rattle.std.proofs.lemmas.Result.{on_ok_weaker}
 use Rattle.conformance.specs.Histories.{AreLegal}
 use Rattle.conformance.specs.declared.event.Event.{Event}
 use Rattle.lake_play.proofs.Drills.{IsPlayedSo, end_of, leaves}
-use Rattle.lake_play.proofs.Reading.{if_err_weaker}
+use Rattle.lake_play.proofs.Reading.{if_err_weaker, on_ok_of}
 use Rattle.lake_play.proofs.drilling.play_drill.Goals as goal
 
 pub returns-in-Ok-play-clause-leaves : goal.returns-in-Ok-play-clause-leaves
@@ -21,7 +21,7 @@ returns-in-Ok-play-clause-leaves c =
       once = plays.once legal.order c.requires.fresh;
       caused = plays.caused legal.order c.requires.fresh;
     }) in
-    on_ok_weaker c.refusal_of.result (leaves c.args.number c.args.store.now c.play.new.store c.in-Ok-play.answers played c.requires.unscripted) c.refusal_of.ensures.ended
+    on_ok_weaker c.refusal_of.result (leaves c.args.number c.args.store.now c.play.new.store c.in-Ok-play.answers played c.requires.fresh c.requires.unscripted) c.refusal_of.ensures.ended
 
 pub returns-in-Ok-play-clause-refused : goal.returns-in-Ok-play-clause-refused
 returns-in-Ok-play-clause-refused c =
@@ -38,4 +38,7 @@ returns-in-Ok-play-clause-refused c =
       once = plays.once legal.order c.requires.fresh;
       caused = plays.caused legal.order c.requires.fresh;
     }) in
-    if_err_weaker c.refusal_of.result (λ e refused. end_of c.args.number c.args.store.now c.play.new.store c.in-Ok-play.answers played c.requires.fresh c.requires.unscripted refused.0 e refused.1 refused.2) c.refusal_of.ensures.refused
+    if_err_weaker c.refusal_of.result (λ e refused. end_of c.args.number c.args.store.now c.play.new.store c.in-Ok-play.answers played c.requires.fresh c.requires.unscripted c.in-Ok.ensures.said refused.0 e refused.1 refused.2) c.refusal_of.ensures.refused
+
+pub returns-in-Ok-play-clause-said : goal.returns-in-Ok-play-clause-said
+returns-in-Ok-play-clause-said c = on_ok_of c.refusal_of.result c.in-Ok.ensures.said
