@@ -1,6 +1,13 @@
 pub mod EscapeLemmas
+pub mod FeatureLemmas
+pub mod GrammarLemmas
+pub mod KeyLemmas
 pub mod LineLemmas
+pub mod LogicalLemmas
+pub mod NaturalLemmas
 pub mod PairLemmas
 pub mod ReadLemmas
 pub mod TableLemmas
+pub mod UnitLemmas
+pub mod WhiteLemmas
 pub mod WrittenLemmas

@@ -54,11 +54,11 @@ chars_again : (cs : List ℕ) → all_scalars cs ≡ true → utf16_chars (flat_
 chars_again [] h = utf16_chars-nil
 chars_again (c ∷ cs) h = let parts = both _ _ h in char_again (nat_lt c 65536) c (flat_map encode_utf16 cs) refl parts.0 ∙ ap (λ l. Some c ∷ l) (chars_again cs parts.1)
 
-none_unpaired : (cs : List ℕ) → list_any (λ o. not (is_some o)) (map Some cs) ≡ false
+pub none_unpaired : (cs : List ℕ) → list_any (λ o. not (is_some o)) (map Some cs) ≡ false
 none_unpaired [] = refl
 none_unpaired (c ∷ cs) = none_unpaired cs
 
-same_chars : (cs : List ℕ) → map (λ o. unwrap_or o 0xFFFD) (map Some cs) ≡ cs
+pub same_chars : (cs : List ℕ) → map (λ o. unwrap_or o 0xFFFD) (map Some cs) ≡ cs
 same_chars [] = refl
 same_chars (c ∷ cs) = ap (λ l. c ∷ l) (same_chars cs)
 

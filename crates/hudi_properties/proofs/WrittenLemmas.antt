@@ -102,7 +102,7 @@ hex_of d h = record {
   line_end = grind (arith, nat_tests);
 }
 
-layers : (u : ℕ) (o : Option (List ℕ)) → with_units [] (with_units [] (with_units [] (with_units [] (with_units [] (with_units (u ∷ []) o))))) ≡ with_units (u ∷ []) o
+pub layers : (u : ℕ) (o : Option (List ℕ)) → with_units [] (with_units [] (with_units [] (with_units [] (with_units [] (with_units (u ∷ []) o))))) ≡ with_units (u ∷ []) o
 layers u None = refl
 layers u (Some us) = refl
 

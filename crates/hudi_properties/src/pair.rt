@@ -1,7 +1,8 @@
 //! The pairs of a properties text.
 
-ghost use Rattle.std.specs.Prelude.{◌≡◌, ◌==◌, ◌≤◌, ◌+◌, length, false, IfOk, option_map};
+ghost use Rattle.std.specs.Prelude.{◌≡◌, ◌==◌, ◌≤◌, ◌+◌, ℕ, List, length, false, IfOk, IfErr, Ok, option_map};
 ghost use Rattle.hudi_names.specs.Errors.{Gives, GivesBy};
+ghost use Rattle.hudi_properties.specs.Grammar.{AreProperties, IsRefusal};
 ghost use Rattle.hudi_properties.specs.Pairs.{is_key_end, is_separator, key_len, value_of, pair_of, pair_at, pairs_of_lines, properties_of};
 
 use crate::escape::unescaped;
@@ -75,9 +76,24 @@ fn pair_at(alloc: Global, line: &LogicalLine) -> Result<(Text, Text), HudiError>
     }
 }
 
-#[tactic(auto, unfolding(crate::specs::Pairs::properties_of))]
-/// The pairs of the bytes, in the byte order of their keys. Of two with one key the later stands.
+/// The pairs of a properties text (java.util.Properties, `load`), in the byte order of their keys; of two
+/// with one key the later stands. `Malformed` names the line at which the first logical line at fault begins.
 pub fn read_properties(alloc: Global, bytes: &[u8]) -> Result<Pairs, HudiError>
+    // What is read are the pairs that the text gives.
+    ensures found { IfOk result (λ pairs. AreProperties bytes.now pairs) }
+    // The pairs that the text gives are read, unless memory runs out.
+    ensures only { (pairs : List (List ℕ × List ℕ)) → AreProperties bytes.now pairs
+        → Gives result (Ok pairs) }
+    // What is refused has a first logical line that gives no pair, which the error names.
+    ensures fault { IfErr result (λ e. IsRefusal bytes.now e) }
+    // The same as a function of the bytes.
+    ensures exact { Gives result (properties_of bytes.now) }
+{
+    pairs_of_text(alloc, bytes)
+}
+
+#[tactic(auto, unfolding(crate::specs::Pairs::properties_of))]
+fn pairs_of_text(alloc: Global, bytes: &[u8]) -> Result<Pairs, HudiError>
     ensures { Gives result (properties_of bytes.now) }
 {
     let lines = logical_lines(alloc, bytes)?;

@@ -1,8 +1,9 @@
 //! What the properties of a table say of it.
 
-ghost use Rattle.std.specs.Prelude.{◌≡◌, ◌-◌, ◌==◌, ◌<◌, ◌≤◌, ◌++◌, ◌∷◌, [], length, take, drop, map, filter, codes, slice_index, option_map, IfOk};
+ghost use Rattle.std.specs.Prelude.{◌≡◌, ◌-◌, ◌==◌, ◌<◌, ◌≤◌, ◌++◌, ◌∷◌, [], length, take, drop, map, filter, codes, slice_index, option_map, IfOk, IfErr, Ok};
 ghost use Rattle.std.specs.List.{prefix_len, suffix_len, slice_split};
 ghost use Rattle.hudi_names.specs.Errors.{Gives};
+ghost use Rattle.hudi_properties.specs.TableFeatures.{ShowNone, IsTableRefusal};
 ghost use Rattle.hudi_properties.specs.TableProperties.{property, is_word, shows_hudi_version, is_other_format, is_custom_class, is_custom_generator, first_feature, is_space, without_spaces, is_name, names_in, table_of, checked_table};
 
 use crate::pair::Pairs;
@@ -26,6 +27,19 @@ pub struct HudiTable {
 /// The table that the properties describe. A table of another type, version, file format or key
 /// generator than those that are read is refused, the first of these deciding.
 pub fn check_properties(alloc: Global, pairs: &Pairs) -> Result<HudiTable, HudiError>
+    // A table is given where the properties show no feature, and it is what they say.
+    ensures found { IfOk result (λ table. ShowNone pairs.now × (table ≡ table_of pairs.now)) }
+    // Where they show none the table is given, unless memory runs out.
+    ensures only { ShowNone pairs.now → Gives result (Ok (table_of pairs.now)) }
+    // What is refused names the first feature that they show.
+    ensures fault { IfErr result (λ e. IsTableRefusal pairs.now e) }
+    // The same as a function of the pairs.
+    ensures exact { Gives result (checked_table pairs.now) }
+{
+    checked_table(alloc, pairs)
+}
+
+fn checked_table(alloc: Global, pairs: &Pairs) -> Result<HudiTable, HudiError>
     ensures { Gives result (checked_table pairs.now) }
 {
     match first_feature(pairs.as_slice()) {
