@@ -1,12 +1,13 @@
 -- The first feature that is told is the first that the properties show.
-use Rattle.std.proofs.Common.{◌≡◌, ◌≢◌, ◌⊎◌, inl, inr, ⊎_elim, ℕ, ◌-◌, List, [], ◌∷◌, ◌++◌, length, take, drop, codes, Option, Some, None, option_map, Bool, true, false, cond, not, Result, Ok, Err, Bor, refl, sym, ap, subst, ◌∙◌, reverse, All, Contains, arith}
+use Rattle.std.proofs.Common.{◌≡◌, ◌≢◌, ◌⊎◌, inl, inr, ⊎_elim, ℕ, ◌-◌, List, [], ◌∷◌, ◌++◌, length, take, codes, Option, Some, None, option_map, Bool, true, false, cond, not, Result, Ok, Err, refl, sym, ap, subst, ◌∙◌, reverse, All, Contains, arith}
 use Rattle.std.specs.Prelude.{find, nat_eq, ◌||◌, IfOk, IfErr}
 use Rattle.std.specs.List.{ends_with}
 use Rattle.std.specs.Option.{option_or}
 use Rattle.std.specs.Str.{bytes_eq, str_eq_ignore_ascii_case, str_to_ascii_lowercase}
 use Rattle.std.specs.Bool.{Decides}
-use Rattle.std.proofs.lemmas.Bool.Decides.{Decides-eqb}
+use Rattle.std.proofs.lemmas.Bool.Decides.{not_from_Decides, Decides-eqb, Decides-like, Decides-not, Decides-or}
 use Rattle.std.proofs.lemmas.List.{reverse-append}
+use Rattle.std.proofs.lemmas.Option.{same_Some}
 use Rattle.std.proofs.lemmas.List.Elements.{All-nil, All-cons, All-head, All-tail}
 use Rattle.std.proofs.lemmas.List.Folds.{find-append}
 use Rattle.std.proofs.lemmas.Slice.Eq.{bytes_eq-Decides, ends_is}
@@ -19,13 +20,11 @@ use Rattle.hudi_names.specs.declared.error.HudiError.TheVariants as errors
 use Rattle.hudi_names.specs.Errors.{Gives}
 use Rattle.hudi_properties.specs.declared.table.HudiTable.{HudiTable}
 use Rattle.hudi_properties.specs.TableProperties.{property, is_word, shows_hudi_type, shows_hudi_version, is_other_format, shows_file_format, is_custom_class, is_custom_generator, shows_key_generator, first_feature, table_of, unless_shown, checked_table}
+use Rattle.hudi_properties.proofs.WhiteLemmas.{denied}
 use Rattle.hudi_properties.specs.TableFeatures.{HasValue, IsInAnyCase, custom_classes, EndsIn, Shows, table_features, ShowNone, IsTableRefusal}
 
 abbrev Pairs : Type 0
 Pairs = List (List ℕ × List ℕ)
-
-some_same : {A : Type 0} (x y : A) → ◌≡◌ {A = Option A} (Some x) (Some y) → x ≡ y
-some_same x y e = cc
 
 -- ---- the value of a key
 
@@ -45,18 +44,11 @@ property_more key p ps =
     ap (λ (l : Pairs). option_map (λ (q : List ℕ × List ℕ). q.1) (find test l)) (reverse-append (p ∷ []) ps)
     ∙ ap (option_map (λ (q : List ℕ × List ℕ). q.1)) (find-append test (reverse ps) (p ∷ [])) ∙ chosen_by (find test (reverse ps)) (bytes_eq p.0 key) p
 
-key_other : (x key : List ℕ) → x ≢ key → bytes_eq x key ≡ false
-key_other x key other = by (bytes_eq x key) refl
-  where
-    by : (t : Bool) → bytes_eq x key ≡ t → bytes_eq x key ≡ false
-    by true is = absurd (other ((bytes_eq-Decides x key).0 is))
-    by false is = is
-
 none_value : (key : List ℕ) (ps : Pairs) → All (λ p. p.0 ≢ key) ps → property key ps ≡ None
 none_value key [] all = refl
 none_value key (p ∷ ps) all =
     property_more key p ps ∙ ap (λ o. chosen o (bytes_eq p.0 key) p.1) (none_value key ps (All-tail (λ q. q.0 ≢ key) p ps all))
-    ∙ ap (λ t. chosen None t p.1) (key_other p.0 key (All-head (λ q. q.0 ≢ key) p ps all))
+    ∙ ap (λ t. chosen None t p.1) (denied (bytes_eq p.0 key) (bytes_eq-Decides p.0 key) (All-head (λ q. q.0 ≢ key) p ps all))
 
 value_by : (key value : List ℕ) (front later : Pairs) → All (λ p. p.0 ≢ key) later → property key (front ++ (key, value) ∷ later) ≡ Some value
 value_by key value [] later last =
@@ -84,35 +76,30 @@ value_is key value (p ∷ ps) e = by (property key ps) (bytes_eq p.0 key) refl r
     by (Some v) t later is f rest = let h = rest (later ∙ f) in record { front = p ∷ h.front; later = h.later; split = ap (λ l. p ∷ l) h.split; last = h.last }
     by None true later is f rest =
         let same = (bytes_eq-Decides p.0 key).0 is in
-        let value_same = some_same p.1 value f in
+        let value_same = same_Some p.1 value f in
         record { front = []; later = ps; split = λ i. (same i, value_same i) ∷ ps; last = none_by key ps later }
     by None false later is f rest = absurd (cc)
 
 -- ---- tests
 
-not_decides : {P : Type 0} (t : Bool) → Decides t P → Decides (not t) (P → ⊥)
-not_decides true d = ((λ e. absurd (cc)), λ deny. absurd (deny (d.0 refl)))
-not_decides false d = ((λ e h. let yes = d.1 h in cc), λ deny. refl)
-
 word_by : (o : Option (List ℕ)) (word : List ℕ) → Decides (is_word o word) (o ≡ Some word)
 word_by None word = ((λ e. absurd (cc)), λ e. absurd (cc))
-word_by (Some value) word = let d = bytes_eq-Decides value word in ((λ e. ap Some (d.0 e)), λ e. d.1 (some_same value word e))
+word_by (Some value) word = let d = bytes_eq-Decides value word in ((λ e. ap Some (d.0 e)), λ e. d.1 (same_Some value word e))
 
 word_decides : (key word : List ℕ) (pairs : Pairs) → Decides (is_word (property key pairs) word) (HasValue pairs key word)
 word_decides key word pairs = let d = word_by (property key pairs) word in ((λ e. value_is key word pairs (d.0 e)), λ h. d.1 (value_of key word pairs h))
 
-neither_by : {P Q : Type 0} (x y : Bool) → Decides x P → Decides y Q → Decides (not (x || y)) ((P → ⊥) × (Q → ⊥))
-neither_by true y p q = ((λ e. absurd (cc)), λ deny. absurd (deny.0 (p.0 refl)))
-neither_by false true p q = ((λ e. absurd (cc)), λ deny. absurd (deny.1 (q.0 refl)))
-neither_by false false p q = ((λ e. ((λ h. let yes = p.1 h in cc), (λ h. let yes = q.1 h in cc))), λ deny. refl)
+neither_decides : {P Q : Type 0} (x y : Bool) → Decides x P → Decides y Q → Decides (not (x || y)) ((P → ⊥) × (Q → ⊥))
+neither_decides x y p q =
+    Decides-like (not (x || y)) (λ deny. ((λ h. deny (inl h)), (λ h. deny (inr h)))) (λ deny. ⊎_elim deny.0 deny.1) (Decides-not (x || y) (Decides-or x y p q))
 
 -- what is there and isn't this word in any letter case
 case_by : (o : Option (List ℕ)) (key : List ℕ) (pairs : Pairs) → property key pairs ≡ o → Decides (is_other_format o) ((format : List ℕ) × HasValue pairs key format × (IsInAnyCase format (codes "PARQUET") → ⊥))
 case_by None key pairs is = ((λ e. absurd (cc)), λ h. let there = value_of key h.0 pairs h.1 in absurd (cc))
 case_by (Some format) key pairs is =
-    let d = not_decides (str_eq_ignore_ascii_case format (codes "PARQUET")) (bytes_eq-Decides (str_to_ascii_lowercase format) (str_to_ascii_lowercase (codes "PARQUET"))) in (
+    let d = Decides-not (str_eq_ignore_ascii_case format (codes "PARQUET")) (bytes_eq-Decides (str_to_ascii_lowercase format) (str_to_ascii_lowercase (codes "PARQUET"))) in (
       (λ e. (format, value_is key format pairs is, d.0 e)),
-      λ h. let there = value_of key h.0 pairs h.1 in let same : h.0 ≡ format = some_same h.0 format (sym there ∙ is) in d.1 (subst (λ x. IsInAnyCase x (codes "PARQUET") → ⊥) same h.2),
+      λ h. let there = value_of key h.0 pairs h.1 in let same : h.0 ≡ format = same_Some h.0 format (sym there ∙ is) in d.1 (subst (λ x. IsInAnyCase x (codes "PARQUET") → ⊥) same h.2),
     )
 
 end_decides : (name ending : List ℕ) → Decides (ends_with nat_eq name ending) (EndsIn name ending)
@@ -120,17 +107,13 @@ end_decides name ending =
     let d = ends_is Decides-eqb name ending (ends_with nat_eq name ending) refl in
     ((λ e. (take (length name - length ending) name, d.0 e)), λ h. d.1 h.0 h.1)
 
-either_by : {P Q : Type 0} (x y : Bool) → Decides x P → Decides y Q → Decides (x || y) (P ⊎ Q)
-either_by true y p q = ((λ e. inl (p.0 refl)), λ h. refl)
-either_by false y p q = ((λ e. inr (q.0 e)), λ h. ⊎_elim (λ a. let yes = p.1 a in absurd (cc)) q.1 h)
-
 abbrev EndsInOne : List ℕ → Type 0
 EndsInOne name =
     ((EndsIn name (codes "TimestampBasedKeyGenerator") ⊎ EndsIn name (codes "TimestampBasedAvroKeyGenerator")) ⊎ EndsIn name (codes "CustomKeyGenerator")) ⊎ EndsIn name (codes "CustomAvroKeyGenerator")
 
 class_decides : (name : List ℕ) → Decides (is_custom_class name) (EndsInOne name)
 class_decides name =
-    either_by _ _ (either_by _ _ (either_by _ _ (end_decides name (codes "TimestampBasedKeyGenerator")) (end_decides name (codes "TimestampBasedAvroKeyGenerator"))) (end_decides name (codes "CustomKeyGenerator")))
+    Decides-or _ _ (Decides-or _ _ (Decides-or _ _ (end_decides name (codes "TimestampBasedKeyGenerator")) (end_decides name (codes "TimestampBasedAvroKeyGenerator"))) (end_decides name (codes "CustomKeyGenerator")))
     (end_decides name (codes "CustomAvroKeyGenerator"))
 
 abbrev HasEnding : List ℕ → Type 0
@@ -159,7 +142,7 @@ generator_by (Some class) key pairs is =
       (λ e. let ending = ending_of class (d.0 e) in (class, ending.0, value_is key class pairs is, ending.1, ending.2)),
       λ h.
           let there = value_of key h.0 pairs h.2 in
-          let same : h.0 ≡ class = some_same h.0 class (sym there ∙ is) in
+          let same : h.0 ≡ class = same_Some h.0 class (sym there ∙ is) in
           d.1 (subst EndsInOne same (one_of h.0 (h.1, h.3, h.4))),
     )
 
@@ -170,24 +153,21 @@ Tells : (Feature → Type 0) → Option Feature → Type 0
 Tells P None = NoneOf P table_features
 Tells P (Some feature) = IsFirst P table_features feature
 
-denies : {P : Type 0} (t : Bool) → t ≡ false → Decides t P → P → ⊥
-denies t is d h = let yes = d.1 h in cc
-
 module _ (P : Feature → Type 0) where
   told_by : (a b c d : Bool) → Decides a (P HudiType) → Decides b (P HudiVersion) → Decides c (P FileFormat) → Decides d (P KeyGenerator)
       → Tells P (cond a (Some HudiType) (cond b (Some HudiVersion) (cond c (Some FileFormat) (cond d (Some KeyGenerator) None))))
   unfolding Tells
   told_by true b c d p q r s = inl (refl, p.0 refl)
-  told_by false true c d p q r s = inr (denies false refl p, inl (refl, q.0 refl))
-  told_by false false true d p q r s = inr (denies false refl p, inr (denies false refl q, inl (refl, r.0 refl)))
-  told_by false false false true p q r s = inr (denies false refl p, inr (denies false refl q, inr (denies false refl r, inl (refl, s.0 refl))))
-  told_by false false false false p q r s = (denies false refl p, (denies false refl q, (denies false refl r, (denies false refl s, tt))))
+  told_by false true c d p q r s = inr (not_from_Decides false p refl, inl (refl, q.0 refl))
+  told_by false false true d p q r s = inr (not_from_Decides false p refl, inr (not_from_Decides false q refl, inl (refl, r.0 refl)))
+  told_by false false false true p q r s = inr (not_from_Decides false p refl, inr (not_from_Decides false q refl, inr (not_from_Decides false r refl, inl (refl, s.0 refl))))
+  told_by false false false false p q r s = (not_from_Decides false p refl, (not_from_Decides false q refl, (not_from_Decides false r refl, (not_from_Decides false s refl, tt))))
 
 first_told : (pairs : Pairs) → Tells (Shows pairs) (first_feature pairs)
 first_told pairs =
     told_by (Shows pairs) (shows_hudi_type pairs) (shows_hudi_version pairs) (shows_file_format pairs) (shows_key_generator pairs)
-    (not_decides (is_word (property (codes "hoodie.table.type") pairs) (codes "COPY_ON_WRITE")) (word_decides (codes "hoodie.table.type") (codes "COPY_ON_WRITE") pairs))
-    (neither_by (is_word (property (codes "hoodie.table.version") pairs) (codes "5")) (is_word (property (codes "hoodie.table.version") pairs) (codes "6"))
+    (Decides-not (is_word (property (codes "hoodie.table.type") pairs) (codes "COPY_ON_WRITE")) (word_decides (codes "hoodie.table.type") (codes "COPY_ON_WRITE") pairs))
+    (neither_decides (is_word (property (codes "hoodie.table.version") pairs) (codes "5")) (is_word (property (codes "hoodie.table.version") pairs) (codes "6"))
     (word_decides (codes "hoodie.table.version") (codes "5") pairs) (word_decides (codes "hoodie.table.version") (codes "6") pairs))
     (case_by (property (codes "hoodie.table.base.file.format") pairs) (codes "hoodie.table.base.file.format") pairs refl)
     (generator_by (property (codes "hoodie.table.keygenerator.class") pairs) (codes "hoodie.table.keygenerator.class") pairs refl)

@@ -1,7 +1,8 @@
 -- The pairs that are read are just those of a properties text, and what is refused has a first line at fault.
-use Rattle.std.proofs.Common.{◌≡◌, ◌⊎◌, inl, inr, ⊎_elim, ℕ, List, [], ◌∷◌, ◌++◌, take, drop, Option, Some, None, option_map, false, Result, Ok, Err, refl, sym, ap, subst, ◌∙◌}
+use Rattle.std.proofs.Common.{◌≡◌, ℕ, List, [], ◌∷◌, ◌++◌, take, drop, Option, Some, None, option_map, false, Result, Ok, Err, refl, sym, ap, subst, ◌∙◌}
 use Rattle.std.specs.Prelude.{option_and_then, filter, IfOk, IfErr}
 use Rattle.std.specs.List.{AllZip}
+use Rattle.std.proofs.lemmas.Option.{same_Some}
 use Rattle.lake_basics.specs.Outcome.{◌>>=◌, each}
 use Rattle.hudi_names.specs.declared.error.HudiError.{HudiError}
 use Rattle.hudi_names.specs.declared.error.HudiError.TheVariants as errors
@@ -10,16 +11,13 @@ use Rattle.hudi_properties.specs.declared.line.LogicalLine.{LogicalLine}
 use Rattle.hudi_properties.specs.Escapes.{unescaped}
 use Rattle.hudi_properties.specs.Lines.{natural_lines, logical_lines}
 use Rattle.hudi_properties.specs.Pairs.{key_len, value_of, pair_of, required_at, pair_at, in_order, is_filled, properties_of}
-use Rattle.hudi_properties.specs.Grammar.{AreLogicalLines, IsKey, IsElement, GivesPair, LineGives, AreFilledLines, AreProperties, IsFirstFault, IsRefusal}
+use Rattle.hudi_properties.specs.Grammar.{AreLogicalLines, GivesPair, LineGives, AreFilledLines, AreProperties, IsFirstFault, IsRefusal}
 use Rattle.hudi_properties.proofs.NaturalLemmas.{natural_once, natural_are}
 use Rattle.hudi_properties.proofs.LogicalLemmas.{logical_once, logical_are}
 use Rattle.hudi_properties.proofs.KeyLemmas.{key_once, key_is, element_once, element_is}
 use Rattle.hudi_properties.proofs.UnitLemmas.{text_once, text_is}
 
 -- ---- one line
-
-some_same : {A : Type 0} (x y : A) → ◌≡◌ {A = Option A} (Some x) (Some y) → x ≡ y
-some_same x y e = cc
 
 ok_same : {A : Type 0} (x y : A) → ◌≡◌ {A = Result A HudiError} (Ok x) (Ok y) → x ≡ y
 ok_same x y e = cc
@@ -28,7 +26,7 @@ two_parts : (k v : Option (List ℕ)) (pair : List ℕ × List ℕ) → option_a
 two_parts None v pair e = absurd (cc)
 two_parts (Some key) None pair e = absurd (cc)
 two_parts (Some key) (Some value) pair e =
-    let same : (key, value) ≡ pair = some_same (key, value) pair e in
+    let same : (key, value) ≡ pair = same_Some (key, value) pair e in
     (ap (λ (p : List ℕ × List ℕ). Some p.0) same, ap (λ (p : List ℕ × List ℕ). Some p.1) same)
 
 pair_is : (line : List ℕ) (pair : List ℕ × List ℕ) → pair_of line ≡ Some pair → GivesPair line pair

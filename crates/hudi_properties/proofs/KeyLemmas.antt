@@ -1,41 +1,23 @@
 -- The key and the element of a line are just those that it is cut into.
 use Rattle.std.proofs.Common.{◌≡◌, ◌⊎◌, inl, inr, ⊎_elim, ℕ, ◌+◌, List, [], ◌∷◌, ◌++◌, length, take, drop, Bool, true, false, cond, not, refl, sym, ap, subst, ◌∙◌, append_assoc, arith}
-use Rattle.std.specs.Prelude.{◌==◌, ◌||◌, ◌&&◌}
+use Rattle.std.specs.Prelude.{◌&&◌}
 use Rattle.std.proofs.Math.Seq.{take-append_seam, drop-append_seam}
-use Rattle.std.proofs.lemmas.Bool.Decides.{nat_tests}
+use Rattle.std.proofs.lemmas.Bool.{and_parts}
+use Rattle.std.proofs.lemmas.Bool.Decides.{not_from_Decides, Decides-eqb, Decides-or}
+use Rattle.std.specs.Bool.{Decides}
 use Rattle.std.proofs.lemmas.List.{append-nil}
-use Rattle.hudi_properties.specs.Lines.{trimmed, is_white, escapes, ends_escaped}
+use Rattle.hudi_properties.specs.Lines.{trimmed, escapes, ends_escaped}
 use Rattle.hudi_properties.specs.Pairs.{is_separator, is_key_end, key_len, behind_separator, value_of}
-use Rattle.hudi_properties.specs.Grammar.{Begins, IsWhite, IsBehindWhite, EscapesNext, IsSeparator, EndsKey, IsKey, IsElement}
-use Rattle.hudi_properties.proofs.WhiteLemmas.{white_is, white_of, fails, denied, behind_white, trimmed_once, ends-append, escaped_of, escaped_is}
+use Rattle.hudi_properties.specs.Grammar.{Begins, IsBehindWhite, EscapesNext, IsSeparator, EndsKey, IsKey, IsElement}
+use Rattle.hudi_properties.proofs.WhiteLemmas.{white_decides, denied, behind_white, trimmed_once, ends-append, escaped_decides}
 
 -- ---- tests
 
-either : (x y : Bool) → (x || y) ≡ true → (x ≡ true) ⊎ (y ≡ true)
-either true y h = inl refl
-either false y h = inr h
+separator_decides : (b : ℕ) → Decides (is_separator b) (IsSeparator b)
+separator_decides b = Decides-or _ _ (Decides-eqb b 61) (Decides-eqb b 58)
 
-or_right : (x y : Bool) → y ≡ true → (x || y) ≡ true
-or_right true y h = refl
-or_right false y h = h
-
-both : (x y : Bool) → (x && y) ≡ true → (x ≡ true) × (y ≡ true)
-both true y h = (refl, h)
-both false y h = absurd (cc)
-
-separator_is : (b : ℕ) → is_separator b ≡ true → IsSeparator b
-separator_is b h = ⊎_elim (λ (e : (b == 61) ≡ true). inl (grind (arith, nat_tests))) (λ (e : (b == 58) ≡ true). inr (grind (arith, nat_tests))) (either (b == 61) (b == 58) h)
-
-separator_of : (b : ℕ) → IsSeparator b → is_separator b ≡ true
-separator_of b (inl e) = subst (λ x. is_separator x ≡ true) (sym e) refl
-separator_of b (inr e) = subst (λ x. is_separator x ≡ true) (sym e) refl
-
-key_end_is : (b : ℕ) → is_key_end b ≡ true → EndsKey b
-key_end_is b h = ⊎_elim (λ s. inl (separator_is b s)) (λ w. inr (white_is b w)) (either (is_separator b) (is_white b) h)
-
-key_end_of : (b : ℕ) → EndsKey b → is_key_end b ≡ true
-key_end_of b (inl s) = rw (separator_of b s) refl
-key_end_of b (inr w) = or_right (is_separator b) (is_white b) (white_of b w)
+key_end_decides : (b : ℕ) → Decides (is_key_end b) (EndsKey b)
+key_end_decides b = Decides-or _ _ (separator_decides b) (white_decides b)
 
 -- ---- keys
 
@@ -53,15 +35,15 @@ same_end front s b is = ap (λ x. escapes x b) is ∙ sym (ends-append false fro
 stays_by : (front : List ℕ) (s : Bool) (b : ℕ) → s ≡ ends_escaped false front → (EndsKey b → EscapesNext (front ++ [])) → (not s && is_key_end b) ≡ false
 stays_by front true b is escaped = refl
 stays_by front false b is escaped =
-    denied (EndsKey b) (is_key_end b) (key_end_is b) (λ ends. let next = escaped_of front (subst EscapesNext (append-nil front) (escaped ends)) in cc)
+    denied (is_key_end b) (key_end_decides b) (λ ends. let next = (escaped_decides front).1 (subst EscapesNext (append-nil front) (escaped ends)) in cc)
 
 stops_here : (front behind : List ℕ) (s : Bool) → s ≡ ends_escaped false front → Stops front [] behind → key_len s behind ≡ 0
 stops_here front [] s is ends = refl
 stops_here front (b ∷ behind) s is (inl none) = absurd (cc)
 stops_here front (b ∷ behind) s is (inr ends) =
-    let open_end : ends_escaped false front ≡ false = denied (EscapesNext front) (ends_escaped false front) (escaped_is front) (λ h. ends.1 (subst EscapesNext (sym (append-nil front)) h)) in
+    let open_end : ends_escaped false front ≡ false = denied (ends_escaped false front) (escaped_decides front) (λ h. ends.1 (subst EscapesNext (sym (append-nil front)) h)) in
     let free : s ≡ false = is ∙ open_end in
-    rw (free, key_end_of b ends.0) refl
+    rw (free, (key_end_decides b).1 ends.0) refl
 
 key_reach : (front key behind : List ℕ) (s : Bool) → s ≡ ends_escaped false front → IsWithin front key → Stops front key behind → key_len s (key ++ behind) ≡ length key
 key_reach front [] behind s is within ends = stops_here front behind s is ends
@@ -93,8 +75,8 @@ none_within [] b more e = absurd (cc)
 none_within (x ∷ start) b more e = absurd (cc)
 
 within_more : (front key : List ℕ) (b : ℕ) (s : Bool) → s ≡ ends_escaped false front → (not s && is_key_end b) ≡ false → IsWithin (front ++ b ∷ []) key → IsWithin front (b ∷ key)
-within_more front key b true is stays within [] c more e end = escaped_is (front ++ []) (subst (λ l. ends_escaped false l ≡ true) (sym (append-nil front)) (sym is))
-within_more front key b false is stays within [] c more e end = let same : c ≡ b = cc in let yes = key_end_of b (subst EndsKey same end) in absurd (cc)
+within_more front key b true is stays within [] c more e end = (escaped_decides (front ++ [])).0 (subst (λ l. ends_escaped false l ≡ true) (sym (append-nil front)) (sym is))
+within_more front key b false is stays within [] c more e end = let same : c ≡ b = cc in let yes = (key_end_decides b).1 (subst EndsKey same end) in absurd (cc)
 within_more front key b s is stays within (x ∷ start) c more e end =
     let same : b ≡ x = cc in
     subst (λ y. EscapesNext (front ++ y ∷ start)) same (subst EscapesNext (append_assoc front (b ∷ []) start) (within start c more (cc) end))
@@ -105,12 +87,12 @@ reaches (b ∷ bs) front s is = by (not s && is_key_end b) refl (reaches bs (fro
   where
     by : (x : Bool) → (not s && is_key_end b) ≡ x → Reaches (front ++ b ∷ []) bs (escapes s b) → Reaches front (b ∷ bs) s
     by true stop rest =
-        let parts = both (not s) (is_key_end b) stop in
+        let parts = and_parts (not s) (is_key_end b) stop in
         record {
           key = [];
           behind = b ∷ bs;
           split = refl;
-          ends = inr (key_end_is b parts.1, λ h. let next = escaped_of front (subst EscapesNext (append-nil front) h) in let free = parts.0 in let taken : s ≡ true = is ∙ next in let no = rw taken at free in absurd (cc));
+          ends = inr ((key_end_decides b).0 parts.1, λ h. let next = (escaped_decides front).1 (subst EscapesNext (append-nil front) h) in let free = parts.0 in let taken : s ≡ true = is ∙ next in let no = rw taken at free in absurd (cc));
           within = λ start c more e _. absurd (none_within start c more e);
           len = rw stop refl;
         }
@@ -139,8 +121,8 @@ abbrev HasElement : List ℕ → List ℕ → Type 0
 HasElement rest element = ((Begins IsSeparator rest → ⊥) × (element ≡ rest)) ⊎ ((b : ℕ) × (more : List ℕ) × (rest ≡ b ∷ more) × IsSeparator b × IsBehindWhite more element)
 
 element_by : (b : ℕ) (bs : List ℕ) (x : Bool) → is_separator b ≡ x → HasElement (b ∷ bs) (cond x (trimmed bs) (b ∷ bs))
-element_by b bs true is = inr (b, bs, refl, separator_is b is, behind_white bs)
-element_by b bs false is = inl (fails (IsSeparator b) (is_separator b) (separator_of b) is, refl)
+element_by b bs true is = inr (b, bs, refl, (separator_decides b).0 is, behind_white bs)
+element_by b bs false is = inl (not_from_Decides (is_separator b) (separator_decides b) is, refl)
 
 element_behind : (rest : List ℕ) → HasElement rest (behind_separator rest)
 element_behind [] = inl ((λ h. h), refl)
@@ -151,12 +133,12 @@ element_is behind = (trimmed behind, behind_white behind, element_behind (trimme
 
 no_separator : (rest : List ℕ) → (Begins IsSeparator rest → ⊥) → behind_separator rest ≡ rest
 no_separator [] other = refl
-no_separator (b ∷ bs) other = let no = denied (IsSeparator b) (is_separator b) (separator_is b) other in rw no refl
+no_separator (b ∷ bs) other = let no = denied (is_separator b) (separator_decides b) other in rw no refl
 
 element_of : (rest element : List ℕ) → HasElement rest element → behind_separator rest ≡ element
 element_of rest element (inl h) = no_separator rest h.0 ∙ sym h.1
 element_of rest element (inr h) =
-    let one : behind_separator (h.0 ∷ h.1) ≡ trimmed h.1 = rw (separator_of h.0 h.3) refl in
+    let one : behind_separator (h.0 ∷ h.1) ≡ trimmed h.1 = rw ((separator_decides h.0).1 h.3) refl in
     ap behind_separator h.2 ∙ one ∙ trimmed_once h.1 element h.4
 
 pub element_once : (behind element : List ℕ) → IsElement behind element → value_of behind ≡ element

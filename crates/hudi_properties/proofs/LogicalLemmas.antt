@@ -1,25 +1,18 @@
 -- The logical lines of natural lines are just those that these are joined to.
-use Rattle.std.proofs.Common.{◌≡◌, ◌⊎◌, inl, inr, ⊎_elim, ℕ, suc, ◌+◌, ◌-◌, List, [], ◌∷◌, ◌++◌, length, take, Option, Some, None, Bool, true, false, refl, sym, ap, subst, ◌∙◌, append_assoc, arith}
-use Rattle.std.specs.Prelude.{flat_map, option_to_list}
+use Rattle.std.proofs.Common.{◌≡◌, inl, inr, ℕ, ◌+◌, ◌-◌, List, [], ◌∷◌, ◌++◌, length, take, Some, None, Bool, true, false, refl, sym, ap, subst, ◌∙◌, append_assoc, arith}
+use Rattle.std.specs.Prelude.{flat_map}
+use Rattle.std.proofs.lemmas.Bool.Decides.{not_from_Decides}
 use Rattle.std.proofs.lemmas.List.{append-nil}
 use Rattle.hudi_properties.specs.declared.line.LogicalLine.{LogicalLine}
-use Rattle.hudi_properties.specs.Lines.{trimmed, is_comment, is_continued, extended, logical_from, logical_lines, natural_lines}
-use Rattle.hudi_properties.specs.Grammar.{IsBehindWhite, IsComment, EscapesNext, EndsWith, GoesOnWith, Bring, Block, comment, logical, lines_of, IsBlock, AreBlocks, numbered, AreLogicalLines}
-use Rattle.hudi_properties.proofs.WhiteLemmas.{fails, denied, behind_white, trimmed_once, comment_is, comment_of, escaped_of, escaped_is, last_escapes, without_last}
+use Rattle.hudi_properties.specs.Lines.{trimmed, is_comment, is_continued, logical_from, logical_lines, natural_lines}
+use Rattle.hudi_properties.specs.Grammar.{IsBehindWhite, IsComment, EscapesNext, Bring, Block, comment, logical, lines_of, AreBlocks, numbered, AreLogicalLines}
+use Rattle.hudi_properties.proofs.WhiteLemmas.{denied, behind_white, trimmed_once, comment_decides, escaped_decides, last_escapes, without_last}
 
 abbrev line_at : ℕ → List ℕ → LogicalLine
 line_at m content = record { number = m; content = content }
 
 all_lines : List Block → List (List ℕ)
 all_lines blocks = flat_map lines_of blocks
-
--- ---- one natural line
-
-not_escaped : (bs : List ℕ) → (EscapesNext bs → ⊥) → is_continued bs ≡ false
-not_escaped bs deny = denied (EscapesNext bs) (is_continued bs) (escaped_is bs) deny
-
-not_comment : (line : List ℕ) → (IsComment line → ⊥) → is_comment (trimmed line) ≡ false
-not_comment line deny = denied (IsComment line) (is_comment (trimmed line)) (comment_is line) deny
 
 -- ---- natural lines that are joined are the logical lines
 
@@ -31,7 +24,7 @@ bring_joins n m c behind content [] h =
     ap (logical_from n (Some (line_at m c))) h.0 ∙ ap (λ l. line_at m l ∷ []) (sym (append-nil c) ∙ ap (λ l. c ++ l) (sym h.1)) ∙ ap (λ b. line_at m (c ++ content) ∷ logical_from (n + 0) None b) (sym h.0)
 bring_joins n m c behind content (line ∷ lines) (inl h) =
     let trim : trimmed line ≡ content = trimmed_once line content h.0.0 in
-    let ends : is_continued (trimmed line) ≡ false = ap is_continued trim ∙ not_escaped content h.0.1 in
+    let ends : is_continued (trimmed line) ≡ false = ap is_continued trim ∙ denied (is_continued content) (escaped_decides content) h.0.1 in
     let one : logical_from n (Some (line_at m c)) (line ∷ (lines ++ behind)) ≡ line_at m (c ++ trimmed line) ∷ logical_from (n + 1) None (lines ++ behind) = rw ends in
     one ∙ ap (λ l. line_at m (c ++ l) ∷ logical_from (n + 1) None (lines ++ behind)) trim
     ∙ ap (λ ls. line_at m (c ++ content) ∷ logical_from (n + 1) None (ls ++ behind)) h.1
@@ -39,7 +32,7 @@ bring_joins n m c behind content (line ∷ lines) (inl h) =
 bring_joins n m c behind content (line ∷ lines) (inr h) =
     let part = h.0 in
     let trim : trimmed line ≡ part ++ 92 ∷ [] = trimmed_once line (part ++ 92 ∷ []) h.3.0 in
-    let goes_on : is_continued (trimmed line) ≡ true = ap is_continued trim ∙ escaped_of (part ++ 92 ∷ []) h.3.1 in
+    let goes_on : is_continued (trimmed line) ≡ true = ap is_continued trim ∙ (escaped_decides (part ++ 92 ∷ [])).1 h.3.1 in
     let cut : take (length (trimmed line) - 1) (trimmed line) ≡ part = ap (λ l. take (length l - 1) l) trim ∙ without_last part 92 in
     let one : logical_from n (Some (line_at m c)) (line ∷ (lines ++ behind)) ≡ logical_from (n + 1) (Some (line_at m (c ++ take (length (trimmed line) - 1) (trimmed line)))) (lines ++ behind) = rw goes_on in
     let count : n + 1 + length lines ≡ n + length (line ∷ lines) = omega arith in
@@ -57,11 +50,11 @@ blocks_join : (n : ℕ) (blocks : List Block) → AreBlocks blocks → logical_f
 unfolding logical_from
 blocks_join n [] h = refl
 blocks_join n (comment line ∷ blocks) h =
-    let is = comment_of line h.0 in
+    let is = (comment_decides line).1 h.0 in
     let one : logical_from n None (line ∷ flat_map lines_of blocks) ≡ logical_from (n + 1) None (flat_map lines_of blocks) = rw is in
     one ∙ blocks_join (n + 1) blocks h.1
 blocks_join n (logical line lines content ∷ blocks) h =
-    begins_line n line (lines ++ flat_map lines_of blocks) (not_comment line h.0.0)
+    begins_line n line (lines ++ flat_map lines_of blocks) (denied (is_comment (trimmed line)) (comment_decides line) h.0.0)
     ∙ bring_joins n n [] (flat_map lines_of blocks) content (line ∷ lines) h.0.1
     ∙ ap (λ ls. line_at n content ∷ ls) (blocks_join (n + length (line ∷ lines)) blocks h.1)
 
@@ -99,7 +92,7 @@ ends_here n m c line natural ends rest =
       content = trimmed line;
       blocks = rest.blocks;
       whole = ap (λ ls. line ∷ ls) rest.whole;
-      bring = inl ((behind_white line, fails (EscapesNext (trimmed line)) (is_continued (trimmed line)) (escaped_of (trimmed line)) ends), refl);
+      bring = inl ((behind_white line, not_from_Decides (is_continued (trimmed line)) (escaped_decides (trimmed line)) ends), refl);
       each = rest.each;
       are = one ∙ ap (λ ls. line_at m (c ++ trimmed line) ∷ ls) rest.are;
     }
@@ -107,7 +100,7 @@ ends_here n m c line natural ends rest =
 goes_further : (n m : ℕ) (c line : List ℕ) (natural : List (List ℕ)) → is_continued (trimmed line) ≡ true → ((d : List ℕ) → GoesOn (n + 1) m d natural) → GoesOn n m c (line ∷ natural)
 unfolding logical_from
 goes_further n m c line natural goes_on more =
-    let escapes = escaped_is (trimmed line) goes_on in
+    let escapes = (escaped_decides (trimmed line)).0 goes_on in
     let last = last_escapes (trimmed line) escapes in
     let part = last.0 in
     let rest = more (c ++ part) in
@@ -138,7 +131,7 @@ begun : (n : ℕ) (line : List ℕ) (natural : List (List ℕ)) → is_comment (
 begun n line natural silent [] content blocks whole bring each are = let none = whole ∙ bring.0 in absurd (cc)
 begun n line natural silent (first ∷ lines) content blocks whole bring each are =
     let same : line ≡ first = cc in
-    let apart : IsComment first → ⊥ = subst (λ l. IsComment l → ⊥) same (fails (IsComment line) (is_comment (trimmed line)) (comment_of line) silent) in
+    let apart : IsComment first → ⊥ = subst (λ l. IsComment l → ⊥) same (not_from_Decides (is_comment (trimmed line)) (comment_decides line) silent) in
     record { blocks = logical first lines content ∷ blocks; whole = whole; each = ((apart, bring), each); are = begins_line n line natural silent ∙ are }
 
 starts_by : (n : ℕ) (line : List ℕ) (natural : List (List ℕ)) (x : Bool) → is_comment (trimmed line) ≡ x → Joined natural → Starts n (line ∷ natural)
@@ -146,7 +139,7 @@ unfolding logical_from Joined
 starts_by n line natural true is rest =
     let more = rest.0 (n + 1) in
     let one : logical_from n None (line ∷ natural) ≡ logical_from (n + 1) None natural = rw is in
-    record { blocks = comment line ∷ more.blocks; whole = ap (λ ls. line ∷ ls) more.whole; each = (comment_is line is, more.each); are = one ∙ more.are }
+    record { blocks = comment line ∷ more.blocks; whole = ap (λ ls. line ∷ ls) more.whole; each = ((comment_decides line).0 is, more.each); are = one ∙ more.are }
 starts_by n line natural false is rest =
     let g = goes_by n n [] line natural (is_continued (trimmed line)) refl rest in
     begun n line natural is g.lines g.content g.blocks g.whole g.bring g.each g.are

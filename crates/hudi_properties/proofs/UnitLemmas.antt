@@ -1,6 +1,6 @@
 -- The text that bytes with escapes spell is just the one that is read.
-use Rattle.std.proofs.Common.{◌≡◌, ◌≢◌, ◌⊎◌, inl, inr, ℕ, zero, suc, ◌+◌, ◌*◌, List, [], ◌∷◌, ◌++◌, map, Option, Some, None, option_map, Bool, true, false, cond, not, refl, sym, ap, subst, ◌∙◌, append_assoc, arith}
-use Rattle.std.specs.Prelude.{◌==◌, ◌||◌, option_and_then, option_to_list, is_some}
+use Rattle.std.proofs.Common.{◌≡◌, ◌⊎◌, inl, inr, ℕ, zero, suc, ◌+◌, ◌*◌, List, [], ◌∷◌, ◌++◌, map, Option, Some, None, Bool, true, false, cond, not, refl, sym, ap, subst, ◌∙◌, append_assoc, arith}
+use Rattle.std.specs.Prelude.{◌==◌, option_and_then, option_to_list, is_some}
 use Rattle.std.specs.Char.{is_digit, digit_value}
 use Rattle.std.specs.Char.Utf16.{utf16_chars, has_unpaired_surrogate, utf16_lossy_chars}
 use Rattle.std.specs.List.{AllZip, concat, list_any}
@@ -8,16 +8,14 @@ use Rattle.std.specs.Option.{unwrap_or}
 use Rattle.std.specs.Str.{encode_utf8_all}
 use Rattle.std.proofs.lemmas.Bool.Decides.{nat_tests}
 use Rattle.std.proofs.lemmas.List.{append-nil}
+use Rattle.std.proofs.lemmas.Option.{same_Some}
 use Rattle.hudi_properties.specs.declared.escape.Escape.{Escape}
 use Rattle.hudi_properties.specs.declared.escape.Escape.TheVariants.{Outside, Backslash, Hex}
 use Rattle.hudi_properties.specs.Escapes.{named, with_digit, step, units_from, utf16_text, unescaped}
-use Rattle.hudi_properties.specs.Grammar.{IsHexDigit, SpellsInHex, Spells, SpellUnits, AreUnitsOf, SpellsText}
+use Rattle.hudi_properties.specs.Grammar.{IsHexDigit, Spells, SpellUnits, AreUnitsOf, SpellsText}
 use Rattle.hudi_properties.proofs.EscapeLemmas.{with_units, with_units-none, units_step, units_stop}
 use Rattle.hudi_properties.proofs.ReadLemmas.{none_unpaired, same_chars}
 use Rattle.hudi_properties.proofs.WrittenLemmas.{layers}
-
-some_same : {A : Type 0} (x y : A) → ◌≡◌ {A = Option A} (Some x) (Some y) → x ≡ y
-some_same x y e = cc
 
 -- ---- one byte
 
@@ -41,25 +39,25 @@ abbrev Advances : List ℕ → ℕ → Escape × Option ℕ → Type 0
 Advances front b r = Moves front b r.0 r.1
 
 outside_by : (b : ℕ) (x : Bool) → (b == 92) ≡ x → (r : Escape × Option ℕ) → cond x (Some (Backslash, None)) (Some (Outside, Some b)) ≡ Some r → Advances [] b r
-outside_by b true is r e = let same : b ≡ 92 = grind (arith, nat_tests) in subst (Advances [] b) (some_same (Backslash, None) r e) (ap (λ c. c ∷ []) same)
-outside_by b false is r e = subst (Advances [] b) (some_same (Outside, Some b) r e) (refl, inl (refl, λ same. absurd (grind (arith, nat_tests))))
+outside_by b true is r e = let same : b ≡ 92 = grind (arith, nat_tests) in subst (Advances [] b) (same_Some (Backslash, None) r e) (ap (λ c. c ∷ []) same)
+outside_by b false is r e = subst (Advances [] b) (same_Some (Outside, Some b) r e) (refl, inl (refl, λ same. absurd (grind (arith, nat_tests))))
 
 backslash_by : (b : ℕ) (x : Bool) → (b == 117) ≡ x → (r : Escape × Option ℕ) → cond x (Some (Hex 0 0, None)) (Some (Outside, Some (named b))) ≡ Some r → Advances (92 ∷ []) b r
-backslash_by b true is r e = let same : b ≡ 117 = grind (arith, nat_tests) in subst (Advances (92 ∷ []) b) (some_same (Hex 0 0, None) r e) (ap (λ c. 92 ∷ c ∷ []) same, refl)
-backslash_by b false is r e = subst (Advances (92 ∷ []) b) (some_same (Outside, Some (named b)) r e) (refl, inr (inl (b, refl, (λ same. absurd (grind (arith, nat_tests))), refl)))
+backslash_by b true is r e = let same : b ≡ 117 = grind (arith, nat_tests) in subst (Advances (92 ∷ []) b) (same_Some (Hex 0 0, None) r e) (ap (λ c. 92 ∷ c ∷ []) same, refl)
+backslash_by b false is r e = subst (Advances (92 ∷ []) b) (same_Some (Outside, Some (named b)) r e) (refl, inr (inl (b, refl, (λ same. absurd (grind (arith, nat_tests))), refl)))
 
 -- a hex digit behind others
 hex_by : (d v b : ℕ) (front : List ℕ) (x : Bool) → is_digit b 16 ≡ x → (r : Escape × Option ℕ) → cond x (with_digit d (v * 16 + digit_value b)) None ≡ Some r → Before (Hex d v) front → Advances front b r
 hex_by d v b front false is r e before = absurd (cc)
 hex_by zero v b front true is r e before =
     let value : v * 16 + digit_value b ≡ digit_value b = rw before.1 (omega arith) in
-    subst (Advances front b) (some_same (Hex 1 (v * 16 + digit_value b), None) r e) (b, ap (λ f. f ++ b ∷ []) before.0, is, value)
+    subst (Advances front b) (same_Some (Hex 1 (v * 16 + digit_value b), None) r e) (b, ap (λ f. f ++ b ∷ []) before.0, is, value)
 hex_by (suc zero) v b front true is r e (a, at, da, is_v) =
-    subst (Advances front b) (some_same (Hex 2 (v * 16 + digit_value b), None) r e) (a, b, ap (λ f. f ++ b ∷ []) at, da, is, ap (λ w. w * 16 + digit_value b) is_v)
+    subst (Advances front b) (same_Some (Hex 2 (v * 16 + digit_value b), None) r e) (a, b, ap (λ f. f ++ b ∷ []) at, da, is, ap (λ w. w * 16 + digit_value b) is_v)
 hex_by (suc (suc zero)) v c front true is r e (a, b, at, da, db, is_v) =
-    subst (Advances front c) (some_same (Hex 3 (v * 16 + digit_value c), None) r e) (a, b, c, ap (λ f. f ++ c ∷ []) at, da, db, is, ap (λ w. w * 16 + digit_value c) is_v)
+    subst (Advances front c) (same_Some (Hex 3 (v * 16 + digit_value c), None) r e) (a, b, c, ap (λ f. f ++ c ∷ []) at, da, db, is, ap (λ w. w * 16 + digit_value c) is_v)
 hex_by (suc (suc (suc zero))) v d front true is r e (a, b, c, at, da, db, dc, is_v) =
-    subst (Advances front d) (some_same (Outside, Some (v * 16 + digit_value d)) r e)
+    subst (Advances front d) (same_Some (Outside, Some (v * 16 + digit_value d)) r e)
     (refl, inr (inr (record { a = a; b = b; c = c; d = d; spelled = ap (λ f. f ++ d ∷ []) at; digits = (da, db, dc, is); value = ap (λ w. w * 16 + digit_value d) is_v })))
 hex_by (suc (suc (suc (suc n)))) v d front true is r e before = absurd before
 
@@ -72,7 +70,7 @@ advance (Hex d v) b front r before e = hex_by d v b front (is_digit b 16) refl r
 
 units_parts : (front : List ℕ) (o : Option (List ℕ)) (units : List ℕ) → with_units front o ≡ Some units → (rest : List ℕ) × (o ≡ Some rest) × (units ≡ front ++ rest)
 units_parts front None units e = absurd (cc)
-units_parts front (Some rest) units e = (rest, refl, sym (some_same (front ++ rest) units e))
+units_parts front (Some rest) units e = (rest, refl, sym (same_Some (front ++ rest) units e))
 
 one_byte : (state next : Escape) (b : ℕ) (bs : List ℕ) (unit : Option ℕ) → step state b ≡ Some (next, unit) → units_from state (b ∷ bs) ≡ with_units (option_to_list unit) (units_from next bs)
 one_byte state next b bs unit is = sym (with_units-none (units_from state (b ∷ bs))) ∙ sym (units_step state next b bs unit [] is)
@@ -96,9 +94,9 @@ Later bs = (s : Escape) (f us : List ℕ) → Before s f → units_from s bs ≡
 spelled : (bytes : List ℕ) (state : Escape) (front units : List ℕ) → Before state front → units_from state bytes ≡ Some units → SpellUnits (front ++ bytes) units
 unfolding units_from
 spelled [] Outside front units before e =
-    subst (SpellUnits (front ++ [])) (some_same [] units e) (no_units (front ++ []) (inl (append-nil front ∙ before)))
+    subst (SpellUnits (front ++ [])) (same_Some [] units e) (no_units (front ++ []) (inl (append-nil front ∙ before)))
 spelled [] Backslash front units before e =
-    subst (SpellUnits (front ++ [])) (some_same [] units e) (no_units (front ++ []) (inr (append-nil front ∙ before)))
+    subst (SpellUnits (front ++ [])) (same_Some [] units e) (no_units (front ++ []) (inr (append-nil front ∙ before)))
 spelled [] (Hex d v) front units before e = absurd (cc)
 spelled (b ∷ bs) state front units before e = by (λ s f us h g. spelled bs s f us h g) (step state b) refl
   where
@@ -158,7 +156,7 @@ all_there (Some c ∷ os) e = ap (λ l. Some c ∷ l) (all_there os e)
 text_by : (units text : List ℕ) (x : Bool) → has_unpaired_surrogate units ≡ x → cond x None (Some (encode_utf8_all (utf16_lossy_chars units))) ≡ Some text → AreUnitsOf units text
 text_by units text true unpaired e = absurd (cc)
 text_by units text false paired e =
-    record { chars = utf16_lossy_chars units; utf16 = all_there (utf16_chars units) paired; utf8 = sym (some_same (encode_utf8_all (utf16_lossy_chars units)) text e) }
+    record { chars = utf16_lossy_chars units; utf16 = all_there (utf16_chars units) paired; utf8 = sym (same_Some (encode_utf8_all (utf16_lossy_chars units)) text e) }
 
 units_text : (units text : List ℕ) → AreUnitsOf units text → utf16_text units ≡ Some text
 units_text units text h =

@@ -1,37 +1,23 @@
 -- White space and backslashes, as tests and as they stand in the bytes.
-use Rattle.std.proofs.Common.{◌≡◌, ◌≢◌, ◌⊎◌, inl, inr, ℕ, zero, suc, ◌-◌, List, [], ◌∷◌, ◌++◌, length, take, drop, Bool, true, false, not, refl, sym, ap, subst, ◌∙◌, append_assoc, length-append, arith, All}
-use Rattle.std.specs.Prelude.{◌==◌, ◌||◌, ◌&&◌, take_while}
+use Rattle.std.proofs.Common.{◌≡◌, ◌≢◌, ◌⊎◌, ℕ, zero, suc, ◌-◌, List, [], ◌∷◌, ◌++◌, length, take, drop, Bool, true, false, refl, sym, ap, subst, ◌∙◌, append_assoc, length-append, arith, All}
+use Rattle.std.specs.Prelude.{◌==◌, take_while}
 use Rattle.std.proofs.Math.Seq.{take-append_seam}
-use Rattle.std.proofs.lemmas.Bool.Decides.{nat_tests}
+use Rattle.std.proofs.lemmas.Bool.{false_from_ne_true}
+use Rattle.std.proofs.lemmas.Bool.Decides.{nat_tests, not_from_Decides, Decides-eqb, Decides-or}
+use Rattle.std.specs.Bool.{Decides}
 use Rattle.std.proofs.lemmas.List.Sums.{take_while-cons}
 use Rattle.std.proofs.lemmas.List.Elements.{All-nil, All-cons, All-head, All-tail}
-use Rattle.hudi_properties.specs.Lines.{is_white, trimmed, is_comment, escapes, ends_escaped, is_continued}
+use Rattle.hudi_properties.specs.Lines.{is_white, trimmed, is_comment, escapes, ends_escaped}
 use Rattle.hudi_properties.specs.Grammar.{Begins, IsWhite, IsBehindWhite, IsComment, backslash_pairs, EscapesNext}
 
 -- ---- white space
 
-white_by : (b : ℕ) (x y z : Bool) → (b == 32) ≡ x → (b == 9) ≡ y → (b == 12) ≡ z → (x || y || z) ≡ true → IsWhite b
-white_by b true y z p q r h = inl (grind (arith, nat_tests))
-white_by b false true z p q r h = inr (inl (grind (arith, nat_tests)))
-white_by b false false true p q r h = inr (inr (grind (arith, nat_tests)))
-white_by b false false false p q r h = absurd (cc)
-
-pub white_is : (b : ℕ) → is_white b ≡ true → IsWhite b
-white_is b h = white_by b (b == 32) (b == 9) (b == 12) refl refl refl h
-
-pub white_of : (b : ℕ) → IsWhite b → is_white b ≡ true
-white_of b (inl e) = subst (λ x. is_white x ≡ true) (sym e) refl
-white_of b (inr (inl e)) = subst (λ x. is_white x ≡ true) (sym e) refl
-white_of b (inr (inr e)) = subst (λ x. is_white x ≡ true) (sym e) refl
-
--- A test that fails denies what it tells.
-pub fails : (P : Type 0) (test : Bool) → (P → test ≡ true) → test ≡ false → P → ⊥
-fails P test of fail h = let yes = of h in cc
+pub white_decides : (b : ℕ) → Decides (is_white b) (IsWhite b)
+white_decides b = Decides-or _ _ (Decides-or _ _ (Decides-eqb b 32) (Decides-eqb b 9)) (Decides-eqb b 12)
 
 -- What is denied fails its test.
-pub denied : (P : Type 0) (test : Bool) → (test ≡ true → P) → (P → ⊥) → test ≡ false
-denied P true is deny = absurd (deny (is refl))
-denied P false is deny = refl
+pub denied : {P : Type 0} (test : Bool) → Decides test P → (P → ⊥) → test ≡ false
+denied test d deny = false_from_ne_true test (λ e. deny (d.0 e))
 
 trimmed_white : (b : ℕ) (bs : List ℕ) → is_white b ≡ true → trimmed (b ∷ bs) ≡ trimmed bs
 trimmed_white b bs is =
@@ -50,8 +36,8 @@ white_none : (bs : List ℕ) → (Begins IsWhite bs → ⊥) → IsBehindWhite b
 white_none bs other = record { white = []; split = refl; skipped = All-nil IsWhite; ends = other }
 
 behind_by : (b : ℕ) (bs : List ℕ) (x : Bool) → is_white b ≡ x → IsBehindWhite bs (trimmed bs) → IsBehindWhite (b ∷ bs) (trimmed (b ∷ bs))
-behind_by b bs true is h = subst (IsBehindWhite (b ∷ bs)) (sym (trimmed_white b bs is)) (white_more b bs (trimmed bs) (white_is b is) h)
-behind_by b bs false is h = subst (IsBehindWhite (b ∷ bs)) (sym (trimmed_other b bs is)) (white_none (b ∷ bs) (fails (IsWhite b) (is_white b) (white_of b) is))
+behind_by b bs true is h = subst (IsBehindWhite (b ∷ bs)) (sym (trimmed_white b bs is)) (white_more b bs (trimmed bs) ((white_decides b).0 is) h)
+behind_by b bs false is h = subst (IsBehindWhite (b ∷ bs)) (sym (trimmed_other b bs is)) (white_none (b ∷ bs) (not_from_Decides (is_white b) (white_decides b) is))
 
 pub behind_white : (bs : List ℕ) → IsBehindWhite bs (trimmed bs)
 behind_white [] = white_none [] (λ h. h)
@@ -59,40 +45,27 @@ behind_white (b ∷ bs) = behind_by b bs (is_white b) refl (behind_white bs)
 
 unwhite : (rest : List ℕ) → (Begins IsWhite rest → ⊥) → trimmed rest ≡ rest
 unwhite [] other = refl
-unwhite (b ∷ bs) other = trimmed_other b bs (denied (IsWhite b) (is_white b) (white_is b) other)
+unwhite (b ∷ bs) other = trimmed_other b bs (denied (is_white b) (white_decides b) other)
 
 skip_white : (white rest : List ℕ) → All IsWhite white → (Begins IsWhite rest → ⊥) → trimmed (white ++ rest) ≡ rest
 skip_white [] rest all other = unwhite rest other
 skip_white (b ∷ white) rest all other =
-    trimmed_white b (white ++ rest) (white_of b (All-head IsWhite b white all)) ∙ skip_white white rest (All-tail IsWhite b white all) other
+    trimmed_white b (white ++ rest) ((white_decides b).1 (All-head IsWhite b white all)) ∙ skip_white white rest (All-tail IsWhite b white all) other
 
 pub trimmed_once : (bs rest : List ℕ) → IsBehindWhite bs rest → trimmed bs ≡ rest
 trimmed_once bs rest h = ap trimmed h.split ∙ skip_white h.white rest h.skipped h.ends
 
 -- ---- comments
 
-abbrev Marks : ℕ → Type 0
-Marks b = (b ≡ 35) ⊎ (b ≡ 33)
+mark_decides : (rest : List ℕ) → Decides (is_comment rest) (Begins (λ b. (b ≡ 35) ⊎ (b ≡ 33)) rest)
+mark_decides [] = ((λ e. absurd (cc)), λ h. absurd h)
+mark_decides (b ∷ bs) = Decides-or _ _ (Decides-eqb b 35) (Decides-eqb b 33)
 
-mark_by : (b : ℕ) (x y : Bool) → (b == 35) ≡ x → (b == 33) ≡ y → (x || y) ≡ true → Marks b
-mark_by b true y p q h = inl (grind (arith, nat_tests))
-mark_by b false true p q h = inr (grind (arith, nat_tests))
-mark_by b false false p q h = absurd (cc)
-
-mark_is : (rest : List ℕ) → is_comment rest ≡ true → Begins Marks rest
-mark_is [] h = absurd (cc)
-mark_is (b ∷ bs) h = mark_by b (b == 35) (b == 33) refl refl h
-
-mark_of : (rest : List ℕ) → Begins Marks rest → is_comment rest ≡ true
-mark_of [] h = absurd h
-mark_of (b ∷ bs) (inl e) = subst (λ x. is_comment (x ∷ bs) ≡ true) (sym e) refl
-mark_of (b ∷ bs) (inr e) = subst (λ x. is_comment (x ∷ bs) ≡ true) (sym e) refl
-
-pub comment_is : (line : List ℕ) → is_comment (trimmed line) ≡ true → IsComment line
-comment_is line h = (trimmed line, behind_white line, mark_is (trimmed line) h)
-
-pub comment_of : (line : List ℕ) → IsComment line → is_comment (trimmed line) ≡ true
-comment_of line h = ap is_comment (trimmed_once line h.0 h.1) ∙ mark_of h.0 h.2
+pub comment_decides : (line : List ℕ) → Decides (is_comment (trimmed line)) (IsComment line)
+comment_decides line = (
+  λ e. (trimmed line, behind_white line, (mark_decides (trimmed line)).0 e),
+  λ h. ap is_comment (trimmed_once line h.0 h.1) ∙ (mark_decides h.0).1 h.2,
+)
 
 -- ---- backslashes
 
@@ -114,7 +87,7 @@ unescaped_end [] s other empty = empty refl
 unescaped_end (b ∷ bs) s other empty =
     unescaped_end bs (escapes s b) (λ start e. other (b ∷ start) (ap (λ l. b ∷ l) e)) (λ none. other_escapes s b (λ is. other [] (λ i. is i ∷ none i)))
 
-pub escaped_of : (bs : List ℕ) → EscapesNext bs → ends_escaped false bs ≡ true
+escaped_of : (bs : List ℕ) → EscapesNext bs → ends_escaped false bs ≡ true
 escaped_of bs h =
     ap (ends_escaped false) h.split ∙ ends-append false h.front (92 ∷ backslash_pairs h.pairs)
     ∙ ap (λ s. ends_escaped s (92 ∷ backslash_pairs h.pairs)) (unescaped_end h.front false h.all (λ _. refl)) ∙ pairs_cancel true h.pairs
@@ -170,8 +143,11 @@ escaped_by bs front false n split all h =
     ap (ends_escaped false) split ∙ ends-append false front (backslash_pairs n) ∙ ap (λ s. ends_escaped s (backslash_pairs n)) (unescaped_end front false all (λ _. refl)) ∙ pairs_cancel false n in
     absurd (cc)
 
-pub escaped_is : (bs : List ℕ) → ends_escaped false bs ≡ true → EscapesNext bs
+escaped_is : (bs : List ℕ) → ends_escaped false bs ≡ true → EscapesNext bs
 escaped_is bs h = let e = end_of bs in escaped_by bs e.front e.odd e.pairs e.split e.all h
+
+pub escaped_decides : (bs : List ℕ) → Decides (ends_escaped false bs) (EscapesNext bs)
+escaped_decides bs = (escaped_is bs, escaped_of bs)
 
 turned : (n : ℕ) → 92 ∷ backslash_pairs n ≡ backslash_pairs n ++ 92 ∷ []
 turned zero = refl

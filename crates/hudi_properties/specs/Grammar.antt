@@ -42,7 +42,7 @@ AreNaturalLines bytes (line ∷ next ∷ lines) = (behind : List ℕ) × IsFirst
 
 -- space, tab and form feed
 abbrev pub IsWhite : ℕ → Type 0
-IsWhite b = (b ≡ 32) ⊎ ((b ≡ 9) ⊎ (b ≡ 12))
+IsWhite b = ((b ≡ 32) ⊎ (b ≡ 9)) ⊎ (b ≡ 12)
 
 -- The rest is what stands behind all white space at the start.
 pub record IsBehindWhite (bytes rest : List ℕ) : Type 0 where
