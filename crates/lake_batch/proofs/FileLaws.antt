@@ -1,5 +1,5 @@
 -- The front of a batch's file tells what the whole file does.
-use Rattle.std.proofs.Common.{◌≡◌, ◌<◌, ◌≤◌, ◌+◌, ℕ, List, [], ◌∷◌, length, take, drop, min, refl, sym, ◌∙◌, ap, subst, arith, length-take}
+use Rattle.std.proofs.Common.{◌≡◌, ◌<◌, ℕ, List, [], ◌∷◌, length, take, drop, min, refl, ◌∙◌, ap, subst, arith, length-take}
 use Rattle.std.specs.Prelude.{IfOk, Option, Some, None, Result, Ok, Err, IsErrOf}
 use Rattle.std.specs.Option.{option_map}
 use Rattle.std.specs.FinMap as map

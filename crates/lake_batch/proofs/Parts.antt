@@ -1,15 +1,14 @@
 -- Whatever the other tables of a batch hold and answer, each table's part is at its run as the batch found it, and stays as its run left it.
-use Rattle.std.proofs.Common.{◌≡◌, ◌≢◌, ◌⊎◌, inl, inr, ⊎_elim, ℕ, zero, suc, ◌+◌, ◌<◌, ◌≤◌, List, [], ◌∷◌, ◌++◌, length, map, refl, sym, ◌∙◌, ap, subst, arith, append_assoc, true, false}
-use Rattle.std.specs.Prelude.{All, Contains, Option, Some, None, slice_get}
+use Rattle.std.proofs.Common.{◌≡◌, ◌≢◌, ◌⊎◌, inl, inr, ⊎_elim, ℕ, zero, suc, ◌+◌, ◌≤◌, List, [], ◌∷◌, ◌++◌, length, map, refl, sym, ◌∙◌, ap, subst, arith, append_assoc, true, false}
+use Rattle.std.specs.Prelude.{Contains, Some, slice_get}
 use Rattle.std.specs.List.{AllByRecursion, IsDistinct}
 use Rattle.std.specs.Str.{bytes_eq}
 use Rattle.std.proofs.lemmas.List.Elements.{All-head, All-tail, Contains-append_right}
 use Rattle.std.proofs.lemmas.Slice.Eq.{bytes_eq-Decides}
-use Rattle.lake_store.specs.Disk.{Files, front_of}
 use Rattle.lake_store.specs.Runs.{IsIn, LeavesAlone}
 use Rattle.lake_store.specs.declared.sink.Sink as sinks
 use Rattle.lake_store.specs.declared.store.Store.{Ghosts}
-use Rattle.table_history.specs.Path.{IsPath, IsSegment}
+use Rattle.table_history.specs.Path.{IsPath}
 use Rattle.target_sync.specs.declared.status.Status.{Status}
 use Rattle.sync_driver.specs.Formats.{Formats}
 use Rattle.lake_batch.specs.Batch.{AreApart, AreFolders, folder_of}

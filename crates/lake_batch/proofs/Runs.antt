@@ -1,7 +1,6 @@
 -- How the tables of a batch are run, one table more, and what follows of a whole run.
-use Rattle.std.proofs.Common.{◌≡◌, ◌⊎◌, inl, inr, ⊎_elim, ℕ, suc, ◌+◌, ◌-◌, ◌^◌, ◌≤◌, min, Bool, true, false, List, [], ◌∷◌, ◌++◌, length, take, refl, sym, ◌∙◌, ap, subst, arith, cond}
-use Rattle.std.specs.Prelude.{Option, Some, None, slice_get, Contains, Result, Ok, Err}
-use Rattle.std.specs.List.{AllByRecursion}
+use Rattle.std.proofs.Common.{◌≡◌, ◌⊎◌, inl, inr, ⊎_elim, ℕ, ◌+◌, ◌≤◌, List, [], ◌∷◌, ◌++◌, length, take, refl, sym, ◌∙◌, ap, subst, arith, cond}
+use Rattle.std.specs.Prelude.{Some, slice_get, Contains, Ok, Err}
 use Rattle.std.proofs.lemmas.List.{append-nil}
 use Rattle.std.proofs.lemmas.List.Elements.{Contains-append_right}
 use Rattle.std.proofs.lemmas.List.Sums.{count_by-le-length, sum_by_push}
@@ -18,7 +17,7 @@ use Rattle.sync_driver.specs.Formats.{Formats}
 use Rattle.sync_driver.specs.Forms.{Words}
 use Rattle.sync_driver.specs.Tellings.{Tells}
 use Rattle.lake_batch.specs.Part.{IsBeside, StaysBeside, part_of}
-use Rattle.lake_batch.specs.Tables.{AreRun, AreWords, GoOn, HasRun, HaveRun, IsBesideEach, IsCutShort, IsEnd, IsEnded, IsWhole, RanTable, RunsBatch, RunsTable, batch_line, done_count, first_of, is_done, table_line}
+use Rattle.lake_batch.specs.Tables.{AreRun, AreWords, GoOn, HasRun, HaveRun, IsBesideEach, IsCutShort, IsEnd, IsEnded, RanTable, RunsBatch, RunsTable, batch_line, done_count, first_of, is_done, table_line}
 use Rattle.lake_batch.specs.declared.batch.Item.{Item}
 use Rattle.lake_batch.specs.declared.tables.Tally.{Tally}
 use Rattle.sync_driver.proofs.CommandEnds.{EndsBy, command_ends, command_gives}

@@ -1,5 +1,5 @@
 -- What a run over the tables of a batch does.
-use Rattle.std.specs.Prelude.{◌≡◌, ◌⊎◌, ◌++◌, ℕ, Bool, true, false, List, [], ◌∷◌, map, length, take, slice_get, codes, string_bytes, Option, Some, None, Result, Ok, Err, Contains}
+use Rattle.std.specs.Prelude.{◌≡◌, ◌⊎◌, ◌++◌, ℕ, Bool, true, false, List, [], ◌∷◌, map, length, take, slice_get, codes, string_bytes, Some, Result, Ok, Err, Contains}
 use Rattle.std.specs.Fmt.{decimal}
 use Rattle.std.specs.List.{AllByRecursion, count_by}
 use Rattle.lake_store.specs.Cause.{Rose}

@@ -1,8 +1,6 @@
-use Rattle.std.proofs.Common.{◌≡◌, ◌∙◌, List, ℕ, Option, Some, None, Result, Ok, Err, sym, ap, subst}
+use Rattle.std.proofs.Common.{◌≡◌, ◌∙◌, List, ℕ, Some, Result, Ok, Err, ap, subst}
 use Rattle.lake_basics.specs.declared.outcome.ReadError.{ReadError}
 use Rattle.lake_basics.specs.declared.outcome.ReadError.TheVariants as errors
-use Rattle.lake_store.specs.declared.store.StoreError.{StoreError}
-use Rattle.lake_store.specs.declared.store.StoreError.TheVariants as refused
 use Rattle.lake_batch.specs.Batch.{IsReadBy}
 use Rattle.lake_batch.specs.declared.batch.Batch.{Batch}
 use Rattle.lake_batch.specs.declared.batch.Why.{Why}

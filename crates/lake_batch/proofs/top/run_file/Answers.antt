@@ -1,5 +1,4 @@
-use Rattle.std.proofs.Common.{◌≡◌, ◌∙◌, Result, Ok, Err, refl, ap, subst}
-use Rattle.target_sync.specs.declared.status.Status.TheVariants.{Memory}
+use Rattle.std.proofs.Common.{◌∙◌, Result, Ok, Err, refl, ap, subst}
 use Rattle.lake_batch.specs.Whole.{ReadsFile}
 use Rattle.lake_batch.specs.declared.batch.Batch.{Batch}
 use Rattle.lake_batch.specs.declared.file.FileError.{FileError}
