@@ -1,5 +1,5 @@
 -- The commits of a drill fit both targets.
-use Rattle.std.proofs.Common.{◌≡◌, ◌≢◌, ◌⊎◌, inl, inr, ⊎_elim, ℕ, zero, suc, ◌+◌, ◌≤◌, ◌<◌, true, false, List, [], ◌∷◌, ◌++◌, drop, length, map, Contains, Option, Some, None, Result, Err, refl, sym, ap, subst, ◌∙◌, codes, arith}
+use Rattle.std.proofs.Common.{◌≡◌, ◌≢◌, ◌⊎◌, inl, inr, ⊎_elim, ℕ, zero, suc, ◌+◌, ◌≤◌, ◌<◌, true, List, [], ◌∷◌, drop, length, map, Contains, Option, Some, None, Result, Err, refl, sym, ap, subst, ◌∙◌, codes, arith}
 use Rattle.std.specs.Prelude.{is_ok, option_map, slice_get, unwrap_or}
 use Rattle.std.proofs.lemmas.Bool.{false≢true}
 use Rattle.std.proofs.lemmas.List.{length-append, length-drop}
@@ -226,8 +226,8 @@ module _ (number : ℕ) (t : HudiTarget) (commits : List (List ℕ)) (f : Featur
   stands : hudi_kept.StandsFor kept unfit.files
   stands = unfit.unfit.1.0
 
-  are : (commit : Commit) → Contains unfit.due commit → IsDrillCommit number commit
-  are = commits_are number facts (hudi_views t) commits f path unfit
+  due_are : (commit : Commit) → Contains unfit.due commit → IsDrillCommit number commit
+  due_are = commits_are number facts (hudi_views t) commits f path unfit
 
   same_columns : unfit.partition ≡ columns
   same_columns = partition_is number facts (hudi_views t) commits f path unfit
@@ -261,14 +261,14 @@ module _ (number : ℕ) (t : HudiTarget) (commits : List (List ℕ)) (f : Featur
       ⊎_elim
       (λ (other : (target : hudi.Held) × (hudi_kept.held_of kept ≡ Some target) × (target.partition ≢ unfit.partition)). other.2 ((holds other.0 other.1).0 ∙ sym same_columns))
       (λ (others : hudi.ChangesKinds (hudi.columns_of (hudi_kept.held_of kept)) unfit.partition unfit.due).
-      hudi_changes number (hudi.columns_of (hudi_kept.held_of kept)) unfit.due (columns_held (hudi_kept.held_of kept) refl) are
+      hudi_changes number (hudi.columns_of (hudi_kept.held_of kept)) unfit.due (columns_held (hudi_kept.held_of kept) refl) due_are
       (subst (λ (p : List (List ℕ)). hudi.ChangesKinds (hudi.columns_of (hudi_kept.held_of kept)) p unfit.due) same_columns others))
       changes.1
 
   pub hudi_fits : ⊥
   hudi_fits =
       hudi_fit.fits_by (hudi_kept.held_of kept) unfit.partition unfit.due (λ many. let few = few_due number facts (hudi_views t) commits f path unfit in omega (arith, many, few)) alike
-      (λ commit there. subst (λ (p : List (List ℕ)). hudi.HasNoFault p commit) (sym same_columns) (no_fault number commit (are commit there)))
+      (λ commit there. subst (λ (p : List (List ℕ)). hudi.HasNoFault p commit) (sym same_columns) (no_fault number commit (due_are commit there)))
       (target_error.Unsupported f path) unfit.unfit.2
 
 -- ---- Iceberg
