@@ -1,5 +1,5 @@
 -- What is told of a file that is refused.
-use Rattle.std.proofs.Common.{◌≡◌, ◌⊎◌, inr, ℕ, ◌<◌, List, Option, Some, refl, sym, subst, ◌∙◌, ⊎_elim}
+use Rattle.std.proofs.Common.{◌≡◌, ◌⊎◌, inl, inr, ℕ, ◌<◌, List, Option, Some, Ok, Err, refl, sym, subst, ◌∙◌, ⊎_elim}
 use Rattle.std.specs.FinMap as map
 use Rattle.lake_basics.specs.declared.limits.TheConstants.{MAX_FILE_BYTES}
 use Rattle.lake_store.specs.Disk.{Files, HasLength}
@@ -12,7 +12,10 @@ use Rattle.hudi_names.specs.declared.error.HudiError.{HudiError}
 use Rattle.hudi_names.specs.declared.error.HudiError.TheVariants as hudi
 use Rattle.hudi_instant.specs.declared.instant.Instant.{Instant}
 use Rattle.hudi_properties.specs.declared.table.HudiTable.{HudiTable}
-use Rattle.hudi_table.specs.Files.{SaysInstant}
+use Rattle.hudi_names.specs.Errors.{Gives}
+use Rattle.hudi_properties.specs.Pairs.{properties_of}
+use Rattle.hudi_properties.specs.TableProperties.{checked_table}
+use Rattle.hudi_table.specs.Files.{HasFault, SaysInstant}
 use Rattle.hudi_table.specs.Instants.{path_of}
 use Rattle.hudi_table.specs.Reading.{form_of}
 use Rattle.hudi_table.specs.Refusals.{IsChangeRefusal, IsFileRefusal, IsStepRefusal, TellsOf, error_at, error_of_read}
@@ -113,3 +116,12 @@ module _ (naming : Naming) (table : HudiTable) (c : CompletedInstant) (i : Insta
   -- and that is no fault of the store
   pub change_no_fault : (e : TimelineError) → IsChangeRefusal naming table c i base e → e ≡ error.StoreFault → ⊥
   change_no_fault e refused is = subst (IsChangeRefusal naming table c i base) is refused
+
+-- ---- properties
+
+-- what is refused of pairs that were read
+pub table_refused : (bytes : List ℕ) (pairs : List (List ℕ × List ℕ)) (e : HudiError) → properties_of bytes ≡ Ok pairs → Gives {A = HudiTable} (Err e) (checked_table pairs) → (e ≡ hudi.Memory) ⊎ HasFault bytes e
+table_refused bytes pairs hudi.Memory read gives = inl refl
+table_refused bytes pairs (hudi.Malformed n) read gives = inr (inr (pairs, read, gives))
+table_refused bytes pairs (hudi.Unsupported feature) read gives = inr (inr (pairs, read, gives))
+table_refused bytes pairs (hudi.Limit which) read gives = inr (inr (pairs, read, gives))
