@@ -4,3 +4,6 @@ pub mod Joins
 pub mod Moments
 pub mod Causes
 pub mod Counting
+pub mod Said
+pub mod Made
+pub mod Refused

@@ -3,3 +3,4 @@ pub mod Joinable
 pub mod Refusals
 pub mod Compacting
 pub mod Steps
+pub mod Whole

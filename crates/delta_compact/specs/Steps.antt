@@ -7,7 +7,7 @@ use Rattle.delta_compact.specs.Blocks.{HasCompaction, IsBlockPath}
 use Rattle.delta_compact.specs.Refusals.{IsStale}
 use Rattle.delta_compact.specs.declared.compacting.Counts.{Counts}
 use Rattle.delta_compact.specs.declared.error.CompactFault.{CompactFault}
-use Rattle.delta_compact.specs.declared.error.CompactFault.TheVariants.{Stale}
+use Rattle.delta_compact.specs.declared.error.CompactFault.TheVariants.{Memory, Stale, StoreFault}
 
 -- The commit that is told is one of so many.
 abbrev pub TellsAmong : ℕ → CompactError → Type 0
@@ -15,6 +15,12 @@ TellsAmong count join.Memory = Unit {0}
 TellsAmong count (join.Malformed index line) = index < count
 TellsAmong count (join.Unsupported feature index line) = index < count
 TellsAmong count (join.Limit which) = Unit {0}
+
+-- Memory ran out, or the store failed.
+abbrev pub IsPlainFault : CompactFault → Type 0
+IsPlainFault Memory = Unit {0}
+IsPlainFault StoreFault = Unit {0}
+IsPlainFault _ = ⊥
 
 -- Whether the log compaction is written: where none was there.
 abbrev pub IsWritten : Files → ℕ → Bool → Type 0

@@ -38,8 +38,8 @@ fn malformed(alloc: Global, version: u64) -> CompactFault
     }
 }
 
-/// What is told of the commit at a place in a block that shows a feature.
-fn unsupported(alloc: Global, feature: Feature, version: u64) -> CompactFault
+/// What is told of a version that shows a feature.
+pub(crate) fn unsupported(alloc: Global, feature: Feature, version: u64) -> CompactFault
     requires { version ≤ MAX_DELTA_VERSION }
     ensures told { HasCause (λ e. (path : List ℕ) × IsVersionPath path version
         × (e ≡ Unsupported feature path)) result }

@@ -8,6 +8,8 @@ mod error;
 mod joining;
 mod publishing;
 mod reading;
+mod whole;
 
 pub use compacting::{Compacted, compact};
 pub use error::CompactFault;
+pub use whole::whole_compacted;

@@ -92,8 +92,8 @@ fn ended_length(bytes: &[u8]) -> u64
     }
 }
 
-/// What is told of a block whose commits have too many bytes together.
-fn too_long() -> CompactFault
+/// What is told of too many bytes in one file, or in a block's commits together.
+pub(crate) fn too_long() -> CompactFault
     ensures { result ≡ Limit File MAX_FILE_BYTES }
 {
     CompactFault::Limit {
