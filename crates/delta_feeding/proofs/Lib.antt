@@ -1,0 +1,7 @@
+pub mod AnswerLemmas
+pub mod CutLemmas
+pub mod JoinLemmas
+pub mod PieceLemmas
+pub mod LawLemmas
+pub mod StateLemmas
+pub mod WritableLemmas

@@ -1,0 +1,4 @@
+pub mod Cut
+pub mod Feeding
+pub mod Joining
+pub mod Laws
