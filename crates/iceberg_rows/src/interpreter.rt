@@ -147,6 +147,7 @@ impl IcebergSteps {
             ["cut", path] => self.cut(path),
             ["clock", now_ms] => Ok(self.set_clock(now_ms)),
             ["rows", count] => Ok(self.set_more(count)),
+            ["stop", "after", calls, "calls"] => Ok(self.set_stop(calls)),
             _ => Ok(false),
         }
     }
@@ -165,6 +166,17 @@ impl IcebergSteps {
         match word.parse::<u32>() {
             Ok(count) => {
                 self.more = count;
+                true
+            }
+            Err(_) => false,
+        }
+    }
+
+    /// From now on each call of the store fails behind so many more.
+    fn set_stop(&mut self, word: &str) -> bool {
+        match word.parse::<u64>() {
+            Ok(calls) => {
+                self.store.set_stop(Some(calls));
                 true
             }
             Err(_) => false,
@@ -295,8 +307,27 @@ impl IcebergSteps {
         tell_since(alloc, &source, &mut self.store, position, &base, shown)
     }
 
+    /// Adds the commits after a position, over the table that the lines of a step say.
+    fn since_table(
+        &mut self,
+        position: &str,
+        step: &Step<'_>,
+        shown: &mut String,
+    ) -> Result<(), AllocError> {
+        let Some(base) = self.table_of(step)? else {
+            return shown.push_str("not asked: no table\n");
+        };
+        let source = IcebergSource::new();
+        tell_since(self.alloc, &source, &mut self.store, position, &base, shown)
+    }
+
     /// Does a step over the table as a source. Whether it is one.
-    fn do_source(&mut self, words: &[&str], shown: &mut String) -> Result<bool, AllocError> {
+    fn do_source(
+        &mut self,
+        words: &[&str],
+        step: &Step<'_>,
+        shown: &mut String,
+    ) -> Result<bool, AllocError> {
         let alloc = self.alloc;
         let source = IcebergSource::new();
         match words {
@@ -305,6 +336,7 @@ impl IcebergSteps {
             ["since"] => self.since("", &[], shown)?,
             ["since", position] => self.since(position, &[], shown)?,
             ["since", position, "over", names @ ..] => self.since(position, names, shown)?,
+            ["since", position, "behind"] => self.since_table(position, step, shown)?,
             _ => return Ok(false),
         }
         Ok(true)
@@ -341,7 +373,7 @@ impl IcebergSteps {
         shown: &mut String,
     ) -> Result<bool, AllocError> {
         let Some((kind, front)) = source_of(words) else {
-            return self.do_source(words, shown);
+            return self.do_source(words, step, shown);
         };
         match Kind::from_word(kind) {
             Some(source) => self.do_target(front, source, step, shown),

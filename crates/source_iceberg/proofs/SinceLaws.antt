@@ -1,5 +1,5 @@
 -- The commits of snapshots, one after another over a base.
-use Rattle.std.proofs.Common.{Bool, true, false, Result, Ok, Err, ◌≡◌, ◌≤◌, append_assoc, append-nil, inl, inr, ⊎_elim, ℕ, Option, Some, List, [], ◌∷◌, ◌++◌, Contains, length, refl, sym, ap, subst, ◌∙◌}
+use Rattle.std.proofs.Common.{Bool, true, false, Result, Ok, Err, ◌≡◌, ◌≤◌, append_assoc, append-nil, inl, inr, ⊎_elim, ℕ, Option, Some, List, [], ◌∷◌, ◌++◌, Contains, length, refl, sym, ap, subst, ◌∙◌, arith}
 use Rattle.std.specs.Prelude.{reverse, unwrap_or}
 use Rattle.std.specs.Bool.{Decides}
 use Rattle.std.specs.Cmp.Lexicographic.{pointwise}
@@ -25,7 +25,7 @@ use Rattle.source_core.specs.declared.error.SourceError.TheVariants as source
 use Rattle.source_iceberg.specs.HeadLemmas.{metadata_once}
 use Rattle.source_iceberg.specs.SinceLemmas.{ancestors_once}
 use Rattle.source_iceberg.specs.Heads.{IsNewestMetadata}
-use Rattle.source_iceberg.specs.Reading.{Tells}
+use Rattle.source_iceberg.specs.Reading.{IsRefusedSnapshot, Tells}
 use Rattle.table_history.specs.History.{FitColumns}
 use Rattle.table_history.specs.Rows.{HasDistinctPaths, HasPath, SameRows}
 use Rattle.table_history.specs.Tables.{CanApply, IsAfter, LeadsTo}
@@ -207,10 +207,13 @@ told_cause P (iceberg.Missing path) d h told = h
 told_cause P (iceberg.Large path) d h told = h
 told_cause P (iceberg.Refused path f) d h told = h
 
-pub snapshot_refused : (files : Files) (version : ℕ) (m : Metadata) (before : Table) (read : List Manifest) (s : Snapshot) → (SnapshotChanges m s before → ⊥) → (error : IcebergError) (e : SourceError) → IsRefusal (IsSnapshotRefusal files m version s) error → IsReadRefusal (Tells error) e
+pub snapshot_refused : (files : Files) (version : ℕ) (m : Metadata) (s : Snapshot) (error : IcebergError) (e : SourceError) → IsRefusal (IsSnapshotRefusal files m version s) error → IsReadRefusal (Tells error) e → IsReadRefusal (IsRefusedSnapshot files m version s) e
+snapshot_refused files version m s error e refused told = weaker (Tells error) (IsRefusedSnapshot files m version s) (λ d of. (error, told_cause (IsSnapshotRefusal files m version s) error d refused of, of)) e told
+
+pub whole_refused : (files : Files) (version : ℕ) (m : Metadata) (before : Table) (read : List Manifest) (s : Snapshot) → (SnapshotChanges m s before → ⊥) → (e : SourceError) → IsReadRefusal (IsRefusedSnapshot files m version s) e
     → IsReadRefusal (IsRefusedBehind files version m before read s) e
-snapshot_refused files version m before read s unchanged error e refused told =
-    weaker (Tells error) (IsRefusedBehind files version m before read s) (λ d of. inr (unchanged, inl (error, told_cause (IsSnapshotRefusal files m version s) error d refused of, of))) e told
+whole_refused files version m before read s unchanged e refused =
+    weaker (IsRefusedSnapshot files m version s) (IsRefusedBehind files version m before read s) (λ d of. inr (unchanged, inl of)) e refused
 
 pub stops_at : (files : Files) (version : ℕ) (m : Metadata) (base : Table) (snapshots front rest : List Snapshot) (s : Snapshot) (later : Later) → snapshots ≡ front ++ s ∷ rest → (made : Made files m base front later) → later.counted.entries ≤ MAX_ACTIONS
     → (e : SourceError) → IsReadRefusal (IsRefusedBehind files version m later.table made.0 s) e → IsReadRefusal (StopsBehind files version m base snapshots) e
@@ -287,3 +290,13 @@ pub behind_found : (files : Files) (m : Metadata) (base : Table) (given snapshot
     → (r : Result (List Commit) SourceError) → IfOk r (AreCommitsBehind files m base given) → IfOk r (AreCommitsOver files m base snapshots)
 behind_found files m base given snapshots same unchanged few (Ok commits) are = record { unchanged = unchanged; few = few; behind = subst (λ (ss : List Snapshot). AreCommitsBehind files m base ss commits) same are }
 behind_found files m base given snapshots same unchanged few (Err e) are = tt
+
+-- without snapshots there is no commit
+pub none_over : (files : Files) (m : Metadata) (base : Table) (snapshots : List Snapshot) (commits : List Commit) → snapshots ≡ [] → commits ≡ [] → (NamesOtherColumns m base → ⊥) → AreCommitsOver files m base snapshots commits
+none_over files m base snapshots commits none nothing unchanged =
+    subst (λ (ss : List Snapshot). AreCommitsOver files m base ss commits) (sym none)
+    (record { unchanged = unchanged; few = omega arith; behind = record { last = base; read = []; are = (nothing, refl, refl); few = omega arith } })
+
+pub no_snapshot : (snapshots : List Snapshot) → length snapshots ≡ 0 → snapshots ≡ []
+no_snapshot [] none = refl
+no_snapshot (s ∷ ss) none = absurd (omega (arith, none))

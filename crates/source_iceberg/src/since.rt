@@ -1,25 +1,28 @@
 //! The commits of an Iceberg table after a snapshot.
 
-ghost use Rattle.std.specs.Prelude.{◌≡◌, ◌≤◌, List, [], Some, IfErr, IfOk, IsErrOf};
+ghost use Rattle.std.specs.Prelude.{◌≡◌, ◌≤◌, List, [], None, IfErr, IfOk, IsErrOf};
 ghost use Rattle.std.specs.Fmt.{signed_decimal};
 ghost use Rattle.lake_basics.specs.declared.limits.TheConstants.{MAX_ACTIONS};
 ghost use Rattle.lake_store.specs.Runs.{FailsBy, IsUncontestedBy, OnlyReads};
-ghost use Rattle.table_history.specs.Tables.{CanApply, IsDiff, LeadsTo};
+ghost use Rattle.table_history.specs.Tables.{CanApply, IsAfter};
 ghost use Rattle.iceberg_metadata.specs.Writing.{IsWritable};
-ghost use Rattle.iceberg_table.specs.Snapshots.{HasColumnsOf, IsReadAs, IsTableOfSnapshot};
-ghost use Rattle.iceberg_table.specs.Tables.{IsTableOfSnapshots};
 ghost use Rattle.iceberg_table.specs.declared.manifest.Manifest.{Manifest};
 ghost use Rattle.target_core.specs.Conditions.{IsPublishable};
 ghost use Rattle.source_core.specs.Answers.{IsReadRefusal};
 ghost use Rattle.source_core.specs.Since.{CanApplyAll, CanApplySince, FitAll, FitSince, IsSinceAnswer, IsSinceRefusal};
 ghost use Rattle.source_core.specs.declared.error.SourceError.TheVariants.{StoreFault};
+ghost use Rattle.source_iceberg.specs.Behind.{GoesOn, IsListed, IsOwn};
 ghost use Rattle.source_iceberg.specs.Counted.{Counts};
 ghost use Rattle.source_iceberg.specs.Heads.{IsIcebergHead};
+ghost use Rattle.source_iceberg.specs.Reading.{IsRefusedSnapshot};
+ghost use Rattle.source_iceberg.specs.declared.behind.Listed.{Listed};
 ghost use Rattle.source_iceberg.specs.Since.{IsRefusedBehind, IsSince, Reaches, ShowsBehind, ShowsFromPosition, SnapshotChanges, StopsBehind, AreCommitsBehind, AreCommitsOver};
 ghost use Rattle.source_iceberg.specs.Later.{GoesOnBy, IsOneMore};
 
+use crate::behind::{Listed, Own, Step, step_of};
 use crate::columns::{names_other_columns, partition_change, snapshot_changes};
 use crate::counted::Counted;
+use crate::joining::Stop;
 use crate::later::{ancestors_to, later_ancestors};
 use crate::newest::newest_metadata;
 use crate::told::{lacks_head, limit, source_error};
@@ -33,64 +36,102 @@ use std::alloc::{AllocError, Global};
 use table_history::{Commit, Kind, LimitKind, Table};
 
 /// What the snapshots after a position have made so far: their commits, the table of the last one,
-/// and the manifests of their lists, each counted once.
+/// how many entries their manifests have, each counted once, and what was read of the last list.
 #[derive(Drop)]
 struct Later {
     commits: Items<Commit>,
     table: Table,
     counted: Counted,
+    listed: Listed,
 }
 
-/// The snapshot's own table over the one before it, whose partition columns it has.
-fn read_own<S: Store>(
+/// The snapshot read from scratch, whatever was read before.
+fn read_whole<S: Store>(
     alloc: Global,
     store: &mut S,
     metadata: &Metadata,
     version: u32,
     snapshot: &Snapshot,
     before: &Table,
-) -> Result<SnapshotTable, SourceError>
-    ensures read { S.tells → IfOk result
-        (IsReadAs (S.disk store.old).files metadata.now snapshot.now) }
-    ensures is { S.tells → IfOk result
-        (λ own. IsTableOfSnapshot (S.disk store.old).files metadata.now snapshot.now own.table) }
-    ensures columns { IfOk result (λ own. HasColumnsOf metadata.now snapshot.now own.table) }
-    ensures unchanged { IfOk result (λ _. ¬ SnapshotChanges metadata.now snapshot.now before.now) }
-    ensures sound { IsWritable metadata.now → IfOk result (λ own. IsTableOfSnapshots own.table) }
-    ensures refused { S.tells → (read : List Manifest) → IfErr result (IsReadRefusal (IsRefusedBehind
-        (S.disk store.old).files version metadata.now before.now read snapshot.now)) }
+) -> Result<Own, SourceError>
+    ensures own { (was : Listed) → IfOk result (IsOwn S.tells (S.disk store.old).files metadata.now
+        snapshot.now before.now was) }
+    ensures refused { S.tells → IfErr result (IsReadRefusal (IsRefusedSnapshot
+        (S.disk store.old).files metadata.now version snapshot.now)) }
     ensures only_reads { S.tells → OnlyReads ⟦<S as Store>⟧ store.old store.new }
     ensures cause { FailsBy ⟦<S as Store>⟧ store.old store.new (IsErrOf result StoreFault) }
     ensures contest { IsUncontestedBy ⟦<S as Store>⟧ store.old store.new ⊥ }
 {
-    if snapshot_changes(alloc, metadata, snapshot, before)? {
+    let SnapshotTable { table, manifests } = match read_snapshot(
+        alloc, store, metadata, version, snapshot,
+    ) {
+        Ok(read) => read,
+        Err(error) => return Err(source_error(error)),
+    };
+    let change = before.change_to(alloc, &table)?;
+    Ok(Own {
+        change,
+        table,
+        listed: Listed {
+            manifests,
+            columns: None,
+        },
+    })
+}
+
+/// The snapshot's own table, by what it makes of the table before it.
+fn own_behind(alloc: Global, before: Table, step: Step) -> Result<Own, AllocError>
+    requires { CanApply before step.change }
+    ensures after { IfOk result (λ o. IsAfter before step.change o.table) }
+    ensures same { IfOk result (λ o. (o.change ≡ step.change) × (o.listed ≡ step.listed)) }
+{
+    let Step { change, listed } = step;
+    let mut table = before;
+    table.apply(alloc, &change)?;
+    Ok(Own {
+        change,
+        table,
+        listed,
+    })
+}
+
+/// The snapshot's own table over the one before it, whose partition columns it has. A manifest that
+/// the list before named too isn't read again.
+fn read_own<S: Store>(
+    alloc: Global,
+    store: &mut S,
+    metadata: &Metadata,
+    version: u32,
+    snapshot: &Snapshot,
+    before: Table,
+    listed: Listed,
+) -> Result<Own, SourceError>
+    requires { GoesOn before listed }
+    ensures own { IfOk result (IsOwn S.tells (S.disk store.old).files metadata.now snapshot.now
+        before listed) }
+    ensures unchanged { IfOk result (λ _. ¬ SnapshotChanges metadata.now snapshot.now before) }
+    ensures refused { S.tells → (read : List Manifest) → IfErr result (IsReadRefusal (IsRefusedBehind
+        (S.disk store.old).files version metadata.now before read snapshot.now)) }
+    ensures only_reads { S.tells → OnlyReads ⟦<S as Store>⟧ store.old store.new }
+    ensures cause { FailsBy ⟦<S as Store>⟧ store.old store.new (IsErrOf result StoreFault) }
+    ensures contest { IsUncontestedBy ⟦<S as Store>⟧ store.old store.new ⊥ }
+{
+    if snapshot_changes(alloc, metadata, snapshot, &before)? {
         return Err(partition_change(alloc, version));
     }
-    match read_snapshot(alloc, store, metadata, version, snapshot) {
-        Ok(own) => Ok(own),
-        Err(error) => Err(source_error(error)),
+    match step_of(alloc, store, metadata, version, snapshot, &before, listed) {
+        Ok(step) => Ok(own_behind(alloc, before, step)?),
+        Err(Stop::Scratch) => read_whole(alloc, store, metadata, version, snapshot, &before),
+        Err(Stop::Memory) => Err(SourceError::Memory),
+        Err(Stop::StoreFault) => Err(SourceError::StoreFault),
     }
 }
 
-/// The commit of a snapshot, with what differs between the table before it and its own.
-fn commit_of(
-    alloc: Global,
-    snapshot: &Snapshot,
-    before: &Table,
-    own: &Table,
-) -> Result<Commit, AllocError>
-    ensures position { IfOk result (λ c. c.position ≡ signed_decimal snapshot.now.id) }
-    ensures diff { IfOk result
-        (λ c. IsDiff before.now.rows own.now.rows c.change.removed c.change.added) }
-    ensures schema { IfOk result (λ c. c.change.schema ≡ Some own.now.schema) }
-    ensures fits { IfOk result (λ c. CanApply before.now c.change) }
-    ensures leads { IfOk result
-        (λ c. LeadsTo before.now.rows c.change.removed c.change.added own.now.rows) }
+/// The position of a snapshot in the table's history.
+fn position_at(alloc: Global, snapshot: &Snapshot) -> Result<Text, AllocError>
+    ensures { IfOk result (λ position. position ≡ signed_decimal snapshot.now.id) }
 {
-    Ok(Commit {
-        position: position_of(alloc, Kind::Iceberg, snapshot.id)?,
-        change: before.change_to(alloc, own)?,
-    })
+    position_of(alloc, Kind::Iceberg, snapshot.id)
 }
 
 impl Later {
@@ -100,11 +141,16 @@ impl Later {
             (λ later. (later.commits ≡ []) × (later.table ≡ base.now)) }
         ensures counts { IfOk result (λ later. Counts [] later.counted) }
         ensures few { IfOk result (λ later. later.counted.entries ≤ MAX_ACTIONS) }
+        ensures on { IfOk result (λ later. later.listed.columns ≡ None) }
     {
         Ok(Later {
             commits: Items::new(alloc),
             table: base.copy(alloc)?,
             counted: Counted::new(alloc),
+            listed: Listed {
+                manifests: Items::new(alloc),
+                columns: None,
+            },
         })
     }
 
@@ -117,37 +163,53 @@ impl Later {
         version: u32,
         snapshot: &Snapshot,
     ) -> Result<Later, SourceError>
-        requires { self.counted.entries ≤ MAX_ACTIONS }
-        ensures next { S.tells → IfOk result
-            (IsOneMore (S.disk store.old).files metadata.now snapshot.now self) }
+        requires few { self.counted.entries ≤ MAX_ACTIONS }
+        requires on { GoesOn self.table self.listed }
+        ensures next { S.tells
+            → IsListed (S.disk store.old).files metadata.now.location self.listed
+            → IfOk result (IsOneMore (S.disk store.old).files metadata.now snapshot.now self) }
         ensures few { IfOk result (λ later. later.counted.entries ≤ MAX_ACTIONS) }
+        ensures on { IfOk result (λ later. GoesOn later.table later.listed) }
+        ensures listed { S.tells
+            → IsListed (S.disk store.old).files metadata.now.location self.listed
+            → IfOk result (λ later. IsListed (S.disk store.old).files metadata.now.location
+            later.listed) }
         ensures sound { IsWritable metadata.now → IfOk result (GoesOnBy self) }
-        ensures refused { S.tells → (read : List Manifest) → Counts read self.counted
+        ensures refused { S.tells
+            → IsListed (S.disk store.old).files metadata.now.location self.listed
+            → (read : List Manifest) → Counts read self.counted
             → IfErr result (IsReadRefusal (IsRefusedBehind (S.disk store.old).files version
             metadata.now self.table read snapshot.now)) }
         ensures only_reads { S.tells → OnlyReads ⟦<S as Store>⟧ store.old store.new }
         ensures cause { FailsBy ⟦<S as Store>⟧ store.old store.new (IsErrOf result StoreFault) }
         ensures contest { IsUncontestedBy ⟦<S as Store>⟧ store.old store.new ⊥ }
     {
-        let own = read_own(alloc, store, metadata, version, snapshot, &self.table)?;
-        let commit = commit_of(alloc, snapshot, &self.table, &own.table)?;
         let Later {
             mut commits,
+            table,
             counted: before,
-            ..
+            listed,
         } = self;
-        let counted = before.with_manifests(alloc, own.manifests.as_slice())?;
-        commits.push(commit)?;
+        let own = read_own(alloc, store, metadata, version, snapshot, table, listed)?;
+        let position = position_at(alloc, snapshot)?;
+        let counted = before.with_manifests(alloc, own.listed.manifests.as_slice())?;
+        let Own {
+            change,
+            table,
+            listed,
+        } = own;
+        commits.push(Commit { position, change })?;
         Ok(Later {
             commits,
-            table: own.table,
+            table,
             counted,
+            listed,
         })
     }
 }
 
-/// The commits of these snapshots, one after another over the base. Each list and each manifest of
-/// theirs is read once for each of them.
+/// The commits of these snapshots, one after another over the base. Each list is read once, and a
+/// manifest where the list before didn't name it.
 fn read_later<S: Store>(
     alloc: Global,
     store: &mut S,
@@ -199,6 +261,9 @@ fn commits_behind<S: Store>(
     }
     if snapshots.len() as u64 > MAX_COMMITS {
         return Err(limit(LimitKind::Commits));
+    }
+    if snapshots.is_empty() {
+        return Ok(Items::new(alloc));
     }
     read_later(alloc, store, metadata, version, snapshots.as_slice(), base)
 }

@@ -1,4 +1,4 @@
-use Rattle.std.proofs.Common.{◌≡◌, ◌++◌, ◌+◌, ◌∷◌, [], List, Result, drop, take, refl, sym, ap, subst, ◌∙◌, arith}
+use Rattle.std.proofs.Common.{◌≡◌, ◌++◌, ◌+◌, ◌∷◌, [], List, Option, Result, drop, take, refl, sym, ap, subst, ◌∙◌, arith}
 use Rattle.std.specs.Prelude.{IfErr}
 use Rattle.std.proofs.lemmas.List.{drop_more, take_all, take_more}
 use Rattle.std.proofs.lemmas.Result.{err_from_is_err_and}
@@ -10,6 +10,8 @@ use Rattle.iceberg_table.proofs.RowLaws.{split_at}
 use Rattle.iceberg_table.proofs.Runs.{fails_never, uncontested_further}
 use Rattle.source_core.specs.Answers.{IsReadRefusal}
 use Rattle.source_core.specs.declared.error.SourceError.{SourceError}
+use Rattle.iceberg_manifest.specs.declared.partition.PartColumn.{PartColumn}
+use Rattle.source_iceberg.specs.Behind.{AreReadFor, GoesOnFrom, IsListed}
 use Rattle.source_iceberg.specs.Later.{IsOneMore}
 use Rattle.source_iceberg.specs.Since.{IsRefusedBehind, StopsBehind}
 use Rattle.source_iceberg.proofs.SinceLaws.{Made, all_made, can_apply_all, commits_begin, commits_on, fit_all, lead_begins, lead_on, stops_at}
@@ -24,6 +26,8 @@ loop-snapshot-init g c =
       few = new.few;
       made = λ told. commits_begin (store.disk c.args.store.now).files c.args.metadata.now c.args.base.now later new.made.0 new.made.1 new.counts;
       fit = lead_begins c.args.base.now later new.made.0 new.made.1;
+      goes_on = subst (λ (o : Option (List PartColumn)). GoesOnFrom later.table later.listed.manifests o) (sym new.on) tt;
+      listed = λ told. subst (λ (o : Option (List PartColumn)). AreReadFor (store.disk c.args.store.now).files c.args.metadata.now.location later.listed.manifests o) (sym new.on) tt;
       reads = reading_begins store g.met.S.Store.only_now c.args.store.now;
       cause = record { later = omega arith; still = λ m. m; rose = λ never. absurd never; allowed = λ never. absurd never };
       contest = record { same = refl; still = λ m. m; never = λ never. never };
@@ -45,7 +49,7 @@ returns-in_err-later-2-clause-refused g c told =
     let split = split_at xs i x c.loop-snapshot-test.true at in
     let P : SourceError → Type 0 = StopsBehind files c.args.version m c.args.base.now xs in
     let made = so_far.made told in
-    let step = subst (λ (d : Disk). IsReadRefusal (IsRefusedBehind d.files c.args.version m later.table made.0 x) e) (so_far.reads told).disk (c.in_err-later-2.ensures.refused told made.0 made.1) in
+    let step = subst (λ (d : Disk). IsReadRefusal (IsRefusedBehind d.files c.args.version m later.table made.0 x) e) (so_far.reads told).disk (c.in_err-later-2.ensures.refused told (subst (λ (d : Disk). IsListed d.files m.location later.listed) (sym (so_far.reads told).disk) (so_far.listed told)) made.0 made.1) in
     subst (λ (r : Result (List Commit) SourceError). IfErr r (IsReadRefusal P)) (sym exit.1)
     (subst (IsReadRefusal P) (sym exit.2)
     (stops_at files c.args.version m c.args.base.now xs (take i xs) (drop (i + 1) xs) x later split made so_far.few e step))
@@ -66,12 +70,15 @@ loop-snapshot-preserved g c =
     let after = c.in_ok-later-2.later in
     let so_far = c.loop-snapshot.invariant in
     let longer : take (i + 1) xs ≡ take i xs ++ x ∷ [] = take_more xs i x c.loop-snapshot-test.true ∙ ap (λ (y : Snapshot). take i xs ++ y ∷ []) (sym c.snapshot-item.is) in
+    let here : store.tells → IsListed (store.disk c.loop-snapshot.store).files m.location before.listed = λ told. subst (λ (d : Disk). IsListed d.files m.location before.listed) (sym (so_far.reads told).disk) (so_far.listed told) in
     record {
       few = c.in_ok-later-2.ensures.few;
       made = λ told.
-          let more = subst (λ (d : Disk). IsOneMore d.files m x before after) (so_far.reads told).disk (c.in_ok-later-2.ensures.next told) in
+          let more = subst (λ (d : Disk). IsOneMore d.files m x before after) (so_far.reads told).disk (c.in_ok-later-2.ensures.next told (here told)) in
           subst (λ (ss : List Snapshot). Made files m base ss after) (sym longer) (commits_on files m (take i xs) x base before after (so_far.made told) more);
       fit = lead_on base before after so_far.fit (c.in_ok-later-2.ensures.sound c.requires);
+      goes_on = c.in_ok-later-2.ensures.on;
+      listed = λ told. subst (λ (d : Disk). IsListed d.files m.location after.listed) (so_far.reads told).disk (c.in_ok-later-2.ensures.listed told (here told));
       reads = reading_further store c.args.store.now c.loop-snapshot.store c.with_snapshot.new.store so_far.reads c.in_ok-later-2.ensures.only_reads;
       cause = fails_never store.faults store.may_fail c.args.store.now c.loop-snapshot.store c.with_snapshot.new.store _ so_far.cause c.in_ok-later-2.ensures.cause;
       contest = uncontested_further store.contests store.may_contest c.args.store.now c.loop-snapshot.store c.with_snapshot.new.store so_far.contest c.in_ok-later-2.ensures.contest;

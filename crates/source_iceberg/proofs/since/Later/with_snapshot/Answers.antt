@@ -4,6 +4,7 @@ use Rattle.std.proofs.lemmas.Result.{err_from_is_err_and}
 use Rattle.iceberg_table.specs.declared.manifest.Manifest.{Manifest}
 use Rattle.source_core.specs.Answers.{IsReadRefusal}
 use Rattle.source_core.specs.declared.error.SourceError.{SourceError}
+use Rattle.source_iceberg.specs.Behind.{own_table}
 use Rattle.source_iceberg.specs.Counted.{Counts}
 use Rattle.source_iceberg.specs.Since.{HasManyEntries, IsRefusedBehind}
 use Rattle.source_iceberg.specs.declared.since.Later.{Later}
@@ -12,14 +13,21 @@ use Rattle.source_iceberg.proofs.SinceLaws.{entries_refused, leads_to_own, parti
 use Rattle.source_iceberg.proofs.since.Later.with_snapshot.Goals as goal
 
 pub returns-in_err-own-clause-refused : goal.returns-in_err-own-clause-refused
-returns-in_err-own-clause-refused g c told = λ read counts.
+returns-in_err-own-clause-refused g c told = λ listed read counts.
     let exit = err_from_is_err_and c.from_residual.result c.from_residual.ensures.1 in
     let files = (g.S.Store.disk c.args.store.now).files in
     let P : SourceError → Type 0 = IsRefusedBehind files c.args.version c.args.metadata.now c.args.self.table read c.args.snapshot.now in
     subst (λ (r : Result Later SourceError). IfErr r (IsReadRefusal P)) (sym exit.1) (subst (IsReadRefusal P) (sym exit.2) (c.in_err-own.ensures.refused told read))
 
+pub returns-in_err-position-clause-refused : goal.returns-in_err-position-clause-refused
+returns-in_err-position-clause-refused g c told = λ listed read counts.
+    let exit = err_from_is_err_and c.from_residual-in_err-position.result c.from_residual-in_err-position.ensures.1 in
+    let files = (g.S.Store.disk c.args.store.now).files in
+    let P : SourceError → Type 0 = IsRefusedBehind files c.args.version c.args.metadata.now c.args.self.table read c.args.snapshot.now in
+    subst (λ (r : Result Later SourceError). IfErr r (IsReadRefusal P)) (sym exit.1) (subst (IsReadRefusal P) (sym exit.2) tt)
+
 pub returns-in_err-counted-clause-refused : goal.returns-in_err-counted-clause-refused
-returns-in_err-counted-clause-refused g c told = λ read counts.
+returns-in_err-counted-clause-refused g c told = λ listed read counts.
     let exit = err_from_is_err_and c.from_residual-in_err-counted.result c.from_residual-in_err-counted.ensures.1 in
     let files = (g.S.Store.disk c.args.store.now).files in
     let m = c.args.metadata.now in
@@ -30,27 +38,32 @@ returns-in_err-counted-clause-refused g c told = λ read counts.
     let many = subst (λ (rs : List Manifest). IsReadRefusal (HasManyEntries read rs) e) c.as_slice.ensures (c.in_err-counted.ensures.many read counts) in
     let P : SourceError → Type 0 = IsRefusedBehind files c.args.version m before.table read s in
     subst (λ (r : Result Later SourceError). IfErr r (IsReadRefusal P)) (sym exit.1)
-    (subst (IsReadRefusal P) (sym exit.2) (entries_refused files c.args.version m before.table read s own c.in_ok-own.ensures.unchanged (c.in_ok-own.ensures.read told) e many))
+    (subst (IsReadRefusal P) (sym exit.2) (entries_refused files c.args.version m before.table read s (own_table own) c.in_ok-own.ensures.unchanged (c.in_ok-own.ensures.own.read told listed) e many))
+
+pub returns-in_err-push-clause-refused : goal.returns-in_err-push-clause-refused
+returns-in_err-push-clause-refused g c told = λ listed read counts.
+    let exit = err_from_is_err_and c.from_residual-in_err-push.result c.from_residual-in_err-push.ensures.1 in
+    let files = (g.S.Store.disk c.args.store.now).files in
+    let P : SourceError → Type 0 = IsRefusedBehind files c.args.version c.args.metadata.now c.args.self.table read c.args.snapshot.now in
+    subst (λ (r : Result Later SourceError). IfErr r (IsReadRefusal P)) (sym exit.1) (subst (IsReadRefusal P) (sym exit.2) tt)
 
 pub returns-clause-next : goal.returns-clause-next
-returns-clause-next g c told =
+returns-clause-next g c told = λ listed.
     let before = c.args.self in
     let own = c.in_ok-own.own in
-    let commit = c.in_ok-commit.commit in
-    let made = c.in_ok-commit.ensures in
-    let read = c.in_ok-own.ensures in
+    let is = c.in_ok-own.ensures.own in
     record {
-      commit = commit;
-      own = own;
+      commit = record { position = c.in_ok-position.position; change = own.change };
+      own = own_table own;
       commits = c.in_ok-push.ensures.ok;
       is = record {
-        position = made.position;
-        read = read.read told;
-        is = read.is told;
-        partition = partition_kept c.args.metadata.now c.args.snapshot.now before.table own.table read.columns read.unchanged;
-        unchanged = read.unchanged;
-        rows = made.diff;
-        schema = made.schema;
+        position = c.in_ok-position.ensures;
+        read = is.read told listed;
+        is = is.is told listed;
+        partition = partition_kept c.args.metadata.now c.args.snapshot.now before.table own.table is.columns c.in_ok-own.ensures.unchanged;
+        unchanged = c.in_ok-own.ensures.unchanged;
+        rows = is.diff;
+        schema = is.schema;
       };
       table = refl;
       counted = λ rs counts. subst (λ (own : List Manifest). Counts (rs ++ own) c.in_ok-counted.counted) c.as_slice.ensures (c.in_ok-counted.ensures.counts rs counts);
@@ -60,22 +73,13 @@ pub returns-clause-sound : goal.returns-clause-sound
 returns-clause-sound g c writable =
     let before = c.args.self in
     let own = c.in_ok-own.own in
-    let commit = c.in_ok-commit.commit in
-    let made = c.in_ok-commit.ensures in
-    let read = c.in_ok-own.ensures in
-    let sound = read.sound writable in
-    let partition = partition_kept c.args.metadata.now c.args.snapshot.now before.table own.table read.columns read.unchanged in
+    let is = c.in_ok-own.ensures.own in
+    let sound = is.sound writable in
+    let partition = partition_kept c.args.metadata.now c.args.snapshot.now before.table own.table is.columns c.in_ok-own.ensures.unchanged in
     record {
-      commit = commit;
+      commit = record { position = c.in_ok-position.position; change = own.change };
       commits = c.in_ok-push.ensures.ok;
-      fits = made.fits;
-      leads = leads_to_own before.table own.table commit made.schema made.leads sound.sound.distinct partition;
+      fits = is.fits;
+      leads = leads_to_own before.table own.table (record { position = c.in_ok-position.position; change = own.change }) is.schema is.leads sound.sound.distinct partition;
       sound = publishable_of_snapshot own.table sound;
     }
-
-pub returns-in_err-push-clause-refused : goal.returns-in_err-push-clause-refused
-returns-in_err-push-clause-refused g c told = λ read counts.
-    let exit = err_from_is_err_and c.from_residual-in_err-push.result c.from_residual-in_err-push.ensures.1 in
-    let files = (g.S.Store.disk c.args.store.now).files in
-    let P : SourceError → Type 0 = IsRefusedBehind files c.args.version c.args.metadata.now c.args.self.table read c.args.snapshot.now in
-    subst (λ (r : Result Later SourceError). IfErr r (IsReadRefusal P)) (sym exit.1) (subst (IsReadRefusal P) (sym exit.2) tt)
