@@ -1,8 +1,10 @@
 //! Logs in a store.
+use delta_compact::{CompactFault, compact, whole_compacted};
 use delta_table::{Log, list_versions, read_log};
 use lake_basics::limits::MAX_DELTA_VERSION;
 use lake_store::{FuseStore, Store};
 use std::alloc::{AllocError, Global};
+use table_history::Table;
 use table_rows::{show_line, show_table};
 
 /// Adds which versions of the log are there.
@@ -45,6 +47,29 @@ fn show_log(alloc: Global, log: &Log, shown: &mut String) -> Result<(), AllocErr
     )?;
     show_line(shown, line.as_str())?;
     show_table(alloc, &log.table, shown)
+}
+
+/// Writes the log compactions, and reads the table with them.
+fn read_compacted(alloc: Global, store: &mut FuseStore, calls: u64) -> Result<Table, CompactFault> {
+    let done = compact(alloc, store)?;
+    store.set_stop(Some(calls));
+    whole_compacted(alloc, store, done.head)
+}
+
+/// Adds the table that the log makes when it is read with its log compactions, which are written first,
+/// or why it isn't read in so many calls of the store.
+pub(crate) fn tell_compacted(
+    alloc: Global,
+    store: &mut FuseStore,
+    calls: u64,
+    shown: &mut String,
+) -> Result<(), AllocError> {
+    let table = read_compacted(alloc, store, calls);
+    store.set_stop(None);
+    match table {
+        Ok(table) => show_table(alloc, &table, shown),
+        Err(error) => show_line(shown, format!(in alloc; "{error}")?.as_str()),
+    }
 }
 
 /// Adds the text of a file.

@@ -13,6 +13,8 @@
 //!   FIRST to LAST` a version without a line at each of these numbers; `show PATH` shows a file, and `stop
 //!   at call NUMBER` lets all calls of the store from this one on fail, counted from 0;
 //! - `versions` shows which versions are there, and `log VERSION` what the log says up to this one;
+//! - `compacted table in NUMBER calls` writes the log compactions, and shows the table that is read with them in
+//!   so many calls of the store;
 //! - `head`, `table` and `since POSITION` show what the source tells; `base` gives the table that commits are
 //!   read over, in the lines below it;
 //! - `inspect for SOURCE` shows what the target tells, `fits COLUMN ..` whether the commits below it fit a

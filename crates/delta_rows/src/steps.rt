@@ -2,7 +2,7 @@
 use crate::commits::{
     NOW_MS, tell_commit, tell_first, tell_name, tell_next, tell_text, tell_version,
 };
-use crate::logs::{tell_file, tell_log, tell_versions};
+use crate::logs::{tell_compacted, tell_file, tell_log, tell_versions};
 use delta_table::version_path;
 use lake_basics::limits::MAX_DELTA_VERSION;
 use lake_basics::{Items, Text};
@@ -94,6 +94,7 @@ impl DeltaSteps {
             ["stop", "at", "call", number] => return self.stop(number),
             ["versions"] => tell_versions(self.alloc, &mut self.store, shown)?,
             ["log", version] => return self.log(version, shown),
+            ["compacted", "table", "in", number, "calls"] => return self.compacted(number, shown),
             _ => return Ok(false),
         }
         Ok(true)
@@ -127,6 +128,14 @@ impl DeltaSteps {
             return Ok(false);
         };
         tell_log(self.alloc, &mut self.store, version, shown)?;
+        Ok(true)
+    }
+
+    fn compacted(&mut self, calls: &str, shown: &mut String) -> Result<bool, AllocError> {
+        let Ok(calls) = calls.parse::<u64>() else {
+            return Ok(false);
+        };
+        tell_compacted(self.alloc, &mut self.store, calls, shown)?;
         Ok(true)
     }
 
