@@ -111,9 +111,11 @@ fn objects(
     Ok(input.budget)
 }
 
-/// Adds the values of the next block.
+/// Adds the values of the next block (Apache Avro specification, "Object Container Files"). Its objects
+/// are read once its bytes and its marker are there. A block that isn't whole is short at its first
+/// byte. After a fault, some of its values may have been added.
 #[tactic(auto, unfolding(crate::specs::Reading::block_at))]
-fn block(
+pub fn block(
     alloc: Global,
     schema: &Schema,
     marker: &[u8],
@@ -146,7 +148,8 @@ fn block(
     Ok(())
 }
 
-/// The values of all blocks. Each block takes a byte at least.
+/// The values of all blocks up to the end of the bytes, or the first fault. Each block takes a byte at
+/// least.
 pub fn blocks(
     alloc: Global,
     schema: &Schema,

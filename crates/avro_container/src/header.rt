@@ -37,7 +37,8 @@ fn after_magic(bytes: &[u8]) -> Result<&[u8], Flaw>
     Ok(rest)
 }
 
-/// So many bytes, of a part that has so many bytes from its first one on.
+/// So many bytes and those behind them, of a part that has so many bytes from its first one on. Fewer
+/// are a fault at the part's first byte.
 #[tactic(auto, unfolding(crate::specs::Reading::run_in))]
 pub fn run(whole: usize, len: usize, bytes: &[u8]) -> Result<(&[u8], &[u8]), ContainerFault>
     ensures { GivesAlways (λ x. (x.0.now, x.1.now)) result (run_in whole len bytes.now) }
@@ -107,7 +108,8 @@ pub fn read_header(alloc: Global, bytes: &[u8]) -> Result<Header<'_>, ReadError<
     })
 }
 
-/// The schema that the metadata names.
+/// The schema that the metadata names, by the text of the first `avro.schema`. Where there is none, or
+/// its text is no schema, the fault has so many bytes from its place to the end.
 #[tactic(auto, unfolding(crate::specs::Reading::schema_in))]
 pub fn schema(
     alloc: Global,
@@ -130,7 +132,7 @@ pub fn schema(
     }
 }
 
-/// The blocks aren't compressed.
+/// Judges the codec that the metadata names: the first `avro.codec` is absent or `null`.
 #[tactic(auto, unfolding(crate::specs::Reading::codec_in))]
 pub fn codec(meta: &Vec<(Text, Blob)>) -> Result<(), Flaw>
     ensures { GivesAlways (λ _. tt) result (codec_in meta.now.items) }

@@ -1,11 +1,11 @@
 //! Avro object container files, by the Apache Avro specification, "Object Container Files".
 #![tactic(auto)]
 
-mod blocks;
+pub mod blocks;
 mod container;
 mod error;
 pub mod fault;
-mod header;
+pub mod header;
 mod meta;
 mod write;
 

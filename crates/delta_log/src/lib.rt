@@ -10,6 +10,6 @@ mod place;
 mod reading;
 
 pub use commit::{DeltaCommit, FileAction, MetaData, Protocol};
-pub use error::DeltaError;
+pub use error::{DeltaError, Fault};
 pub use name::{name_of_version, version_of_name};
-pub use reading::read_commit;
+pub use reading::{Reading, error_with_line, read_commit};

@@ -25,9 +25,10 @@ use std::collections::BTreeSet;
 use std::marker::Model;
 use table_history::{Feature, LimitKind};
 
-/// A commit so far, seen as that commit. The set holds the paths of its file actions.
+/// A commit so far, read line by line (Delta protocol, "Actions"). Contracts see that commit. The set
+/// holds the paths of its file actions.
 #[derive(Drop)]
-pub(crate) struct Reading {
+pub struct Reading {
     commit: DeltaCommit,
     paths: BTreeSet<String>,
 }
@@ -70,7 +71,8 @@ fn path_within(place: Place) -> Result<Text, ReadError<Fault>>
 }
 
 impl Reading {
-    pub(crate) fn new(alloc: Global) -> Reading
+    /// A commit of no line yet. It takes no memory.
+    pub fn new(alloc: Global) -> Reading
         ensures value { result ≡ no_lines }
         ensures sound { IsWritable result }
     {
@@ -84,7 +86,8 @@ impl Reading {
         }
     }
 
-    pub(crate) fn into_commit(self) -> DeltaCommit
+    /// The commit that the lines say.
+    pub fn into_commit(self) -> DeltaCommit
         ensures { result ≡ self }
     {
         self.commit
@@ -248,9 +251,10 @@ impl Reading {
         }
     }
 
-    /// The commit with what one more line says.
+    /// The commit with what one more line says, or what is wrong with that line behind the others: by
+    /// itself, a feature that it shows, a number that it passes, or a second action on a path.
     #[tactic(auto, unfolding(crate::specs::Judging::with_line))]
-    pub(crate) fn with_line(self, alloc: Global, line: &[u8]) -> Result<Reading, ReadError<Fault>>
+    pub fn with_line(self, alloc: Global, line: &[u8]) -> Result<Reading, ReadError<Fault>>
         requires { IsWritable self }
         ensures read { Gives (λ r. r) result (with_line self line.now) }
         ensures sound { IfOk result IsWritable }
@@ -271,7 +275,8 @@ fn judged_action(alloc: Global, line: &[u8]) -> Result<LineAction, ReadError<Fau
     }
 }
 
-fn error_with_line(error: ReadError<Fault>, line: u64) -> DeltaError
+/// Why a commit isn't read whose line of this number, counted from 1, has this fault.
+pub fn error_with_line(error: ReadError<Fault>, line: u64) -> DeltaError
     ensures { IsErrorAt line error result }
 {
     match error {
