@@ -12,6 +12,7 @@ use Rattle.hudi_properties.specs.Escapes.{unescaped}
 use Rattle.hudi_properties.specs.Lines.{natural_lines, logical_lines}
 use Rattle.hudi_properties.specs.Pairs.{key_len, value_of, pair_of, required_at, pair_at, in_order, is_filled, properties_of}
 use Rattle.hudi_properties.specs.Grammar.{AreLogicalLines, GivesPair, LineGives, AreFilledLines, AreProperties, IsFirstFault, IsRefusal}
+use Rattle.hudi_properties.proofs.KeptLemmas.{kept_last, last_kept}
 use Rattle.hudi_properties.proofs.NaturalLemmas.{natural_once, natural_are}
 use Rattle.hudi_properties.proofs.LogicalLemmas.{logical_once, logical_are}
 use Rattle.hudi_properties.proofs.KeyLemmas.{key_once, key_is, element_once, element_is}
@@ -116,7 +117,7 @@ TextGives bytes (Err e) = IsRefusal bytes e
 
 text_by : (bytes : List ℕ) (r : Result (List (List ℕ × List ℕ)) HudiError) → LinesGive (filter is_filled (logical_lines bytes)) r → TextGives bytes (r >>= λ pairs. Ok (in_order pairs))
 unfolding LinesGive TextGives
-text_by bytes (Ok pairs) h = record { lines = filter is_filled (logical_lines bytes); given = pairs; filled = filled_are bytes; each = h; kept = refl }
+text_by bytes (Ok pairs) h = record { lines = filter is_filled (logical_lines bytes); given = pairs; filled = filled_are bytes; each = h; kept = kept_last pairs }
 text_by bytes (Err e) (front, line, rest, before, split, given, none, is) =
     let first : IsFirstFault bytes line.number = record {
       front = front;
@@ -140,7 +141,7 @@ unfolding properties_of
 properties_once bytes pairs h =
     let lines = filled_once bytes h.lines h.filled in
     let given : each pair_at (filter is_filled (logical_lines bytes)) ≡ Ok h.given = ap (each pair_at) lines ∙ lines_once h.lines h.given h.each in
-    rw given (ap Ok (sym h.kept))
+    rw given (ap Ok (sym (last_kept h.given pairs h.kept)))
 
 -- What is read are the pairs of a properties text.
 pub properties_are : (bytes : List ℕ) (pairs : List (List ℕ × List ℕ)) → properties_of bytes ≡ Ok pairs → AreProperties bytes pairs

@@ -1,6 +1,7 @@
 pub mod EscapeLemmas
 pub mod FeatureLemmas
 pub mod GrammarLemmas
+pub mod KeptLemmas
 pub mod KeyLemmas
 pub mod LineLemmas
 pub mod LogicalLemmas

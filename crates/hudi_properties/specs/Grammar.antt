@@ -1,14 +1,18 @@
 -- What a properties text is, in the terms of java.util.Properties ("load"): natural lines, logical lines, keys, elements and escapes. It is ISO 8859-1: each byte is the character of its number.
-use Rattle.std.specs.Prelude.{◌≡◌, ◌≢◌, ◌⊎◌, ℕ, zero, suc, ◌+◌, ◌*◌, List, [], ◌∷◌, ◌++◌, length, map, filter, flat_map, All, Some, true}
+use Rattle.std.specs.Prelude.{◌≡◌, ◌≢◌, ◌⊎◌, ◌↔◌, ℕ, zero, suc, ◌+◌, ◌*◌, List, [], ◌∷◌, ◌++◌, length, map, filter, flat_map, All, Contains, Some, true}
 use Rattle.std.specs.Char.{is_digit, digit_value}
 use Rattle.std.specs.Char.Utf16.{utf16_chars}
+use Rattle.std.specs.Cmp.Lexicographic.{slice_cmp}
 use Rattle.std.specs.List.{AllZip, concat}
+use Rattle.std.specs.List.Sorted.{IsStrictlySortedBy}
+use Rattle.std.specs.Map.{keys_of}
+use Rattle.std.specs.Ordering.{nat_cmp}
 use Rattle.std.specs.Str.{encode_utf8_all}
 use Rattle.hudi_names.specs.declared.error.HudiError.{HudiError}
 use Rattle.hudi_names.specs.declared.error.HudiError.TheVariants as errors
 use Rattle.hudi_properties.specs.declared.line.LogicalLine.{LogicalLine}
 use Rattle.hudi_properties.specs.Escapes.{named}
-use Rattle.hudi_properties.specs.Pairs.{in_order, is_filled}
+use Rattle.hudi_properties.specs.Pairs.{is_filled}
 
 -- ---- natural lines
 
@@ -194,13 +198,25 @@ pub record AreFilledLines (bytes : List ℕ) (filled : List LogicalLine) : Type 
   pub joined : AreLogicalLines natural logical
   pub are : filled ≡ filter is_filled logical
 
--- The bytes are a properties text that gives these pairs, in the byte order of keys; of two with one key the later stands.
+-- Of pairs that are given one after another, this is the last with its key.
+pub record IsLastOfKey (given : List (List ℕ × List ℕ)) (pair : List ℕ × List ℕ) : Type 0 where
+  pub front : List (List ℕ × List ℕ)
+  pub rest : List (List ℕ × List ℕ)
+  pub split : given ≡ front ++ pair ∷ rest
+  pub last : (value : List ℕ) → ¬ Contains rest (pair.0, value)
+
+-- The pairs are the last of each key, in the byte order of keys.
+pub record AreLastOfKeys (given pairs : List (List ℕ × List ℕ)) : Type 0 where
+  pub order : IsStrictlySortedBy (slice_cmp nat_cmp) (keys_of pairs)
+  pub are : (pair : List ℕ × List ℕ) → Contains pairs pair ↔ IsLastOfKey given pair
+
+-- The bytes are a properties text that gives these pairs, in the byte order of keys; of those with one key the last stands.
 pub record AreProperties (bytes : List ℕ) (pairs : List (List ℕ × List ℕ)) : Type 0 where
   pub lines : List LogicalLine
   pub given : List (List ℕ × List ℕ)
   pub filled : AreFilledLines bytes lines
   pub each : AllZip LineGives lines given
-  pub kept : pairs ≡ in_order given
+  pub kept : AreLastOfKeys given pairs
 
 -- The lines before one give pairs, and that line, which begins with natural line n, gives none.
 pub record IsFirstFault (bytes : List ℕ) (n : ℕ) : Type 0 where
