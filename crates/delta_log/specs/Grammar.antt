@@ -4,9 +4,9 @@ use Rattle.std.specs.List.{list_all}
 use Rattle.std.specs.Str.{bytes_eq}
 use Rattle.serde_json.specs.Data.{Data, null, boolean, number, string, array, object}
 use Rattle.serde_json.specs.Find.{get, as_array, as_object}
-use Rattle.serde_json.specs.Read.{read}
 use Rattle.lake_basics.specs.Outcome.{◌>>=◌, required, each}
 use Rattle.json_reading.specs.Json.{json, text, text_member, whole_member, count_member, list_member, object_member, present, items, pairs}
+use Rattle.json_scan.specs.Stated as stated
 use Rattle.delta_log.specs.declared.action.LineAction.{LineAction}
 use Rattle.delta_log.specs.declared.action.LineAction.TheVariants as action
 use Rattle.delta_log.specs.declared.error.LineFault.{LineFault}
@@ -85,10 +85,7 @@ meta_data d = do
 
 -- the record count that the text of an object states, if it states one
 unfoldable pub stated_count : List ℕ → Result (Option ℕ) LineFault
-stated_count stats = do
-  d ← required Malformed (read stats)
-  members ← required Malformed (as_object d)
-  if is_some (get (codes "numRecords") d) then required Malformed (option_map Some (count_member (codes "numRecords") d)) else Ok None
+stated_count stats = stated.stated_count Malformed (codes "numRecords") stats
 
 -- Statistics are a text where they are there and not null, and the empty text has none.
 abbrev pub record_count_in : Option Data → Result (Option ℕ) LineFault

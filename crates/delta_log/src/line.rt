@@ -14,10 +14,11 @@ ghost use Rattle.delta_log.specs.Sound.{HaveDistinctNames, IsCount, IsSoundActio
 use crate::action::LineAction;
 use crate::commit::{MetaData, Protocol};
 use crate::error::LineFault;
+use json::Scratch;
 use json_reading::{
-    count_of, list_of, object_of, present_of, read_json, read_json_text, text_from, text_of,
-    texts_from, whole_of,
+    count_of, list_of, object_of, present_of, read_json, text_from, text_of, texts_from, whole_of,
 };
+use json_scan::stated_count;
 use lake_basics::{Items, ReadError, Text};
 use serde_json::{Map, Value};
 use std::alloc::Global;
@@ -193,15 +194,8 @@ fn stated_count_of(alloc: Global, stats: &str) -> Result<Option<u64>, ReadError<
     ensures read { Gives (λ n. n) result (stated_count stats.now) }
     ensures small { IfOk result (λ n. IfSome n IsCount) }
 {
-    let value = read_json_text(alloc, stats, LineFault::Malformed)?;
-    if !value.is_object() {
-        return Err(MALFORMED);
-    }
-    if value.get("numRecords").is_none() {
-        return Ok(None);
-    }
-    let count = count_of(&value, "numRecords").ok_or(MALFORMED)?;
-    Ok(Some(count))
+    let mut scratch = Scratch::new(alloc);
+    stated_count(&mut scratch, stats, "numRecords", LineFault::Malformed)
 }
 
 #[tactic(auto, unfolding(crate::specs::Grammar::record_count))]
