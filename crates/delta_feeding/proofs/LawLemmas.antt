@@ -9,10 +9,16 @@ use Rattle.delta_log.specs.declared.error.Fault.{Fault}
 use Rattle.delta_log.specs.Judging.{with_line, with_lines, at_line, error_at, no_lines, is_newline, lines_of, commit_of}
 use Rattle.delta_feeding.specs.Feeding.{SoFar, State, on_line, fed, with_byte, with_end, with_next_line, ended}
 use Rattle.delta_feeding.specs.Laws.{EndIsWhole, IsJustRead}
-use Rattle.delta_feeding.proofs.JoinLemmas.{neither, one_line}
-use Rattle.delta_feeding.proofs.PieceLemmas.{fed_refused}
+use Rattle.delta_feeding.proofs.PieceLemmas.{neither, fed_refused}
 
 -- ---- lines
+
+-- bytes without a newline are one line
+one_line : (bytes : List ℕ) → list_any is_newline bytes ≡ false → lines_of bytes ≡ bytes ∷ []
+one_line [] none = refl
+one_line (b ∷ bytes) none =
+    let both = neither (is_newline b) (list_any is_newline bytes) none in
+    slice_split-cons_no is_newline b bytes both.0 ∙ ap (onto_first b) (one_line bytes both.1)
 
 -- the first line, which a newline ends
 first_ended : (line : List ℕ) (b : ℕ) (behind : List ℕ) → list_any is_newline line ≡ false → is_newline b ≡ true → lines_of (line ++ b ∷ behind) ≡ line ∷ lines_of behind
@@ -105,7 +111,7 @@ no_more : {A : Type 0} (xs : List A) (x : A) → [] ≡ xs ++ x ∷ [] → ⊥
 no_more [] x e = absurd (cc)
 no_more (y ∷ xs) x e = absurd (cc)
 
-some_line : (bytes : List ℕ) → lines_of bytes ≡ [] → ⊥
+pub some_line : (bytes : List ℕ) → lines_of bytes ≡ [] → ⊥
 some_line bytes none = let len = length-slice_split is_newline bytes in let zero_lines : length (lines_of bytes) ≡ 0 = ap length none in omega (arith, len, zero_lines)
 
 alone : (n : ℕ) (c : DeltaCommit) (rest : List ℕ) (whole : List (List ℕ)) (last : List ℕ) → rest ∷ [] ≡ whole ++ last ∷ [] → Ok (at_place n c rest) ≡ (with_lines (n + 1) c whole >>= λ d. Ok (at_place (n + length whole) d last))

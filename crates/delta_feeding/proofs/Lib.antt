@@ -1,7 +1,6 @@
 pub mod AnswerLemmas
 pub mod CutLemmas
-pub mod JoinLemmas
+pub mod EarlyLemmas
 pub mod PieceLemmas
 pub mod LawLemmas
 pub mod StateLemmas
-pub mod WritableLemmas

@@ -1,14 +1,19 @@
 -- What pieces make of what has been read.
-use Rattle.std.proofs.Common.{◌≡◌, ℕ, List, [], ◌∷◌, ◌++◌, false, Ok, Err, refl, sym, ap, ◌∙◌, append_assoc}
+use Rattle.std.proofs.Common.{◌≡◌, ℕ, List, [], ◌∷◌, ◌++◌, Bool, true, false, Ok, Err, refl, sym, ap, ◌∙◌, append_assoc}
 use Rattle.std.proofs.lemmas.List.{append-nil}
 use Rattle.std.specs.List.{list_any}
+use Rattle.std.specs.Prelude.{◌||◌}
 use Rattle.lake_basics.specs.Outcome.{◌>>=◌}
 use Rattle.delta_log.specs.declared.error.DeltaError.{DeltaError}
 use Rattle.delta_log.specs.Judging.{is_newline}
 use Rattle.delta_feeding.specs.Cut.{IsCut}
 use Rattle.delta_feeding.specs.Feeding.{SoFar, State, fed, with_byte, with_end, with_next_line}
 use Rattle.delta_feeding.specs.Laws.{PiecesJoin}
-use Rattle.delta_feeding.proofs.JoinLemmas.{neither}
+
+pub neither : (a b : Bool) → (a || b) ≡ false → (a ≡ false) × (b ≡ false)
+neither true b h = absurd (cc)
+neither false true h = absurd (cc)
+neither false false h = (refl, refl)
 
 pub pieces_join : PiecesJoin
 unfolding fed

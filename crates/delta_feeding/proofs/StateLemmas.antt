@@ -1,7 +1,6 @@
 -- What has been read, as the code goes.
 use Rattle.std.proofs.Common.{◌≡◌, ℕ, ◌-◌, ◌^◌, ◌<◌, List, [], ◌++◌, length, Bool, true, false, Result, Ok, Err, refl, sym, ap, subst, ◌∙◌}
 use Rattle.std.specs.List.{list_any}
-use Rattle.std.proofs.lemmas.List.Folds.{list_any-append}
 use Rattle.lake_basics.specs.Outcome.{◌>>=◌, FailsUnlessMemory}
 use Rattle.delta_log.specs.declared.commit.DeltaCommit.{DeltaCommit}
 use Rattle.delta_log.specs.declared.error.DeltaError.{DeltaError}
@@ -19,10 +18,6 @@ use Rattle.delta_feeding.proofs.PieceLemmas.{longer, fed_refused, fed_rest, fed_
 
 pub out_of_memory : {A : Type 0} (result : Result A DeltaError) (e : DeltaError) (s : Result A DeltaError) → result ≡ Err e → e ≡ errors.Memory → Answers result s
 out_of_memory {A} result e s is want = subst (λ (r : Result A DeltaError). Answers r s) (sym (is ∙ ap Err want)) tt
-
--- no newline stands in two runs without one
-pub none_in_both : (rest end line : List ℕ) → line ≡ rest ++ end → list_any is_newline rest ≡ false → list_any is_newline end ≡ false → list_any is_newline line ≡ false
-none_in_both rest end line is none last = ap (list_any is_newline) is ∙ list_any-append is_newline rest end ∙ rw (none, last) refl
 
 abbrev end_from : LinesRead → List ℕ → State
 end_from w line = with_next_line w line >>= λ v. Ok (record { whole = v; rest = [] })

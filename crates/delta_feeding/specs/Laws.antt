@@ -1,11 +1,11 @@
 -- What pieces come to, however the bytes of a commit are cut.
-use Rattle.std.specs.Prelude.{◌≡◌, ℕ, ◌-◌, ◌^◌, ◌<◌, List, [], ◌∷◌, ◌++◌, length, IfOk, IfErr, Result, Ok}
+use Rattle.std.specs.Prelude.{◌≡◌, ℕ, ◌-◌, ◌^◌, ◌<◌, List, [], ◌∷◌, ◌++◌, length, true, IfOk, IfErr, Result, Ok, Err}
 use Rattle.lake_basics.specs.Outcome.{◌>>=◌}
 use Rattle.delta_log.specs.declared.commit.DeltaCommit.{DeltaCommit}
 use Rattle.delta_log.specs.declared.error.DeltaError.{DeltaError}
-use Rattle.delta_log.specs.Judging.{Answers, with_lines, no_lines, lines_of, commit_of}
-use Rattle.delta_log.specs.Readable.{IsReadableCommit, IsRefusal}
-use Rattle.delta_feeding.specs.Feeding.{State, nothing_read, fed, ended}
+use Rattle.delta_log.specs.Judging.{Answers, with_lines, no_lines, is_newline, lines_of, commit_of}
+use Rattle.delta_log.specs.Readable.{IsFirstFault, IsReadableCommit, IsRefusal}
+use Rattle.delta_feeding.specs.Feeding.{SoFar, State, nothing_read, fed, ended}
 
 -- Two pieces make of it what they make as one.
 abbrev pub PiecesJoin : Type 0
@@ -26,3 +26,26 @@ pub record IsAnswerFor (bytes : List ℕ) (result : Result DeltaCommit DeltaErro
   pub only : (c : DeltaCommit) → IsReadableCommit bytes c → Answers result (Ok c)
   pub fault : IfErr result (λ e. IsRefusal bytes e)
   pub exact : Answers result (commit_of bytes)
+
+-- ---- faults that are told before the end
+
+-- A line that a newline ends among these bytes is the first at fault, and has this fault.
+pub record IsFaultWithin (bytes : List ℕ) (e : DeltaError) : Type 0 where
+  pub front : List ℕ
+  pub newline : ℕ
+  pub behind : List ℕ
+  pub is : is_newline newline ≡ true
+  pub split : bytes ≡ front ++ newline ∷ behind
+  pub fault : IsFirstFault front e
+
+-- What is refused after some bytes is such a line.
+abbrev pub IsToldEarly : Type 0
+IsToldEarly = (bytes : List ℕ) (e : DeltaError) → length bytes < 2 ^ 64 - 1 → fed nothing_read bytes ≡ Err e → IsFaultWithin bytes e
+
+-- Where nothing is refused there is no such line.
+abbrev pub IsTakenSound : Type 0
+IsTakenSound = (bytes : List ℕ) (s : SoFar) (e : DeltaError) → length bytes < 2 ^ 64 - 1 → fed nothing_read bytes ≡ Ok s → ¬ IsFaultWithin bytes e
+
+-- It stays the first fault, whatever bytes follow.
+abbrev pub IsFaultForGood : Type 0
+IsFaultForGood = (bytes more : List ℕ) (e : DeltaError) → IsFaultWithin bytes e → IsFirstFault (bytes ++ more) e

@@ -1,4 +1,3 @@
 pub mod Cut
 pub mod Feeding
-pub mod Joining
 pub mod Laws

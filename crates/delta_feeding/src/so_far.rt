@@ -21,16 +21,11 @@ pub(crate) struct LinesSoFar {
 }
 
 impl Model for LinesSoFar {
-    ghost use Rattle.std.specs.Prelude.{◌≡◌, false};
-    ghost use Rattle.std.specs.List.{list_any};
-    ghost use Rattle.delta_log.specs.Judging.{is_newline};
     ghost use Rattle.delta_feeding.specs.Feeding.{SoFar};
 
     ghost Value = { SoFar };
 
     ghost view = { λ s. record { whole = s.whole; rest = s.rest } };
-
-    ghost invariant = { λ s. list_any is_newline s.rest ≡ false };
 }
 
 fn newline_in(bytes: &[u8]) -> Option<usize>
@@ -62,8 +57,7 @@ impl LinesSoFar {
 
     /// The line that begins with these bytes is just these bytes. They aren't copied.
     fn with_only(self, alloc: Global, line: &[u8]) -> Result<LinesSoFar, DeltaError>
-        requires none { self.rest ≡ [] }
-        requires one_line { list_any is_newline line.now ≡ false }
+        requires { self.rest ≡ [] }
         ensures { Answers result (with_end self line.now) }
     {
         let LinesSoFar { whole, rest } = self;
@@ -76,7 +70,6 @@ impl LinesSoFar {
 
     /// The unfinished line with these bytes behind is a line. Its room is kept.
     fn with_both(self, alloc: Global, end: &[u8]) -> Result<LinesSoFar, DeltaError>
-        requires { list_any is_newline end.now ≡ false }
         ensures { Answers result (with_end self end.now) }
     {
         let LinesSoFar { whole, rest } = self;
@@ -98,7 +91,6 @@ impl LinesSoFar {
 
     /// The unfinished line with these bytes behind is a line.
     fn with_end(self, alloc: Global, end: &[u8]) -> Result<LinesSoFar, DeltaError>
-        requires { list_any is_newline end.now ≡ false }
         ensures { Answers result (with_end self end.now) }
     {
         if self.begins_line() {

@@ -1,5 +1,12 @@
-use Rattle.delta_feeding.proofs.AnswerLemmas.{line_read}
+use Rattle.std.proofs.Common.{subst}
+use Rattle.lake_basics.specs.Outcome.{FailsUnlessMemory}
+use Rattle.delta_log.specs.Judging.{IsErrorAt, is_memory}
+use Rattle.delta_feeding.specs.Feeding.{LinesRead, with_next_line}
+use Rattle.delta_feeding.proofs.AnswerLemmas.{line_fails}
 use Rattle.delta_feeding.proofs.lines.WholeLines.with_next_line.Goals as goal
 
-pub returns : goal.returns
-returns c = let h = rw c.counted.ensures at c.behind.ensures in line_read c.args.self c.args.line.now c.read_commit.result c.behind.result c.requires c.read_commit.ensures.exact h
+pub returns-in-Err : goal.returns-in-Err
+returns-in-Err c =
+    let e = c.error_with_line.result in
+    subst (λ (s : LinesRead). FailsUnlessMemory (is_memory e) e (with_next_line s c.args.line.now)) c.self.view_is
+    (line_fails _ c.args.line.now c.in-Err.error e (subst (λ n. IsErrorAt n c.in-Err.error e) c.saturating_add-number.ensures c.error_with_line.ensures) c.in-Err.ensures.read)

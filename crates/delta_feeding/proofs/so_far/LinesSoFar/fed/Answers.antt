@@ -4,9 +4,6 @@ use Rattle.delta_feeding.proofs.CutLemmas.{shorter_behind}
 use Rattle.delta_feeding.proofs.StateLemmas.{cut_goes, cut_fails, rest_answers}
 use Rattle.delta_feeding.proofs.so_far.LinesSoFar.fed.Goals as goal
 
-pub with_end-requires : goal.with_end-requires
-with_end-requires c = c.in-Some.ensures.one_line
-
 pub loop-end-smaller : goal.loop-end-smaller
 loop-end-smaller c = shorter_behind _ _ _ c.in-Some.ensures
 
