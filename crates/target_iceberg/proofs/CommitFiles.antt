@@ -291,6 +291,7 @@ module _ (kept next : IcebergKept) (origin : Origin) (now : ℕ) (commit : Commi
   writes_now id location before after stands is =
       published_writes (end_of kept) before after origin now commit v.written v.is (made_by before after is)
       (few_written (end_of kept) commit.change v.is.schemas v.is.fields v.is.columns v.written.texts v.written.manifests v.is.manifests (distinct_live id location kept before stands))
+      v.back
 
   -- ---- over files that stand for what is kept
 
@@ -326,7 +327,6 @@ module _ (kept next : IcebergKept) (origin : Origin) (now : ℕ) (commit : Commi
         can = can;
         fits = fits;
         writes = writes_now id location disk.files after stands is;
-        back = v.back;
         within = v.within;
         small = v.small;
       }

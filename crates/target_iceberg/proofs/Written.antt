@@ -120,14 +120,16 @@ module _ (kept : IcebergKept) (commit : Commit) (fits : Fits (Unfit (state_of ke
 -- ---- what is published
 
 -- Where its files are published, the commit has left what it writes.
-unfoldable pub published_writes : (end : TableEnd) (before after : Files) (origin : Origin) (now : ℕ) (commit : Commit) (written : NewVersion) → IsWritten end origin now commit written → IsPublished (version_files end written) before after → length written.texts ≤ most_manifests commit.change → Writes end before origin now commit after
-published_writes end before after origin now commit written is published few = record {
+unfoldable pub published_writes : (end : TableEnd) (before after : Files) (origin : Origin) (now : ℕ) (commit : Commit) (written : NewVersion) (is : IsWritten end origin now commit written) → IsPublished (version_files end written) before after → length written.texts ≤ most_manifests commit.change → IsReadBack end origin now commit written is
+    → Writes end before origin now commit after
+published_writes end before after origin now commit written is published few back = record {
   written = written;
   is = is;
   metadata = published.metadata;
   list = published.list;
   manifests = published.manifests;
   few = few;
+  back = back;
   staged = published.staged;
   others = λ path version list manifests staged. published.others path (record { version = version; aside = other path list manifests staged });
 }
@@ -150,7 +152,6 @@ pub record IsCommitted (disk : Disk) (after : Files) (id location : List ℕ) (k
   pub writes : Writes (end_of kept) disk.files origin now commit after
   pub within : kept.version + 1 ≤ MAX_ICEBERG_VERSION
   pub small : length (metadata_text writes.written.metadata) ≤ MAX_FILE_BYTES
-  pub back : IsReadBack (end_of kept) origin now commit writes.written writes.is
 
 module _ (disk : Disk) (after : Files) (id location : List ℕ) (kept : IcebergKept) (origin : Origin) (now : ℕ) (commit : Commit) (h : IsCommitted disk after id location kept origin now commit) where
   start : StartsAt disk.files id location kept.table.rows (end_of kept)
@@ -175,7 +176,6 @@ module _ (disk : Disk) (after : Files) (id location : List ℕ) (kept : IcebergK
     start = start;
     plain = h.plain;
     writes = h.writes;
-    back = h.back;
     kinds = kinds_kept kept commit h.fits;
     within = h.within;
     small = h.small;
@@ -339,10 +339,10 @@ module _ (disk : Disk) (after : Files) (id location : List ℕ) (kept : IcebergK
       record {
         metadata = again;
         says = subst (λ (n : ℕ). SaysMetadata after n again) back (version.said disk.files after id location kept.table.rows (end_of kept) origin now commit committed);
-        same = subst (λ (m : Metadata). SameMetadata m again) (sym is.metadata) h.back.metadata.2;
+        same = subst (λ (m : Metadata). SameMetadata m again) (sym is.metadata) h.writes.back.metadata.2;
         mark = mark_of (kept.version + 1) origin commit.position;
         marked = is.mark;
-        has = new_marked (end_of kept) origin now commit h.writes.written h.writes.is again h.back.metadata.2 h.back.mark;
+        has = new_marked (end_of kept) origin now commit h.writes.written h.writes.is again h.writes.back.metadata.2 h.writes.back.mark;
         at = ap decimal back;
         current = written.current disk.files after id location kept.table.rows (end_of kept) origin now commit committed;
         manifests = kept_each k.links gathered.manifests k.manifests k.owners (subst (λ (l : List LiveManifest). AreEach IsLiveOf gathered.manifests l) (sym is.manifests) gathered.live);

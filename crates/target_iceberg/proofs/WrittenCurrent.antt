@@ -116,7 +116,7 @@ module _ (files after : Files) (id location : List ℕ) (rows : List Row) (end :
   few : count < 2 ^ 64
   few =
       let texts = few_texts (front_in end) (end.version + 1) 0 0 next h.writes.written.texts h.writes.written.manifests h.writes.is.manifests.listed in
-      let infos = few_rows h.writes.written.list (map (λ m. m.info) h.writes.written.manifests) h.back.list in
+      let infos = few_rows h.writes.written.list (map (λ m. m.info) h.writes.written.manifests) h.writes.back.list in
       let same = length-map h.writes.written.manifests (λ (m : LiveManifest). m.info) in
       omega (arith, texts, infos, same)
 
@@ -126,7 +126,7 @@ module _ (files after : Files) (id location : List ℕ) (rows : List Row) (end :
   pub gathered : AreGathered files after end.version count again columns next h.writes.written.manifests
   gathered =
       gather files after end.version count again columns next h.writes.written.manifests
-      (place_all files after id location rows end origin now commit h 0 0 next h.writes.written.texts h.writes.written.manifests few (omega arith) made_all h.writes.is.manifests.listed h.back.manifests texts_held)
+      (place_all files after id location rows end origin now commit h 0 0 next h.writes.written.texts h.writes.written.manifests few (omega arith) made_all h.writes.is.manifests.listed h.writes.back.manifests texts_held)
 
   abbrev pub list : List ManifestFile
   list = gathered.list
@@ -162,7 +162,7 @@ module _ (files after : Files) (id location : List ℕ) (rows : List Row) (end :
   parts_are = version.part_columns_are files after id location rows end origin now commit h
 
   pub says_list : SaysList after again (version.plan files after id location rows end origin now commit h).list list
-  says_list = record { bytes = h.writes.written.list; holds = h.writes.list; infos = map (λ m. m.info) h.writes.written.manifests; rows = h.back.list; listed = gathered.rows }
+  says_list = record { bytes = h.writes.written.list; holds = h.writes.list; infos = map (λ m. m.info) h.writes.written.manifests; rows = h.writes.back.list; listed = gathered.rows }
 
   abbrev pub current : SaysCurrent after again
   current = record {

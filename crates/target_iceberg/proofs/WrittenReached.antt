@@ -155,7 +155,7 @@ module _ (files after : Files) (id location : List ℕ) (rows : List Row) (end :
       let infos = map (λ (m : LiveManifest). m.info) h.writes.written.manifests in
       let holds : HoldsFile after (path_of (list_name number)) nm.bytes = subst (λ (p : List ℕ). HoldsFile after p nm.bytes) is.0 nm.holds in
       let bytes = held_once after (path_of (list_name number)) nm.bytes h.writes.written.list holds h.writes.list in
-      let same : nm.infos ≡ infos = rows_once h.writes.written.list nm.infos infos (subst (λ (bs : List ℕ). AreRows bs nm.infos) bytes nm.rows) h.back.list in
+      let same : nm.infos ≡ infos = rows_once h.writes.written.list nm.infos infos (subst (λ (bs : List ℕ). AreRows bs nm.infos) bytes nm.rows) h.writes.back.list in
       let file = each_of (IsListed again) infos gathered.list nm.info gathered.rows (subst (λ (l : List ManifestInfo). Contains l nm.info) same nm.row) in
       let theirs : IsMetadataPath again.location nm.info.manifest_path path = subst (λ (l : List ℕ). IsMetadataPath l nm.info.manifest_path path) is.1 nm.is in
       let at : file.0.path ≡ path = path_once again.location nm.info.manifest_path file.0.path path file.2.path theirs in

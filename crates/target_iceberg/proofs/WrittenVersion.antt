@@ -41,7 +41,6 @@ use Rattle.iceberg_table.specs.declared.plan.Plan.{Plan}
 use Rattle.iceberg_version.specs.Names.{list_name}
 use Rattle.iceberg_version.specs.Schemas.{AreSpecFields, FIRST_PARTITION_ID, Schemas}
 use Rattle.iceberg_version.specs.Writing.{AreColumns, IsWritten, NewVersion, PassesAt, TableEnd, mark_of, snapshot_of, stated_behind}
-use Rattle.iceberg_commit.specs.NextVersion.{IsReadBack}
 use Rattle.target_core.specs.Views.{Origin, standing_at}
 use Rattle.target_iceberg.specs.Fitting.{kinds_of}
 use Rattle.target_iceberg.specs.Form.{HasOwnForm, field_names}
@@ -61,7 +60,6 @@ pub record HasCommitted (files after : Files) (id location : List ℕ) (rows : L
   pub start : StartsAt files id location rows end
   pub plain : (front : List ℕ) → location ≢ front ++ 47 ∷ []
   pub writes : Writes end files origin now commit after
-  pub back : IsReadBack end origin now commit writes.written writes.is
   pub kinds : 0 < end.version → kinds_of end.schema end.partition ≡ kinds_of (stated_behind end commit.change) end.partition
   pub within : end.version + 1 ≤ MAX_ICEBERG_VERSION
   pub small : length (metadata_text writes.written.metadata) ≤ MAX_FILE_BYTES
@@ -208,7 +206,7 @@ module _ (files after : Files) (id location : List ℕ) (rows : List Row) (end :
   made = h.writes.is.schemas
 
   abbrev pub again : Metadata
-  again = h.back.metadata.0
+  again = h.writes.back.metadata.0
 
   abbrev pub bytes : List ℕ
   bytes = metadata_text h.writes.written.metadata
@@ -226,13 +224,13 @@ module _ (files after : Files) (id location : List ℕ) (rows : List Row) (end :
   next = sound_next end.metadata (stated_behind end commit.change) made h.start.schema_ids sound.field_ids h.writes.is.layout.schemas_are
 
   pub new : IsNew end made h.writes.is.fields snapshot again
-  new = new_is end origin now commit h.writes.written h.writes.is again h.back.metadata.2
+  new = new_is end origin now commit h.writes.written h.writes.is again h.writes.back.metadata.2
 
   acyclic : FormsCycle again → ⊥
   acyclic c = no_new_cycle end.metadata end.version sound snapshot refl refl again new.snapshots new.current c
 
   pub said : SaysMetadata after version again
-  said = record { bytes = bytes; holds = h.writes.metadata; small = h.small; read = read_found bytes again h.back.metadata.1; supported = read_supported bytes again h.back.metadata.1; acyclic = acyclic }
+  said = record { bytes = bytes; holds = h.writes.metadata; small = h.small; read = read_found bytes again h.writes.back.metadata.1; supported = read_supported bytes again h.writes.back.metadata.1; acyclic = acyclic }
 
   pub there : HasVersion after version
   there = version_held after version bytes within h.writes.metadata
@@ -247,7 +245,7 @@ module _ (files after : Files) (id location : List ℕ) (rows : List Row) (end :
   form = own_form end sound made h.writes.is.fields snapshot refl refl again new end.partition h.writes.is.layout.fields_are (stated_behind end commit.change) next
 
   pub marked : IsMarked again version (standing_at origin commit.position)
-  marked = record { mark = mark_of version origin commit.position; has = new_marked end origin now commit h.writes.written h.writes.is again h.back.metadata.2 h.back.mark; at = refl; is = refl }
+  marked = record { mark = mark_of version origin commit.position; has = new_marked end origin now commit h.writes.written h.writes.is again h.writes.back.metadata.2 h.writes.back.mark; at = refl; is = refl }
 
   pub current : IsCurrent again snapshot
   current = new_current end sound made h.writes.is.fields snapshot refl refl again new
@@ -258,7 +256,7 @@ module _ (files after : Files) (id location : List ℕ) (rows : List Row) (end :
   schema_held = ap (λ (l : List HeldSchema). held_schema l made.current.0) new.schemas_are ∙ next.found
 
   unrenamed : IsRenamed (path_ids made.current) → ⊥
-  unrenamed = none_renamed again.schemas made.current (in_schemas again.schemas made.current.0 made.current schema_held) (read_unrenamed bytes again h.back.metadata.1)
+  unrenamed = none_renamed again.schemas made.current (in_schemas again.schemas made.current.0 made.current schema_held) (read_unrenamed bytes again h.writes.back.metadata.1)
 
   abbrev pub plan : Plan
   plan = record { list = path_of (list_name version); schema = made.current.1; columns = source_columns end.partition h.writes.is.fields h.writes.is.columns }

@@ -125,7 +125,7 @@ no_items [] none = refl
 no_items (m ∷ manifests) none = absurd (none m (Contains-head m manifests))
 
 -- Of what holds a newest version the files are ours.
-held_ours : (files : Files) (kept : IcebergKept) → HoldsEnd files kept → Reads files (view_of kept) → IsOurs files (view_of kept)
+pub held_ours : (files : Files) (kept : IcebergKept) → HoldsEnd files kept → Reads files (view_of kept) → IsOurs files (view_of kept)
 held_ours files kept h (inl none) =
     let mark : (view_of kept).mark ≡ None = ap (λ (v : View). v.mark) none.1 in
     absurd (none_or_some (option_map standing_of kept.mark) (standing_of h.mark) mark (ap (λ (o : Option Mark). option_map standing_of o) h.marked))

@@ -6,6 +6,7 @@ use Rattle.lake_store.specs.Disk.{Files}
 use Rattle.table_history.specs.declared.table.Change.{Change}
 use Rattle.table_history.specs.declared.table.Commit.{Commit}
 use Rattle.iceberg_metadata.specs.Writing.{metadata_text}
+use Rattle.iceberg_commit.specs.NextVersion.{IsReadBack}
 use Rattle.target_core.specs.Views.{Origin}
 use Rattle.iceberg_table.specs.Folder.{path_of, version_path}
 use Rattle.iceberg_version.specs.Names.{list_name, manifest_name, staged_name}
@@ -20,7 +21,8 @@ abbrev pub most_manifests : Change → ℕ
 most_manifests change = length change.removed + manifests_for (length change.added)
 
 -- Publishing the commit over the files before has left those after: the new version's metadata, its list and its new manifests have the bytes that are
--- written for it, the name that the metadata was staged under is gone, and all other files are as before. The new manifests are few.
+-- written for it, the name that the metadata was staged under is gone, and all other files are as before. The new manifests are few. The bytes that
+-- are written can be read, and reading gives back the metadata with its mark, the rows of the list, and the entries of the new manifests.
 pub record Writes (end : TableEnd) (before : Files) (origin : Origin) (now : ℕ) (commit : Commit) (after : Files) : Type 0 where
   pub written : NewVersion
   pub is : IsWritten end origin now commit written
@@ -28,6 +30,7 @@ pub record Writes (end : TableEnd) (before : Files) (origin : Origin) (now : ℕ
   pub list : map.get after (path_of (list_name (next_version end))) ≡ Some written.list
   pub manifests : (number : ℕ) → number < length written.texts → map.get after (path_of (manifest_name (next_version end) number)) ≡ slice_get written.texts number
   pub few : length written.texts ≤ most_manifests commit.change
+  pub back : IsReadBack end origin now commit written is
   pub staged : map.get after (path_of (staged_name (next_version end))) ≡ None
   pub others : (path : List ℕ) → path ≢ version_path (next_version end) → path ≢ path_of (list_name (next_version end))
       → ((number : ℕ) → number < length written.texts → path ≢ path_of (manifest_name (next_version end) number)) → path ≢ path_of (staged_name (next_version end))
