@@ -21,7 +21,7 @@ use crate::place::{Place, place_of};
 use lake_basics::limits::MAX_ACTIONS;
 use lake_basics::{Items, ReadError, Text};
 use std::alloc::Global;
-use std::collections::BTreeSet;
+use std::collections::HashSet;
 use std::marker::Model;
 use table_history::{Feature, LimitKind};
 
@@ -30,12 +30,12 @@ use table_history::{Feature, LimitKind};
 #[derive(Drop)]
 pub struct Reading {
     commit: DeltaCommit,
-    paths: BTreeSet<String>,
+    paths: HashSet<String>,
 }
 
 impl Model for Reading {
     ghost use Rattle.std.specs.Prelude.{◌≡◌, ℕ, List};
-    ghost use Rattle.std.specs.BTreeSet.{contains_text};
+    ghost use Rattle.std.specs.HashSet.{contains_text};
     ghost use Rattle.delta_log.specs.Judging.{acts_on};
     ghost use Rattle.delta_log.specs.declared.commit.DeltaCommit.{DeltaCommit};
 
@@ -82,7 +82,7 @@ impl Reading {
                 meta: None,
                 files: Items::new(alloc),
             },
-            paths: BTreeSet::new(alloc),
+            paths: HashSet::new(alloc),
         }
     }
 
