@@ -1,5 +1,5 @@
 -- What one line of a commit says, as a function of the line, or that it says nothing. It gives just what Actions states.
-use Rattle.std.specs.Prelude.{ℕ, ℤ, pos, negsuc, ◌==◌, ◌||◌, ◌&&◌, List, [], length, Bool, false, Option, Some, None, option_map, is_some, is_none, Result, Ok, Err, if◌then◌else◌, codes}
+use Rattle.std.specs.Prelude.{ℕ, ℤ, pos, negsuc, ◌==◌, ◌||◌, ◌&&◌, List, [], length, Bool, false, Option, Some, None, is_some, is_none, Result, Ok, Err, if◌then◌else◌, codes}
 use Rattle.std.specs.List.{list_all}
 use Rattle.std.specs.Str.{bytes_eq}
 use Rattle.serde_json.specs.Data.{Data, null, boolean, number, string, array, object}
