@@ -1,0 +1,9 @@
+pub mod StayLemmas
+pub mod BlockStays
+pub mod PieceLemmas
+pub mod EndLemmas
+pub mod HeaderLemmas
+pub mod KeepLemmas
+pub mod WholeLemmas
+pub mod RunLemmas
+pub mod CallLemmas

@@ -1,0 +1,4 @@
+pub mod Feeding
+pub mod Calls
+pub mod Laws
+pub mod Views
