@@ -5,9 +5,3 @@ pub mod Names
 pub mod Present
 pub mod Publishable
 pub mod SinceLaws
-mod BehindLaws
-mod BesideLaws
-mod ColumnLaws
-mod HeldLaws
-mod JoiningLaws
-mod StepLaws

@@ -3,7 +3,6 @@ pub mod Reading
 pub mod HeadLemmas
 pub mod OwnLemmas
 pub mod Since
-pub mod Behind
 pub mod Counted
 pub mod Later
 pub mod Histories

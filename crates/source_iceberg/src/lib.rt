@@ -2,11 +2,8 @@
 //! position.
 #![tactic(auto)]
 
-mod behind;
 mod columns;
 mod counted;
-mod held;
-mod joining;
 mod later;
 mod newest;
 mod since;

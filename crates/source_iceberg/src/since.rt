@@ -4,30 +4,27 @@ ghost use Rattle.std.specs.Prelude.{◌≡◌, ◌≤◌, List, [], None, IfErr,
 ghost use Rattle.std.specs.Fmt.{signed_decimal};
 ghost use Rattle.lake_basics.specs.declared.limits.TheConstants.{MAX_ACTIONS};
 ghost use Rattle.lake_store.specs.Runs.{FailsBy, IsUncontestedBy, OnlyReads};
-ghost use Rattle.table_history.specs.Tables.{CanApply, IsAfter};
 ghost use Rattle.iceberg_metadata.specs.Writing.{IsWritable};
 ghost use Rattle.iceberg_table.specs.declared.manifest.Manifest.{Manifest};
 ghost use Rattle.target_core.specs.Conditions.{IsPublishable};
 ghost use Rattle.source_core.specs.Answers.{IsReadRefusal};
 ghost use Rattle.source_core.specs.Since.{CanApplyAll, CanApplySince, FitAll, FitSince, IsSinceAnswer, IsSinceRefusal};
 ghost use Rattle.source_core.specs.declared.error.SourceError.TheVariants.{StoreFault};
-ghost use Rattle.source_iceberg.specs.Behind.{GoesOn, IsListed, IsOwn};
+ghost use Rattle.iceberg_change.specs.Behind.{GoesOn, IsListed};
+ghost use Rattle.iceberg_change.specs.Own.{IsOwn};
 ghost use Rattle.source_iceberg.specs.Counted.{Counts};
 ghost use Rattle.source_iceberg.specs.Heads.{IsIcebergHead};
-ghost use Rattle.source_iceberg.specs.Reading.{IsRefusedSnapshot};
-ghost use Rattle.source_iceberg.specs.declared.behind.Listed.{Listed};
+ghost use Rattle.iceberg_change.specs.declared.behind.Listed.{Listed};
 ghost use Rattle.source_iceberg.specs.Since.{IsRefusedBehind, IsSince, Reaches, ShowsBehind, ShowsFromPosition, SnapshotChanges, StopsBehind, AreCommitsBehind, AreCommitsOver};
 ghost use Rattle.source_iceberg.specs.Later.{GoesOnBy, IsOneMore};
 
-use crate::behind::{Listed, Own, Step, step_of};
 use crate::columns::{names_other_columns, partition_change, snapshot_changes};
 use crate::counted::Counted;
-use crate::joining::Stop;
 use crate::later::{ancestors_to, later_ancestors};
 use crate::newest::newest_metadata;
 use crate::told::{lacks_head, limit, source_error};
+use iceberg_change::{Listed, Own, read_behind};
 use iceberg_metadata::{Metadata, Snapshot, Snapshots};
-use iceberg_table::{SnapshotTable, read_snapshot};
 use lake_basics::limits::MAX_COMMITS;
 use lake_basics::{Items, Text};
 use lake_store::Store;
@@ -43,56 +40,6 @@ struct Later {
     table: Table,
     counted: Counted,
     listed: Listed,
-}
-
-/// The snapshot read from scratch, whatever was read before.
-fn read_whole<S: Store>(
-    alloc: Global,
-    store: &mut S,
-    metadata: &Metadata,
-    version: u32,
-    snapshot: &Snapshot,
-    before: &Table,
-) -> Result<Own, SourceError>
-    ensures own { (was : Listed) → IfOk result (IsOwn S.tells (S.disk store.old).files metadata.now
-        snapshot.now before.now was) }
-    ensures refused { S.tells → IfErr result (IsReadRefusal (IsRefusedSnapshot
-        (S.disk store.old).files metadata.now version snapshot.now)) }
-    ensures only_reads { S.tells → OnlyReads ⟦<S as Store>⟧ store.old store.new }
-    ensures cause { FailsBy ⟦<S as Store>⟧ store.old store.new (IsErrOf result StoreFault) }
-    ensures contest { IsUncontestedBy ⟦<S as Store>⟧ store.old store.new ⊥ }
-{
-    let SnapshotTable { table, manifests } = match read_snapshot(
-        alloc, store, metadata, version, snapshot,
-    ) {
-        Ok(read) => read,
-        Err(error) => return Err(source_error(error)),
-    };
-    let change = before.change_to(alloc, &table)?;
-    Ok(Own {
-        change,
-        table,
-        listed: Listed {
-            manifests,
-            columns: None,
-        },
-    })
-}
-
-/// The snapshot's own table, by what it makes of the table before it.
-fn own_behind(alloc: Global, before: Table, step: Step) -> Result<Own, AllocError>
-    requires { CanApply before step.change }
-    ensures after { IfOk result (λ o. IsAfter before step.change o.table) }
-    ensures same { IfOk result (λ o. (o.change ≡ step.change) × (o.listed ≡ step.listed)) }
-{
-    let Step { change, listed } = step;
-    let mut table = before;
-    table.apply(alloc, &change)?;
-    Ok(Own {
-        change,
-        table,
-        listed,
-    })
 }
 
 /// The snapshot's own table over the one before it, whose partition columns it has. A manifest that
@@ -119,11 +66,9 @@ fn read_own<S: Store>(
     if snapshot_changes(alloc, metadata, snapshot, &before)? {
         return Err(partition_change(alloc, version));
     }
-    match step_of(alloc, store, metadata, version, snapshot, &before, listed) {
-        Ok(step) => Ok(own_behind(alloc, before, step)?),
-        Err(Stop::Scratch) => read_whole(alloc, store, metadata, version, snapshot, &before),
-        Err(Stop::Memory) => Err(SourceError::Memory),
-        Err(Stop::StoreFault) => Err(SourceError::StoreFault),
+    match read_behind(alloc, store, metadata, version, snapshot, before, listed) {
+        Ok(own) => Ok(own),
+        Err(error) => Err(source_error(error)),
     }
 }
 

@@ -11,7 +11,7 @@ use Rattle.iceberg_table.proofs.Runs.{fails_never, uncontested_further}
 use Rattle.source_core.specs.Answers.{IsReadRefusal}
 use Rattle.source_core.specs.declared.error.SourceError.{SourceError}
 use Rattle.iceberg_manifest.specs.declared.partition.PartColumn.{PartColumn}
-use Rattle.source_iceberg.specs.Behind.{AreReadFor, GoesOnFrom, IsListed}
+use Rattle.iceberg_change.specs.Behind.{AreReadFor, GoesOnFrom, IsListed}
 use Rattle.source_iceberg.specs.Later.{IsOneMore}
 use Rattle.source_iceberg.specs.Since.{IsRefusedBehind, StopsBehind}
 use Rattle.source_iceberg.proofs.SinceLaws.{Made, all_made, can_apply_all, commits_begin, commits_on, fit_all, lead_begins, lead_on, stops_at}

@@ -1,7 +1,7 @@
 use Rattle.std.proofs.Common.{◌≤◌, take}
 use Rattle.lake_basics.specs.declared.limits.TheConstants.{MAX_ACTIONS}
 use Rattle.lake_store.specs.Runs.{FailsBy, IsUncontestedBy, OnlyReads}
-use Rattle.source_iceberg.specs.Behind.{GoesOn, IsListed}
+use Rattle.iceberg_change.specs.Behind.{GoesOn, IsListed}
 use Rattle.source_iceberg.proofs.SinceLaws.{LeadOn, Made}
 use Rattle.source_iceberg.proofs.since.read_later.Given as goal
 

@@ -4,7 +4,7 @@ use Rattle.std.proofs.lemmas.Result.{err_from_is_err_and}
 use Rattle.iceberg_table.specs.declared.manifest.Manifest.{Manifest}
 use Rattle.source_core.specs.Answers.{IsReadRefusal}
 use Rattle.source_core.specs.declared.error.SourceError.{SourceError}
-use Rattle.source_iceberg.specs.Behind.{own_table}
+use Rattle.iceberg_change.specs.Own.{own_table}
 use Rattle.source_iceberg.specs.Counted.{Counts}
 use Rattle.source_iceberg.specs.Since.{HasManyEntries, IsRefusedBehind}
 use Rattle.source_iceberg.specs.declared.since.Later.{Later}

@@ -1,0 +1,116 @@
+-- A snapshot behind the one before it.
+use Rattle.std.proofs.Common.{◌≡◌, ◌≤◌, ◌-◌, ◌+◌, ℕ, List, [], ◌++◌, Contains, Option, None, Some, length, map, sym, ap, subst, ◌∙◌, append-nil, arith}
+use Rattle.lake_basics.specs.declared.limits.TheConstants.{MAX_LIVE_FILES}
+use Rattle.lake_store.specs.Disk.{Files}
+use Rattle.table_history.specs.Rows.{HasDistinctPaths, HasPath, SameRows}
+use Rattle.table_history.specs.Tables.{IsDiff}
+use Rattle.table_history.specs.declared.row.FileRow.{FileRow}
+use Rattle.table_history.specs.declared.table.Change.{Change}
+use Rattle.table_history.specs.declared.table.Table.{Table}
+use Rattle.table_history.proofs.Laws.{same_rows_length}
+use Rattle.iceberg_manifest.specs.Lists.{AreEach}
+use Rattle.iceberg_manifest.specs.declared.partition.PartColumn.{PartColumn}
+use Rattle.iceberg_metadata.specs.declared.metadata.Metadata.{Metadata}
+use Rattle.iceberg_table.specs.Counted.{AreFew}
+use Rattle.iceberg_table.specs.Lists.{SaysList}
+use Rattle.iceberg_table.specs.Manifests.{IsManifestOf}
+use Rattle.iceberg_table.specs.Plan.{part_columns}
+use Rattle.iceberg_table.specs.Tables.{IsTableOfRows, rows_of}
+use Rattle.iceberg_table.specs.declared.list.ManifestFile.{ManifestFile}
+use Rattle.iceberg_table.specs.declared.manifest.Manifest.{Manifest}
+use Rattle.iceberg_table.specs.declared.plan.Plan.{Plan}
+use Rattle.iceberg_table.proofs.CountLaws.{few_counted}
+use Rattle.iceberg_change.specs.Behind.{AreApart, AreFit, AreParts, AreRead, GoesOn, HoldsRead, GoesOnFrom, AreReadFor, IsChangeTo, IsJoined, IsListed, IsStart, IsStepBy, held_rows, slots_rows}
+use Rattle.iceberg_change.specs.declared.behind.Listed.{Listed}
+use Rattle.iceberg_change.specs.declared.behind.Start.{Start}
+use Rattle.iceberg_change.specs.declared.joining.Joining.{Joining}
+use Rattle.iceberg_change.proofs.BesideLaws.{all_diff, all_distinct, all_length, left_apart, left_distinct}
+use Rattle.iceberg_change.proofs.HeldLaws.{filled_rows, filled_with}
+
+-- ---- what is held at the beginning
+
+itself : (rows : List FileRow) → SameRows rows rows
+itself rows row = (λ h. h, λ h. h)
+
+pub starts_held : (columns : List PartColumn) (before : Table) (manifests : List Manifest) (s : Start) → s.held.slots.items ≡ map Some manifests → s.others.rows ≡ [] → HasDistinctPaths before.rows
+    → IsTableOfRows before.schema before.partition (rows_of manifests) before → AreFit columns manifests → IsStart columns before s
+starts_held columns before manifests s slots none own is fit =
+    let rows : rows_of manifests ≡ held_rows s.held ++ s.others.rows =
+    sym (ap (λ l. held_rows s.held ++ l) none ∙ append-nil (held_rows s.held) ∙ ap slots_rows slots ∙ filled_rows manifests) in
+    record {
+      same = subst (SameRows before.rows) rows is.same;
+      distinct = subst HasDistinctPaths rows is.distinct;
+      fit = λ m there. fit m (filled_with manifests m (subst (λ (l : List (Option Manifest)). Contains l (Some m)) slots there));
+    }
+
+pub holds_read : (files : Files) (location : List ℕ) (columns : List PartColumn) (manifests : List Manifest) (s : Start) → s.held.slots.items ≡ map Some manifests → AreRead files location columns manifests → HoldsRead files location columns s.held
+holds_read files location columns manifests s slots are = λ m there. are m (filled_with manifests m (subst (λ (l : List (Option Manifest)). Contains l (Some m)) slots there))
+
+pub starts_new : (columns : List PartColumn) (before : Table) (s : Start) → s.held.slots.items ≡ [] → s.others ≡ before → HasDistinctPaths before.rows → IsStart columns before s
+starts_new columns before s slots is own =
+    let rows : before.rows ≡ held_rows s.held ++ s.others.rows = ap (λ (t : Table). t.rows) (sym is) ∙ sym (ap (λ l. slots_rows l ++ s.others.rows) slots) in
+    record {
+      same = subst (SameRows before.rows) rows (itself before.rows);
+      distinct = subst HasDistinctPaths rows own;
+      fit = λ m there. absurd (nothing m (subst (λ (l : List (Option Manifest)). Contains l (Some m)) slots there));
+    }
+  where
+    nothing : (m : Manifest) → Contains [] (Some m) → ⊥
+    nothing m h = absurd (omega (arith, h.1))
+
+pub parts_of : (columns : List PartColumn) (before : Table) (s : Start) (j : Joining) → IsStart columns before s → IsJoined columns (held_rows s.held) None j → AreParts before.rows s.others.rows (held_rows j.held) j.came.items (rows_of j.manifests)
+parts_of columns before s j start joined = record { held = held_rows s.held; kept = joined.kept; same = start.same; distinct = start.distinct; split = joined.split; whole = joined.whole }
+
+-- ---- the change
+
+module _ (before : List FileRow) (start left came all : List FileRow) (parts : AreParts before start left came all) where
+  -- the rows that go may be put to those that weren't held
+  pub goes_distinct : HasDistinctPaths left
+  goes_distinct = left_distinct before parts.held start parts.kept left came all parts.same parts.distinct parts.split parts.whole
+
+  pub goes_apart : AreApart left start
+  goes_apart = left_apart before parts.held start parts.kept left came all parts.same parts.distinct parts.split parts.whole
+
+module _ (before : List FileRow) (start left came all : List FileRow) (parts : AreParts before start left came all) (own : HasDistinctPaths before)
+    (went after : Table) (gone : SameRows went.rows (start ++ left)) (went_own : HasDistinctPaths went.rows) (new : SameRows after.rows came) (after_own : HasDistinctPaths after.rows) (came_own : HasDistinctPaths came)
+    (free : (row : FileRow) → Contains came row → HasPath before row.path → HasPath went.rows row.path) where
+  pub change_is : (c : Change) → (length before - length went.rows) + length after.rows ≤ MAX_LIVE_FILES → IsDiff went.rows after.rows c.removed c.added → IsChangeTo before all c
+  change_is c within diff =
+      let distinct = all_distinct before parts.held start parts.kept left came all parts.same parts.distinct parts.split parts.whole went.rows gone went_own came_own free in
+      let long = all_length before parts.held start parts.kept left came all parts.same parts.distinct parts.split parts.whole went.rows gone went_own came_own free own in
+      let many = same_rows_length after.rows came after_own came_own new in
+      record {
+        distinct = distinct;
+        few = omega (arith, long, many, within);
+        diff = all_diff before parts.held start parts.kept left came all parts.same parts.distinct parts.split parts.whole went.rows gone went_own came_own free after.rows new c.removed c.added diff;
+      }
+
+-- ---- what goes on from the snapshot before
+
+pub goes_held : (before : Table) (l : Listed) (columns : List PartColumn) → l.columns ≡ Some columns → GoesOn before l → IsTableOfRows before.schema before.partition (rows_of l.manifests) before × AreFit columns l.manifests
+goes_held before l columns is on = subst (λ (o : Option (List PartColumn)). GoesOnFrom before l.manifests o) is on
+
+pub listed_read : (files : Files) (location : List ℕ) (l : Listed) (columns : List PartColumn) → l.columns ≡ Some columns → IsListed files location l → AreRead files location columns l.manifests
+listed_read files location l columns is listed = subst (λ (o : Option (List PartColumn)). AreReadFor files location l.manifests o) is listed
+
+pub holds_none : (files : Files) (location : List ℕ) (columns : List PartColumn) (s : Start) → s.held.slots.items ≡ [] → HoldsRead files location columns s.held
+holds_none files location columns s slots = λ m there. absurd (no_slot m (subst (λ (l : List (Option Manifest)). Contains l (Some m)) slots there))
+  where
+    no_slot : (m : Manifest) → Contains [] (Some m) → ⊥
+    no_slot m h = absurd (omega (arith, h.1))
+
+pub step_made : (tells : Type 0) (files : Files) (m : Metadata) (plan : Plan) (before : Table) (was : Listed) (columns : List PartColumn) → columns ≡ part_columns plan.columns → (rows : List FileRow) (j : Joining) → IsJoined columns rows None j → AreFew j.counted → HasDistinctPaths before.rows
+    → (change : Change) → IsChangeTo before.rows (rows_of j.manifests) change → change.schema ≡ Some plan.schema
+    → (tells → IsListed files m.location was → (list : List ManifestFile) × SaysList files m plan.list list × ((others : List ManifestFile) → SaysList files m plan.list others → others ≡ list) × AreEach (IsManifestOf files m.location columns) list j.manifests)
+    → IsStepBy tells files m plan before was (record { change = change; listed = record { manifests = j.manifests; columns = Some columns } })
+step_made tells files m plan before was columns same rows j joined few own change is schema read = record {
+  change = is;
+  within = few_counted j.manifests j.counted joined.counts few;
+  columns = ap Some same;
+  fit = subst (λ (cs : List PartColumn). AreFit cs j.manifests) same joined.fit;
+  schema = schema;
+  own = own;
+  read = λ told listed.
+      let l = read told listed in
+      record { list = l.0; says = l.1; only = l.2; are = subst (λ (cs : List PartColumn). AreEach (IsManifestOf files m.location cs) l.0 j.manifests) same l.3 };
+}

@@ -1,0 +1,275 @@
+//! A snapshot read behind the one before it.
+
+ghost use Rattle.std.specs.Prelude.{◌≡◌, ◌≤◌, ◌+◌, ◌-◌, ◌++◌, ℕ, List, length, Contains, Some, IfOk, IsErrOf, IsTrue};
+ghost use Rattle.lake_basics.specs.declared.limits.TheConstants.{MAX_LIVE_FILES};
+ghost use Rattle.lake_store.specs.Disk.{Files};
+ghost use Rattle.lake_store.specs.Runs.{FailsBy, IsUncontestedBy, OnlyReads};
+ghost use Rattle.table_history.specs.Rows.{HasDistinctPaths, HasPath, SameRows};
+ghost use Rattle.table_history.specs.declared.row.FileRow.{FileRow};
+ghost use Rattle.iceberg_change.specs.Behind.{AreApart, AreParts, GoesOn, HoldsRead, IsChangeTo, IsListed, IsStart, IsStep, IsStepBy, held_rows};
+ghost use Rattle.iceberg_change.specs.declared.joining.Stop.TheVariants.{StoreFault};
+
+use crate::held::Held;
+use crate::joining::{Joining, Stop, join_list, stop_for};
+use iceberg_manifest::PartColumn;
+use iceberg_metadata::{Metadata, Snapshot};
+use iceberg_table::{Manifest, Plan, part_columns, plan_snapshot, read_list_file};
+use indexmap::IndexSet;
+use lake_basics::Items;
+use lake_basics::limits::MAX_LIVE_FILES;
+use lake_store::Store;
+use std::alloc::{AllocError, Global};
+use table_history::{Change, FileRow, FileRows, Schema, Table};
+
+/// What was read of the manifests that a snapshot's list names, in its order, and for which columns
+/// of their partition records. Without these the next snapshot can't be read behind this one.
+#[derive(Drop)]
+pub struct Listed {
+    pub manifests: Items<Manifest>,
+    pub columns: Option<Items<PartColumn>>,
+}
+
+/// What is known of the table before a snapshot: the manifests that are held, and the table of the
+/// rows that aren't theirs.
+#[derive(Drop)]
+struct Start {
+    held: Held,
+    others: Table,
+}
+
+/// What a snapshot makes of the table before it.
+#[derive(Drop)]
+pub(crate) struct Step {
+    pub change: Change,
+    pub listed: Listed,
+}
+
+// ---- rows
+
+/// Whether no two rows have one path.
+fn have_own_paths(alloc: Global, rows: &[FileRow]) -> Result<bool, AllocError>
+    ensures { IfOk result (λ own. IsTrue own → HasDistinctPaths rows.now) }
+{
+    let mut seen = IndexSet::new(alloc);
+    for row in rows {
+        if !seen.insert(row.path.as_bytes())? {
+            return Ok(false);
+        }
+    }
+    Ok(true)
+}
+
+/// The table with these rows more.
+fn with_rows(alloc: Global, table: Table, rows: Vec<FileRow>) -> Result<Table, AllocError>
+    requires distinct { HasDistinctPaths rows.items }
+    requires apart { AreApart rows.items table.rows }
+    ensures rows { IfOk result (λ t. SameRows t.rows (table.rows ++ rows.items)) }
+    ensures own { IfOk result (λ t. HasDistinctPaths t.rows) }
+    ensures schema { IfOk result (λ t. t.schema ≡ table.schema) }
+{
+    let change = Change {
+        schema: None,
+        removed: Items::new(alloc),
+        added: Items::from_vec(rows),
+    };
+    let mut table = table;
+    table.apply(alloc, &change)?;
+    Ok(table)
+}
+
+/// A table of this schema and these rows. Rows that share a path aren't taken.
+fn table_of(alloc: Global, schema: Schema, rows: Vec<FileRow>) -> Result<Table, Stop>
+    ensures rows { IfOk result (λ t. SameRows t.rows rows.items) }
+    ensures distinct { IfOk result (λ _. HasDistinctPaths rows.items) }
+    ensures own { IfOk result (λ t. HasDistinctPaths t.rows) }
+    ensures schema { IfOk result (λ t. t.schema ≡ schema) }
+    ensures no_fault { IsErrOf result StoreFault → ⊥ }
+{
+    if !have_own_paths(alloc, rows.as_slice())? {
+        return Err(Stop::Scratch);
+    }
+    let empty = Table {
+        schema,
+        partition: Items::new(alloc),
+        rows: FileRows::new(alloc),
+    };
+    Ok(with_rows(alloc, empty, rows)?)
+}
+
+/// Whether the row's path is free in the table before, once the rows that went are out of it. If not,
+/// it shares its file with a row that stays.
+fn is_free(before: &Table, went: &Table, row: &FileRow) -> bool
+    ensures { IsTrue result → HasPath before.now.rows row.now.path
+        → HasPath went.now.rows row.now.path }
+{
+    match before.rows.get(row.path.as_bytes()) {
+        Some(_) => went.rows.get(row.path.as_bytes()).is_some(),
+        None => true,
+    }
+}
+
+/// Whether this is so of each of the rows.
+fn are_free(before: &Table, went: &Table, rows: &[FileRow]) -> bool
+    ensures { IsTrue result → (row : FileRow) → Contains rows.now row
+        → HasPath before.now.rows row.path → HasPath went.now.rows row.path }
+{
+    for row in rows {
+        if !is_free(before, went, row) {
+            return false;
+        }
+    }
+    true
+}
+
+/// Whether so many rows may be live, where those that went were among those before.
+fn is_within(before: usize, went: usize, came: usize) -> bool
+    ensures { IsTrue result → (before - went) + came ≤ MAX_LIVE_FILES }
+{
+    let kept = before.saturating_sub(went) as u64;
+    let came = came as u64;
+    came <= MAX_LIVE_FILES && kept <= MAX_LIVE_FILES - came
+}
+
+/// The change from the rows before to those of the manifests of a list: of these manifests some were
+/// held, and the rows of the others came.
+fn change_of(
+    alloc: Global,
+    before: &Table,
+    count: usize,
+    start: Table,
+    left: &Held,
+    came: Vec<FileRow>,
+    schema: Schema,
+) -> Result<Change, Stop>
+    requires count { count ≡ length before.now.rows }
+    requires own { HasDistinctPaths before.now.rows }
+    requires parts { (all : List FileRow)
+        × AreParts before.now.rows start.rows (held_rows left.now) came.items all }
+    ensures change { (all : List FileRow)
+        → AreParts before.now.rows start.rows (held_rows left.now) came.items all
+        → IfOk result (IsChangeTo before.now.rows all) }
+    ensures schema { IfOk result (λ c. c.schema ≡ Some schema) }
+    ensures no_fault { IsErrOf result StoreFault → ⊥ }
+{
+    let left = left.rows(alloc)?;
+    let went = with_rows(alloc, start, left)?;
+    if !are_free(before, &went, came.as_slice()) {
+        return Err(Stop::Scratch);
+    }
+    let came = table_of(alloc, schema, came)?;
+    if !is_within(count, went.rows.len(), came.rows.len()) {
+        return Err(Stop::Scratch);
+    }
+    Ok(went.change_to(alloc, &came)?)
+}
+
+// ---- a snapshot
+
+/// Whether the manifests were read for these columns.
+fn is_for(known: &Option<Items<PartColumn>>, columns: &Items<PartColumn>) -> bool
+    ensures { IsTrue result → known.now ≡ Some columns.now }
+{
+    match known {
+        Some(known) => *known == *columns,
+        None => false,
+    }
+}
+
+/// What is held of the list before, if it was read for these columns.
+fn begin(
+    alloc: Global,
+    before: &Table,
+    listed: Listed,
+    columns: &Items<PartColumn>,
+) -> Result<Start, AllocError>
+    requires own { HasDistinctPaths before.now.rows }
+    requires on { GoesOn before.now listed }
+    ensures start { IfOk result (IsStart columns.now before.now) }
+    ensures read { (files : Files) (location : List ℕ) → IsListed files location listed
+        → IfOk result (λ s. HoldsRead files location columns.now s.held) }
+{
+    let Listed {
+        manifests,
+        columns: known,
+    } = listed;
+    if is_for(&known, columns) {
+        return Ok(Start {
+            held: Held::new(alloc, manifests)?,
+            others: Table::empty(alloc, before.partition.as_slice())?,
+        });
+    }
+    Ok(Start {
+        held: Held::new(alloc, Items::new(alloc))?,
+        others: before.copy(alloc)?,
+    })
+}
+
+/// What a snapshot of which the metadata says this makes of the table before it.
+fn step_planned<S: Store>(
+    alloc: Global,
+    store: &mut S,
+    metadata: &Metadata,
+    plan: Plan,
+    before: &Table,
+    listed: Listed,
+) -> Result<Step, Stop>
+    requires { GoesOn before.now listed }
+    ensures step { IfOk result (IsStepBy S.tells (S.disk store.old).files metadata.now plan before.now listed) }
+    ensures only_reads { S.tells → OnlyReads ⟦<S as Store>⟧ store.old store.new }
+    ensures cause { FailsBy ⟦<S as Store>⟧ store.old store.new (IsErrOf result StoreFault) }
+    ensures contest { IsUncontestedBy ⟦<S as Store>⟧ store.old store.new ⊥ }
+{
+    let Plan {
+        list: path,
+        schema,
+        columns,
+    } = plan;
+    let columns = part_columns(alloc, columns.as_slice())?;
+    let list = match read_list_file(alloc, store, metadata, &path) {
+        Ok(list) => list,
+        Err(error) => return Err(stop_for(error)),
+    };
+    let count = before.rows.len();
+    let Start { held, others } = begin(alloc, before, listed, &columns)?;
+    let location = metadata.location.as_str();
+    let joining = join_list(alloc, store, location, columns.as_slice(), list, held)?;
+    let Joining {
+        held: left,
+        manifests,
+        came,
+        ..
+    } = joining;
+    let change = change_of(alloc, before, count, others, &left, came, schema)?;
+    Ok(Step {
+        change,
+        listed: Listed {
+            manifests,
+            columns: Some(columns),
+        },
+    })
+}
+
+/// What a snapshot makes of the table before it (Apache Iceberg specification, "Scan Planning"). Its
+/// list is read, and those of its manifests that the list before didn't name. Where something is at
+/// fault, the snapshot has to be read from scratch, which tells the first cause in the list's order.
+pub(crate) fn step_of<S: Store>(
+    alloc: Global,
+    store: &mut S,
+    metadata: &Metadata,
+    version: u32,
+    snapshot: &Snapshot,
+    before: &Table,
+    listed: Listed,
+) -> Result<Step, Stop>
+    requires { GoesOn before.now listed }
+    ensures step { IfOk result (IsStep S.tells (S.disk store.old).files metadata.now snapshot.now
+        before.now listed) }
+    ensures only_reads { S.tells → OnlyReads ⟦<S as Store>⟧ store.old store.new }
+    ensures cause { FailsBy ⟦<S as Store>⟧ store.old store.new (IsErrOf result StoreFault) }
+    ensures contest { IsUncontestedBy ⟦<S as Store>⟧ store.old store.new ⊥ }
+{
+    match plan_snapshot(alloc, metadata, version, snapshot) {
+        Ok(plan) => step_planned(alloc, store, metadata, plan, before, listed),
+        Err(error) => Err(stop_for(error)),
+    }
+}

@@ -1,0 +1,108 @@
+//! The manifests of the list before, by their paths.
+
+ghost use Rattle.std.specs.Prelude.{◌≡◌, ◌<◌, ◌++◌, None, Some, length, map, slice_get, slice_set, IfOk, IfSome, IsTrue};
+ghost use Rattle.std.specs.List.Sorted.{IsPermutation};
+ghost use Rattle.iceberg_table.specs.Tables.{rows_in};
+ghost use Rattle.iceberg_table.specs.declared.manifest.Manifest.{Manifest};
+ghost use Rattle.iceberg_change.specs.Behind.{IsHeld, NamesSame, held_rows, slot_rows, slots_rows};
+
+use iceberg_live::LiveRow;
+use iceberg_table::{Manifest, ManifestFile};
+use indexmap::IndexMap;
+use lake_basics::{Items, Text};
+use std::alloc::{AllocError, Global};
+use table_history::FileRow;
+
+/// Manifests that were read, each in a slot of its own until it is taken out.
+#[derive(Drop)]
+pub(crate) struct Held {
+    // By path: its slot.
+    places: IndexMap<Text, usize>,
+    slots: Vec<Option<Manifest>>,
+}
+
+/// Empties the slot at this place, and gives what stood there.
+fn emptied(slots: &mut Vec<Option<Manifest>>, place: usize) -> Option<Manifest>
+    requires { place < length slots.old.items }
+    ensures before { slice_get slots.old.items place ≡ Some result }
+    ensures after { slots.new.items ≡ slice_set slots.old.items place None }
+{
+    std::mem::replace(&mut slots[place], None)
+}
+
+/// The rows of live entries.
+pub(crate) fn rows_in(alloc: Global, live: &[LiveRow]) -> Result<Vec<FileRow>, AllocError>
+    ensures { IfOk result (λ rows. rows.items ≡ rows_in live.now) }
+{
+    let mut rows = Vec::with_capacity(alloc, live.len())?;
+    for found in live {
+        rows.push(found.row.copy(alloc)?)?;
+    }
+    Ok(rows)
+}
+
+/// The rows of the manifest in a slot.
+fn slot_rows(alloc: Global, slot: &Option<Manifest>) -> Result<Vec<FileRow>, AllocError>
+    ensures { IfOk result (λ rows. rows.items ≡ slot_rows slot.now) }
+{
+    match slot {
+        Some(manifest) => rows_in(alloc, manifest.rows.as_slice()),
+        None => Ok(Vec::new(alloc)),
+    }
+}
+
+/// The rows of the manifests in these slots, one slot after another.
+fn slots_rows(alloc: Global, slots: &[Option<Manifest>]) -> Result<Vec<FileRow>, AllocError>
+    ensures { IfOk result (λ rows. rows.items ≡ slots_rows slots.now) }
+{
+    let mut rows = Vec::new(alloc);
+    for slot in slots {
+        let mut more = slot_rows(alloc, slot)?;
+        rows.append(&mut more)?;
+    }
+    Ok(rows)
+}
+
+/// Whether two rows of lists name one manifest, whose entries take the same numbers from both.
+pub(crate) fn names_same(one: &ManifestFile, other: &ManifestFile) -> bool
+    ensures { IsTrue result → NamesSame one.now other.now }
+{
+    one.path == other.path
+        && one.info.content == other.info.content
+        && one.info.added_snapshot_id == other.info.added_snapshot_id
+        && one.info.sequence_number == other.info.sequence_number
+}
+
+impl Held {
+    /// These manifests.
+    pub fn new(alloc: Global, manifests: Items<Manifest>) -> Result<Held, AllocError>
+        ensures { IfOk result (λ h. h.slots.items ≡ map Some manifests) }
+    {
+        let mut places = IndexMap::new(alloc);
+        let mut slots = Vec::new(alloc);
+        for manifest in manifests.into_vec() {
+            drop(places.insert(manifest.file.path.copy(alloc)?, slots.len())?);
+            slots.push(Some(manifest))?;
+        }
+        Ok(Held { places, slots })
+    }
+
+    /// Takes out the manifest at this path, if it is held.
+    pub fn take(&mut self, path: &Text) -> Option<Manifest>
+        ensures rows { IsPermutation (held_rows self.old) (slot_rows result ++ held_rows self.new) }
+        ensures taken { IfSome result (λ m. IsHeld self.old m) }
+        ensures left { (m : Manifest) → IsHeld self.new m → IsHeld self.old m }
+    {
+        match self.places.get(path) {
+            Some(place) if *place < self.slots.len() => emptied(&mut self.slots, *place),
+            _ => None,
+        }
+    }
+
+    /// The rows of the manifests that are still held.
+    pub fn rows(&self, alloc: Global) -> Result<Vec<FileRow>, AllocError>
+        ensures { IfOk result (λ rows. rows.items ≡ held_rows self.now) }
+    {
+        slots_rows(alloc, self.slots.as_slice())
+    }
+}

@@ -1,6 +1,0 @@
-use Rattle.std.proofs.Common.{◌≡◌, ◌++◌, List, Some, map}
-use Rattle.iceberg_table.specs.declared.manifest.Manifest.{Manifest}
-use Rattle.source_iceberg.proofs.held.Held.new.Given as goal
-
-abbrev pub invariant-loop-manifest : goal.invariant-loop-manifest
-invariant-loop-manifest l = (front : List Manifest) × (l.fn.manifests ≡ front ++ l.manifest-iterator.rest.items) × (l.slots.items ≡ map Some front)
