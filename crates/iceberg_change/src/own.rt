@@ -78,6 +78,9 @@ fn own_behind(alloc: Global, before: Table, step: Step) -> Result<Own, AllocErro
 
 /// The snapshot's own table over the one before it (Apache Iceberg specification, "Scan Planning"). A
 /// manifest that the list before named too isn't read again. A refusal is that of `read_snapshot`.
+///
+/// The partition columns that the metadata gives the snapshot have to be those of `before`. `listed`
+/// is what this call gave with `before`, or, behind any other table, one without manifests and columns.
 pub fn read_behind<S: Store>(
     alloc: Global,
     store: &mut S,
