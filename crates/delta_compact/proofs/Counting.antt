@@ -1,12 +1,11 @@
 -- Blocks one after another: what is counted, and what holds so far.
-use Rattle.std.proofs.Common.{◌≡◌, ◌≢◌, ◌⊎◌, inl, inr, ⊎_elim, ℕ, suc, ◌+◌, ◌*◌, ◌<◌, ◌≤◌, List, Bool, true, false, length, refl, sym, ap, subst, ◌∙◌, arith}
+use Rattle.std.proofs.Common.{◌≡◌, ◌⊎◌, inl, inr, ⊎_elim, ℕ, suc, ◌+◌, ◌<◌, ◌≤◌, Bool, true, false, sym, subst, arith}
 use Rattle.std.proofs.lemmas.Bool.{cases_eq}
-use Rattle.lake_basics.specs.declared.limits.TheConstants.{MAX_DELTA_VERSION}
 use Rattle.lake_store.specs.Disk.{Disk, Files}
 use Rattle.lake_store.specs.Runs.{OnlyReads}
 use Rattle.lake_store.specs.declared.store.Store.{Ghosts}
 use Rattle.lake_store.proofs.RunLaws.{NowOnly, reading_begins}
-use Rattle.delta_compact.specs.Blocks.{HasCompaction, IsCompacted, IsWithin}
+use Rattle.delta_compact.specs.Blocks.{IsCompacted, IsWithin}
 use Rattle.delta_compact.specs.Compacting.{AreBlocksOf, AreCompacted, Compacts, CompactsUpTo, HaveCompactions, IsCompactedOver, NoBlock, StopsBefore}
 use Rattle.delta_compact.specs.Joinable.{IsJoinable}
 use Rattle.delta_compact.specs.Refusals.{AreJoinable, HasCause, HasStale, IsStale, IsUnjoinable}

@@ -2,7 +2,6 @@
 use Rattle.std.proofs.Common.{◌≡◌, ℕ, zero, suc, ◌+◌, ◌*◌, ◌<◌, ◌≤◌, List, [], ◌∷◌, ◌++◌, length, Option, Bool, true, false, cond, refl, sym, ap, subst, ◌∙◌, ⊎_elim, arith}
 use Rattle.std.proofs.lemmas.Bool.{cases_eq}
 use Rattle.std.proofs.lemmas.List.Sums.{sum_by-cons}
-use Rattle.lake_basics.specs.declared.limits.TheConstants.{MAX_FILE_BYTES}
 use Rattle.lake_store.specs.Disk.{Files}
 use Rattle.table_history.specs.declared.table.Table.{Table}
 use Rattle.delta_log.specs.declared.commit.DeltaCommit.{DeltaCommit}

@@ -1,6 +1,5 @@
 -- Blocks that can be joined aren't refused, and what is written for one agrees with its commits.
-use Rattle.std.proofs.Common.{◌≡◌, ◌≢◌, ◌⊎◌, inl, inr, ⊎_elim, ℕ, ◌+◌, ◌*◌, ◌<◌, ◌≤◌, List, [], ◌∷◌, ◌++◌, length, All, refl, sym, ap, subst, ◌∙◌, length-append, arith}
-use Rattle.std.specs.Prelude.{◌↔◌, Contains}
+use Rattle.std.proofs.Common.{◌≡◌, ◌⊎◌, inl, inr, ⊎_elim, ℕ, ◌+◌, ◌<◌, ◌≤◌, List, [], ◌∷◌, ◌++◌, length, All, sym, ap, subst, ◌∙◌, length-append, arith}
 use Rattle.std.proofs.lemmas.List.Elements.{All-head}
 use Rattle.lake_basics.specs.declared.limits.TheConstants.{MAX_ACTIONS, MAX_FILE_BYTES}
 use Rattle.lake_store.specs.Disk.{Files}
@@ -9,7 +8,6 @@ use Rattle.table_history.specs.declared.feature.Feature.TheVariants.{CompactActi
 use Rattle.delta_log.specs.declared.commit.DeltaCommit.{DeltaCommit}
 use Rattle.delta_log.specs.declared.error.DeltaError.{DeltaError}
 use Rattle.delta_log.specs.declared.error.DeltaError.TheVariants as delta
-use Rattle.delta_log.specs.Judging.{lines_of}
 use Rattle.delta_log.proofs.ReadableLemmas.{fault_excluded}
 use Rattle.delta_compaction.specs.declared.error.CompactError.{CompactError}
 use Rattle.delta_compaction.specs.declared.error.CompactError.TheVariants as join
@@ -24,7 +22,6 @@ use Rattle.delta_compaction.proofs.SortedLemmas.{same_rising}
 use Rattle.delta_compaction.proofs.TextLemmas.{text_agrees}
 use Rattle.source_core.specs.declared.error.SourceError.{SourceError}
 use Rattle.source_core.specs.declared.error.SourceError.TheVariants as source
-use Rattle.delta_compact.specs.Blocks.{HoldsBlock}
 use Rattle.delta_compact.specs.Joinable.{IsJoinable, file_count, whole_length}
 use Rattle.delta_compact.specs.Refusals.{HasCause, HaveManyActions, IsLong, IsUnjoinable, IsUnjoined, TellsJoin, of_source}
 use Rattle.delta_compact.specs.Steps.{TellsAmong}

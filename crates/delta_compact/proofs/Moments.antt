@@ -1,23 +1,21 @@
 -- How log compactions come one after another, at each moment.
 use Rattle.std.proofs.Common.{◌≡◌, ◌≢◌, ◌⊎◌, inl, inr, ⊎_elim, ℕ, List, Option, Some, None, refl, sym, ap, subst, ◌∙◌}
 use Rattle.std.specs.FinMap as map
-use Rattle.lake_basics.specs.declared.limits.TheConstants.{MAX_DELTA_VERSION}
-use Rattle.lake_store.specs.Disk.{Disk, Files, IsClean, MayLeave}
+use Rattle.lake_store.specs.Disk.{Disk, Files, IsClean}
 use Rattle.lake_store.specs.Publication.{IsAbsentOrWhole, IsPublished, IsStaged, IsStagedImage}
-use Rattle.lake_store.specs.Runs.{IsEachMoment, LeavesOnly, OnlyReads}
+use Rattle.lake_store.specs.Runs.{LeavesOnly, OnlyReads}
 use Rattle.lake_store.specs.declared.store.Store.{Ghosts}
 use Rattle.lake_store.proofs.DiskLaws.{path_cases}
 use Rattle.lake_store.proofs.MomentLaws.{goes_further, weaker}
 use Rattle.delta_log.specs.declared.commit.DeltaCommit.{DeltaCommit}
-use Rattle.delta_table.specs.SameVersions.{SameVersions, holds_too, versions_sym}
-use Rattle.delta_table.specs.Versions.{IsVersionPath}
+use Rattle.delta_table.specs.SameVersions.{SameVersions, versions_sym}
 use Rattle.delta_compaction.specs.Agreeing.{Agrees}
 use Rattle.delta_compaction.specs.Taken.{AreTaken}
-use Rattle.delta_compact.specs.Blocks.{HasCompaction, HoldsBlock, HoldsCompaction, IsBlockPath, IsBlockText, IsCompacted, IsWithin}
+use Rattle.delta_compact.specs.Blocks.{HasCompaction, HoldsBlock, HoldsCompaction, IsBlockPath, IsBlockText, IsCompacted}
 use Rattle.delta_compact.specs.Compacting.{Compacts, IsCompactedImage, IsCompactedOver, IsGained, IsKeptOrGained, IsOthers, NoBlock, staged_path}
 use Rattle.delta_compact.specs.Refusals.{IsStale}
 use Rattle.delta_compact.proofs.Held.{block_too}
-use Rattle.delta_compact.proofs.Paths.{not_staged, not_staged_version, not_version, one_block, one_path}
+use Rattle.delta_compact.proofs.Paths.{not_staged, not_staged_version, not_version, one_block}
 
 none_some : (b : List ℕ) → None ≡ Some b → ⊥
 none_some b e = cc

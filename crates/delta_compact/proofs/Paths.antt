@@ -1,12 +1,11 @@
 -- The paths of log compactions: one for each block, and none of them a version's or the staged one.
-use Rattle.std.proofs.Common.{◌≡◌, ℕ, ◌+◌, ◌*◌, ◌≤◌, List, ◌++◌, length, take, get_or, codes, refl, sym, ap, subst, ◌∙◌, length-append, arith}
+use Rattle.std.proofs.Common.{◌≡◌, ℕ, ◌+◌, ◌*◌, ◌≤◌, List, ◌++◌, length, take, get_or, codes, refl, sym, ap, ◌∙◌, length-append, arith}
 use Rattle.std.proofs.lemmas.List.{append_cancel_right}
 use Rattle.std.specs.Str.Parse.{digits_value}
 use Rattle.lake_basics.specs.declared.limits.TheConstants.{MAX_DELTA_VERSION}
 use Rattle.delta_log.specs.VersionName.{IsVersionDigits}
 use Rattle.delta_table.specs.Versions.{IsVersionPath}
 use Rattle.delta_table.proofs.PathLaws.{path_once}
-use Rattle.delta_compaction.specs.RangeName.{IsPaddedRange}
 use Rattle.delta_compaction.proofs.RangeLemmas.{parts_of}
 use Rattle.delta_compact.specs.Blocks.{IsBlockPath, IsWithin}
 use Rattle.delta_compact.specs.Compacting.{staged_path}

@@ -1,5 +1,5 @@
 -- Why a log isn't read with its log compactions.
-use Rattle.std.proofs.Common.{◌≡◌, ◌≢◌, ◌⊎◌, inl, inr, ⊎_elim, ℕ, zero, suc, ◌+◌, ◌*◌, ◌<◌, ◌≤◌, List, Option, Some, None, Result, Ok, Err, refl, sym, ap, subst, ◌∙◌, arith}
+use Rattle.std.proofs.Common.{◌≡◌, ◌⊎◌, inl, inr, ⊎_elim, ℕ, zero, suc, ◌+◌, ◌*◌, ◌<◌, ◌≤◌, List, Option, Some, None, Result, Ok, Err, refl, sym, ap, subst, ◌∙◌, arith}
 use Rattle.std.specs.Prelude.{IfErr, IsSome, option_map}
 use Rattle.std.specs.FinMap as map
 use Rattle.std.proofs.lemmas.Bool.{cases_lt}
@@ -14,11 +14,11 @@ use Rattle.delta_log.specs.declared.error.DeltaError.TheVariants as delta
 use Rattle.delta_table.specs.Versions.{HasVersion, IsVersionPath}
 use Rattle.delta_table.proofs.PathLaws.{path_once}
 use Rattle.source_delta.specs.Reading.{HasEach}
-use Rattle.delta_compact.specs.Blocks.{HoldVersions, IsBlockPath}
+use Rattle.delta_compact.specs.Blocks.{IsBlockPath}
 use Rattle.delta_compact.specs.Compacting.{AreBlocksOf}
 use Rattle.delta_compact.specs.Refusals.{HasCause}
 use Rattle.delta_compact.specs.Steps.{IsPlainFault}
-use Rattle.delta_compact.specs.Whole.{AllCompacted, IsFileRefusal, IsOfReading, IsPartPath, IsUntaken, TellsFile, part_count}
+use Rattle.delta_compact.specs.Whole.{AllCompacted, IsFileRefusal, IsOfReading, IsPartPath, TellsFile, part_count}
 use Rattle.delta_compact.specs.declared.error.CompactFault.{CompactFault}
 use Rattle.delta_compact.specs.declared.error.CompactFault.TheVariants.{Memory, Absent, Malformed, Unsupported, Limit, Contested, Stale, StoreFault}
 use Rattle.delta_compact.proofs.Counting.{block_under}

@@ -5,7 +5,7 @@ use Rattle.lake_store.specs.Disk.{Disk, Files, IsClean}
 use Rattle.lake_store.specs.Runs.{IsEachMoment}
 use Rattle.lake_store.specs.declared.store.Store.{Ghosts}
 use Rattle.table_history.specs.declared.table.Table.{Table}
-use Rattle.delta_compact.specs.Blocks.{HasCompaction, HoldsBlock, IsBlockPath, IsBlockText, IsCompacted, IsWithin}
+use Rattle.delta_compact.specs.Blocks.{HasCompaction, IsBlockPath, IsBlockText, IsCompacted, IsWithin}
 use Rattle.delta_compact.specs.Refusals.{AreJoinable, IsStale, IsWhole}
 use Rattle.delta_compact.specs.declared.compacting.Compacted.{Compacted}
 

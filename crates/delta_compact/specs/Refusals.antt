@@ -5,7 +5,6 @@ use Rattle.lake_store.specs.Disk.{Files, names_in}
 use Rattle.lake_store.specs.declared.store.StoreError.{StoreError}
 use Rattle.lake_store.specs.declared.store.StoreError.TheVariants as store
 use Rattle.table_history.specs.Words.{limit_number}
-use Rattle.table_history.specs.declared.feature.Feature.TheVariants.{CompactAction}
 use Rattle.table_history.specs.declared.kind.Kind.TheVariants.{Delta}
 use Rattle.table_history.specs.declared.limit.LimitKind.TheVariants as limit
 use Rattle.table_history.specs.declared.table.Table.{Table}

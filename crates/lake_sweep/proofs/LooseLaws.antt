@@ -1,5 +1,5 @@
 -- What is removed in its turn is loose, and at the end no leftover is left.
-use Rattle.std.proofs.Common.{◌≡◌, ◌⊎◌, inl, inr, ⊎_elim, ℕ, Bool, true, false, List, ◌∷◌, ◌++◌, Contains, Option, Some, None, refl, sym, ap, subst, ◌∙◌}
+use Rattle.std.proofs.Common.{◌≡◌, ◌⊎◌, inl, inr, ⊎_elim, ℕ, false, List, ◌∷◌, ◌++◌, Contains, Some, refl, sym, ap, subst, ◌∙◌}
 use Rattle.std.specs.Prelude.{is_some}
 use Rattle.std.specs.FinMap as map
 use Rattle.std.proofs.lemmas.Bool.{cases_Bool, false≢true}
@@ -9,11 +9,11 @@ use Rattle.table_history.proofs.RowListLemmas.{Contains-cases, Contains-head}
 use Rattle.table_history.specs.declared.kind.Kind.{Kind}
 use Rattle.table_history.specs.declared.kind.Kind.TheVariants.{Delta, Hudi, Iceberg}
 use Rattle.hudi_names.specs.Time.{IsDigits}
-use Rattle.hudi_commit.specs.Names.{IsThere, Stage, claim_path, completed_path, pending_path, staged_properties_path}
+use Rattle.hudi_commit.specs.Names.{IsThere, Stage, claim_path, completed_path, pending_path}
 use Rattle.hudi_commit.proofs.NameLaws.{completed_stays, name_of, name_of-claim, name_of-pending}
 use Rattle.hudi_commit.proofs.OrderlyLaws.{there, there_none}
-use Rattle.target_leftovers.specs.Leftovers.{IsClaim, IsHudiLeftover, IsIcebergLeftover, IsLeftover, IsLeftoverOf, IsPendingClaimed}
-use Rattle.target_leftovers.specs.Loose.{IsDone, IsFree, IsLoose}
+use Rattle.target_leftovers.specs.Leftovers.{IsHudiLeftover, IsLeftover, IsLeftoverOf}
+use Rattle.target_leftovers.specs.Loose.{IsFree, IsLoose}
 use Rattle.target_leftovers.specs.Reached.{IsReached}
 use Rattle.target_leftovers.proofs.ReachedLaws.{reached_of_fewer, reached_stays}
 use Rattle.lake_sweep.specs.Order.{AreInOrder, IsRemovedBefore}

@@ -1,13 +1,12 @@
 -- What the files of an Iceberg table say, they say once.
-use Rattle.std.proofs.Common.{◌≡◌, ℕ, List, Option, Some, Result, Ok, refl, sym, ap, subst, ◌∙◌}
+use Rattle.std.proofs.Common.{◌≡◌, ℕ, List, Option, Some, Result, Ok, sym, ap, ◌∙◌}
 use Rattle.avro_schema.specs.Tree.{SchemaTree}
 use Rattle.avro_value.specs.ValueTree.{ValueTree}
 use Rattle.avro_value.specs.declared.api.TheConstants.{MAX_VALUES}
-use Rattle.avro_container.specs.Format.{IsWithin, Pairs}
+use Rattle.avro_container.specs.Format.{Pairs}
 use Rattle.avro_container.specs.Reading.{container_at}
 use Rattle.avro_container.proofs.Containers.{container_again}
 use Rattle.iceberg_manifest.specs.Scans.{infos_of}
-use Rattle.iceberg_manifest.specs.declared.error.ManifestError.{ManifestError}
 use Rattle.iceberg_manifest.specs.declared.info.ManifestInfo.{ManifestInfo}
 use Rattle.iceberg_metadata.specs.Grammar.{IsMetadataText}
 use Rattle.iceberg_metadata.specs.Judging.{contents}

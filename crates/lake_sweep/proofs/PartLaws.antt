@@ -1,15 +1,13 @@
 -- The parts of a Hudi instant are told apart by their paths, and none comes before itself.
-use Rattle.std.proofs.Common.{◌≡◌, inl, inr, ⊎_elim, ℕ, List, Bool, true, false, refl, sym, ap, subst, ◌∙◌}
-use Rattle.std.specs.Ordering.{is_eq, nat_cmp}
-use Rattle.std.specs.Cmp.Lexicographic.{slice_cmp}
-use Rattle.std.specs.declared.cmp.Ordering.TheVariants.{Less}
+use Rattle.std.proofs.Common.{◌≡◌, inl, inr, ℕ, List, refl, sym, ap, subst, ◌∙◌}
+use Rattle.std.specs.Ordering.{is_eq}
 use Rattle.lake_store.proofs.DiskLaws.{path_here}
 use Rattle.table_history.specs.declared.kind.Kind.{Kind}
 use Rattle.table_history.specs.declared.kind.Kind.TheVariants.{Delta, Hudi, Iceberg}
 use Rattle.hudi_names.specs.Time.{IsDigits}
 use Rattle.hudi_commit.specs.Names.{Inflight, Requested, Stage, claim_path, pending_path, staged_properties_path}
 use Rattle.hudi_commit.proofs.NameLaws.{Claim, Name, Pending, StagedProperties, name_of, name_of-claim, name_of-pending, name_of-staged_properties}
-use Rattle.lake_sweep.specs.Order.{IsBeforeInTimeline, IsEarlier, IsEarlierPart, IsLess, IsPartAt, IsRemovedBefore, OfClaim, OfInflight, OfRequested, Part, path_of_part}
+use Rattle.lake_sweep.specs.Order.{IsBeforeInTimeline, IsEarlierPart, IsLess, IsPartAt, IsRemovedBefore, OfClaim, OfInflight, OfRequested, Part, path_of_part}
 
 pub not_less : (a : List ℕ) → IsLess a a → ⊥
 not_less a less = cc (sym (path_here a) ∙ ap is_eq less)

@@ -1,5 +1,5 @@
 -- Names of a folder that are picked one after the other, in byte order.
-use Rattle.std.proofs.Common.{◌≡◌, ◌⊎◌, inl, inr, ⊎_elim, ℕ, suc, ◌+◌, ◌<◌, ◌≤◌, List, [], ◌∷◌, ◌++◌, length, take, drop, get_or, Contains, refl, sym, ap, subst, ◌∙◌, add-one, drop-cons, arith}
+use Rattle.std.proofs.Common.{◌≡◌, ◌⊎◌, inl, inr, ⊎_elim, ℕ, suc, ◌+◌, ◌<◌, ◌≤◌, List, [], ◌∷◌, ◌++◌, length, take, drop, get_or, Contains, sym, ap, subst, ◌∙◌, drop-cons}
 use Rattle.std.specs.Prelude.{IsSome, codes}
 use Rattle.std.specs.Cmp.Lexicographic.{slice_cmp}
 use Rattle.std.specs.List.{AllByRecursion}
@@ -9,7 +9,7 @@ use Rattle.std.specs.FinMap as map
 use Rattle.std.specs.declared.cmp.Ordering.TheVariants.{Less}
 use Rattle.std.proofs.lemmas.List.{take-append-drop, take_all, take_more}
 use Rattle.std.proofs.lemmas.List.Elements.{Contains-append_left, Contains-push, Contains-push_cases}
-use Rattle.lake_store.specs.Disk.{Files, IsName, names_in}
+use Rattle.lake_store.specs.Disk.{Files, names_in}
 use Rattle.lake_store.proofs.OrderLaws.{names_in_listed, same_front}
 use Rattle.table_history.proofs.RowListLemmas.{Contains-cases, Contains-none}
 use Rattle.table_history.specs.declared.kind.Kind.TheVariants.{Delta}

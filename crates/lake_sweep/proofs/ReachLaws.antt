@@ -1,5 +1,5 @@
 -- What was read of an Iceberg table's versions is all that they reach.
-use Rattle.std.proofs.Common.{◌≡◌, ◌⊎◌, inl, inr, ⊎_elim, ℕ, List, ◌++◌, codes, get_or, length, Contains, refl, sym, ap, subst, ◌∙◌, arith}
+use Rattle.std.proofs.Common.{◌≡◌, ◌⊎◌, inl, inr, ⊎_elim, ℕ, List, codes, get_or, length, Contains, refl, sym, ap, subst, ◌∙◌, arith}
 use Rattle.std.specs.Prelude.{◌↔◌, IsSome}
 use Rattle.std.specs.FinMap as map
 use Rattle.std.specs.List.Sorted.{IsStrictlySortedBy}
@@ -10,7 +10,6 @@ use Rattle.table_history.specs.declared.kind.Kind.TheVariants.{Iceberg}
 use Rattle.iceberg_live.specs.MetadataPaths.{IsMetadataPath}
 use Rattle.iceberg_manifest.specs.declared.info.ManifestInfo.{ManifestInfo}
 use Rattle.iceberg_metadata.specs.Grammar.{IsMetadataText}
-use Rattle.iceberg_metadata.specs.Schemas.{SchemaReading}
 use Rattle.iceberg_metadata.specs.declared.metadata.Metadata.{Metadata}
 use Rattle.iceberg_metadata.specs.declared.metadata.Snapshot.{Snapshot}
 use Rattle.iceberg_table.specs.Folder.{HasVersion, metadata_folder, path_of, version_path}

@@ -1,5 +1,5 @@
 -- Why an Iceberg table's versions aren't read.
-use Rattle.std.proofs.Common.{◌≡◌, ◌⊎◌, inl, inr, ⊎_elim, ℕ, suc, ◌+◌, ◌<◌, ◌≤◌, List, [], ◌∷◌, ◌++◌, length, map, take, drop, get_or, Contains, refl, sym, ap, subst, ◌∙◌, drop-cons, arith}
+use Rattle.std.proofs.Common.{◌≡◌, ◌⊎◌, inl, ℕ, suc, ◌+◌, ◌<◌, List, ◌∷◌, ◌++◌, length, map, take, drop, get_or, Contains, refl, sym, ap, ◌∙◌, drop-cons}
 use Rattle.std.specs.Prelude.{◌↔◌}
 use Rattle.std.specs.List.Sorted.{IsStrictlySortedBy}
 use Rattle.std.specs.Ordering.{nat_cmp}
@@ -11,7 +11,6 @@ use Rattle.iceberg_table.specs.Errors.{IsFileFault, IsRefusal}
 use Rattle.iceberg_table.specs.Folder.{HasVersion, version_path}
 use Rattle.iceberg_table.specs.Lists.{IsListFault}
 use Rattle.iceberg_table.specs.Refusals.{IsMetadataFault}
-use Rattle.iceberg_table.specs.declared.error.Fault.{Fault}
 use Rattle.iceberg_table.specs.declared.error.Fault.TheVariants as fault
 use Rattle.iceberg_table.specs.declared.error.IcebergError.{IcebergError}
 use Rattle.iceberg_table.specs.declared.error.IcebergError.TheVariants as iceberg

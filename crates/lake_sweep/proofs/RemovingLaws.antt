@@ -1,5 +1,5 @@
 -- How files are removed one after the other.
-use Rattle.std.proofs.Common.{◌≡◌, ◌≢◌, ◌⊎◌, inl, inr, ⊎_elim, ℕ, ◌+◌, ◌<◌, ◌≤◌, ◌==◌, Bool, true, false, List, [], ◌∷◌, ◌++◌, length, take, Contains, refl, sym, ap, subst, ◌∙◌, arith}
+use Rattle.std.proofs.Common.{◌≡◌, ◌⊎◌, inl, inr, ⊎_elim, ℕ, ◌+◌, ◌<◌, ◌≤◌, ◌==◌, Bool, true, false, List, [], ◌∷◌, ◌++◌, length, take, Contains, refl, sym, ap, subst, ◌∙◌, arith}
 use Rattle.std.proofs.lemmas.Bool.Decides.{nat_tests}
 use Rattle.std.proofs.lemmas.List.Elements.{Contains-append_left, Contains-push, Contains-push_cases}
 use Rattle.std.specs.Prelude.{None}
@@ -8,7 +8,7 @@ use Rattle.lake_store.specs.Disk.{Disk, Files, IsClean, IsPartlySynced, MayLeave
 use Rattle.lake_store.specs.Moments.{Elapses}
 use Rattle.lake_store.specs.Runs.{IsEachMoment, OnlyReads}
 use Rattle.lake_store.specs.declared.store.Store.{Ghosts}
-use Rattle.lake_store.proofs.DiskLaws.{clean-synced, get-remove_here, get-remove_other, path_cases, removed_elsewhere, synced_partly, contains-remove_here}
+use Rattle.lake_store.proofs.DiskLaws.{clean-synced, get-remove_here, get-remove_other, path_cases, removed_elsewhere, contains-remove_here}
 use Rattle.lake_store.proofs.MomentLaws.{goes_further, goes_on, started, weaker}
 use Rattle.lake_store.proofs.RunLaws.{NowOnly}
 use Rattle.table_history.proofs.RowListLemmas.{Contains-none}

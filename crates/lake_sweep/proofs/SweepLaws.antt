@@ -1,11 +1,11 @@
 -- What a target reads as while its leftovers are removed.
-use Rattle.std.proofs.Common.{◌≡◌, ◌⊎◌, inl, inr, ⊎_elim, ℕ, zero, suc, ◌<◌, ◌≤◌, List, [], ◌∷◌, ◌++◌, length, take, drop, get_or, Contains, refl, sym, ap, subst, ◌∙◌, drop-cons, arith}
+use Rattle.std.proofs.Common.{◌≡◌, ◌⊎◌, ⊎_elim, ℕ, zero, suc, ◌<◌, ◌≤◌, List, [], ◌∷◌, ◌++◌, length, take, drop, get_or, Contains, sym, ap, subst, ◌∙◌, drop-cons, arith}
 use Rattle.std.proofs.Math.Seq.{take-suc}
 use Rattle.std.proofs.lemmas.List.Elements.{Contains-append_left}
 use Rattle.std.proofs.lemmas.List.{take-append-drop}
 use Rattle.std.specs.FinMap as map
-use Rattle.lake_store.specs.Disk.{Disk, Files, IsClean, MayLeave}
-use Rattle.lake_store.specs.Runs.{IsEachMoment, IsIn, LeavesAlone, OnlyReads}
+use Rattle.lake_store.specs.Disk.{Disk, Files, MayLeave}
+use Rattle.lake_store.specs.Runs.{IsEachMoment, LeavesAlone, OnlyReads}
 use Rattle.lake_store.specs.declared.store.Store.{Ghosts}
 use Rattle.lake_store.proofs.MomentLaws.{weaker}
 use Rattle.lake_store.proofs.RunLaws.{alone_by_reading}

@@ -1,11 +1,10 @@
 -- What removing files leaves, at each moment.
-use Rattle.std.specs.Prelude.{◌≡◌, ◌⊎◌, ◌≤◌, ℕ, List, [], length, take, Contains, None}
+use Rattle.std.specs.Prelude.{◌≡◌, ◌⊎◌, ◌≤◌, ℕ, List, length, take, Contains, None}
 use Rattle.std.specs.FinMap as map
 use Rattle.lake_store.specs.Disk.{Disk, Files, IsClean, MayLeave}
 use Rattle.lake_store.specs.Runs.{IsEachMoment, OnlyReads}
 use Rattle.lake_store.specs.declared.store.Store.{Ghosts}
 use Rattle.table_history.specs.declared.kind.Kind.{Kind}
-use Rattle.table_history.specs.declared.limit.LimitKind.{LimitKind}
 use Rattle.target_leftovers.specs.Leftovers.{IsLeftover}
 use Rattle.lake_sweep.specs.Plan.{IsPlan}
 use Rattle.lake_sweep.specs.declared.error.SweepError.{SweepError}

@@ -1,12 +1,11 @@
-use Rattle.std.proofs.Common.{◌≡◌, ◌⊎◌, ◌≤◌, ◌+◌, ◌<◌, ℕ, List, inl, inr, Result, Err, refl, sym, ap, subst, ◌∙◌, arith}
+use Rattle.std.proofs.Common.{◌≡◌, ◌+◌, ℕ, inl, inr, sym, subst, arith}
 use Rattle.std.proofs.lemmas.Result.{err_from_is_err_and}
-use Rattle.std.specs.Prelude.{IfErr, IsErrOf, length}
+use Rattle.std.specs.Prelude.{IfErr, IsErrOf}
 use Rattle.lake_store.specs.Disk.{Disk, Files}
 use Rattle.lake_store.specs.Runs.{OnlyReads}
 use Rattle.lake_store.proofs.RunLaws.{reading_further}
 use Rattle.table_history.specs.declared.table.Table.{Table}
 use Rattle.delta_table.specs.Log.{IsTaken}
-use Rattle.delta_table.specs.Versions.{HasVersion}
 use Rattle.source_delta.specs.Reading.{HasEach}
 use Rattle.source_delta.specs.SinceLemmas.{one_newest}
 use Rattle.delta_compact.specs.Compacting.{AreCompacted}

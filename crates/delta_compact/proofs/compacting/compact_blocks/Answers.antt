@@ -1,13 +1,11 @@
-use Rattle.std.proofs.Common.{◌≡◌, ◌≤◌, ◌+◌, ◌*◌, ◌<◌, ◌⊎◌, ⊎_elim, ℕ, List, Bool, Result, Err, refl, sym, ap, subst, ◌∙◌, arith}
+use Rattle.std.proofs.Common.{◌≡◌, ◌⊎◌, ⊎_elim, ℕ, List, Err, refl, sym, ap, subst, arith}
 use Rattle.std.proofs.lemmas.Result.{err_from_is_err_and}
 use Rattle.std.specs.Prelude.{IfErr, IsErrOf}
 use Rattle.lake_store.specs.Disk.{Files}
-use Rattle.lake_basics.specs.declared.limits.TheConstants.{MAX_DELTA_VERSION}
 use Rattle.delta_compact.specs.Blocks.{IsBlockPath, IsWithin}
 use Rattle.delta_compact.specs.Compacting.{StopsBefore}
 use Rattle.delta_compact.specs.Refusals.{HasCause, HasStale, IsUnjoinable}
 use Rattle.delta_compact.specs.Steps.{IsToldStale}
-use Rattle.delta_compact.specs.declared.error.CompactFault.{CompactFault}
 use Rattle.delta_compact.specs.declared.error.CompactFault.TheVariants.{Contested, Stale}
 use Rattle.delta_compact.proofs.Causes.{contest_behind, err_back, err_once, err_same, contest_of_none, uncontested_more}
 use Rattle.delta_compact.proofs.Counting.{IsSoFar, all_compacted, all_compacts, block_under, counted_more, joinable_now, so_far_begins, so_far_more, so_far_refused, so_far_stopped, stale_told}

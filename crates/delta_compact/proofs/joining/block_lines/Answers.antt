@@ -1,6 +1,6 @@
-use Rattle.std.proofs.Common.{◌≡◌, ◌⊎◌, ◌<◌, ◌≤◌, inl, inr, refl, sym, subst, arith}
+use Rattle.std.proofs.Common.{◌⊎◌, ◌<◌, ◌≤◌, inl, inr, refl, subst}
 use Rattle.lake_basics.specs.declared.limits.TheConstants.{MAX_ACTIONS}
-use Rattle.delta_compact.specs.Refusals.{HasCause, HaveManyActions, IsUnjoined, TellsJoin}
+use Rattle.delta_compact.specs.Refusals.{HaveManyActions, IsUnjoined}
 use Rattle.delta_compact.proofs.Joins.{cause_weaker, tells_among, unjoined_of}
 use Rattle.delta_compact.proofs.joining.block_lines.Goals as goal
 

@@ -1,15 +1,8 @@
-use Rattle.std.proofs.Common.{◌≡◌, ◌⊎◌, ◌≤◌, ℕ, List, inl, inr, Result, refl, sym, ap, subst}
+use Rattle.std.proofs.Common.{◌⊎◌, ℕ, List, inl, inr, sym, subst}
 use Rattle.std.proofs.lemmas.Result.{err_from_is_err_and}
 use Rattle.std.specs.Prelude.{IfErr}
-use Rattle.lake_basics.specs.declared.limits.TheConstants.{MAX_FILE_BYTES}
-use Rattle.lake_store.specs.Disk.{Files}
-use Rattle.delta_log.specs.declared.commit.DeltaCommit.{DeltaCommit}
-use Rattle.delta_compaction.specs.Reconciled.{AreNewest}
-use Rattle.delta_compaction.specs.Taken.{AreTaken}
 use Rattle.delta_compact.specs.Blocks.{HoldsBlock}
-use Rattle.delta_compact.specs.Joinable.{whole_length}
 use Rattle.delta_compact.specs.Refusals.{HasCause, HaveManyActions, IsLong, IsUnjoinable, IsUnjoined}
-use Rattle.delta_compact.specs.declared.error.CompactFault.{CompactFault}
 use Rattle.delta_compact.proofs.Joins.{cause_weaker}
 use Rattle.delta_compact.proofs.joining.judge_block.Goals as goal
 

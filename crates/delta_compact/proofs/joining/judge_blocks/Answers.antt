@@ -1,8 +1,7 @@
-use Rattle.std.proofs.Common.{◌≡◌, ◌≤◌, ◌+◌, ◌*◌, ◌<◌, ℕ, List, Result, ⊎_elim, refl, sym, ap, subst, arith}
+use Rattle.std.proofs.Common.{◌≡◌, ℕ, List, ⊎_elim, refl, sym, subst, arith}
 use Rattle.std.proofs.lemmas.Result.{err_from_is_err_and}
 use Rattle.std.specs.Prelude.{IfErr, IsErrOf}
-use Rattle.lake_basics.specs.declared.limits.TheConstants.{MAX_DELTA_VERSION}
-use Rattle.lake_store.specs.Disk.{Disk, Files}
+use Rattle.lake_store.specs.Disk.{Disk}
 use Rattle.lake_store.proofs.RunLaws.{reading_begins, reading_further}
 use Rattle.delta_table.proofs.Runs.{fails_never}
 use Rattle.delta_compact.proofs.Causes.{err_back, uncontested_further}

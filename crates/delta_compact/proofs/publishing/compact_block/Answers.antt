@@ -1,4 +1,4 @@
-use Rattle.std.proofs.Common.{◌≡◌, ◌≢◌, ◌⊎◌, ◌≤◌, ℕ, List, Option, Some, None, Bool, true, false, inl, inr, Result, Ok, Err, refl, sym, ap, subst, ◌∙◌, ⊎_elim, arith, ◌<◌}
+use Rattle.std.proofs.Common.{◌≡◌, ◌⊎◌, ◌≤◌, ℕ, List, Option, Some, None, inl, inr, sym, ap, subst, ◌∙◌, ⊎_elim, arith, ◌<◌}
 use Rattle.std.proofs.lemmas.Result.{err_from_is_err_and}
 use Rattle.std.specs.Prelude.{IfErr, IfSome, IsErrOf, length}
 use Rattle.std.specs.FinMap as map
@@ -8,9 +8,7 @@ use Rattle.lake_store.proofs.RunLaws.{reading_further}
 use Rattle.delta_log.specs.declared.commit.DeltaCommit.{DeltaCommit}
 use Rattle.delta_compaction.specs.Agreeing.{Agrees}
 use Rattle.delta_compaction.specs.Taken.{AreTaken}
-use Rattle.delta_compact.specs.Blocks.{HasCompaction, HoldsBlock, HoldsCompaction, IsBlockPath, IsCompacted, IsWithin}
-use Rattle.delta_compact.specs.Compacting.{Compacts}
-use Rattle.delta_compact.specs.Joinable.{whole_length}
+use Rattle.delta_compact.specs.Blocks.{HasCompaction, HoldsBlock, IsBlockPath, IsCompacted, IsWithin}
 use Rattle.delta_compact.specs.Refusals.{HasCause, HaveManyActions, IsLong, IsStale, IsUnjoinable, IsUnjoined}
 use Rattle.delta_compact.specs.Steps.{IsToldStale}
 use Rattle.delta_compact.specs.declared.error.CompactFault.{CompactFault}

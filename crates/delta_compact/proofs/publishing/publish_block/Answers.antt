@@ -1,16 +1,13 @@
-use Rattle.std.proofs.Common.{◌≡◌, ◌≢◌, ◌⊎◌, ℕ, List, Err, Ok, refl, sym, ap, subst, ◌∙◌}
+use Rattle.std.proofs.Common.{◌≡◌, ◌⊎◌, Ok, refl, sym, ap, subst, ◌∙◌}
 use Rattle.std.specs.Prelude.{IsErrOf}
 use Rattle.std.specs.FinMap as map
-use Rattle.lake_store.specs.Publication.{IsPublished, IsStaged, IsStagedImage}
 use Rattle.lake_store.specs.declared.store.StoreError.{StoreError}
 use Rattle.lake_store.specs.declared.store.StoreError.TheVariants.{Taken}
 use Rattle.lake_store.proofs.RunLaws.{reading_begins}
-use Rattle.delta_compaction.specs.Reconciled.{AreNewest, IsReconciled, text_of}
-use Rattle.delta_compact.specs.Blocks.{IsBlockPath, IsBlockText}
-use Rattle.delta_compact.specs.Compacting.{Compacts}
+use Rattle.delta_compaction.specs.Reconciled.{text_of}
+use Rattle.delta_compact.specs.Blocks.{IsBlockPath}
 use Rattle.delta_compact.specs.Refusals.{HasCause, HaveManyActions, IsUnjoined}
 use Rattle.delta_compact.specs.declared.error.CompactFault.{CompactFault}
-use Rattle.delta_compact.specs.declared.error.CompactFault.TheVariants.{Contested}
 use Rattle.delta_compact.proofs.Causes.{contest_as, failed_of, fault_as, store_caused, taken_of, taken_told}
 use Rattle.delta_compact.proofs.Joins.{text_joined}
 use Rattle.delta_compact.proofs.Moments.{published_compacted, reading_compacts, staged_compacts}

@@ -1,11 +1,10 @@
-use Rattle.std.proofs.Common.{◌≡◌, ◌<◌, ℕ, List, Err, inl, refl, sym, ap, subst, ◌∙◌}
-use Rattle.std.specs.Prelude.{length}
+use Rattle.std.proofs.Common.{◌≡◌, ◌<◌, ℕ, List, Err, inl, sym, ap, subst}
 use Rattle.lake_basics.specs.declared.limits.TheConstants.{MAX_FILE_BYTES}
 use Rattle.lake_store.specs.Disk.{Files, HasLength}
 use Rattle.lake_store.specs.declared.store.StoreError.{StoreError}
 use Rattle.lake_store.proofs.RunLaws.{reading_begins, reading_steps}
 use Rattle.delta_compact.specs.Blocks.{IsBlockPath}
-use Rattle.delta_compact.specs.Refusals.{HasCause, IsStale}
+use Rattle.delta_compact.specs.Refusals.{IsStale}
 use Rattle.delta_compact.specs.declared.error.CompactFault.{CompactFault}
 use Rattle.delta_compact.specs.declared.error.CompactFault.TheVariants.{Stale}
 use Rattle.delta_compact.proofs.Joins.{cause_weaker}

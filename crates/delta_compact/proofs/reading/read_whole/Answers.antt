@@ -1,12 +1,11 @@
-use Rattle.std.proofs.Common.{◌≡◌, ℕ, Option, Some, None, inl, inr, refl, sym, ap, subst, ◌∙◌}
-use Rattle.lake_store.specs.Disk.{Disk, Files}
+use Rattle.std.proofs.Common.{◌≡◌, ℕ, Some, None, inl, inr, refl, sym, subst, ◌∙◌}
+use Rattle.lake_store.specs.Disk.{Disk}
 use Rattle.lake_store.proofs.RunLaws.{reading_further}
 use Rattle.source_core.specs.Answers.{IsReadRefusal}
 use Rattle.source_delta.specs.Heads.{IsDeltaHead, IsNewest, IsTableAtHead}
 use Rattle.source_delta.specs.Reading.{ShowsFromScratch}
 use Rattle.source_delta.specs.SinceLemmas.{version_within}
 use Rattle.delta_compact.specs.Refusals.{HasCause, IsUnread, of_source}
-use Rattle.delta_compact.specs.declared.error.CompactFault.{CompactFault}
 use Rattle.delta_compact.proofs.Joins.{cause_of}
 use Rattle.delta_compact.proofs.reading.read_whole.Goals as goal
 

@@ -1,4 +1,4 @@
-use Rattle.std.proofs.Common.{◌≡◌, Some, None, Option, List, ℕ, take, drop, refl, sym, ap, subst, ◌∙◌}
+use Rattle.std.proofs.Common.{take, drop, refl, sym, subst, ◌∙◌}
 use Rattle.std.proofs.lemmas.Bool.{false≢true}
 use Rattle.std.specs.FinMap as map
 use Rattle.lake_store.proofs.RunLaws.{reading_begins, reading_steps}

@@ -1,15 +1,13 @@
-use Rattle.std.proofs.Common.{◌≡◌, ◌≤◌, ◌+◌, ◌-◌, ◌*◌, ◌<◌, ℕ, suc, Some, None, Option, Result, refl, sym, ap, subst, ◌∙◌, arith}
+use Rattle.std.proofs.Common.{◌≡◌, ◌+◌, ◌-◌, ◌<◌, suc, Some, refl, sym, subst, arith}
 use Rattle.std.proofs.lemmas.Result.{err_from_is_err_and}
-use Rattle.std.specs.Prelude.{IfErr, IfOk, IsErrOf, IsSome}
+use Rattle.std.specs.Prelude.{IfErr, IsSome}
 use Rattle.std.specs.FinMap as map
-use Rattle.lake_store.specs.Disk.{Disk, Files}
+use Rattle.lake_store.specs.Disk.{Disk}
 use Rattle.lake_store.proofs.RunLaws.{reading_begins, reading_further}
-use Rattle.table_history.specs.declared.table.Table.{Table}
 use Rattle.delta_table.proofs.Runs.{fails_never}
 use Rattle.delta_compact.specs.Refusals.{HasCause}
 use Rattle.delta_compact.specs.Whole.{AreReadParts, IsFileRefusal, IsOfReading, IsTakenAt, StopsAtPart, part_count}
-use Rattle.delta_compact.specs.declared.error.CompactFault.TheVariants.{Contested}
-use Rattle.delta_compact.proofs.Causes.{err_back, uncontested_further}
+use Rattle.delta_compact.proofs.Causes.{uncontested_further}
 use Rattle.delta_compact.proofs.Joins.{cause_weaker}
 use Rattle.delta_compact.proofs.Made.{table_of_parts}
 use Rattle.delta_compact.proofs.Refused.{part_there}

@@ -1,4 +1,4 @@
-use Rattle.std.proofs.Common.{◌≡◌, Some, None, Option, List, ℕ, refl, sym, ap, subst, ◌∙◌}
+use Rattle.std.proofs.Common.{List, ℕ, sym, subst, ◌∙◌}
 use Rattle.delta_log.specs.Readable.{IsReadableCommit, IsRefusal}
 use Rattle.delta_compact.proofs.Refused.{not_there, unfit_cause, unread_cause}
 use Rattle.delta_compact.proofs.whole.table_behind_file.Goals as goal

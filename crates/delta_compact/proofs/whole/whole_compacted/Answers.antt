@@ -1,8 +1,8 @@
-use Rattle.std.proofs.Common.{◌≡◌, ◌≤◌, ◌+◌, ◌-◌, ◌*◌, ◌<◌, ℕ, List, Some, None, Option, Result, inl, inr, refl, sym, ap, subst, ◌∙◌, arith}
+use Rattle.std.proofs.Common.{◌≡◌, ◌+◌, ◌-◌, ℕ, List, Option, inl, inr, refl, sym, subst, arith}
 use Rattle.std.proofs.lemmas.Result.{err_from_is_err_and}
-use Rattle.std.specs.Prelude.{IfErr, IfOk, IsErrOf, MatchOption}
-use Rattle.lake_store.specs.Disk.{Disk, Files}
-use Rattle.lake_store.proofs.RunLaws.{reading_begins, reading_further}
+use Rattle.std.specs.Prelude.{IfErr, IfOk, MatchOption}
+use Rattle.lake_store.specs.Disk.{Disk}
+use Rattle.lake_store.proofs.RunLaws.{reading_further}
 use Rattle.table_history.specs.declared.feature.Feature.TheVariants.{NeedsCheckpoint}
 use Rattle.delta_table.specs.Versions.{IsVersionPath}
 use Rattle.source_core.specs.declared.error.SourceError.TheVariants as source
@@ -10,8 +10,8 @@ use Rattle.source_delta.specs.Reading.{HasEach, IsLastMissing}
 use Rattle.delta_compact.specs.Refusals.{HasCause}
 use Rattle.delta_compact.specs.Whole.{AllCompacted, IsOfReading, IsTableBefore, IsUnreadUpTo, StopsAtPart}
 use Rattle.delta_compact.specs.declared.error.CompactFault.{CompactFault}
-use Rattle.delta_compact.specs.declared.error.CompactFault.TheVariants.{Contested, StoreFault, Unsupported}
-use Rattle.delta_compact.proofs.Causes.{err_back, fault_further, uncontested_further}
+use Rattle.delta_compact.specs.declared.error.CompactFault.TheVariants.{Unsupported}
+use Rattle.delta_compact.proofs.Causes.{fault_further, uncontested_further}
 use Rattle.delta_compact.proofs.Joins.{cause_weaker}
 use Rattle.delta_compact.proofs.Refused.{blocks_there, errs, plain_cause, plain_reading}
 use Rattle.delta_compact.proofs.whole.whole_compacted.Goals as goal

@@ -1,4 +1,4 @@
-use Rattle.std.proofs.Common.{◌≡◌, ◌++◌, [], ◌∷◌, inl, List, ℕ, ap, subst, ◌∙◌}
+use Rattle.std.proofs.Common.{◌++◌, [], ◌∷◌, inl, List, ℕ, ap, subst, ◌∙◌}
 use Rattle.target_leftovers.specs.Names.{IsDeltaName}
 use Rattle.lake_sweep.proofs.delta.with_staged.Goals as goal
 

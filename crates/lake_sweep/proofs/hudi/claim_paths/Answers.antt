@@ -1,4 +1,4 @@
-use Rattle.std.proofs.Common.{◌≡◌, [], List, ℕ, refl, sym, ap, subst, ◌∙◌, arith}
+use Rattle.std.proofs.Common.{[], List, ℕ, refl, sym, subst, ◌∙◌, arith}
 use Rattle.lake_store.specs.Disk.{Disk}
 use Rattle.lake_store.proofs.RunLaws.{reading_begins, reading_further}
 use Rattle.lake_sweep.specs.Picking.{AreParts, IsWithClaim}

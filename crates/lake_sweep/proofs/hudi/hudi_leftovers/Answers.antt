@@ -1,6 +1,5 @@
-use Rattle.std.proofs.Common.{◌≡◌, List, ℕ, sym, ap, subst, ◌∙◌}
+use Rattle.std.proofs.Common.{◌≡◌, List, ℕ, subst, ◌∙◌}
 use Rattle.lake_store.specs.Disk.{Disk}
-use Rattle.hudi_commit.specs.Names.{staged_properties_path}
 use Rattle.lake_sweep.specs.Picking.{AreParts, IsWithFile}
 use Rattle.lake_sweep.proofs.ClaimLaws.{hudi_plan}
 use Rattle.lake_sweep.proofs.hudi.hudi_leftovers.Goals as goal

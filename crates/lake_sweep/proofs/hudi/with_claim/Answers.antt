@@ -1,7 +1,6 @@
-use Rattle.std.proofs.Common.{◌≡◌, ◌++◌, [], ◌∷◌, inl, inr, List, ℕ, false, refl, sym, ap, subst, ◌∙◌}
+use Rattle.std.proofs.Common.{◌++◌, [], ◌∷◌, inl, inr, List, ℕ, false, refl, sym, ap, subst, ◌∙◌}
 use Rattle.std.proofs.lemmas.Bool.{false≢true}
 use Rattle.hudi_names.specs.Time.{IsDigits}
-use Rattle.hudi_commit.specs.Names.{claim_path}
 use Rattle.lake_sweep.proofs.hudi.with_claim.Goals as goal
 
 pub returns-then-not-is_claim_name-clause-found : goal.returns-then-not-is_claim_name-clause-found

@@ -1,7 +1,7 @@
-use Rattle.std.proofs.Common.{◌≡◌, inl, inr, List, ℕ, false, refl, sym, ap, subst, ◌∙◌}
+use Rattle.std.proofs.Common.{◌≡◌, inl, inr, List, ℕ, false, refl, sym, subst, ◌∙◌}
 use Rattle.std.proofs.lemmas.Bool.{false≢true}
-use Rattle.lake_store.specs.Disk.{Disk, Files}
-use Rattle.hudi_commit.specs.Names.{Inflight, IsThere, Requested, completed_path, pending_path}
+use Rattle.lake_store.specs.Disk.{Disk}
+use Rattle.hudi_commit.specs.Names.{IsThere}
 use Rattle.lake_sweep.specs.Picking.{IsWithFile}
 use Rattle.lake_store.proofs.RunLaws.{reading_further}
 use Rattle.lake_sweep.proofs.hudi.with_pending.Goals as goal

@@ -1,11 +1,10 @@
-use Rattle.std.proofs.Common.{◌≡◌, ◌⊎◌, inl, inr, ◌<◌, ◌≤◌, ℕ, List, length, Contains, Result, refl, sym, subst, ◌∙◌, arith}
+use Rattle.std.proofs.Common.{◌≡◌, inl, inr, ◌<◌, ◌≤◌, ℕ, List, length, Contains, Result, refl, sym, subst, arith}
 use Rattle.std.specs.Prelude.{◌↔◌, IfErr}
 use Rattle.std.specs.List.Sorted.{IsStrictlySortedBy}
 use Rattle.std.specs.Ordering.{nat_cmp}
 use Rattle.std.proofs.lemmas.Result.{err_from_is_err_and}
 use Rattle.lake_basics.specs.declared.limits.TheConstants.{MAX_ACTIONS, MAX_COMMITS}
 use Rattle.lake_store.specs.Disk.{Files, names_in}
-use Rattle.lake_store.proofs.RunLaws.{reading_begins}
 use Rattle.iceberg_table.specs.Folder.{HasVersion, IsNamed, metadata_folder}
 use Rattle.lake_sweep.specs.Reading.{HasReadVersions}
 use Rattle.lake_sweep.specs.Refusals.{HasCause, HasFewVersions, IsReachRefused}

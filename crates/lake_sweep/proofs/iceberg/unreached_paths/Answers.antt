@@ -1,4 +1,4 @@
-use Rattle.std.proofs.Common.{[], List, ℕ, length, codes, sym, subst, arith, ◌≤◌}
+use Rattle.std.proofs.Common.{[], List, ℕ, codes, sym, subst}
 use Rattle.lake_sweep.specs.Reading.{IsFree}
 use Rattle.lake_sweep.specs.Picking.{ArePicked}
 use Rattle.lake_sweep.proofs.PickLaws.{pick_all, pick_step, picked_none}

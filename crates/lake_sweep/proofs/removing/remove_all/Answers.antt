@@ -1,6 +1,6 @@
-use Rattle.std.proofs.Common.{◌≡◌, ◌+◌, ◌++◌, [], ◌∷◌, ℕ, List, length, take, Result, refl, sym, ap, subst, ◌∙◌, arith}
+use Rattle.std.proofs.Common.{◌≡◌, ◌+◌, ◌++◌, [], ◌∷◌, ℕ, List, length, take, sym, ap, subst, ◌∙◌, arith}
 use Rattle.std.proofs.lemmas.List.{take_all}
-use Rattle.lake_store.proofs.DiskLaws.{remove_leaves, sync_leaves, synced_partly}
+use Rattle.lake_store.proofs.DiskLaws.{remove_leaves, sync_leaves}
 use Rattle.lake_store.proofs.RunLaws.{reading_begins}
 use Rattle.lake_sweep.specs.Removing.{AreGone}
 use Rattle.lake_sweep.proofs.PickLaws.{longer}

@@ -1,4 +1,3 @@
-use Rattle.std.proofs.Common.{◌≡◌, ℕ}
 use Rattle.lake_store.specs.Runs.{FailsBy, IsUncontestedBy}
 use Rattle.lake_sweep.proofs.RemovingLaws.{IsGoneTo}
 use Rattle.lake_sweep.proofs.removing.remove_all.Given as goal

@@ -1,4 +1,4 @@
-use Rattle.std.proofs.Common.{◌≡◌, inl, inr, Result, sym, subst, ◌∙◌}
+use Rattle.std.proofs.Common.{inl, inr, Result, sym, subst, ◌∙◌}
 use Rattle.std.proofs.lemmas.Result.{err_from_is_err_and}
 use Rattle.std.specs.Prelude.{IfErr}
 use Rattle.lake_store.specs.Runs.{OnlyReads}

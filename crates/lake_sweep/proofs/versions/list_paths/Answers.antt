@@ -1,4 +1,4 @@
-use Rattle.std.proofs.Common.{◌≡◌, [], ℕ, List, Contains, Option, sym, subst}
+use Rattle.std.proofs.Common.{[], ℕ, List, Contains, Option, sym, subst}
 use Rattle.std.specs.Prelude.{MatchOption}
 use Rattle.std.proofs.lemmas.List.{take_all}
 use Rattle.iceberg_live.specs.MetadataPaths.{IsMetadataPath}

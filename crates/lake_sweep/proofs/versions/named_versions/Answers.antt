@@ -1,4 +1,4 @@
-use Rattle.std.proofs.Common.{◌≡◌, ℕ, List, [], Contains, sym, subst}
+use Rattle.std.proofs.Common.{ℕ, List, [], Contains, sym, subst}
 use Rattle.std.specs.Prelude.{◌↔◌}
 use Rattle.iceberg_table.specs.Folder.{IsNamed}
 use Rattle.lake_sweep.proofs.VersionLaws.{named_all, named_more, none_named}

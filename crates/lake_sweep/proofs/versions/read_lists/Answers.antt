@@ -1,4 +1,4 @@
-use Rattle.std.proofs.Common.{◌≡◌, ℕ, List, Option, inr, Result, sym, ap, subst}
+use Rattle.std.proofs.Common.{ℕ, List, Option, inr, Result, sym, ap, subst}
 use Rattle.std.specs.Prelude.{IfErr, MatchOption}
 use Rattle.std.proofs.lemmas.Result.{err_from_is_err_and}
 use Rattle.iceberg_live.specs.MetadataPaths.{IsMetadataPath}

@@ -1,6 +1,3 @@
-use Rattle.std.proofs.Common.{◌≡◌, ℕ, List, Contains, sym, subst}
-use Rattle.std.specs.Prelude.{◌↔◌}
-use Rattle.iceberg_table.specs.Folder.{IsNamed}
 use Rattle.lake_sweep.proofs.VersionLaws.{same_versions, sorted_once}
 use Rattle.lake_sweep.proofs.versions.versions_of.Goals as goal
 

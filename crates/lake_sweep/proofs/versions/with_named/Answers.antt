@@ -1,4 +1,4 @@
-use Rattle.std.proofs.Common.{◌≡◌, ℕ, List, subst}
+use Rattle.std.proofs.Common.{ℕ, List, subst}
 use Rattle.iceberg_metadata.specs.VersionName.{IsVersionName}
 use Rattle.lake_sweep.proofs.VersionLaws.{with_none, with_one}
 use Rattle.lake_sweep.proofs.versions.with_named.Goals as goal

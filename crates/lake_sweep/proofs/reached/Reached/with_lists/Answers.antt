@@ -1,10 +1,10 @@
-use Rattle.std.proofs.Common.{◌≡◌, ◌++◌, ◌∷◌, [], ℕ, List, length, map, take, Result, refl, sym, ap, subst, ◌∙◌, arith}
+use Rattle.std.proofs.Common.{◌++◌, ◌∷◌, [], ℕ, List, map, take, Result, refl, sym, subst, ◌∙◌, arith}
 use Rattle.std.proofs.lemmas.List.{take_all}
 use Rattle.std.proofs.lemmas.Result.{err_from_is_err_and}
 use Rattle.std.specs.Prelude.{IfErr}
 use Rattle.lake_store.specs.Disk.{Disk}
 use Rattle.lake_store.proofs.RunLaws.{reading_begins, reading_further}
-use Rattle.lake_sweep.specs.Reading.{HasRead, IsAt, ListOf, list_at}
+use Rattle.lake_sweep.specs.Reading.{HasRead, ListOf, list_at}
 use Rattle.lake_sweep.specs.Refusals.{HasCause}
 use Rattle.lake_sweep.specs.Versions.{IsListRefused, IsOneRefused}
 use Rattle.lake_sweep.specs.declared.error.SweepError.{SweepError}

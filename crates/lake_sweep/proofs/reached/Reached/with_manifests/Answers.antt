@@ -1,5 +1,5 @@
 use mir.Val.{of_z, to_z}
-use Rattle.std.proofs.Common.{◌≡◌, ℤ, refl, rules, w32}
+use Rattle.std.proofs.Common.{◌≡◌, refl, rules, w32}
 use Rattle.std.proofs.lemmas.Int.{to_z-of_z}
 use Rattle.lake_sweep.specs.declared.reached.Reached.{Reached}
 use Rattle.lake_sweep.proofs.ReadingLaws.{read_now}
