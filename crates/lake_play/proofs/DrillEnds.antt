@@ -1,6 +1,7 @@
 -- How a drill ends.
 use Rattle.std.proofs.Common.{◌≡◌, ◌⊎◌, inl, inr, ⊎_elim, ℕ, List, ◌++◌, length, take, refl, sym, ap, subst, ◌∙◌, arith}
 use Rattle.std.proofs.lemmas.List.{take_all}
+use Rattle.conformance.specs.Drill.{AreSaid}
 use Rattle.lake_store.specs.Cause.{HasFault}
 use Rattle.lake_store.specs.Fuse.{fuse_disk}
 use Rattle.lake_store.specs.declared.fuse.FuseStore.{FuseStore}
@@ -8,28 +9,29 @@ use Rattle.lake_store.specs.declared.sink.Sink.{Ghosts}
 use Rattle.target_sync.specs.declared.status.Side.TheVariants as side
 use Rattle.target_sync.specs.declared.status.Status.{Status}
 use Rattle.target_sync.specs.declared.status.Status.TheVariants as status
-use Rattle.lake_play.specs.Drilled.{Drills, IsCutShort, IsDrillEnd, IsDrilled, IsReadEnd, PutsText}
+use Rattle.lake_play.specs.Drilled.{Drills, IsCutShort, IsDrillEnd, IsDrilled, IsReadEnd, LeavesDrill, PutsText}
+use Rattle.lake_play.proofs.DrillNumbers.{left_at_end}
 
 done_memory : status.Done ≡ status.Memory → ⊥
 done_memory is = cc
 
 -- what reading refuses ends a drill
-pub read_end : (number : ℕ) (store : FuseStore) (given : Status) → IsReadEnd (fuse_disk store).files given → IsDrillEnd number store given
-read_end number store status.Done is = absurd is
-read_end number store status.Memory is = inl refl
-read_end number store status.Usage is = absurd is
-read_end number store status.Absent is = absurd is
-read_end number store (status.Malformed path) is = absurd is
-read_end number store (status.Unsupported of feature path) is = absurd is
-read_end number store (status.Limit side.Source which n) is = absurd is
-read_end number store (status.Limit (side.Target target) which n) is = inr (inl is)
-read_end number store (status.Foreign target path) is = absurd is
-read_end number store (status.Contested target) is = absurd is
-read_end number store status.StoreFault is = absurd is
-read_end number store status.SinkFault is = absurd is
-read_end number store (status.Behind target at head) is = absurd is
-read_end number store (status.Differs target path) is = absurd is
-read_end number store (status.Stale path) is = absurd is
+pub read_end : (number : ℕ) (store : FuseStore) (given : Status) → AreSaid number → LeavesDrill number (fuse_disk store).files → IsReadEnd (fuse_disk store).files given → IsDrillEnd number store given
+read_end number store status.Done said leaves is = absurd is
+read_end number store status.Memory said leaves is = inl refl
+read_end number store status.Usage said leaves is = absurd is
+read_end number store status.Absent said leaves is = absurd is
+read_end number store (status.Malformed path) said leaves is = absurd is
+read_end number store (status.Unsupported of feature path) said leaves is = absurd is
+read_end number store (status.Limit side.Source which n) said leaves is = absurd is
+read_end number store (status.Limit (side.Target target) which n) said leaves is = inr (left_at_end number said (fuse_disk store).files leaves target which n is, inl is)
+read_end number store (status.Foreign target path) said leaves is = absurd is
+read_end number store (status.Contested target) said leaves is = absurd is
+read_end number store status.StoreFault said leaves is = absurd is
+read_end number store status.SinkFault said leaves is = absurd is
+read_end number store (status.Behind target at head) said leaves is = absurd is
+read_end number store (status.Differs target path) said leaves is = absurd is
+read_end number store (status.Stale path) said leaves is = absurd is
 
 module _ {O : Type 0} (sink : Ghosts O) (number : ℕ) (old : O) (store : FuseStore) where
   never_done : (given : Status) → IsDrillEnd number store given → given ≡ status.Done → ⊥

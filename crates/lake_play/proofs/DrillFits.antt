@@ -56,10 +56,10 @@ abbrev pub columns : List (List ℕ)
 columns = codes "d" ∷ []
 
 -- the table is one of the drill's
-abbrev IsDrillTable : ℕ → Table → Type 0
+abbrev pub IsDrillTable : ℕ → Table → Type 0
 IsDrillTable number table = (i : ℕ) × (table ≡ table_after number (suc i)) × (i < 200)
 
-table_of : (number : ℕ) (entry : List ℕ × Table) → Contains (drill_history number 200) entry → IsDrillTable number entry.1
+pub table_of : (number : ℕ) (entry : List ℕ × Table) → Contains (drill_history number 200) entry → IsDrillTable number entry.1
 table_of number entry there = let found = from_map (entry_after number) 200 entry there in (found.0, sym (ap (λ (e : List ℕ × Table). e.1) found.2), found.1)
 
 -- ---- the commits that are due

@@ -1,9 +1,9 @@
 -- What the clauses of `play` say of the events of a drill.
-use Rattle.std.proofs.Common.{◌≡◌, ◌≢◌, inl, inr, ⊎_elim, ℕ, zero, suc, ◌+◌, Bool, true, false, ◌&&◌, List, [], ◌∷◌, ◌++◌, length, map, Some, None, refl, sym, ap, subst, ◌∙◌, append_assoc, arith, if◌then◌else◌}
+use Rattle.std.proofs.Common.{◌≡◌, ◌≢◌, inl, inr, ⊎_elim, ℕ, zero, suc, ◌+◌, Bool, true, false, List, [], ◌∷◌, ◌++◌, length, map, Some, None, refl, sym, ap, subst, ◌∙◌, append_assoc, arith}
 use Rattle.std.specs.List.{AllByRecursion}
-use Rattle.std.specs.Prelude.{flat_map, slice_get}
+use Rattle.std.specs.Prelude.{slice_get}
 use Rattle.conformance.specs.Drill.{AreSaid, drill_bytes, drill_time, numbers_under}
-use Rattle.conformance.specs.Events.{commit_events, drill_events, is_stopped, is_sync_point, stopped_sync, sync_events, sync_points, target_sync}
+use Rattle.conformance.specs.Events.{drill_events}
 use Rattle.conformance.specs.Histories.{AreInOrder, AreLegal, IsHistoryFrom, IsHistoryOf, extensions}
 use Rattle.conformance.specs.declared.event.Event.{Event}
 use Rattle.conformance.specs.declared.event.Event.TheVariants as event
@@ -35,52 +35,16 @@ use Rattle.lake_play.specs.Formats.{to_hudi, to_iceberg}
 use Rattle.lake_play.specs.Playing.{PlaysAll, nothing_played}
 use Rattle.lake_play.specs.Standing.{BothHaveEachOnce, BothStand, HasEachOnce, HoldsFrom, IsFresh, IsSyncedEarly, LogHolds, StandsWithin, answer_count, first_from, floor_of, meaning_of_hudi, meaning_of_iceberg}
 use Rattle.lake_play.specs.declared.playing.Progress.{Progress}
+use Rattle.lake_play.proofs.AtSyncs.{IsPlain}
 use Rattle.lake_play.proofs.Causes.{Views, hudi_views, iceberg_views}
+use Rattle.lake_play.proofs.DrillEvents.{plain}
 use Rattle.lake_play.proofs.DrillFits.{hudi_fits, iceberg_fits}
 use Rattle.lake_play.proofs.DrillLog.{AreFirst}
+use Rattle.lake_play.proofs.DrillNumbers.{left_at_sync}
 use Rattle.lake_play.proofs.DrillReading.{source_within}
 use Rattle.lake_play.proofs.Folds.{Folds, GoWell, IsGood, drill_folds, none_removed}
 use Rattle.lake_play.proofs.Logs.{some_same}
 use Rattle.lake_play.proofs.Places.{numbers_at}
-
--- ---- the events
-
--- Nothing but commits, syncs behind a first commit, stops and crashes.
-abbrev IsPlain : Bool → List Event → Type 0
-IsPlain some [] = Unit {0}
-IsPlain some (event.Extend bytes ∷ events) = IsPlain true events
-IsPlain some (event.Shorten below ∷ events) = ⊥
-IsPlain some (event.Sync target ∷ events) = (some ≡ true) × IsPlain some events
-IsPlain some (event.Full target ∷ events) = ⊥
-IsPlain some (event.Stop call ∷ events) = IsPlain some events
-IsPlain some (event.Crash choices ∷ events) = IsPlain some events
-
-module _ (number : ℕ) where
-  plain_sync : (e : ℕ) (target : Kind) (rest : List Event) → IsPlain true rest → IsPlain true (target_sync number true e target ++ rest)
-  plain_sync e target rest plain = by (true && is_stopped number e)
-    where
-      by : (b : Bool) → IsPlain true ((if b then stopped_sync number e target else (event.Sync target ∷ [])) ++ rest)
-      by true = (refl, (refl, plain))
-      by false = (refl, plain)
-
-  plain_syncs : (e : ℕ) (rest : List Event) → IsPlain true rest → IsPlain true (sync_events number true e ++ rest)
-  plain_syncs e rest plain =
-      subst (IsPlain true) (sym (append_assoc (target_sync number true e Hudi) (target_sync number true e Iceberg) rest))
-      (plain_sync e Hudi (target_sync number true e Iceberg ++ rest) (plain_sync e Iceberg rest plain))
-
-  plain_commit : (some : Bool) (place : ℕ) (rest : List Event) → IsPlain true rest → IsPlain some (commit_events number true place ++ rest)
-  plain_commit some place rest plain = by (is_sync_point number place)
-    where
-      by : (b : Bool) → IsPlain true ((if b then sync_events number true (sync_points number place) else []) ++ rest)
-      by true = plain_syncs (sync_points number place) rest plain
-      by false = plain
-
-  plain_places : (some : Bool) (places : List ℕ) → IsPlain some (flat_map (commit_events number true) places)
-  plain_places some [] = tt
-  plain_places some (place ∷ places) = plain_commit some place (flat_map (commit_events number true) places) (plain_places true places)
-
-  plain : IsPlain false (drill_events number true)
-  plain = plain_places false (numbers_under 200)
 
 -- ---- one answer
 
@@ -245,7 +209,9 @@ module _ (number : ℕ) (old new : FuseStore) (answers : List Status) (played : 
     end_of (status.Unsupported (side.Target kind) feature path) at not_ended = inr (unfit_end kind feature path at)
     end_of (status.Limit side.Source which n) at not_ended =
         absurd (never (status.Limit side.Source which n) at (λ is. cc) (λ before kept some first facts views c. source_within number said facts views modes.Sync drill_time before.commits first which n c))
-    end_of (status.Limit (side.Target kind) which n) at not_ended = inr (inr (refused (status.Limit (side.Target kind) which n) at))
+    end_of (status.Limit (side.Target kind) which n) at not_ended =
+        let given : Status = status.Limit (side.Target kind) which n in
+        inr (left_at_sync number said old played.after new fresh played.plays played.legal.order place kind which n (ap (λ (l : List Status). slice_get l place) played.told ∙ at), inr (refused given at))
     end_of (status.Foreign kind path) at not_ended = absurd (never (status.Foreign kind path) at (λ is. cc) (λ before kept some first facts views c. c))
     end_of (status.Contested kind) at not_ended = absurd (never (status.Contested kind) at (λ is. cc) (λ before kept some first facts views c. c))
     end_of status.StoreFault at not_ended = absurd (not_ended (inr refl))

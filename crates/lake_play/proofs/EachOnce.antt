@@ -56,19 +56,19 @@ abbrev Heads : List (List ℕ) → List (List ℕ) → Type 0
 Heads commits all = (bytes : List ℕ) → slice_get commits 0 ≡ Some bytes → slice_get all 0 ≡ Some bytes
 
 -- What is used of a target: its floor, where it stands, what its own sync makes of that, and that another target's sync leaves its files.
-record Side (kind : Kind) (target : Meaning) : Type 0 where
-  is_kind : target.kind ≡ kind
-  apart : Delta ≡ kind → ⊥
-  laws : Laws target
-  counts : Counts target
-  floor : ℕ → ℕ → ℕ
-  floors : (synced : Kind) (count hudi iceberg : ℕ) (given : Status) → floor (floor_behind Hudi synced count hudi given) (floor_behind Iceberg synced count iceberg given) ≡ floor_behind kind synced count (floor hudi iceberg) given
-  played : (history : History) (commits : List (List ℕ)) (front behind : History) (first hudi iceberg : ℕ) (store : FuseStore) → Keeps history commits front behind first hudi iceberg store → IsPlayed target history (floor hudi iceberg) (length commits) (fuse_disk store)
-  synced : (history : History) (commits : List (List ℕ)) (front behind : History) (hudi iceberg now : ℕ) (old new : FuseStore) (given : Status) (all : List (List ℕ)) → Keeps history commits front behind 0 hudi iceberg old
+pub record Side (kind : Kind) (target : Meaning) : Type 0 where
+  pub is_kind : target.kind ≡ kind
+  pub apart : Delta ≡ kind → ⊥
+  pub laws : Laws target
+  pub counts : Counts target
+  pub floor : ℕ → ℕ → ℕ
+  pub floors : (synced : Kind) (count hudi iceberg : ℕ) (given : Status) → floor (floor_behind Hudi synced count hudi given) (floor_behind Iceberg synced count iceberg given) ≡ floor_behind kind synced count (floor hudi iceberg) given
+  pub played : (history : History) (commits : List (List ℕ)) (front behind : History) (first hudi iceberg : ℕ) (store : FuseStore) → Keeps history commits front behind first hudi iceberg store → IsPlayed target history (floor hudi iceberg) (length commits) (fuse_disk store)
+  pub synced : (history : History) (commits : List (List ℕ)) (front behind : History) (hudi iceberg now : ℕ) (old new : FuseStore) (given : Status) (all : List (List ℕ)) → Keeps history commits front behind 0 hudi iceberg old
       → length commits ≤ 2 ^ 64 → 0 < length commits → Heads commits all → IsSynced kind modes.Sync now old new given → IsOnce target history (length commits) all (fuse_disk old).files → IsOnce target history (length commits) all (fuse_disk new).files
-  beside : (other : Kind) (mode : Mode) (now : ℕ) (old new : FuseStore) (given : Status) → is_same kind other ≡ false → (FuseCanBeContested old → ⊥) → IsSynced other mode now old new given → SameIn (folder_of kind) (fuse_disk old).files (fuse_disk new).files
+  pub beside : (other : Kind) (mode : Mode) (now : ℕ) (old new : FuseStore) (given : Status) → is_same kind other ≡ false → (FuseCanBeContested old → ⊥) → IsSynced other mode now old new given → SameIn (folder_of kind) (fuse_disk old).files (fuse_disk new).files
 
-same_kind : (a b : Kind) → is_same a b ≡ true → a ≡ b
+pub same_kind : (a b : Kind) → is_same a b ≡ true → a ≡ b
 same_kind Delta Delta is = refl
 same_kind Delta Hudi is = absurd (false≢true is)
 same_kind Delta Iceberg is = absurd (false≢true is)
@@ -88,7 +88,7 @@ same_disk kind old new is = subst (λ (s : FuseStore). SameIn (folder_of kind) (
 same_once : (target : Meaning) (history : History) (count : ℕ) (all : List (List ℕ)) (old new : FuseStore) → new ≡ old → IsOnce target history count all (fuse_disk old).files → IsOnce target history count all (fuse_disk new).files
 same_once target history count all old new is once = subst (λ (s : FuseStore). IsOnce target history count all (fuse_disk s).files) (sym is) once
 
-hudi_side : Side Hudi meaning_of_hudi
+pub hudi_side : Side Hudi meaning_of_hudi
 hudi_side = record {
   is_kind = refl;
   apart = λ e. cc;
@@ -116,7 +116,7 @@ hudi_side = record {
     besides Iceberg mode now old new given not none (inl is) = same_disk Hudi old new is.1
     besides Iceberg mode now old new given not none (inr is) = same_beside (target_facts to_iceberg is.0) mode now old new given is.3 none Hudi (λ e. cc)
 
-iceberg_side : Side Iceberg meaning_of_iceberg
+pub iceberg_side : Side Iceberg meaning_of_iceberg
 iceberg_side = record {
   is_kind = refl;
   apart = λ e. cc;

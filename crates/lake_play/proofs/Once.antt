@@ -58,7 +58,7 @@ same_standing a b e = cc
 pub none_published : (view : View) → IsUnpublished view → view.commits ≡ 0
 none_published view is = ap (λ (v : View). v.commits) is
 
-advanced_count : (image : ColumnTrees → Option ColumnTrees) (origin : Origin) (start view : View) (commits : List Commit) → IsAdvancedAll image origin start commits view → view.commits ≡ start.commits + length commits
+pub advanced_count : (image : ColumnTrees → Option ColumnTrees) (origin : Origin) (start view : View) (commits : List Commit) → IsAdvancedAll image origin start commits view → view.commits ≡ start.commits + length commits
 advanced_count image origin start view [] leads = let same = leads.commits in omega (arith, same)
 advanced_count image origin start view (commit ∷ commits) leads =
     let one = leads.1.commits in

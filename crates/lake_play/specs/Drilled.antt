@@ -23,6 +23,7 @@ use Rattle.table_history.specs.declared.feature.Feature.TheVariants.{TypeChange}
 use Rattle.table_history.specs.declared.kind.Kind.{Kind}
 use Rattle.table_history.specs.declared.kind.Kind.TheVariants.{Delta, Hudi, Iceberg}
 use Rattle.table_history.specs.declared.limit.LimitKind.{LimitKind}
+use Rattle.table_history.specs.declared.limit.LimitKind.TheVariants as limit
 use Rattle.table_history.specs.declared.table.Table.{Table}
 use Rattle.target_core.specs.Meaning.{Meaning}
 use Rattle.target_core.specs.Views.{IsOfSource, View}
@@ -135,9 +136,23 @@ pub record IsRefusedSync (number : ℕ) (store : FuseStore) (given : Status) : T
   pub place : ℕ
   pub answered : slice_get after.answers place ≡ Some given
 
--- A number is passed in a target, or the type of a column of the Iceberg target would change.
+-- the numbers of a target of this format that aren't ruled out
+abbrev pub IsLeft : Kind → LimitKind → Type 0
+IsLeft Hudi limit.File = Unit {0}
+IsLeft Hudi limit.Names = Unit {0}
+IsLeft Hudi limit.Publish = Unit {0}
+IsLeft Hudi limit.Versions = Unit {0}
+IsLeft Iceberg limit.File = Unit {0}
+IsLeft Iceberg limit.Names = Unit {0}
+IsLeft Iceberg limit.Publish = Unit {0}
+IsLeft Iceberg limit.Actions = Unit {0}
+IsLeft Iceberg limit.Versions = Unit {0}
+IsLeft _ _ = ⊥
+
+-- Such a number is passed in a target, or the type of a column of the Iceberg target would change.
 abbrev pub IsCutShort : ℕ → FuseStore → Status → Type 0
-IsCutShort number store (status.Limit (side.Target target) which n) = IsReadPast (fuse_disk store).files target which n ⊎ IsRefusedSync number store (status.Limit (side.Target target) which n)
+IsCutShort number store (status.Limit (side.Target target) which n) =
+    IsLeft target which × (IsReadPast (fuse_disk store).files target which n ⊎ IsRefusedSync number store (status.Limit (side.Target target) which n))
 IsCutShort number store (status.Unsupported (side.Target Iceberg) TypeChange path) = IsRefusedSync number store (status.Unsupported (side.Target Iceberg) TypeChange path)
 IsCutShort number store _ = ⊥
 
