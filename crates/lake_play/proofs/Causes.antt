@@ -291,6 +291,10 @@ module _ (target : TargetFacts) (views : Views target) (mode : Mode) (now : ℕ)
     columns_by zero shows false full = let is = since full in absurd (marked_none start is.marked.0 shows is.marked.1)
     columns_by (suc k) shows false full = let is = since full in (shows.0, at_contains front k shows.0 shows.1, sym (is.columns ∙ shows.2.partition))
 
+  -- Each schema that a commit states which is due is that of a table of the history.
+  pub due_states : (start : View) → target.files.reads files start → (due : Due from_delta mode files start) → StateSchemasOf front due.commits
+  due_states start reads due = states_by (some_due start due) start due j (shows_start target views front files j here.view start here.reads reads here.shows) due.full refl
+
   unfit_between : (feature : Feature) (path : List ℕ) → IsUnfit from_delta target mode files (target_error.Unsupported feature path) → IsUnfitBetween target (front ++ rest) commits feature path
   unfit_between feature path unfit =
       let start = unfit.0 in
@@ -309,7 +313,7 @@ module _ (target : TargetFacts) (views : Views target) (mode : Mode) (now : ℕ)
         count = whole;
         due = due.commits;
         leads = lead_by (some_due start due) start due j shows due.full refl;
-        schemas = states_by (some_due start due) start due j shows due.full refl;
+        schemas = due_states start unfit.1 due;
         partition = due.partition;
         columns = columns_by (some_due start due) start due j shows due.full refl;
         unfit = unfit.2.1.1;

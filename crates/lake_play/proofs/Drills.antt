@@ -1,8 +1,8 @@
 -- What the clauses of `play` say of the events of a drill.
-use Rattle.std.proofs.Common.{◌≡◌, ◌≢◌, inl, inr, ⊎_elim, ℕ, zero, suc, ◌+◌, Bool, true, false, List, [], ◌∷◌, ◌++◌, length, map, Some, None, refl, sym, ap, subst, ◌∙◌, append_assoc, arith}
+use Rattle.std.proofs.Common.{◌≡◌, ◌≢◌, inl, inr, ⊎_elim, ℕ, zero, suc, ◌+◌, ◌^◌, ◌≤◌, Bool, true, false, List, [], ◌∷◌, ◌++◌, length, map, Contains, Some, None, refl, sym, ap, subst, ◌∙◌, append_assoc, arith}
 use Rattle.std.specs.List.{AllByRecursion}
 use Rattle.std.specs.Prelude.{slice_get}
-use Rattle.conformance.specs.Drill.{AreSaid, drill_bytes, drill_time, numbers_under}
+use Rattle.conformance.specs.Drill.{AreSaid, drill_bytes, drill_schema, drill_time, numbers_under}
 use Rattle.conformance.specs.Events.{drill_events}
 use Rattle.conformance.specs.Histories.{AreInOrder, AreLegal, IsHistoryFrom, IsHistoryOf, extensions}
 use Rattle.conformance.specs.declared.event.Event.{Event}
@@ -20,6 +20,7 @@ use Rattle.table_history.specs.declared.feature.Feature.{Feature}
 use Rattle.table_history.specs.declared.feature.Feature.TheVariants.{TypeChange}
 use Rattle.table_history.specs.declared.kind.Kind.{Kind}
 use Rattle.table_history.specs.declared.kind.Kind.TheVariants.{Delta, Hudi, Iceberg}
+use Rattle.table_history.specs.declared.table.Table.{Table}
 use Rattle.target_core.specs.Meaning.{Meaning}
 use Rattle.target_hudi.specs.declared.target.HudiTarget.{HudiTarget}
 use Rattle.target_iceberg.specs.declared.target.IcebergTarget.{IcebergTarget}
@@ -30,7 +31,7 @@ use Rattle.target_sync.specs.declared.status.Side.TheVariants as side
 use Rattle.target_sync.specs.declared.status.Status.{Status}
 use Rattle.target_sync.specs.declared.status.Status.TheVariants as status
 use Rattle.lake_play.specs.Causes.{AreCaused, Before, IsCause, IsCauseAt, IsFaulty, behind, nothing_before}
-use Rattle.lake_play.specs.Drilled.{IsBrought, IsCutShort, IsDrillEnd, IsEnded, IsRefusedSync, LeavesDrill}
+use Rattle.lake_play.specs.Drilled.{IsBrought, IsDrillEnd, IsEnded, IsRefusedSync, LeavesDrill}
 use Rattle.lake_play.specs.Formats.{to_hudi, to_iceberg}
 use Rattle.lake_play.specs.Playing.{PlaysAll, nothing_played}
 use Rattle.lake_play.specs.Standing.{BothHaveEachOnce, BothStand, HasEachOnce, HoldsFrom, IsFresh, IsSyncedEarly, LogHolds, StandsWithin, answer_count, first_from, floor_of, meaning_of_hudi, meaning_of_iceberg}
@@ -38,12 +39,13 @@ use Rattle.lake_play.specs.declared.playing.Progress.{Progress}
 use Rattle.lake_play.proofs.AtSyncs.{IsPlain}
 use Rattle.lake_play.proofs.Causes.{Views, hudi_views, iceberg_views}
 use Rattle.lake_play.proofs.DrillEvents.{plain}
-use Rattle.lake_play.proofs.DrillFits.{hudi_fits, iceberg_fits}
+use Rattle.lake_play.proofs.DrillFits.{hudi_fits, iceberg_fits, table_of}
 use Rattle.lake_play.proofs.DrillLog.{AreFirst}
 use Rattle.lake_play.proofs.DrillNumbers.{left_at_sync}
 use Rattle.lake_play.proofs.DrillReading.{source_within}
 use Rattle.lake_play.proofs.Folds.{Folds, GoWell, IsGood, drill_folds, none_removed}
 use Rattle.lake_play.proofs.Logs.{some_same}
+use Rattle.lake_play.proofs.OneSchema.{types_keep}
 use Rattle.lake_play.proofs.Places.{numbers_at}
 
 -- ---- one answer
@@ -183,20 +185,29 @@ module _ (number : ℕ) (old new : FuseStore) (answers : List Status) (played : 
         let a = why given at in
         at_target modes.Sync drill_time tables a.before (faulty a.before) given a.target a.other a.cause not_memory (refuted a.before a.kept a.some (a.behind, a.first))
 
-    -- The commits fit, but for the type of a column in Iceberg.
-    unfit_end : (kind : Kind) (feature : Feature) (path : List ℕ) → slice_get answers place ≡ Some (status.Unsupported (side.Target kind) feature path) → IsCutShort number new (status.Unsupported (side.Target kind) feature path)
-    unfit_end kind feature path at =
+    -- Each table has the drill's schema, so no sync of Iceberg finds the type of a column changed.
+    one_schema : (entry : List ℕ × Table) → Contains tables entry → entry.1.schema ≡ drill_schema
+    one_schema entry there = ap (λ (t : Table). t.schema) (table_of number entry there).1
+
+    few : length (extensions events) ≤ 2 ^ 64
+    few = let count : length (extensions events) ≡ 200 = ap (λ (l : List (List ℕ)). length l) all_are ∙ length_map (drill_bytes number) 200 in omega (arith, count)
+
+    types : (path : List ℕ) → slice_get answers place ≡ Some (status.Unsupported (side.Target Iceberg) TypeChange path) → ⊥
+    types path at =
+        let given : Status = status.Unsupported (side.Target Iceberg) TypeChange path in
+        types_keep drill_schema drill_time events old played.after new few played.plays played.legal.order fresh tables tables_are one_schema place given (ap (λ (l : List Status). slice_get l place) played.told ∙ at) path refl
+
+    -- The commits fit.
+    no_unfit : (kind : Kind) (feature : Feature) (path : List ℕ) → slice_get answers place ≡ Some (status.Unsupported (side.Target kind) feature path) → ⊥
+    no_unfit kind feature path at =
         let given : Status = status.Unsupported (side.Target kind) feature path in
         let a = why given at in
         at_either modes.Sync drill_time tables a.before (faulty a.before) given a.target a.other a.cause (λ is. cc)
-        (λ t cause. absurd (hudi_fits number t a.before.commits feature path cause.1))
+        (λ t cause. hudi_fits number t a.before.commits feature path cause.1)
         (λ t cause.
         let one : feature ≡ TypeChange = iceberg_fits number t a.before.commits feature path cause.1 in
         let of : kind ≡ Iceberg = cause.0 in
-        subst (λ (k : Kind). IsCutShort number new (status.Unsupported (side.Target k) feature path)) (sym of)
-        (subst (λ (f : Feature). IsCutShort number new (status.Unsupported (side.Target Iceberg) f path)) (sym one)
-        (refused (status.Unsupported (side.Target Iceberg) TypeChange path)
-        (subst (λ (f : Feature). slice_get answers place ≡ Some (status.Unsupported (side.Target Iceberg) f path)) one (subst (λ (k : Kind). slice_get answers place ≡ Some (status.Unsupported (side.Target k) feature path)) of at)))))
+        types path (subst (λ (f : Feature). slice_get answers place ≡ Some (status.Unsupported (side.Target Iceberg) f path)) one (subst (λ (k : Kind). slice_get answers place ≡ Some (status.Unsupported (side.Target k) feature path)) of at)))
 
     pub end_of : (given : Status) → slice_get answers place ≡ Some given → (IsEnded given → ⊥) → IsDrillEnd number new given
     end_of status.Done at not_ended = absurd (not_ended (inl refl))
@@ -206,7 +217,7 @@ module _ (number : ℕ) (old new : FuseStore) (answers : List Status) (played : 
     end_of (status.Malformed path) at not_ended = absurd (never (status.Malformed path) at (λ is. cc) (λ before kept some first facts views c. c))
     end_of (status.Unsupported side.Source feature path) at not_ended =
         absurd (never (status.Unsupported side.Source feature path) at (λ is. cc) (λ before kept some first facts views c. false_true (sym kept ∙ c.1)))
-    end_of (status.Unsupported (side.Target kind) feature path) at not_ended = inr (unfit_end kind feature path at)
+    end_of (status.Unsupported (side.Target kind) feature path) at not_ended = absurd (no_unfit kind feature path at)
     end_of (status.Limit side.Source which n) at not_ended =
         absurd (never (status.Limit side.Source which n) at (λ is. cc) (λ before kept some first facts views c. source_within number said facts views modes.Sync drill_time before.commits first which n c))
     end_of (status.Limit (side.Target kind) which n) at not_ended =

@@ -20,9 +20,11 @@ pub mod IcebergNumbers
 pub mod Logs
 pub mod Looking
 pub mod Once
+pub mod OneSchema
 pub mod Places
 pub mod Plays
 pub mod Reading
+pub mod Schemas
 pub mod Syncs
 pub mod Targets
 pub mod Telling

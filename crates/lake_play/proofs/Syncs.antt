@@ -114,7 +114,7 @@ module _ (target : TargetFacts) (mode : Mode) (now : ℕ) (old new : FuseStore) 
   pub alone : IsUndisturbed (Some brings.answer)
   alone = undisturbed brings.answer refl
 
-  going : (history : History) (k : ℕ) (view : View) → ShowsTable Delta target.files.image history k view → GoesOn Delta view
+  pub going : (history : History) (k : ℕ) (view : View) → ShowsTable Delta target.files.image history k view → GoesOn Delta view
   going history zero view shows = inl shows
   going history (suc k) view shows = inr (shows.2.standing, shows.2.mark, shows.2.format)
 

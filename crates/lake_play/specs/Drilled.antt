@@ -19,7 +19,6 @@ use Rattle.source_delta.specs.Reading.{ShowsAtHead, ShowsFromScratch}
 use Rattle.table_history.specs.History.{History}
 use Rattle.table_history.specs.Row.{Row}
 use Rattle.table_history.specs.Rows.{IsInPathOrder, SameRows}
-use Rattle.table_history.specs.declared.feature.Feature.TheVariants.{TypeChange}
 use Rattle.table_history.specs.declared.kind.Kind.{Kind}
 use Rattle.table_history.specs.declared.kind.Kind.TheVariants.{Delta, Hudi, Iceberg}
 use Rattle.table_history.specs.declared.limit.LimitKind.{LimitKind}
@@ -149,11 +148,10 @@ IsLeft Iceberg limit.Actions = Unit {0}
 IsLeft Iceberg limit.Versions = Unit {0}
 IsLeft _ _ = ⊥
 
--- Such a number is passed in a target, or the type of a column of the Iceberg target would change.
+-- Such a number is passed in a target.
 abbrev pub IsCutShort : ℕ → FuseStore → Status → Type 0
 IsCutShort number store (status.Limit (side.Target target) which n) =
     IsLeft target which × (IsReadPast (fuse_disk store).files target which n ⊎ IsRefusedSync number store (status.Limit (side.Target target) which n))
-IsCutShort number store (status.Unsupported (side.Target Iceberg) TypeChange path) = IsRefusedSync number store (status.Unsupported (side.Target Iceberg) TypeChange path)
 IsCutShort number store _ = ⊥
 
 -- memory ran out, or the drill is cut short
