@@ -15,6 +15,9 @@ use Rattle.lake_play.proofs.DrillNumbers.{left_at_end}
 done_memory : status.Done ≡ status.Memory → ⊥
 done_memory is = cc
 
+failed_memory : status.SinkFault ≡ status.Memory → ⊥
+failed_memory is = cc
+
 -- what reading refuses ends a drill
 pub read_end : (number : ℕ) (store : FuseStore) (given : Status) → AreSaid number → LeavesDrill number (fuse_disk store).files → IsReadEnd (fuse_disk store).files given → IsDrillEnd number store given
 read_end number store status.Done said leaves is = absurd is
@@ -41,6 +44,13 @@ module _ {O : Type 0} (sink : Ghosts O) (number : ℕ) (old : O) (store : FuseSt
       (λ (short : IsCutShort number store given). subst (IsCutShort number store) is short)
       end
 
+  never_failed : (given : Status) → IsDrillEnd number store given → given ≡ status.SinkFault → ⊥
+  never_failed given end is =
+      ⊎_elim
+      (λ (memory : given ≡ status.Memory). failed_memory (sym is ∙ memory))
+      (λ (short : IsCutShort number store given). subst (IsCutShort number store) is short)
+      end
+
   never_cut : {given : Status} (other : Status) → given ≡ other → (IsCutShort number store other → ⊥) → IsCutShort number store given → ⊥
   never_cut other is refuted short = refuted (subst (IsCutShort number store) is short)
 
@@ -52,18 +62,20 @@ module _ {O : Type 0} (sink : Ghosts O) (number : ℕ) (old : O) (store : FuseSt
     ends = ⊎_elim (λ (memory : given ≡ status.Memory). inr (inl memory)) (λ (short : IsCutShort number store given). inr (inr (inr short))) end;
     cut = λ short. refl;
     done = λ done. absurd (never_done given end done);
-    front = λ told. inl refl;
+    sink_fault = λ failed. absurd (never_failed given end failed);
+    memory = λ memory told. inl refl;
   }
 
   -- the lines were put
-  pub lines_put : (new : O) (lines : List ℕ) (given : Status) → IsDrilled number (fuse_disk store).files lines → PutsText sink old new lines given → Drills sink number old new given store
+  pub lines_put : (new : O) (lines : List ℕ) (given : Status) → IsDrilled number store lines → PutsText sink old new lines given → Drills sink number old new given store
   lines_put new lines given drilled puts = record {
     later = puts.later;
     can_fail = puts.can_fail;
     ends = ⊎_elim (λ done. inl done) (λ other. inr (⊎_elim (λ memory. inl memory) (λ fault. inr (inl fault)) other)) puts.ends;
     cut = λ short. absurd (⊎_elim (λ done. never_cut status.Done done (λ is. is) short) (λ other. ⊎_elim (λ memory. never_cut status.Memory memory (λ is. is) short) (λ fault. never_cut status.SinkFault fault.0 (λ is. is) short) other) puts.ends);
     done = λ done. (lines, drilled, puts.done done);
-    front = λ told. let put = puts.front told in inr (lines, put.0, drilled, put.1);
+    sink_fault = λ failed. (lines, drilled, puts.front);
+    memory = λ memory told. let put = puts.front told in inr (lines, put.0, drilled, put.1);
   }
 
 -- ---- how the puts ended

@@ -31,7 +31,7 @@ use Rattle.target_sync.specs.declared.status.Side.TheVariants as side
 use Rattle.target_sync.specs.declared.status.Status.{Status}
 use Rattle.target_sync.specs.declared.status.Status.TheVariants as status
 use Rattle.lake_play.specs.Causes.{AreCaused, Before, IsCause, IsCauseAt, IsFaulty, behind, nothing_before}
-use Rattle.lake_play.specs.Drilled.{IsBrought, IsDrillEnd, IsEnded, IsRefusedSync, LeavesDrill}
+use Rattle.lake_play.specs.Drilled.{IsBrought, IsDrillEnd, IsEnded, IsPlayedThrough, IsRefusedSync, LeavesDrill}
 use Rattle.lake_play.specs.Formats.{to_hudi, to_iceberg}
 use Rattle.lake_play.specs.Playing.{PlaysAll, nothing_played}
 use Rattle.lake_play.specs.Standing.{BothHaveEachOnce, BothStand, HasEachOnce, HoldsFrom, IsFresh, IsSyncedEarly, LogHolds, StandsWithin, answer_count, first_from, floor_of, meaning_of_hudi, meaning_of_iceberg}
@@ -259,18 +259,21 @@ module _ (number : ℕ) (old new : FuseStore) (answers : List Status) (played : 
         let at : IsAt Delta target history files 200 = subst (IsAt Delta target history files) last stands.at in
         record { at = at; commits = once early 200 at }
 
+    pub played_through : IsPlayedThrough number new
+    played_through = record {
+      start = old;
+      fresh = fresh;
+      unscripted = unscripted;
+      after = played.after;
+      end = new;
+      plays = played.plays;
+      ended = subst (λ (l : List Status). AllByRecursion IsEnded l) (sym played.told) ended;
+      disk = refl;
+      outside = refl;
+    }
+
     pub leaves : LeavesDrill number files
     leaves = record {
-      played = record {
-        start = old;
-        fresh = fresh;
-        unscripted = unscripted;
-        after = played.after;
-        end = new;
-        plays = played.plays;
-        ended = subst (λ (l : List Status). AllByRecursion IsEnded l) (sym played.told) ended;
-        left = refl;
-      };
       legal = played.legal;
       holds = λ version less. holds.holds version (drill_bytes number version) (omega arith) (numbers_at (drill_bytes number) 200 version less);
       only = λ version has.

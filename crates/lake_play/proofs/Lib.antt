@@ -8,6 +8,7 @@ pub mod DrillLines
 pub mod DrillLog
 pub mod DrillNumbers
 pub mod DrillReading
+pub mod DrillStores
 pub mod Drills
 pub mod EachOnce
 pub mod Ends

@@ -47,8 +47,9 @@ pub record IsBrought (target : Meaning) (history : History) (files : Files) : Ty
 abbrev pub IsEnded : Status → Type 0
 IsEnded given = (given ≡ status.Done) ⊎ (given ≡ status.StoreFault)
 
--- The drill was played from a store without files that fails by no script, and each sync of it was done, or the store stopped in it. It left these files.
-pub record IsPlayedThrough (number : ℕ) (files : Files) : Type 0 where
+-- The drill was played from a store without files that fails by no script, and each sync of it was done, or the store stopped in it. This is the store on
+-- which it was played: its disk and all that stands around it are as the last event left them.
+pub record IsPlayedThrough (number : ℕ) (store : FuseStore) : Type 0 where
   pub start : FuseStore
   pub fresh : IsFresh start
   pub unscripted : ¬ CanFail (script_of start)
@@ -56,12 +57,12 @@ pub record IsPlayedThrough (number : ℕ) (files : Files) : Type 0 where
   pub end : FuseStore
   pub plays : PlaysAll drill_time (drill_events number true) nothing_played start after end
   pub ended : AllByRecursion IsEnded after.answers
-  pub left : (fuse_disk end).files ≡ files
+  pub disk : fuse_disk store ≡ fuse_disk end
+  pub outside : store ≡ record end { inner = store.inner }
 
--- The drill was played through. The log holds its commits as its versions from 0 on, and its folder has no other file. Of each history that they make, and
--- there is one, both targets stand at the last table.
+-- The log holds the drill's commits as its versions from 0 on, and its folder has no other file. Of each history that they make, and there is one, both
+-- targets stand at the last table.
 pub record LeavesDrill (number : ℕ) (files : Files) : Type 0 where
-  pub played : IsPlayedThrough number files
   pub legal : AreLegal (drill_events number true)
   pub holds : (version : ℕ) → version < commit_count → HoldsVersion files version (drill_bytes number version)
   pub only : (version : ℕ) → HasVersion files version → version < commit_count
@@ -83,8 +84,10 @@ TellsLast line history text = (rows : List Row) × AreLastRows history rows × (
 abbrev pub AreDrillLines : ℕ → History → List ℕ → Type 0
 AreDrillLines number history lines = TellsLast (λ rows. source_line number rows ++ (target_line Hudi commit_count rows ++ target_line Iceberg commit_count rows)) history lines
 
-pub record IsDrilled (number : ℕ) (files : Files) (lines : List ℕ) : Type 0 where
-  pub leaves : LeavesDrill number files
+-- The drill was played through on this store, and the lines tell of what it left there.
+pub record IsDrilled (number : ℕ) (store : FuseStore) (lines : List ℕ) : Type 0 where
+  pub played : IsPlayedThrough number store
+  pub leaves : LeavesDrill number (fuse_disk store).files
   pub are : (history : History) → IsHistoryOf (drill_events number true) history → AreDrillLines number history lines
 
 -- the text is this line of the rows, in byte order of paths
@@ -170,12 +173,13 @@ pub record PutsText {O : Type 0} (sink : Ghosts O) (old new : O) (text : List �
 
 -- ---- the answer
 
--- At Done the lines are out, and the store is the one that they tell of. Where memory ran out or the sink failed, a front of them is; with another answer
--- nothing is.
+-- At Done the lines are out, and the store is the one that they tell of. Where the sink failed, it is too, and a front of them is out. Where memory ran out,
+-- nothing is out, or a front of the lines that tell of the store. With another answer nothing is.
 pub record Drills {O : Type 0} (sink : Ghosts O) (number : ℕ) (old new : O) (given : Status) (store : FuseStore) : Type 0 where
   pub later : sink.faults old ≤ sink.faults new
   pub can_fail : sink.may_fail new → sink.may_fail old
   pub ends : (given ≡ status.Done) ⊎ (given ≡ status.Memory) ⊎ ((given ≡ status.SinkFault) × Rose (sink.faults old) (sink.faults new) × sink.may_fail old) ⊎ IsCutShort number store given
   pub cut : IsCutShort number store given → new ≡ old
-  pub done : given ≡ status.Done → (lines : List ℕ) × IsDrilled number (fuse_disk store).files lines × (sink.tells → sink.output new ≡ sink.output old ++ lines)
-  pub front : sink.tells → (sink.output new ≡ sink.output old) ⊎ ((lines : List ℕ) × (n : ℕ) × IsDrilled number (fuse_disk store).files lines × (sink.output new ≡ sink.output old ++ take n lines))
+  pub done : given ≡ status.Done → (lines : List ℕ) × IsDrilled number store lines × (sink.tells → sink.output new ≡ sink.output old ++ lines)
+  pub sink_fault : given ≡ status.SinkFault → (lines : List ℕ) × IsDrilled number store lines × (sink.tells → (n : ℕ) × (sink.output new ≡ sink.output old ++ take n lines))
+  pub memory : given ≡ status.Memory → sink.tells → (sink.output new ≡ sink.output old) ⊎ ((lines : List ℕ) × (n : ℕ) × IsDrilled number store lines × (sink.output new ≡ sink.output old ++ take n lines))

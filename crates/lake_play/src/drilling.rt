@@ -11,7 +11,7 @@ ghost use Rattle.source_delta.specs.Heads.{IsDeltaHead, IsTableAtHead};
 ghost use Rattle.table_history.specs.History.{History};
 ghost use Rattle.table_history.specs.declared.kind.Kind.TheVariants.{Delta};
 ghost use Rattle.target_core.specs.TargetMeanings.{meaning};
-ghost use Rattle.lake_play.specs.Drilled.{AreDrillLines, Drills, IsBroughtOnce, IsDrillEnd, IsEnded, IsLookEnd, IsRead, IsReadEnd, IsTableRefusal, LeavesDrill, TellsLast, TellsTarget};
+ghost use Rattle.lake_play.specs.Drilled.{AreDrillLines, Drills, IsBroughtOnce, IsDrillEnd, IsEnded, IsLookEnd, IsPlayedThrough, IsRead, IsReadEnd, IsTableRefusal, LeavesDrill, TellsLast, TellsTarget};
 ghost use Rattle.lake_play.specs.Lines.{source_line};
 ghost use Rattle.lake_play.specs.Standing.{IsFresh, meaning_of_hudi, meaning_of_iceberg};
 
@@ -63,6 +63,7 @@ fn refusal_of(answers: Items<Status>) -> Result<(), Status>
 fn play_drill(alloc: Global, number: u64, store: &mut FuseStore) -> Result<(), Status>
     requires fresh { IsFresh store.old }
     requires unscripted { ¬ CanFail (script_of store.old) }
+    ensures played { OnOk result (IsPlayedThrough number store.new) }
     ensures leaves { OnOk result (LeavesDrill number (fuse_disk store.new).files) }
     ensures said { OnOk result (AreSaid number) }
     ensures refused { IfErr result (IsDrillEnd number store.new) }

@@ -3,6 +3,7 @@ use Rattle.lake_store.specs.Disk.{Disk}
 use Rattle.lake_store.specs.Memory.{Memory, disk_of}
 use Rattle.lake_play.specs.Drilled.{IsReadEnd, LeavesDrill}
 use Rattle.lake_play.proofs.DrillEnds.{lines_put, nothing_put, read_end}
+use Rattle.lake_play.proofs.DrillStores.{read_through}
 use Rattle.lake_play.proofs.drilling.drill_over.Goals as goal
 
 pub lines_of-requires : goal.lines_of-requires
@@ -12,6 +13,7 @@ pub returns-in-Ok-lines_of : goal.returns-in-Ok-lines_of
 returns-in-Ok-lines_of g c =
     let same = c.in-Ok-lines_of.ensures.still ∙ ap disk_of c.inner.ensures.inner in
     lines_put g.O.Sink c.args.number c.args.out.now _ c.put_summary.new.out _ c.put_summary.result (record {
+      played = read_through c.args.number c.play_drill.new.store c.lines_of.new.store same c.in-Ok.ensures.played;
       leaves = subst (λ (d : Disk). LeavesDrill c.args.number d.files) (sym same) c.in-Ok.ensures.leaves;
       are = c.in-Ok-lines_of.ensures.lines;
     }) c.put_summary.ensures
