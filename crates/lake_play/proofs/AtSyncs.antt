@@ -39,6 +39,16 @@ pub record Stays (history : History) (now : ℕ) (Ends : Status → Type 0) (P :
   pub stopped : (syncs : ℕ) (commits : List (List ℕ)) (old : FuseStore) (call : Option ℕ) → P syncs commits old → P syncs commits (with_stop old call)
   pub crashed : (syncs : ℕ) (commits : List (List ℕ)) (front behind : History) (hudi iceberg : ℕ) (old new : FuseStore) (choices : List ℕ) → Keeps history commits front behind 0 hudi iceberg old → Crashes choices old new → P syncs commits old → P syncs commits new
 
+-- two such things
+pub both_stay : (history : History) (now : ℕ) (Ends : Status → Type 0) (P Q : ℕ → List (List ℕ) → FuseStore → Type 0) → Stays history now Ends P → Stays history now Ends Q → Stays history now Ends (λ syncs commits store. P syncs commits store × Q syncs commits store)
+both_stay history now Ends P Q p q = record {
+  extended = λ syncs commits front behind hudi iceberg old new bytes keeps is was. (p.extended syncs commits front behind hudi iceberg old new bytes keeps is was.0, q.extended syncs commits front behind hudi iceberg old new bytes keeps is was.1);
+  synced = λ syncs commits front behind hudi iceberg old new target given keeps small some is ends was.
+      (p.synced syncs commits front behind hudi iceberg old new target given keeps small some is ends was.0, q.synced syncs commits front behind hudi iceberg old new target given keeps small some is ends was.1);
+  stopped = λ syncs commits old call was. (p.stopped syncs commits old call was.0, q.stopped syncs commits old call was.1);
+  crashed = λ syncs commits front behind hudi iceberg old new choices keeps is was. (p.crashed syncs commits front behind hudi iceberg old new choices keeps is was.0, q.crashed syncs commits front behind hudi iceberg old new choices keeps is was.1);
+}
+
 -- One of so many syncs behind a first commit was answered so, over a store of which that is true. No version was removed before it.
 pub record IsSyncAt (history : History) (now : ℕ) (P : ℕ → List (List ℕ) → FuseStore → Type 0) (all : List (List ℕ)) (most : ℕ) (given : Status) : Type 0 where
   pub target : Kind

@@ -2,7 +2,7 @@
 use Rattle.std.proofs.Common.{◌≡◌, ◌≢◌, ◌⊎◌, inl, inr, ⊎_elim, ℕ, zero, suc, ◌+◌, ◌^◌, ◌≤◌, ◌<◌, List, [], ◌∷◌, length, map, take, Contains, Option, Some, None, Result, Ok, Err, refl, sym, ap, subst, ◌∙◌, arith}
 use Rattle.std.specs.Prelude.{slice_get}
 use Rattle.std.proofs.lemmas.Bool.{false≢true}
-use Rattle.std.proofs.lemmas.List.{length-append, length-map}
+use Rattle.std.proofs.lemmas.List.{length-append, length-map, length-take-le}
 use Rattle.lake_basics.specs.declared.limits.TheConstants.{MAX_COMMITS, MAX_LIVE_FILES, MAX_PUBLISHED_COMMITS}
 use Rattle.table_history.specs.History.{History}
 use Rattle.table_history.specs.Row.{Row}
@@ -36,13 +36,14 @@ use Rattle.target_hudi.specs.Inspecting as hudi_inspecting
 use Rattle.target_hudi.specs.Kept as hudi_kept
 use Rattle.target_hudi.specs.Reading as hudi_reading
 use Rattle.target_hudi.specs.Writing as hudi_writing
+use Rattle.target_hudi.specs.declared.kept.HudiKept.{HudiKept}
 use Rattle.target_hudi.specs.declared.target.HudiTarget.{HudiTarget}
 use Rattle.target_iceberg.specs.Fitting as iceberg_fitting
 use Rattle.target_iceberg.specs.Inspecting as iceberg_inspecting
 use Rattle.target_iceberg.specs.Reading as iceberg_reading
 use Rattle.target_iceberg.specs.declared.target.IcebergTarget.{IcebergTarget}
 use Rattle.target_sync.specs.Answered.{IsCaused, IsRefusal}
-use Rattle.target_sync.specs.Dues.{origin_of}
+use Rattle.target_sync.specs.Dues.{Due, origin_of}
 use Rattle.target_sync.specs.Targets.{TargetFacts, target_facts}
 use Rattle.target_sync.specs.declared.apply.Report.{Report}
 use Rattle.target_sync.specs.declared.plan.Mode.TheVariants as modes
@@ -54,14 +55,16 @@ use Rattle.lake_play.specs.Formats.{from_delta, to_hudi, to_iceberg}
 use Rattle.lake_play.specs.Playing.{IsSynced, PlaysAll, nothing_played, status_of}
 use Rattle.lake_play.specs.Standing.{IsFresh, meaning_of_hudi, meaning_of_iceberg}
 use Rattle.lake_play.specs.declared.playing.Progress.{Progress}
-use Rattle.lake_play.proofs.AtSyncs.{Found, IsSyncAt, syncs_on}
+use Rattle.lake_play.proofs.AtSyncs.{Found, IsSyncAt, Stays, both_stay, syncs_on}
 use Rattle.lake_play.proofs.Causes.{at_contains}
+use Rattle.lake_play.proofs.DrillDue.{few_due}
 use Rattle.lake_play.proofs.DrillEvents.{few_answers, plain}
 use Rattle.lake_play.proofs.DrillFits.{table_of}
 use Rattle.lake_play.proofs.EachOnce.{hudi_counts}
 use Rattle.lake_play.proofs.Grown.{HudiGrown, hudi_grows, none_grown}
 use Rattle.lake_play.proofs.HudiNumbers as hudi
 use Rattle.lake_play.proofs.IcebergNumbers as iceberg
+use Rattle.lake_play.proofs.HudiTimes.{AreUpTo, HudiTimes, hudi_times, kept_up_to, no_times, within_9999}
 use Rattle.lake_play.proofs.Plays.{Keeps, begins}
 
 -- ---- what commits pass
@@ -69,36 +72,42 @@ use Rattle.lake_play.proofs.Plays.{Keeps, begins}
 left_by : (target : Kind) (a b : LimitKind) → b ≡ a → IsLeft target a → IsLeft target b
 left_by target a b same left = subst (IsLeft target) (sym same) left
 
-publish_is : (which other : LimitKind) (n m : ℕ) → target_error.Limit other m ≡ target_error.Limit which n → which ≡ other
-publish_is which other n m same = cc
-
-hudi_publish : (held : Option hudi_fitting.Held) (partition : List (List ℕ)) (commits : List Commit) (e : TargetError) (which : LimitKind) (n : ℕ) → hudi_fitting.Unfit held partition commits e → e ≡ target_error.Limit which n → which ≡ limit.Publish
-hudi_publish held partition commits _ which n (hudi_fitting.Unfit.many is) same = publish_is which limit.Publish n MAX_PUBLISHED_COMMITS same
-hudi_publish held partition commits _ which n (hudi_fitting.Unfit.changes few is) same =
+-- A list of commits that is unfit for a number is longer than may be published.
+hudi_many : (held : Option hudi_fitting.Held) (partition : List (List ℕ)) (commits : List Commit) (e : TargetError) (which : LimitKind) (n : ℕ) → hudi_fitting.Unfit held partition commits e → e ≡ target_error.Limit which n → MAX_PUBLISHED_COMMITS < length commits
+hudi_many held partition commits _ which n (hudi_fitting.Unfit.many is) same = is
+hudi_many held partition commits _ which n (hudi_fitting.Unfit.changes few is) same =
     let never : target_error.Unsupported PartitionChange [] ≡ target_error.Limit which n = same in absurd cc
-hudi_publish held partition commits _ which n (hudi_fitting.Unfit.fault feature path few alike is) same =
+hudi_many held partition commits _ which n (hudi_fitting.Unfit.fault feature path few alike is) same =
     let never : target_error.Unsupported feature path ≡ target_error.Limit which n = same in absurd cc
 
-iceberg_publish : (state : iceberg_fitting.HeldState) (partition : List (List ℕ)) (commits : List Commit) (e : TargetError) (which : LimitKind) (n : ℕ) → iceberg_fitting.Unfit state partition commits e → e ≡ target_error.Limit which n → which ≡ limit.Publish
-iceberg_publish state partition commits _ which n (iceberg_fitting.Unfit.many is) same = publish_is which limit.Publish n MAX_PUBLISHED_COMMITS same
-iceberg_publish state partition commits _ which n (iceberg_fitting.Unfit.changes few is) same =
+iceberg_many : (state : iceberg_fitting.HeldState) (partition : List (List ℕ)) (commits : List Commit) (e : TargetError) (which : LimitKind) (n : ℕ) → iceberg_fitting.Unfit state partition commits e → e ≡ target_error.Limit which n → MAX_PUBLISHED_COMMITS < length commits
+iceberg_many state partition commits _ which n (iceberg_fitting.Unfit.many is) same = is
+iceberg_many state partition commits _ which n (iceberg_fitting.Unfit.changes few is) same =
     let never : target_error.Unsupported PartitionChange [] ≡ target_error.Limit which n = same in absurd cc
-iceberg_publish state partition commits _ which n (iceberg_fitting.Unfit.type name few alike is) same =
+iceberg_many state partition commits _ which n (iceberg_fitting.Unfit.type name few alike is) same =
     let never : target_error.Unsupported TypeChange name ≡ target_error.Limit which n = same in absurd cc
 
-hudi_at : (end : hudi_writing.TimelineEnd) (origin : Origin) (now : ℕ) (commit : Commit) (which : LimitKind) (n : ℕ) → hudi_writing.PassesAt end origin now commit which n → IsLeft Hudi which
-hudi_at end origin now commit limit.File n passes = tt
-hudi_at end origin now commit limit.Versions n passes = tt
+-- the bytes of a file, the names of a folder, or the year of an instant
+abbrev IsOfCommits : LimitKind → Type 0
+IsOfCommits which = IsLeft Hudi which ⊎ (which ≡ limit.Versions)
+
+hudi_at : (end : hudi_writing.TimelineEnd) (origin : Origin) (now : ℕ) (commit : Commit) (which : LimitKind) (n : ℕ) → hudi_writing.PassesAt end origin now commit which n → IsOfCommits which
+hudi_at end origin now commit limit.File n passes = inl tt
+hudi_at end origin now commit limit.Versions n passes = inr refl
 hudi_at end origin now commit _ n passes = absurd passes
 
-hudi_last : (end : hudi_writing.TimelineEnd) (origin : Origin) (now : ℕ) (commits : List Commit) (which : LimitKind) (n : ℕ) → hudi_writing.PassesLast end origin now commits which n → IsLeft Hudi which
+hudi_last : (end : hudi_writing.TimelineEnd) (origin : Origin) (now : ℕ) (commits : List Commit) (which : LimitKind) (n : ℕ) → hudi_writing.PassesLast end origin now commits which n → IsOfCommits which
 hudi_last end origin now [] which n passes = absurd passes
 hudi_last end origin now (commit ∷ []) which n passes = hudi_at end origin now commit which n passes
 hudi_last end origin now (commit ∷ (next ∷ commits)) which n passes = hudi_last (hudi_writing.end_behind end passes.0 commit) origin now (next ∷ commits) which n passes.2
 
-hudi_passed : (files : Files) (end : hudi_writing.TimelineEnd) (origin : Origin) (now : ℕ) (commits : List Commit) (which : LimitKind) (n : ℕ) → hudi_writing.Passes files end origin now commits which n → IsLeft Hudi which
-hudi_passed files end origin now commits which n (inl names) = left_by Hudi limit.Names which names.1 tt
-hudi_passed files end origin now commits which n (inr last) = hudi_last end origin now commits which n last
+hudi_passed : (files : Files) (end : hudi_writing.TimelineEnd) (origin : Origin) (now : ℕ) (commits : List Commit) (which : LimitKind) (n : ℕ) → (hudi_writing.PassesLast end origin now commits limit.Versions n → ⊥) → hudi_writing.Passes files end origin now commits which n → IsLeft Hudi which
+hudi_passed files end origin now commits which n early (inl names) = left_by Hudi limit.Names which names.1 tt
+hudi_passed files end origin now commits which n early (inr last) =
+    ⊎_elim
+    (λ (left : IsLeft Hudi which). left)
+    (λ (year : which ≡ limit.Versions). absurd (early (subst (λ (w : LimitKind). hudi_writing.PassesLast end origin now commits w n) year last)))
+    (hudi_last end origin now commits which n last)
 
 iceberg_at : (end : iceberg_writing.TableEnd) (origin : Origin) (now : ℕ) (commit : Commit) (which : LimitKind) (n : ℕ) → iceberg_writing.PassesAt end origin now commit which n → IsLeft Iceberg which
 iceberg_at end origin now commit limit.File n passes = tt
@@ -185,9 +194,16 @@ module _ (number : ℕ) (said : AreSaid number) where
   tables_are : IsHistoryOf events tables
   tables_are = subst (λ (l : List (List ℕ)). IsHistoryFrom 0 None l tables) (sym all_are) (are_history number said 200 (omega arith)).0
 
+  -- what is known of the store at each sync
+  abbrev Known : ℕ → List (List ℕ) → FuseStore → Type 0
+  Known syncs commits store = HudiGrown tables syncs commits store × HudiTimes tables drill_time syncs commits store
+
+  known_stays : Stays tables drill_time (λ given. Unit {0}) Known
+  known_stays = both_stay tables drill_time (λ given. Unit {0}) (HudiGrown tables) (HudiTimes tables drill_time) (hudi_grows tables drill_time) (hudi_times tables drill_time)
+
   -- ---- by a sync
 
-  module _ (given : Status) (a : IsSyncAt tables drill_time (HudiGrown tables) all 800 given) where
+  module _ (given : Status) (a : IsSyncAt tables drill_time Known all 800 given) where
     few_commits : length a.commits ≤ 200
     few_commits =
         let both : length all ≡ length a.commits + length a.behind = ap (λ (l : List (List ℕ)). length l) (sym a.first) ∙ length-append a.commits a.behind in
@@ -197,22 +213,41 @@ module _ (number : ℕ) (said : AreSaid number) where
     abbrev here : Files
     here = (fuse_disk a.old).files
 
-    few_published : a.holds.at.view.commits ≤ MAX_COMMITS
+    few_published : a.holds.0.at.view.commits ≤ MAX_COMMITS
     few_published =
-        let few = a.holds.few in
-        let within = a.holds.within in
+        let few = a.holds.0.few in
+        let within = a.holds.0.within in
         let commits = few_commits in
         let syncs = a.few in
         omega (arith, few, within, commits, syncs)
 
+    few_times : length a.commits ≤ 200 → AreUpTo (drill_time + 300 * a.syncs) here
+    few_times = a.holds.1
+
+    due_few : (start : View) (due : Due from_delta modes.Sync here start) → length due.commits ≤ 201
+    due_few start due = let due_count = few_due a.commits 0 (fuse_disk a.old) a.keeps.log modes.Sync start due in let commits = few_commits in omega (arith, due_count, commits)
+
+    too_many : (start : View) (due : Due from_delta modes.Sync here start) → MAX_PUBLISHED_COMMITS < length due.commits → ⊥
+    too_many start due many = let few = due_few start due in omega (arith, few, many)
+
+    -- no instant of the commits that are due passes the year 9999
+    early : (t : HudiTarget) (start : View) (due : Due from_delta modes.Sync here start) (kept : HudiKept) → hudi_kept.StandsFor kept here → (place : ℕ) → place < length due.commits → (n : ℕ)
+        → hudi_writing.PassesLast (hudi_kept.end_of t.name kept) (origin_of due) drill_time (take (place + 1) due.commits) limit.Versions n → ⊥
+    early t start due kept stands place within n passes =
+        let few = due_few start due in
+        let syncs = a.few in
+        let some = length-take-le (place + 1) due.commits (omega (arith, within)) in
+        kept_up_to kept here (drill_time + 300 * a.syncs) stands.counted.newest (few_times few_commits)
+        (λ up. within_9999 (hudi_kept.end_of t.name kept) (origin_of due) drill_time (take (place + 1) due.commits) n (drill_time + 300 * a.syncs) (omega arith) up (omega (arith, some, within, few, syncs)) passes)
+
     hudi_refused : (t : HudiTarget) (Idle : Type 0) (kind : Kind) (which : LimitKind) (n : ℕ) → IsRefusal Idle from_delta (target_facts to_hudi t) modes.Sync drill_time here (status.Limit (side.Target kind) which n) → IsLeft kind which
-    hudi_refused t Idle kind which n (is, inl (idle, head, crowded)) = subst (λ (k : Kind). IsLeft k which) (sym is) (left_hudi here a.holds.at.view which n a.holds.at.reads few_published crowded)
+    hudi_refused t Idle kind which n (is, inl (idle, head, crowded)) = subst (λ (k : Kind). IsLeft k which) (sym is) (left_hudi here a.holds.0.at.view which n a.holds.0.at.reads few_published crowded)
     hudi_refused t Idle kind which n (is, inr (inl (idle, unfit))) =
         let fault = unfit.2.1.1 in
-        subst (λ (k : Kind). IsLeft k which) (sym is) (left_by Hudi limit.Publish which (hudi_publish (hudi_kept.held_of fault.0) unfit.2.1.0.partition unfit.2.1.0.commits (target_error.Limit which n) which n fault.2 refl) tt)
+        absurd (too_many unfit.0 unfit.2.1.0 (hudi_many (hudi_kept.held_of fault.0) unfit.2.1.0.partition unfit.2.1.0.commits (target_error.Limit which n) which n fault.2 refl))
     hudi_refused t Idle kind which n (is, inr (inr passed)) =
         let kept = passed.2.1.1.2 in
-        subst (λ (k : Kind). IsLeft k which) (sym is) (hudi_passed here (hudi_kept.end_of t.name kept.0) (origin_of passed.2.1.0) drill_time (take (passed.2.1.1.0 + 1) passed.2.1.0.commits) which n kept.2)
+        subst (λ (k : Kind). IsLeft k which) (sym is) (hudi_passed here (hudi_kept.end_of t.name kept.0) (origin_of passed.2.1.0) drill_time (take (passed.2.1.1.0 + 1) passed.2.1.0.commits) which n (early t passed.0 passed.2.1.0 kept.0 kept.1.0 passed.2.1.1.0 passed.2.1.1.1 n) kept.2)
 
     iceberg_refused : (t : IcebergTarget) (Idle : Type 0) (kind : Kind) (which : LimitKind) (n : ℕ) → IsRefusal Idle from_delta (target_facts to_iceberg t) modes.Sync drill_time here (status.Limit (side.Target kind) which n) → IsLeft kind which
     iceberg_refused t Idle kind which n (is, inl (idle, head, crowded)) =
@@ -220,8 +255,7 @@ module _ (number : ℕ) (said : AreSaid number) where
         subst (λ (k : Kind). IsLeft k which) (sym is) (left_iceberg here at.at.view which n at.at.reads (few_shown number here at.j at.at.view at.at.reads at.at.shows) crowded)
     iceberg_refused t Idle kind which n (is, inr (inl (idle, unfit))) =
         let fault = unfit.2.1.1 in
-        subst (λ (k : Kind). IsLeft k which) (sym is)
-        (left_by Iceberg limit.Publish which (iceberg_publish (iceberg_fitting.state_of fault.0) unfit.2.1.0.partition unfit.2.1.0.commits (target_error.Limit which n) which n fault.2 refl) tt)
+        absurd (too_many unfit.0 unfit.2.1.0 (iceberg_many (iceberg_fitting.state_of fault.0) unfit.2.1.0.partition unfit.2.1.0.commits (target_error.Limit which n) which n fault.2 refl))
     iceberg_refused t Idle kind which n (is, inr (inr passed)) =
         let kept = passed.2.1.1.2 in
         subst (λ (k : Kind). IsLeft k which) (sym is) (iceberg_last (iceberg_kept.end_of kept.0) (origin_of passed.2.1.0) drill_time (take (passed.2.1.1.0 + 1) passed.2.1.0.commits) which n kept.2)
@@ -247,16 +281,16 @@ module _ (number : ℕ) (said : AreSaid number) where
     small : length (extensions events) ≤ 2 ^ 64
     small = let e = long in omega (arith, e)
 
-    found : Found tables (length (extensions events)) drill_time small (λ given. Unit {0}) (HudiGrown tables) (hudi_grows tables drill_time) all 800 0 [] old nothing_played after
+    found : Found tables (length (extensions events)) drill_time small (λ given. Unit {0}) Known known_stays all 800 0 [] old nothing_played after
     found =
         let few = few_answers number in
-        syncs_on tables (length (extensions events)) drill_time small (λ given. Unit {0}) (HudiGrown tables) (hudi_grows tables drill_time) all 800 events false 0 [] [] tables 0 0 nothing_played old after new (plain number) (λ some. absurd (false≢true some))
+        syncs_on tables (length (extensions events)) drill_time small (λ given. Unit {0}) Known known_stays all 800 events false 0 [] [] tables 0 0 nothing_played old after new (plain number) (λ some. absurd (false≢true some))
         (omega (arith, few)) keeps refl refl (omega arith) all_are plays order tables_are
 
     -- A sync of the drill that is refused for a number is refused for one of these.
     pub left_at_sync : (place : ℕ) (kind : Kind) (which : LimitKind) (n : ℕ) → slice_get after.answers place ≡ Some (status.Limit (side.Target kind) which n) → IsLeft kind which
     left_at_sync place kind which n at =
-        let a = found.at (none_grown tables old 0 0 keeps) place (status.Limit (side.Target kind) which n) (ap (λ (l : List Status). slice_get l place) (sym found.told) ∙ at) (λ i one less there. tt) in
+        let a = found.at (none_grown tables old 0 0 keeps, no_times tables drill_time old 0 0 keeps) place (status.Limit (side.Target kind) which n) (ap (λ (l : List Status). slice_get l place) (sym found.told) ∙ at) (λ i one less there. tt) in
         synced_left (status.Limit (side.Target kind) which n) a a.target a.other a.synced kind which n refl
 
   -- ---- by reading at the end

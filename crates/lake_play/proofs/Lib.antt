@@ -1,6 +1,7 @@
 pub mod AtSyncs
 pub mod Causes
 pub mod Causing
+pub mod DrillDue
 pub mod DrillEnds
 pub mod DrillEvents
 pub mod DrillFits
@@ -18,6 +19,7 @@ pub mod Grown
 pub mod Histories
 pub mod HudiNumbers
 pub mod IcebergNumbers
+pub mod HudiTimes
 pub mod Logs
 pub mod Looking
 pub mod Once

@@ -142,11 +142,8 @@ pub record IsRefusedSync (number : ℕ) (store : FuseStore) (given : Status) : T
 abbrev pub IsLeft : Kind → LimitKind → Type 0
 IsLeft Hudi limit.File = Unit {0}
 IsLeft Hudi limit.Names = Unit {0}
-IsLeft Hudi limit.Publish = Unit {0}
-IsLeft Hudi limit.Versions = Unit {0}
 IsLeft Iceberg limit.File = Unit {0}
 IsLeft Iceberg limit.Names = Unit {0}
-IsLeft Iceberg limit.Publish = Unit {0}
 IsLeft Iceberg limit.Actions = Unit {0}
 IsLeft Iceberg limit.Versions = Unit {0}
 IsLeft _ _ = ⊥
