@@ -295,13 +295,12 @@ module _ (target : TargetFacts) (views : Views target) (mode : Mode) (now : ℕ)
   pub due_states : (start : View) → target.files.reads files start → (due : Due from_delta mode files start) → StateSchemasOf front due.commits
   due_states start reads due = states_by (some_due start due) start due j (shows_start target views front files j here.view start here.reads reads here.shows) due.full refl
 
-  unfit_between : (feature : Feature) (path : List ℕ) → IsUnfit from_delta target mode files (target_error.Unsupported feature path) → IsUnfitBetween target (front ++ rest) commits feature path
+  unfit_between : (feature : Feature) (path : List ℕ) → IsUnfit from_delta target mode files (target_error.Unsupported feature path) → IsUnfitBetween target (front ++ rest) commits files feature path
   unfit_between feature path unfit =
       let start = unfit.0 in
       let due = unfit.2.1.0 in
       let shows = shows_start target views front files j here.view start here.reads unfit.1 here.shows in
       record {
-        files = files;
         over = over;
         start = start;
         reads = unfit.1;
@@ -326,14 +325,14 @@ module _ (target : TargetFacts) (views : Views target) (mode : Mode) (now : ℕ)
     Idle = IsIdle scripted_store None (scripted old) (scripted new)
 
     abbrev Cause : Status → Type 0
-    Cause e = IsCauseAt target mode now (front ++ rest) before Faulty e
+    Cause e = IsCauseAt target mode now (front ++ rest) before files Faulty e
 
     number : (of : Side) (which : LimitKind) (n : ℕ) → IsRefusal Idle from_delta target mode now files (status.Limit of which n) → IsRefusal (Unit {0}) from_delta target mode now files (status.Limit of which n)
     number side.Source which n h = (tt, h.1)
     number (side.Target kind) which n h = (h.0, ⊎_elim (λ crowded. inl (tt, crowded.1, crowded.2)) (λ other. inr (⊎_elim (λ unfit. inl (tt, unfit.1)) (λ passed. inr passed) other)) h.1)
 
-    passes : (e : Status) → IsRefusal (Unit {0}) from_delta target mode now files e → PassesNumber target mode now (front ++ rest) before.commits e
-    passes e h = subst (λ (cs : List (List ℕ)). PassesNumber target mode now (front ++ rest) cs e) (sym same) (record { files = files; over = over; passes = h })
+    passes : (e : Status) → IsRefusal (Unit {0}) from_delta target mode now files e → PassesNumber target mode now (front ++ rest) before.commits files e
+    passes e h = subst (λ (cs : List (List ℕ)). PassesNumber target mode now (front ++ rest) cs files e) (sym same) (record { over = over; passes = h })
 
     none_read : (cs : List (List ℕ)) → commits ≡ cs → IsAbsent files → cs ≡ []
     none_read [] e absent = refl
@@ -358,7 +357,7 @@ module _ (target : TargetFacts) (views : Views target) (mode : Mode) (now : ℕ)
     refused status.Absent is h few = same ∙ none_read commits refl h.1
     refused (status.Malformed path) is h few = absurd (source_fault (source.Malformed path) h.1)
     refused (status.Unsupported side.Source feature path) is h few = removed feature path h.1
-    refused (status.Unsupported (side.Target kind) feature path) is h few = (h.1, subst (λ (cs : List (List ℕ)). IsUnfitBetween target (front ++ rest) cs feature path) (sym same) (unfit_between feature path h.2))
+    refused (status.Unsupported (side.Target kind) feature path) is h few = (h.1, subst (λ (cs : List (List ℕ)). IsUnfitBetween target (front ++ rest) cs files feature path) (sym same) (unfit_between feature path h.2))
     refused (status.Limit of which n) is h few = passes (status.Limit of which n) (number of which n h)
     refused (status.Foreign kind path) is h few = absurd (foreign path h.3)
     refused (status.Contested kind) is h few = absurd (none (sync.sync.contest.allowed (ap (λ (a : Result Report Status). Some a) is ∙ ap (λ (k : Kind). Some (Err (status.Contested k))) few)))

@@ -5,6 +5,7 @@ use Rattle.std.proofs.lemmas.Bool.{false≢true}
 use Rattle.std.proofs.lemmas.List.{length-append, length-drop}
 use Rattle.std.proofs.lemmas.List.Elements.{Contains-append_left, Contains-append_right}
 use Rattle.lake_basics.specs.declared.limits.TheConstants.{MAX_PUBLISHED_COMMITS}
+use Rattle.lake_store.specs.Disk.{Files}
 use Rattle.table_history.specs.History.{History}
 use Rattle.table_history.specs.Row.{Row}
 use Rattle.table_history.specs.TypeTree.{ColumnTrees}
@@ -96,7 +97,7 @@ along_count before (after ∷ history) (commit ∷ commits) along = ap suc (alon
 kind_stays : (schema : ColumnTrees) → schema ≡ drill_schema → map (column_kind schema) columns ≡ map (column_kind drill_schema) columns
 kind_stays schema is = ap (λ (s : ColumnTrees). map (column_kind s) columns) is
 
-module _ (number : ℕ) (target : TargetFacts) (views : Views target) (commits : List (List ℕ)) (unfit_for : Feature) (path : List ℕ) (unfit : IsUnfitBetween target (drill_history number 200) commits unfit_for path) where
+module _ (number : ℕ) (target : TargetFacts) (views : Views target) (commits : List (List ℕ)) (unfit_for : Feature) (path : List ℕ) {files : Files} (unfit : IsUnfitBetween target (drill_history number 200) commits files unfit_for path) where
   in_front : (entry : List ℕ × Table) → Contains unfit.front entry → IsDrillTable number entry.1
   in_front entry there = table_of number entry (subst (λ (h : History). Contains h entry) (sym unfit.split) (Contains-append_left unfit.front unfit.rest entry there))
 
@@ -124,9 +125,9 @@ module _ (number : ℕ) (target : TargetFacts) (views : Views target) (commits :
   abbrev HasColumnsOf : View → Type 0
   HasColumnsOf view = IsUnpublished view ⊎ ((view.table.partition ≡ columns) × (target.files.image drill_schema ≡ Some view.table.schema))
 
-  held_at : (n : ℕ) (view : View) → target.files.reads unfit.files view → ShowsTable Delta target.files.image (drill_history number 200) n unfit.start → SameView unfit.start view → HasColumnsOf view
+  held_at : (n : ℕ) (view : View) → target.files.reads files view → ShowsTable Delta target.files.image (drill_history number 200) n unfit.start → SameView unfit.start view → HasColumnsOf view
   held_at zero view reads none same =
-      ⊎_elim (λ (un : IsUnpublished view). inl un) (λ (published : IsPublished view). absurd (marked_none unfit.start published.1.0 none (same.mark ∙ published.1.1))) (views.published unfit.files view reads)
+      ⊎_elim (λ (un : IsUnpublished view). inl un) (λ (published : IsPublished view). absurd (marked_none unfit.start published.1.0 none (same.mark ∙ published.1.1))) (views.published files view reads)
   held_at (suc k) view reads shown same =
       let of = table_of number shown.0 (at_contains (drill_history number 200) k shown.0 shown.1) in
       inr (
@@ -135,9 +136,9 @@ module _ (number : ℕ) (target : TargetFacts) (views : Views target) (commits :
       )
 
   -- what else reads the files has the drill's columns, where a commit is published
-  pub held_is : (view : View) → target.files.reads unfit.files view → HasColumnsOf view
+  pub held_is : (view : View) → target.files.reads files view → HasColumnsOf view
   held_is view reads =
-      ⊎_elim (λ (same : SameView unfit.start view). held_at unfit.j view reads unfit.shows same) (λ (both : IsUnpublished unfit.start × IsUnpublished view). inl both.1) (views.one_view unfit.files unfit.start view unfit.reads reads)
+      ⊎_elim (λ (same : SameView unfit.start view). held_at unfit.j view reads unfit.shows same) (λ (both : IsUnpublished unfit.start × IsUnpublished view). inl both.1) (views.one_view files unfit.start view unfit.reads reads)
 
   -- they are few
   pub few_due : length unfit.due ≤ 200
@@ -152,7 +153,7 @@ module _ (number : ℕ) (target : TargetFacts) (views : Views target) (commits :
       unfit.leads
 
   -- of a target without a commit there is one
-  pub single_due : (view : View) → target.files.reads unfit.files view → IsUnpublished view → (commit : Commit) × (unfit.due ≡ commit ∷ [])
+  pub single_due : (view : View) → target.files.reads files view → IsUnpublished view → (commit : Commit) × (unfit.due ≡ commit ∷ [])
   single_due view reads none =
       ⊎_elim
       (λ (since : (k : ℕ) × (entry : List ℕ × Table) × (unfit.j ≡ k + 1) × (slice_get unfit.front k ≡ Some entry) × LeadAlong entry.1 (drop (k + 1) unfit.front) unfit.due).
@@ -162,7 +163,7 @@ module _ (number : ℕ) (target : TargetFacts) (views : Views target) (commits :
       absurd (⊎_elim
       (λ (same : SameView unfit.start view). marked_none view shown.2.standing none (sym same.mark ∙ shown.2.mark))
       (λ (both : IsUnpublished unfit.start × IsUnpublished view). marked_none unfit.start shown.2.standing both.0 shown.2.mark)
-      (views.one_view unfit.files unfit.start view unfit.reads reads)))
+      (views.one_view files unfit.start view unfit.reads reads)))
       (λ (whole : IsToLast unfit.front unfit.start unfit.due). (whole.commit, whole.only))
       unfit.leads
 
@@ -216,14 +217,14 @@ some_kept kept held is none at = by kept.mark (ap (λ (v : View). v.mark) none) 
     by None unmarked is = cc
     by (Some m) unmarked is = cc
 
-module _ (number : ℕ) (t : HudiTarget) (commits : List (List ℕ)) (f : Feature) (path : List ℕ) (unfit : IsUnfitBetween (target_facts to_hudi t) (drill_history number 200) commits f path) where
+module _ (number : ℕ) (t : HudiTarget) (commits : List (List ℕ)) (f : Feature) (path : List ℕ) {files : Files} (unfit : IsUnfitBetween (target_facts to_hudi t) (drill_history number 200) commits files f path) where
   abbrev facts : TargetFacts
   facts = target_facts to_hudi t
 
   abbrev kept : HudiKept
   kept = unfit.unfit.0
 
-  stands : hudi_kept.StandsFor kept unfit.files
+  stands : hudi_kept.StandsFor kept files
   stands = unfit.unfit.1.0
 
   due_are : (commit : Commit) → Contains unfit.due commit → IsDrillCommit number commit
@@ -296,7 +297,7 @@ only_types state partition commits _ (Unfit.type name few alike_too is) alike f 
     let one : feature.TypeChange ≡ f = cc in
     sym one
 
-module _ (number : ℕ) (t : IcebergTarget) (commits : List (List ℕ)) (f : Feature) (path : List ℕ) (unfit : IsUnfitBetween (target_facts to_iceberg t) (drill_history number 200) commits f path) where
+module _ (number : ℕ) (t : IcebergTarget) (commits : List (List ℕ)) (f : Feature) (path : List ℕ) {files : Files} (unfit : IsUnfitBetween (target_facts to_iceberg t) (drill_history number 200) commits files f path) where
   abbrev iceberg_facts : TargetFacts
   iceberg_facts = target_facts to_iceberg t
 
@@ -306,8 +307,8 @@ module _ (number : ℕ) (t : IcebergTarget) (commits : List (List ℕ)) (f : Fea
   abbrev state : iceberg.HeldState
   state = iceberg.state_of kept_there
 
-  reads_kept : iceberg_facts.files.reads unfit.files (iceberg_view.view_of kept_there)
-  reads_kept = iceberg_kept.kept_view t.id t.location kept_there unfit.files unfit.unfit.1.0
+  reads_kept : iceberg_facts.files.reads files (iceberg_view.view_of kept_there)
+  reads_kept = iceberg_kept.kept_view t.id t.location kept_there files unfit.unfit.1.0
 
   are_due : (commit : Commit) → Contains unfit.due commit → IsDrillCommit number commit
   are_due = commits_are number iceberg_facts (iceberg_views t) commits f path unfit

@@ -1,5 +1,6 @@
 -- What the clauses of `play` say of the events of a drill.
 use Rattle.std.proofs.Common.{◌≡◌, ◌≢◌, inl, inr, ⊎_elim, ℕ, zero, suc, ◌+◌, ◌^◌, ◌≤◌, Bool, true, false, List, [], ◌∷◌, ◌++◌, length, map, Contains, Some, None, refl, sym, ap, subst, ◌∙◌, append_assoc, arith}
+use Rattle.std.proofs.lemmas.List.{append-nil}
 use Rattle.std.specs.List.{AllByRecursion}
 use Rattle.std.specs.Prelude.{slice_get}
 use Rattle.conformance.specs.Drill.{AreSaid, drill_bytes, drill_schema, drill_time, numbers_under}
@@ -48,18 +49,46 @@ use Rattle.lake_play.proofs.Logs.{some_same}
 use Rattle.lake_play.proofs.OneSchema.{types_keep}
 use Rattle.lake_play.proofs.Places.{numbers_at}
 
+-- ---- the answers of a run
+
+-- what its syncs were answered, in order
+abbrev answers_in : (now : ℕ) (events : List Event) (so_far : Progress) (old : FuseStore) (after : Progress) (new : FuseStore) → PlaysAll now events so_far old after new → List Status
+answers_in now [] so_far old after new plays = []
+answers_in now (event.Extend bytes ∷ events) so_far old after new plays = answers_in now events plays.0 plays.1 after new plays.3
+answers_in now (event.Shorten below ∷ events) so_far old after new plays = answers_in now events plays.0 plays.1 after new plays.3
+answers_in now (event.Sync target ∷ events) so_far old after new plays = plays.2.0 ∷ answers_in now events plays.0 plays.1 after new plays.3
+answers_in now (event.Full target ∷ events) so_far old after new plays = plays.2.0 ∷ answers_in now events plays.0 plays.1 after new plays.3
+answers_in now (event.Stop call ∷ events) so_far old after new plays = answers_in now events plays.0 plays.1 after new plays.3
+answers_in now (event.Crash choices ∷ events) so_far old after new plays = answers_in now events plays.0 plays.1 after new plays.3
+
+told_by : (now : ℕ) (events : List Event) (so_far : Progress) (old : FuseStore) (after : Progress) (new : FuseStore) (plays : PlaysAll now events so_far old after new) → after.answers ≡ so_far.answers ++ answers_in now events so_far old after new plays
+told_by now [] so_far old after new plays = sym (ap (λ (p : Progress). p.answers) plays.0) ∙ sym (append-nil so_far.answers)
+told_by now (event.Extend bytes ∷ events) so_far old after new plays = told_by now events plays.0 plays.1 after new plays.3 ∙ ap (λ (p : Progress). p.answers ++ answers_in now events plays.0 plays.1 after new plays.3) plays.2.1
+told_by now (event.Shorten below ∷ events) so_far old after new plays = told_by now events plays.0 plays.1 after new plays.3 ∙ ap (λ (p : Progress). p.answers ++ answers_in now events plays.0 plays.1 after new plays.3) plays.2.1
+told_by now (event.Sync target ∷ events) so_far old after new plays =
+    told_by now events plays.0 plays.1 after new plays.3
+    ∙ ap (λ (p : Progress). p.answers ++ answers_in now events plays.0 plays.1 after new plays.3) plays.2.2
+    ∙ append_assoc so_far.answers (plays.2.0 ∷ []) (answers_in now events plays.0 plays.1 after new plays.3)
+told_by now (event.Full target ∷ events) so_far old after new plays =
+    told_by now events plays.0 plays.1 after new plays.3
+    ∙ ap (λ (p : Progress). p.answers ++ answers_in now events plays.0 plays.1 after new plays.3) plays.2.2
+    ∙ append_assoc so_far.answers (plays.2.0 ∷ []) (answers_in now events plays.0 plays.1 after new plays.3)
+told_by now (event.Stop call ∷ events) so_far old after new plays = told_by now events plays.0 plays.1 after new plays.3 ∙ ap (λ (p : Progress). p.answers ++ answers_in now events plays.0 plays.1 after new plays.3) plays.2.1
+told_by now (event.Crash choices ∷ events) so_far old after new plays = told_by now events plays.0 plays.1 after new plays.3 ∙ ap (λ (p : Progress). p.answers ++ answers_in now events plays.0 plays.1 after new plays.3) plays.2.1
+
 -- ---- one answer
 
--- the answer of a sync of a target behind a commit, with no version removed, has its cause
+-- the answer of a sync of a target behind a commit, with no version removed, has its cause in the files that the sync had
 record IsAnswered (faulty : Before → Type 0) (now : ℕ) (history : History) (all : List (List ℕ)) (given : Status) : Type 0 where
   target : Kind
   other : target ≢ Delta
   before : Before
+  files : Files
   kept : before.shortened ≡ false
   some : before.commits ≡ [] → ⊥
   behind : List (List ℕ)
   first : before.commits ++ behind ≡ all
-  cause : IsCause target modes.Sync now history before (faulty before) given
+  cause : IsCause target modes.Sync now history before files (faulty before) given
 
 none_there : (given : Status) → None ≡ Some given → ⊥
 none_there given is = cc
@@ -69,38 +98,38 @@ not_empty [] x is = cc
 not_empty (y ∷ xs) x is = cc
 
 module _ (faulty : Before → Type 0) (now : ℕ) (history : History) (all : List (List ℕ)) where
-  answered : (events : List Event) (some : Bool) (count : ℕ) (before : Before) (answers : List Status) → IsPlain some events → AreInOrder count events → AreCaused faulty now history before events answers → length answers ≡ answer_count events
-      → before.shortened ≡ false → (some ≡ true → before.commits ≡ [] → ⊥) → before.commits ++ extensions events ≡ all → (place : ℕ) (given : Status) → slice_get answers place ≡ Some given → IsAnswered faulty now history all given
-  answered [] some count before [] plain order caused sum kept behind_some whole place given at = absurd (none_there given at)
-  answered [] some count before (first ∷ answers) plain order caused sum kept behind_some whole place given at = absurd (omega (arith, sum))
-  answered (event.Extend bytes ∷ events) some count before answers plain order caused sum kept behind_some whole place given at =
-      answered events true (count + 1) (behind (event.Extend bytes) before) answers plain order caused sum kept (λ is. not_empty before.commits bytes) (append_assoc before.commits (bytes ∷ []) (extensions events) ∙ whole) place given at
-  answered (event.Shorten below ∷ events) some count before answers plain order caused sum kept behind_some whole place given at = absurd plain
-  answered (event.Sync target ∷ events) some count before [] plain order caused sum kept behind_some whole place given at = absurd caused
-  answered (event.Sync target ∷ events) some count before (first ∷ answers) plain order caused sum kept behind_some whole zero given at =
-      subst (IsAnswered faulty now history all) (some_same first given at) (record { target = target; other = order.0; before = before; kept = kept; some = behind_some plain.0; behind = extensions events; first = whole; cause = caused.0 })
-  answered (event.Sync target ∷ events) some count before (first ∷ answers) plain order caused sum kept behind_some whole (suc place) given at =
-      answered events some count before answers plain.1 order.1 caused.1 (omega (arith, sum)) kept behind_some whole place given at
-  answered (event.Full target ∷ events) some count before answers plain order caused sum kept behind_some whole place given at = absurd plain
-  answered (event.Stop call ∷ events) some count before answers plain order caused sum kept behind_some whole place given at =
-      answered events some count (behind (event.Stop call) before) answers plain order caused sum kept behind_some whole place given at
-  answered (event.Crash choices ∷ events) some count before answers plain order caused sum kept behind_some whole place given at =
-      answered events some count (behind (event.Crash choices) before) answers plain order caused sum kept behind_some whole place given at
+  answered : (events : List Event) (some : Bool) (count : ℕ) (before : Before) (so_far : Progress) (old : FuseStore) (after : Progress) (new : FuseStore) (plays : PlaysAll now events so_far old after new)
+      → IsPlain some events → AreInOrder count events → AreCaused faulty now history before events so_far old after new plays → before.shortened ≡ false → (some ≡ true → before.commits ≡ [] → ⊥) → before.commits ++ extensions events ≡ all
+      → (place : ℕ) (given : Status) → slice_get (answers_in now events so_far old after new plays) place ≡ Some given → IsAnswered faulty now history all given
+  answered [] some count before so_far old after new plays plain order caused kept behind_some whole place given at = absurd (none_there given at)
+  answered (event.Extend bytes ∷ events) some count before so_far old after new plays plain order caused kept behind_some whole place given at =
+      answered events true (count + 1) (behind (event.Extend bytes) before) plays.0 plays.1 after new plays.3 plain order caused kept (λ is. not_empty before.commits bytes) (append_assoc before.commits (bytes ∷ []) (extensions events) ∙ whole) place given at
+  answered (event.Shorten below ∷ events) some count before so_far old after new plays plain order caused kept behind_some whole place given at = absurd plain
+  answered (event.Sync target ∷ events) some count before so_far old after new plays plain order caused kept behind_some whole zero given at =
+      subst (IsAnswered faulty now history all) (some_same plays.2.0 given at)
+      (record { target = target; other = order.0; before = before; files = (fuse_disk old).files; kept = kept; some = behind_some plain.0; behind = extensions events; first = whole; cause = caused.0 })
+  answered (event.Sync target ∷ events) some count before so_far old after new plays plain order caused kept behind_some whole (suc place) given at =
+      answered events some count before plays.0 plays.1 after new plays.3 plain.1 order.1 caused.1 kept behind_some whole place given at
+  answered (event.Full target ∷ events) some count before so_far old after new plays plain order caused kept behind_some whole place given at = absurd plain
+  answered (event.Stop call ∷ events) some count before so_far old after new plays plain order caused kept behind_some whole place given at =
+      answered events some count (behind (event.Stop call) before) plays.0 plays.1 after new plays.3 plain order caused kept behind_some whole place given at
+  answered (event.Crash choices ∷ events) some count before so_far old after new plays plain order caused kept behind_some whole place given at =
+      answered events some count (behind (event.Crash choices) before) plays.0 plays.1 after new plays.3 plain order caused kept behind_some whole place given at
 
 -- ---- the causes
 
-module _ (mode : Mode) (now : ℕ) (history : History) (before : Before) (Faulty : Type 0) where
+module _ (mode : Mode) (now : ℕ) (history : History) (before : Before) (files : Files) (Faulty : Type 0) where
   -- of Hudi or of Iceberg
-  at_either : {P : Type 0} (given : Status) (target : Kind) → target ≢ Delta → IsCause target mode now history before Faulty given → (given ≡ status.Memory → ⊥)
-      → ((t : HudiTarget) → IsCauseAt (target_facts to_hudi t) mode now history before Faulty given → P) → ((t : IcebergTarget) → IsCauseAt (target_facts to_iceberg t) mode now history before Faulty given → P) → P
+  at_either : {P : Type 0} (given : Status) (target : Kind) → target ≢ Delta → IsCause target mode now history before files Faulty given → (given ≡ status.Memory → ⊥)
+      → ((t : HudiTarget) → IsCauseAt (target_facts to_hudi t) mode now history before files Faulty given → P) → ((t : IcebergTarget) → IsCauseAt (target_facts to_iceberg t) mode now history before files Faulty given → P) → P
   at_either given Delta other cause not_memory hudi iceberg = absurd (other refl)
   at_either given Hudi other (inl is) not_memory hudi iceberg = absurd (not_memory is)
   at_either given Hudi other (inr is) not_memory hudi iceberg = hudi is.0 is.2
   at_either given Iceberg other (inl is) not_memory hudi iceberg = absurd (not_memory is)
   at_either given Iceberg other (inr is) not_memory hudi iceberg = iceberg is.0 is.2
 
-  at_target : {P : Type 0} (given : Status) (target : Kind) → target ≢ Delta → IsCause target mode now history before Faulty given → (given ≡ status.Memory → ⊥)
-      → ((facts : TargetFacts) → Views facts → IsCauseAt facts mode now history before Faulty given → P) → P
+  at_target : {P : Type 0} (given : Status) (target : Kind) → target ≢ Delta → IsCause target mode now history before files Faulty given → (given ≡ status.Memory → ⊥)
+      → ((facts : TargetFacts) → Views facts → IsCauseAt facts mode now history before files Faulty given → P) → P
   at_target given target other cause not_memory on =
       at_either given target other cause not_memory (λ t at. on (target_facts to_hudi t) (hudi_views t) at) (λ t at. on (target_facts to_iceberg t) (iceberg_views t) at)
 
@@ -113,25 +142,26 @@ module _ (script : Script) (from to now : ℕ) (history : History) (unscripted :
   no_memory : status.StoreFault ≡ status.Memory → ⊥
   no_memory is = cc
 
-  stopped : (mode : Mode) (before : Before) (target : Kind) → IsCause target mode now history before (IsFaulty script from to before) status.StoreFault → before.stopped ≡ true
-  stopped mode before Delta is = absurd (no_usage is)
-  stopped mode before Hudi is = at_target mode now history before (IsFaulty script from to before) status.StoreFault Hudi (λ e. cc) is no_memory (λ facts views faulty. ⊎_elim (λ can. absurd (unscripted can)) (λ stop. stop) faulty.1)
-  stopped mode before Iceberg is = at_target mode now history before (IsFaulty script from to before) status.StoreFault Iceberg (λ e. cc) is no_memory (λ facts views faulty. ⊎_elim (λ can. absurd (unscripted can)) (λ stop. stop) faulty.1)
+  stopped : (mode : Mode) (before : Before) (files : Files) (target : Kind) → IsCause target mode now history before files (IsFaulty script from to before) status.StoreFault → before.stopped ≡ true
+  stopped mode before files Delta is = absurd (no_usage is)
+  stopped mode before files Hudi is = at_target mode now history before files (IsFaulty script from to before) status.StoreFault Hudi (λ e. cc) is no_memory (λ facts views faulty. ⊎_elim (λ can. absurd (unscripted can)) (λ stop. stop) faulty.1)
+  stopped mode before files Iceberg is = at_target mode now history before files (IsFaulty script from to before) status.StoreFault Iceberg (λ e. cc) is no_memory (λ facts views faulty. ⊎_elim (λ can. absurd (unscripted can)) (λ stop. stop) faulty.1)
 
-  good : (mode : Mode) (before : Before) (target : Kind) (given : Status) → IsCause target mode now history before (IsFaulty script from to before) given → IsEnded given → IsGood before.stopped given
-  good mode before target given cause (inl done) = inl done
-  good mode before target given cause (inr fault) = inr (fault, stopped mode before target (subst (IsCause target mode now history before (IsFaulty script from to before)) fault cause))
+  good : (mode : Mode) (before : Before) (files : Files) (target : Kind) (given : Status) → IsCause target mode now history before files (IsFaulty script from to before) given → IsEnded given → IsGood before.stopped given
+  good mode before files target given cause (inl done) = inl done
+  good mode before files target given cause (inr fault) = inr (fault, stopped mode before files target (subst (IsCause target mode now history before files (IsFaulty script from to before)) fault cause))
 
-  go_well : (events : List Event) (before : Before) (answers : List Status) → AreCaused (IsFaulty script from to) now history before events answers → AllByRecursion IsEnded answers → GoWell before.stopped events answers
-  go_well [] before answers caused ended = tt
-  go_well (event.Extend bytes ∷ events) before answers caused ended = go_well events (behind (event.Extend bytes) before) answers caused ended
-  go_well (event.Shorten below ∷ events) before answers caused ended = go_well events (behind (event.Shorten below) before) answers caused ended
-  go_well (event.Sync target ∷ events) before [] caused ended = absurd caused
-  go_well (event.Sync target ∷ events) before (given ∷ answers) caused ended = (good modes.Sync before target given caused.0 ended.0, go_well events before answers caused.1 ended.1)
-  go_well (event.Full target ∷ events) before [] caused ended = absurd caused
-  go_well (event.Full target ∷ events) before (given ∷ answers) caused ended = (good modes.Full before target given caused.0 ended.0, go_well events before answers caused.1 ended.1)
-  go_well (event.Stop call ∷ events) before answers caused ended = go_well events (behind (event.Stop call) before) answers caused ended
-  go_well (event.Crash choices ∷ events) before answers caused ended = go_well events (behind (event.Crash choices) before) answers caused ended
+  go_well : (events : List Event) (before : Before) (so_far : Progress) (old : FuseStore) (after : Progress) (new : FuseStore) (plays : PlaysAll now events so_far old after new)
+      → AreCaused (IsFaulty script from to) now history before events so_far old after new plays → AllByRecursion IsEnded (answers_in now events so_far old after new plays) → GoWell before.stopped events (answers_in now events so_far old after new plays)
+  go_well [] before so_far old after new plays caused ended = tt
+  go_well (event.Extend bytes ∷ events) before so_far old after new plays caused ended = go_well events (behind (event.Extend bytes) before) plays.0 plays.1 after new plays.3 caused ended
+  go_well (event.Shorten below ∷ events) before so_far old after new plays caused ended = go_well events (behind (event.Shorten below) before) plays.0 plays.1 after new plays.3 caused ended
+  go_well (event.Sync target ∷ events) before so_far old after new plays caused ended =
+      (good modes.Sync before (fuse_disk old).files target plays.2.0 caused.0 ended.0, go_well events before plays.0 plays.1 after new plays.3 caused.1 ended.1)
+  go_well (event.Full target ∷ events) before so_far old after new plays caused ended =
+      (good modes.Full before (fuse_disk old).files target plays.2.0 caused.0 ended.0, go_well events before plays.0 plays.1 after new plays.3 caused.1 ended.1)
+  go_well (event.Stop call ∷ events) before so_far old after new plays caused ended = go_well events (behind (event.Stop call) before) plays.0 plays.1 after new plays.3 caused ended
+  go_well (event.Crash choices ∷ events) before so_far old after new plays caused ended = go_well events (behind (event.Crash choices) before) plays.0 plays.1 after new plays.3 caused ended
 
 -- ---- what is played
 
@@ -145,7 +175,7 @@ pub record IsPlayedSo (events : List Event) (old new : FuseStore) (answers : Lis
   pub log : (history : History) → IsHistoryOf events history → LogHolds events (fuse_disk new)
   pub stand : (history : History) → IsHistoryOf events history → BothStand events answers history (fuse_disk new)
   pub once : (history : History) → IsHistoryOf events history → BothHaveEachOnce events answers history (fuse_disk new)
-  pub caused : (history : History) → IsHistoryOf events history → AreCaused (IsFaulty (script_of old) (faults_of old) (faults_of new)) drill_time history nothing_before events answers
+  pub caused : (history : History) → IsHistoryOf events history → AreCaused (IsFaulty (script_of old) (faults_of old) (faults_of new)) drill_time history nothing_before events nothing_played old after new plays
 
 module _ (number : ℕ) (old new : FuseStore) (answers : List Status) (played : IsPlayedSo (drill_events number true) old new answers) where
   abbrev events : List Event
@@ -156,6 +186,9 @@ module _ (number : ℕ) (old new : FuseStore) (answers : List Status) (played : 
 
   abbrev faulty : Before → Type 0
   faulty = IsFaulty (script_of old) (faults_of old) (faults_of new)
+
+  answers_are : answers ≡ answers_in drill_time events nothing_played old played.after new played.plays
+  answers_are = sym played.told ∙ told_by drill_time events nothing_played old played.after new played.plays
 
   -- ---- an answer that ends it
 
@@ -174,16 +207,17 @@ module _ (number : ℕ) (old new : FuseStore) (answers : List Status) (played : 
 
     why : (given : Status) → slice_get answers place ≡ Some given → IsAnswered faulty drill_time tables (map (drill_bytes number) (numbers_under 200)) given
     why given at =
-        answered faulty drill_time tables (map (drill_bytes number) (numbers_under 200)) events false 0 nothing_before answers (plain number) played.legal.order (played.caused tables tables_are) played.sum refl (λ some. absurd (false_true some)) all_are place given at
+        answered faulty drill_time tables (map (drill_bytes number) (numbers_under 200)) events false 0 nothing_before nothing_played old played.after new played.plays (plain number) played.legal.order (played.caused tables tables_are) refl (λ some. absurd (false_true some)) all_are place given
+        (ap (λ (l : List Status). slice_get l place) (sym answers_are) ∙ at)
 
     refused : (given : Status) → slice_get answers place ≡ Some given → IsRefusedSync number new given
     refused given at = record { start = old; fresh = fresh; unscripted = unscripted; after = played.after; plays = played.plays; place = place; answered = ap (λ (l : List Status). slice_get l place) played.told ∙ at }
 
     never : (given : Status) → slice_get answers place ≡ Some given → (given ≡ status.Memory → ⊥)
-        → ((before : Before) → before.shortened ≡ false → (before.commits ≡ [] → ⊥) → AreFirst number before.commits → (facts : TargetFacts) → Views facts → IsCauseAt facts modes.Sync drill_time tables before (faulty before) given → ⊥) → ⊥
+        → ((before : Before) (had : Files) → before.shortened ≡ false → (before.commits ≡ [] → ⊥) → AreFirst number before.commits → (facts : TargetFacts) → Views facts → IsCauseAt facts modes.Sync drill_time tables before had (faulty before) given → ⊥) → ⊥
     never given at not_memory refuted =
         let a = why given at in
-        at_target modes.Sync drill_time tables a.before (faulty a.before) given a.target a.other a.cause not_memory (refuted a.before a.kept a.some (a.behind, a.first))
+        at_target modes.Sync drill_time tables a.before a.files (faulty a.before) given a.target a.other a.cause not_memory (refuted a.before a.files a.kept a.some (a.behind, a.first))
 
     -- Each table has the drill's schema, so no sync of Iceberg finds the type of a column changed.
     one_schema : (entry : List ℕ × Table) → Contains tables entry → entry.1.schema ≡ drill_schema
@@ -202,7 +236,7 @@ module _ (number : ℕ) (old new : FuseStore) (answers : List Status) (played : 
     no_unfit kind feature path at =
         let given : Status = status.Unsupported (side.Target kind) feature path in
         let a = why given at in
-        at_either modes.Sync drill_time tables a.before (faulty a.before) given a.target a.other a.cause (λ is. cc)
+        at_either modes.Sync drill_time tables a.before a.files (faulty a.before) given a.target a.other a.cause (λ is. cc)
         (λ t cause. hudi_fits number t a.before.commits feature path cause.1)
         (λ t cause.
         let one : feature ≡ TypeChange = iceberg_fits number t a.before.commits feature path cause.1 in
@@ -212,30 +246,34 @@ module _ (number : ℕ) (old new : FuseStore) (answers : List Status) (played : 
     pub end_of : (given : Status) → slice_get answers place ≡ Some given → (IsEnded given → ⊥) → IsDrillEnd number new given
     end_of status.Done at not_ended = absurd (not_ended (inl refl))
     end_of status.Memory at not_ended = inl refl
-    end_of status.Usage at not_ended = absurd (never status.Usage at (λ is. cc) (λ before kept some first facts views c. c))
-    end_of status.Absent at not_ended = absurd (never status.Absent at (λ is. cc) (λ before kept some first facts views c. some c))
-    end_of (status.Malformed path) at not_ended = absurd (never (status.Malformed path) at (λ is. cc) (λ before kept some first facts views c. c))
+    end_of status.Usage at not_ended = absurd (never status.Usage at (λ is. cc) (λ before had kept some first facts views c. c))
+    end_of status.Absent at not_ended = absurd (never status.Absent at (λ is. cc) (λ before had kept some first facts views c. some c))
+    end_of (status.Malformed path) at not_ended = absurd (never (status.Malformed path) at (λ is. cc) (λ before had kept some first facts views c. c))
     end_of (status.Unsupported side.Source feature path) at not_ended =
-        absurd (never (status.Unsupported side.Source feature path) at (λ is. cc) (λ before kept some first facts views c. false_true (sym kept ∙ c.1)))
+        absurd (never (status.Unsupported side.Source feature path) at (λ is. cc) (λ before had kept some first facts views c. false_true (sym kept ∙ c.1)))
     end_of (status.Unsupported (side.Target kind) feature path) at not_ended = absurd (no_unfit kind feature path at)
     end_of (status.Limit side.Source which n) at not_ended =
-        absurd (never (status.Limit side.Source which n) at (λ is. cc) (λ before kept some first facts views c. source_within number said facts views modes.Sync drill_time before.commits first which n c))
+        absurd (never (status.Limit side.Source which n) at (λ is. cc) (λ before had kept some first facts views c. source_within number said facts views modes.Sync drill_time before.commits first which n c))
     end_of (status.Limit (side.Target kind) which n) at not_ended =
         let given : Status = status.Limit (side.Target kind) which n in
         inr (left_at_sync number said old played.after new fresh played.plays played.legal.order place kind which n (ap (λ (l : List Status). slice_get l place) played.told ∙ at), inr (refused given at))
-    end_of (status.Foreign kind path) at not_ended = absurd (never (status.Foreign kind path) at (λ is. cc) (λ before kept some first facts views c. c))
-    end_of (status.Contested kind) at not_ended = absurd (never (status.Contested kind) at (λ is. cc) (λ before kept some first facts views c. c))
+    end_of (status.Foreign kind path) at not_ended = absurd (never (status.Foreign kind path) at (λ is. cc) (λ before had kept some first facts views c. c))
+    end_of (status.Contested kind) at not_ended = absurd (never (status.Contested kind) at (λ is. cc) (λ before had kept some first facts views c. c))
     end_of status.StoreFault at not_ended = absurd (not_ended (inr refl))
-    end_of status.SinkFault at not_ended = absurd (never status.SinkFault at (λ is. cc) (λ before kept some first facts views c. c))
-    end_of (status.Behind kind mark head) at not_ended = absurd (never (status.Behind kind mark head) at (λ is. cc) (λ before kept some first facts views c. c))
-    end_of (status.Differs kind path) at not_ended = absurd (never (status.Differs kind path) at (λ is. cc) (λ before kept some first facts views c. c))
-    end_of (status.Stale path) at not_ended = absurd (never (status.Stale path) at (λ is. cc) (λ before kept some first facts views c. c))
+    end_of status.SinkFault at not_ended = absurd (never status.SinkFault at (λ is. cc) (λ before had kept some first facts views c. c))
+    end_of (status.Behind kind mark head) at not_ended = absurd (never (status.Behind kind mark head) at (λ is. cc) (λ before had kept some first facts views c. c))
+    end_of (status.Differs kind path) at not_ended = absurd (never (status.Differs kind path) at (λ is. cc) (λ before had kept some first facts views c. c))
+    end_of (status.Stale path) at not_ended = absurd (never (status.Stale path) at (λ is. cc) (λ before had kept some first facts views c. c))
 
   -- ---- where all syncs ended as they may
 
   module _ (fresh : IsFresh old) (unscripted : CanFail (script_of old) → ⊥) (ended : AllByRecursion IsEnded answers) where
     folds : Folds number answers
-    folds = drill_folds number answers (go_well (script_of old) (faults_of old) (faults_of new) drill_time played.legal.history unscripted events nothing_before answers (played.caused played.legal.history played.legal.is) ended)
+    folds =
+        drill_folds number answers
+        (subst (λ (l : List Status). GoWell false events l) (sym answers_are)
+        (go_well (script_of old) (faults_of old) (faults_of new) drill_time played.legal.history unscripted events nothing_before nothing_played old played.after new played.plays (played.caused played.legal.history played.legal.is)
+        (subst (λ (l : List Status). AllByRecursion IsEnded l) answers_are ended)))
 
     may : MayLeave (fuse_disk new) files
     may path clean = refl

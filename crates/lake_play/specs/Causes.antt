@@ -4,7 +4,8 @@ use Rattle.conformance.specs.declared.event.Event.{Event}
 use Rattle.conformance.specs.declared.event.Event.TheVariants as event
 use Rattle.lake_store.specs.Cause.{Rose}
 use Rattle.lake_store.specs.Disk.{Files}
-use Rattle.lake_store.specs.Fuse.{CanFail}
+use Rattle.lake_store.specs.Fuse.{CanFail, fuse_disk}
+use Rattle.lake_store.specs.declared.fuse.FuseStore.{FuseStore}
 use Rattle.lake_store.specs.declared.fuse.Script.{Script}
 use Rattle.source_core.specs.Histories.{LeadAlong, ShowsTable}
 use Rattle.table_history.specs.History.{History}
@@ -30,7 +31,9 @@ use Rattle.target_sync.specs.declared.status.Side.TheVariants as side
 use Rattle.target_sync.specs.declared.status.Status.{Status}
 use Rattle.target_sync.specs.declared.status.Status.TheVariants as status
 use Rattle.lake_play.specs.Formats.{from_delta, place, to_hudi, to_iceberg}
+use Rattle.lake_play.specs.Playing.{PlaysAll}
 use Rattle.lake_play.specs.Standing.{HoldsFrom, StandsWithin}
+use Rattle.lake_play.specs.declared.playing.Progress.{Progress}
 
 -- ---- what was played before an answer
 
@@ -77,10 +80,9 @@ StateSchemasOf history commits = (commit : Commit) (schema : ColumnTrees) → Co
 abbrev pub HasColumns : History → List (List ℕ) → Type 0
 HasColumns history partition = (entry : List ℕ × Table) × Contains history entry × (entry.1.partition ≡ partition)
 
--- Commits that lead from one table of the history to a later one, of a source of its partition columns, don't fit the target that stands there, for this
--- feature.
-pub record IsUnfitBetween (target : TargetFacts) (history : History) (commits : List (List ℕ)) (feature : Feature) (path : List ℕ) : Type 0 where
-  pub files : Files
+-- Over these files, commits that lead from one table of the history to a later one, of a source of its partition columns, don't fit the target that stands
+-- there, for this feature.
+pub record IsUnfitBetween (target : TargetFacts) (history : History) (commits : List (List ℕ)) (files : Files) (feature : Feature) (path : List ℕ) : Type 0 where
   pub over : IsOver target history commits files
   pub start : View
   pub reads : target.files.reads files start
@@ -97,40 +99,39 @@ pub record IsUnfitBetween (target : TargetFacts) (history : History) (commits : 
   pub columns : HasColumns front partition
   pub unfit : target.unfit files partition due (target_error.Unsupported feature path)
 
--- This number is passed in what is read, or in what would be written.
-pub record PassesNumber (target : TargetFacts) (mode : Mode) (now : ℕ) (history : History) (commits : List (List ℕ)) (given : Status) : Type 0 where
-  pub files : Files
+-- This number is passed in what is read of these files, or in what would be written over them.
+pub record PassesNumber (target : TargetFacts) (mode : Mode) (now : ℕ) (history : History) (commits : List (List ℕ)) (files : Files) (given : Status) : Type 0 where
   pub over : IsOver target history commits files
   pub passes : IsRefusal (Unit {0}) from_delta target mode now files given
 
--- why a sync of this target is answered so
-abbrev pub IsCauseAt : TargetFacts → Mode → ℕ → History → Before → Type 0 → Status → Type 0
-IsCauseAt target mode now history before Faulty status.Done = Unit {0}
-IsCauseAt target mode now history before Faulty status.Memory = Unit {0}
-IsCauseAt target mode now history before Faulty status.StoreFault = Faulty
-IsCauseAt target mode now history before Faulty status.Absent = before.commits ≡ []
-IsCauseAt target mode now history before Faulty (status.Unsupported side.Source feature path) = (feature ≡ NeedsCheckpoint) × (before.shortened ≡ true)
-IsCauseAt target mode now history before Faulty (status.Unsupported (side.Target kind) feature path) = (kind ≡ target.files.kind) × IsUnfitBetween target history before.commits feature path
-IsCauseAt target mode now history before Faulty (status.Limit of which number) = PassesNumber target mode now history before.commits (status.Limit of which number)
-IsCauseAt target mode now history before Faulty _ = ⊥
+-- why a sync of this target over these files is answered so
+abbrev pub IsCauseAt : TargetFacts → Mode → ℕ → History → Before → Files → Type 0 → Status → Type 0
+IsCauseAt target mode now history before files Faulty status.Done = Unit {0}
+IsCauseAt target mode now history before files Faulty status.Memory = Unit {0}
+IsCauseAt target mode now history before files Faulty status.StoreFault = Faulty
+IsCauseAt target mode now history before files Faulty status.Absent = before.commits ≡ []
+IsCauseAt target mode now history before files Faulty (status.Unsupported side.Source feature path) = (feature ≡ NeedsCheckpoint) × (before.shortened ≡ true)
+IsCauseAt target mode now history before files Faulty (status.Unsupported (side.Target kind) feature path) = (kind ≡ target.files.kind) × IsUnfitBetween target history before.commits files feature path
+IsCauseAt target mode now history before files Faulty (status.Limit of which number) = PassesNumber target mode now history before.commits files (status.Limit of which number)
+IsCauseAt target mode now history before files Faulty _ = ⊥
 
-abbrev pub IsCause : Kind → Mode → ℕ → History → Before → Type 0 → Status → Type 0
-IsCause Delta mode now history before Faulty given = given ≡ status.Usage
-IsCause Hudi mode now history before Faulty given = (given ≡ status.Memory) ⊎ ((target : HudiTarget) × IsTableName place target.name × IsCauseAt (target_facts to_hudi target) mode now history before Faulty given)
-IsCause Iceberg mode now history before Faulty given = (given ≡ status.Memory) ⊎ ((target : IcebergTarget) × (target.id ≡ table_id place) × IsCauseAt (target_facts to_iceberg target) mode now history before Faulty given)
+abbrev pub IsCause : Kind → Mode → ℕ → History → Before → Files → Type 0 → Status → Type 0
+IsCause Delta mode now history before files Faulty given = given ≡ status.Usage
+IsCause Hudi mode now history before files Faulty given = (given ≡ status.Memory) ⊎ ((target : HudiTarget) × IsTableName place target.name × IsCauseAt (target_facts to_hudi target) mode now history before files Faulty given)
+IsCause Iceberg mode now history before files Faulty given = (given ≡ status.Memory) ⊎ ((target : IcebergTarget) × (target.id ≡ table_id place) × IsCauseAt (target_facts to_iceberg target) mode now history before files Faulty given)
 
 -- A fault has two causes: the fuse counted it, and its script named a call that fails, or a Stop stands before it with no Crash between the two.
 abbrev pub IsFaulty : Script → ℕ → ℕ → Before → Type 0
 IsFaulty script old new before = Rose old new × (CanFail script ⊎ (before.stopped ≡ true))
 
--- Each answer has its cause.
-abbrev pub AreCaused : (Before → Type 0) → ℕ → History → Before → List Event → List Status → Type 0
-AreCaused faulty now history before [] answers = Unit {0}
-AreCaused faulty now history before (event.Extend bytes ∷ events) answers = AreCaused faulty now history (behind (event.Extend bytes) before) events answers
-AreCaused faulty now history before (event.Shorten below ∷ events) answers = AreCaused faulty now history (behind (event.Shorten below) before) events answers
-AreCaused faulty now history before (event.Sync target ∷ events) [] = ⊥
-AreCaused faulty now history before (event.Sync target ∷ events) (given ∷ answers) = IsCause target modes.Sync now history before (faulty before) given × AreCaused faulty now history before events answers
-AreCaused faulty now history before (event.Full target ∷ events) [] = ⊥
-AreCaused faulty now history before (event.Full target ∷ events) (given ∷ answers) = IsCause target modes.Full now history before (faulty before) given × AreCaused faulty now history before events answers
-AreCaused faulty now history before (event.Stop call ∷ events) answers = AreCaused faulty now history (behind (event.Stop call) before) events answers
-AreCaused faulty now history before (event.Crash choices ∷ events) answers = AreCaused faulty now history (behind (event.Crash choices) before) events answers
+-- Each answer of this run has its cause in the files that the store had before that sync.
+abbrev pub AreCaused : (Before → Type 0) → (now : ℕ) → History → Before → (events : List Event) (so_far : Progress) (old : FuseStore) (after : Progress) (new : FuseStore) → PlaysAll now events so_far old after new → Type 0
+AreCaused faulty now history before [] so_far old after new plays = Unit {0}
+AreCaused faulty now history before (event.Extend bytes ∷ events) so_far old after new plays = AreCaused faulty now history (behind (event.Extend bytes) before) events plays.0 plays.1 after new plays.3
+AreCaused faulty now history before (event.Shorten below ∷ events) so_far old after new plays = AreCaused faulty now history (behind (event.Shorten below) before) events plays.0 plays.1 after new plays.3
+AreCaused faulty now history before (event.Sync target ∷ events) so_far old after new plays =
+    IsCause target modes.Sync now history before (fuse_disk old).files (faulty before) plays.2.0 × AreCaused faulty now history before events plays.0 plays.1 after new plays.3
+AreCaused faulty now history before (event.Full target ∷ events) so_far old after new plays =
+    IsCause target modes.Full now history before (fuse_disk old).files (faulty before) plays.2.0 × AreCaused faulty now history before events plays.0 plays.1 after new plays.3
+AreCaused faulty now history before (event.Stop call ∷ events) so_far old after new plays = AreCaused faulty now history (behind (event.Stop call) before) events plays.0 plays.1 after new plays.3
+AreCaused faulty now history before (event.Crash choices ∷ events) so_far old after new plays = AreCaused faulty now history (behind (event.Crash choices) before) events plays.0 plays.1 after new plays.3

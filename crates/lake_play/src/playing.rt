@@ -164,11 +164,13 @@ pub fn play(
         (history : History) → IsHistoryOf events.now history
         → BothHaveEachOnce events.now answers history (fuse_disk store.new)) }
 
-    // Each answer has its cause.
+    // However they were played to these answers, each has its cause in the files that its sync had.
     ensures caused { AreInOrder 0 events.now → IsFresh store.old → IfOk result (λ answers.
         (history : History) → IsHistoryOf events.now history
+        → (after : Played) → after.answers ≡ answers
+        → (plays : PlaysAll now_ms events.now nothing_played store.old after store.new)
         → AreCaused (IsFaulty (script_of store.old) (faults_of store.old) (faults_of store.new))
-        now_ms history nothing_before events.now answers) }
+        now_ms history nothing_before events.now nothing_played store.old after store.new plays) }
 {
     let end = play_all(alloc, events, store, now_ms)?;
     let Progress { answers, .. } = end;

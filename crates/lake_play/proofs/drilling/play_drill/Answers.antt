@@ -36,7 +36,7 @@ returns-in-Ok-play-clause-leaves c =
       log = plays.log legal.order c.requires.fresh;
       stand = plays.stand legal.order c.requires.fresh;
       once = plays.once legal.order c.requires.fresh;
-      caused = plays.caused legal.order c.requires.fresh;
+      caused = λ history is. plays.caused legal.order c.requires.fresh history is plays.plays.0 plays.plays.1 plays.plays.2;
     }) in
     on_ok_weaker c.refusal_of.result (leaves c.args.number c.args.store.now c.play.new.store c.in-Ok-play.answers played c.requires.fresh c.requires.unscripted) c.refusal_of.ensures.ended
 
@@ -53,7 +53,7 @@ returns-in-Ok-play-clause-refused c =
       log = plays.log legal.order c.requires.fresh;
       stand = plays.stand legal.order c.requires.fresh;
       once = plays.once legal.order c.requires.fresh;
-      caused = plays.caused legal.order c.requires.fresh;
+      caused = λ history is. plays.caused legal.order c.requires.fresh history is plays.plays.0 plays.plays.1 plays.plays.2;
     }) in
     if_err_weaker c.refusal_of.result (λ e refused. end_of c.args.number c.args.store.now c.play.new.store c.in-Ok-play.answers played c.requires.fresh c.requires.unscripted c.in-Ok.ensures.said refused.0 e refused.1 refused.2) c.refusal_of.ensures.refused
 

@@ -20,11 +20,11 @@ returns-clause-stand c order fresh history is =
     stand_after c.args.now_ms c.args.events.now c.args.store.now c.in_ok-end.end c.play_all.new.store few c.in_ok-end.ensures.plays order fresh history is
 
 pub returns-clause-caused : goal.returns-clause-caused
-returns-clause-caused c order fresh history is =
+returns-clause-caused c order fresh history is after told plays =
     let most = c.play_all.ensures.few in
     let commits = few_commits c.args.events.now in
     let few : length (extensions c.args.events.now) ≤ 2 ^ 64 = omega (arith, most, commits) in
-    caused_after c.args.now_ms c.args.events.now c.args.store.now c.in_ok-end.end c.play_all.new.store few c.in_ok-end.ensures.plays order fresh history is
+    caused_after c.args.now_ms c.args.events.now c.args.store.now after c.play_all.new.store few plays order fresh history is
 
 pub returns-clause-log : goal.returns-clause-log
 returns-clause-log c order fresh history is =
