@@ -2,7 +2,7 @@
 use Rattle.std.proofs.Common.{◌≡◌, inl, inr, ⊎_elim, ℕ, ℤ, pos, zero, suc, ◌+◌, ◌*◌, ◌≤◌, ◌<◌, ◌≤ℤ◌, ◌+ℤ◌, true, false, List, [], ◌∷◌, ◌++◌, length, map, take, Contains, Option, Some, None, Result, Ok, Err, refl, sym, ap, subst, ◌∙◌, arith}
 use Rattle.std.proofs.Math.Logic.{∥∥₁_elim}
 use Rattle.std.specs.Cmp.Lexicographic.{slice_cmp}
-use Rattle.std.specs.FinMap as map
+use Rattle.std.specs.FinMap as finite
 use Rattle.std.specs.Int.{int_max}
 use Rattle.std.specs.List.{list_any}
 use Rattle.std.specs.Ordering.{nat_cmp}
@@ -114,11 +114,11 @@ module _ (name : List ℕ) (kept : HudiKept) (before after : Files) (origin : Or
   earlier : AreEarlier before time
   earlier = all_earlier before kept.newest time newest (λ last is. subst (λ (o : Option (List ℕ)). IfSome o (λ l. slice_cmp nat_cmp l time ≡ Less)) is (next_later kept.newest now writes.next_time.0 time writes.next_time.1 writes.next_time.2))
 
-  others_stay : (q : List ℕ) → IsName q → IsInstantIn state.Completed q → (q ≡ completed_name time → ⊥) → map.get after (timeline_path q) ≡ map.get before (timeline_path q)
+  others_stay : (q : List ℕ) → IsName q → IsInstantIn state.Completed q → (q ≡ completed_name time → ⊥) → finite.get after (timeline_path q) ≡ finite.get before (timeline_path q)
   others_stay q proper is apart =
       ⊎_elim
-      (λ (stays : map.get after (timeline_path q) ≡ map.get before (timeline_path q)). stays)
-      (λ (goes : IsOpenLeftover before (timeline_path q) × (map.get after (timeline_path q) ≡ None)). absurd (completed_no_leftover q proper is (open_leftover before (timeline_path q) goes.0)))
+      (λ (stays : finite.get after (timeline_path q) ≡ finite.get before (timeline_path q)). stays)
+      (λ (goes : IsOpenLeftover before (timeline_path q) × (finite.get after (timeline_path q) ≡ None)). absurd (completed_no_leftover q proper is (open_leftover before (timeline_path q) goes.0)))
       (writes.others (timeline_path q) (λ same. apart (cancel q (completed_name time) same)) (λ stage same. never_pending stage time q real.1.digits (cancel q (pending_name stage time) same) is) (λ none. not_properties_name state.Completed q is))
 
   -- The commit's instant comes behind those of before.
@@ -152,10 +152,10 @@ written_on t origin now [] kept last before after most le stands are written =
     subst (HaveCome most 0 before) (sym written.1) (record { counted = omega arith; times = subst (λ (n : ℕ). AreUpTo n before) none are })
 written_on t origin now (commit ∷ commits) kept last before after most le stands are written =
     let middle = written.1 in
-    let writes = written.2.0 in
+    let writes = written.2 in
     let newest = stands.counted.newest in
     let first = count_more t.name kept before middle origin now commit writes newest in
-    let on = written_on t origin now commits written.0 last middle after (most + 1) (omega (arith, le)) written.2.1 (up_to_more t.name kept before middle origin now commit writes newest most le are) written.2.2 in
+    let on = written_on t origin now commits written.0 last middle after (most + 1) (omega (arith, le)) written.3 (up_to_more t.name kept before middle origin now commit writes newest most le are) written.4 in
     let rest = on.counted in
     let sum : most + 1 + length commits ≡ most + length (commit ∷ commits) = omega arith in
     record { counted = omega (arith, first, rest); times = subst (λ (n : ℕ). AreUpTo n after) sum on.times }
@@ -184,7 +184,7 @@ from_names (d ∷ cs) name within =
     (λ later. let found = from_names cs name later in (found.0, Contains-tail d cs found.0 found.1, found.2))
     (Contains-cases d.name (names_of cs) name within)
 
-module _ (left files : Files) (same : (path : List ℕ) → IsReached left path → map.get files path ≡ map.get left path) (count : commits_in files ≡ commits_in left) where
+module _ (left files : Files) (same : (path : List ℕ) → IsReached left path → finite.get files path ≡ finite.get left path) (count : commits_in files ≡ commits_in left) where
   abbrev theirs : List (List ℕ)
   theirs = names_of (completed_in left)
 
@@ -334,7 +334,7 @@ module _ (history : History) (now : ℕ) where
 -- ---- none passes the year 9999
 
 -- The newest instant, if there is one, is a real time and not later than this.
-abbrev IsNewestUpTo : ℕ → Option (List ℕ) → Type 0
+abbrev pub IsNewestUpTo : ℕ → Option (List ℕ) → Type 0
 IsNewestUpTo most None = Unit {0}
 IsNewestUpTo most (Some last) = (ms : ℤ) × IsTime last ms × (ms ≤ℤ pos most)
 

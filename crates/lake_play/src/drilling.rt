@@ -218,8 +218,8 @@ fn drill_over<O: Sink>(alloc: Global, number: u64, store: &mut FuseStore, out: &
 
 /// Plays the drill of a number over a store that it makes, prints a line of the source and one of
 /// each target by a put of its own, and hands the store back as it stands. It ends with Done,
-/// with Memory, with SinkFault where the sink failed, or as a sync of a target ended for which a
-/// number is passed.
+/// with Memory, with SinkFault where the sink failed, or with the Limit of a target: of the bytes of
+/// a file, of the names in a folder, or of Iceberg's entries, versions and field ids.
 pub fn drill<O: Sink>(alloc: Global, number: u64, out: &mut O) -> (Status, FuseStore)
     ensures { Drills ⟦<O as Sink>⟧ number out.old out.new result.0 result.1 }
 {
