@@ -88,19 +88,19 @@ IsPast files v which number =
 
 -- A file that is read tells of no number, or it has too many bytes, or its bytes show that a number is passed.
 data Tells (files : Files) (path bytes : List ℕ) (Shows : List ℕ → Fault → Type 0) (which : LimitKind) (number : ℕ) : Type 0 where
-  large : which ≡ File → number ≡ MAX_FILE_BYTES → IsLarge files path → Tells files path bytes Shows which number
-  shows : (limit : LimitKind) → which ≡ limit → number ≡ limit_number Iceberg limit → Shows bytes (fault.Limit limit) → Tells files path bytes Shows which number
+  is_large : which ≡ File → number ≡ MAX_FILE_BYTES → IsLarge files path → Tells files path bytes Shows which number
+  is_shown : (limit : LimitKind) → which ≡ limit → number ≡ limit_number Iceberg limit → Shows bytes (fault.Limit limit) → Tells files path bytes Shows which number
 
 told : (files : Files) (path bytes : List ℕ) (Shows : List ℕ → Fault → Type 0) (which : LimitKind) (number : ℕ) (e : IcebergError) → HoldsFile files path bytes → IsFileFault files path Shows e → TellsNumber e which number → Tells files path bytes Shows which number
 told files path bytes Shows which number error.Memory holds h tells = absurd h
 told files path bytes Shows which number error.StoreFault holds h tells = absurd h
 told files path bytes Shows which number error.ManyNames holds h tells = absurd h
 told files path bytes Shows which number (error.Missing p) holds h tells = absurd tells
-told files path bytes Shows which number (error.Large p) holds h tells = Tells.large tells.0 tells.1 (h.1, h.2, h.3)
+told files path bytes Shows which number (error.Large p) holds h tells = Tells.is_large tells.0 tells.1 (h.1, h.2, h.3)
 told files path bytes Shows which number (error.Refused p fault.Malformed) holds h tells = absurd tells
 told files path bytes Shows which number (error.Refused p (fault.Unsupported feature)) holds h tells = absurd tells
 told files path bytes Shows which number (error.Refused p (fault.Limit limit)) holds h tells =
-    Tells.shows limit tells.0 tells.1 (subst (λ (bs : List ℕ). Shows bs (fault.Limit limit)) (held_once files path h.1 bytes h.2 holds) h.3)
+    Tells.is_shown limit tells.0 tells.1 (subst (λ (bs : List ℕ). Shows bs (fault.Limit limit)) (held_once files path h.1 bytes h.2 holds) h.3)
 
 -- What is told of what files say is a limit that they show.
 told_limit : (path : List ℕ) (Shows : Fault → Type 0) (which : LimitKind) (number : ℕ) (e : IcebergError) → IsTold path Shows e → TellsNumber e which number → (limit : LimitKind) × (which ≡ limit) × (number ≡ limit_number Iceberg limit) × Shows (fault.Limit limit)
@@ -191,12 +191,12 @@ version_number : (files : Files) (version : ℕ) (m : Metadata) (which : LimitKi
 version_number files version m which number e says refused tells = by (told files (version_path version) says.bytes IsMetadataFault which number e says.holds refused tells)
   where
     by : Tells files (version_path version) says.bytes IsMetadataFault which number → ⊥
-    by (Tells.large is at (bytes, holds, long)) =
+    by (Tells.is_large is at (bytes, holds, long)) =
         let small = says.small in
         let same = ap (λ (bs : List ℕ). length bs) (held_once files (version_path version) bytes says.bytes holds says.holds) in
         omega (arith, small, same, long)
-    by (Tells.shows limit is at (inl (e, first, told))) = first_not_none (HasCause says.bytes) causes e first says.supported
-    by (Tells.shows limit is at (inr (n, read_too, none, cycle, told))) = absurd (malformed_limit limit told)
+    by (Tells.is_shown limit is at (inl (e, first, told))) = first_not_none (HasCause says.bytes) causes e first says.supported
+    by (Tells.is_shown limit is at (inr (n, read_too, none, cycle, told))) = absurd (malformed_limit limit told)
 
 -- ---- the current snapshot
 
@@ -217,7 +217,7 @@ module _ (files : Files) (m : Metadata) (current : SaysCurrent files m) (which :
   many_entries : (found : List Manifest) (r : Manifest) (rest : List Manifest) (b : Bool) → which ≡ Actions → number ≡ limit_number Iceberg Actions → current.manifests ≡ found ++ r ∷ rest → list_any (has_path r.file.path) found ≡ b
       → MAX_ACTIONS < cond b 0 (entries_once found) + r.entries → HasManyEntries files m current which number
   many_entries found r rest true is at split counted many =
-      (is, at, inr (r, subst (λ (l : List Manifest). Contains l r) (sym split) (Contains-append_right found (r ∷ rest) r (Contains-head r rest)), many))
+      (is, at, inr (r, subst (λ (l : List Manifest). Contains l r) (sym split) (Contains-append_right found (r ∷ rest) r (Contains-head r rest)), omega (arith, many)))
   many_entries found r rest false is at split counted many =
       let one = count_one found r false counted in
       let more = once_more (found ++ r ∷ []) rest in
@@ -233,18 +233,18 @@ module _ (files : Files) (m : Metadata) (current : SaysCurrent files m) (which :
       let many = subst (λ (f : ManifestFile). MAX_ACTIONS < counted_before f.path found + r.entries) (sym of.0) many_shown.0 in
       inr (many_entries found r rest (list_any (has_path r.file.path) found) (is ∙ same) (at ∙ ap (limit_number Iceberg) same) split refl many)
 
-  refused_at : (item : ManifestFile) (found : List Manifest) (r : Manifest) (rest : List Manifest) (e : IcebergError) → current.manifests ≡ found ++ r ∷ rest → Contains current.list item → Of item r → IsManifestRefusal files m.location columns (counted_before item.path found) item e → TellsNumber e which number → Past
-  refused_at item found r rest e split there of refused tells = by (told files item.path at.0 Shows which number e at.1 refused tells)
-    where
-      abbrev Shows : List ℕ → Fault → Type 0
-      Shows = IsManifestFault m.location columns (counted_before item.path found) item
+  abbrev ShownBy : ManifestFile → List Manifest → List ℕ → Fault → Type 0
+  ShownBy item found = IsManifestFault m.location columns (counted_before item.path found) item
 
+  refused_at : (item : ManifestFile) (found : List Manifest) (r : Manifest) (rest : List Manifest) (e : IcebergError) → current.manifests ≡ found ++ r ∷ rest → Contains current.list item → Of item r → IsManifestRefusal files m.location columns (counted_before item.path found) item e → TellsNumber e which number → Past
+  refused_at item found r rest e split there of refused tells = by (told files item.path at.0 (ShownBy item found) which number e at.1 refused tells)
+    where
       at : (bytes : List ℕ) × HoldsFile files item.path bytes
       at = bytes_of files m.location columns item r of
 
-      by : Tells files item.path at.0 Shows which number → Past
-      by (Tells.large is number_is large) = inl (is, number_is, inr (item, there, large))
-      by (Tells.shows limit is number_is shows) = shown item found r rest at.0 limit split of at.1 is number_is shows
+      by : Tells files item.path at.0 (ShownBy item found) which number → Past
+      by (Tells.is_large is number_is large) = inl (is, number_is, inr (item, there, large))
+      by (Tells.is_shown limit is number_is shows) = shown item found r rest at.0 limit split of at.1 is number_is shows
 
   stopped : (e : IcebergError) → AreManifestsRefused files m.location columns current.plan.list current.list e → TellsNumber e which number → Past
   stopped e stops tells = by (split_each Of stops.front stops.item stops.behind current.manifests (subst (λ (l : List ManifestFile). AreEach Of l current.manifests) stops.split current.says.are)) stops.refused.2
@@ -273,9 +273,9 @@ module _ (files : Files) (m : Metadata) (current : SaysCurrent files m) (which :
       says = current.says.says
 
       by : Tells files current.plan.list says.bytes (IsListFault m) which number → Past
-      by (Tells.large is at large) = inl (is, at, inl large)
-      by (Tells.shows limit is at (inl (e, refused_too, told))) = absurd (once.stands_or_refused MAX_VALUES infos_of says.bytes says.infos e says.rows refused_too)
-      by (Tells.shows limit is at (inr (others, are, stops))) =
+      by (Tells.is_large is at large) = inl (is, at, inl large)
+      by (Tells.is_shown limit is at (inl (e, refused_too, told))) = absurd (once.stands_or_refused MAX_VALUES infos_of says.bytes says.infos e says.rows refused_too)
+      by (Tells.is_shown limit is at (inr (others, are, stops))) =
           let same : others ≡ says.infos = once.rows_once says.bytes others says.infos are says.rows in
           let there = subst (λ (infos : List ManifestInfo). Contains infos stops.item) same (stop_in (IsListed m) (λ found. IsRowFault m) others (fault.Limit limit) stops) in
           let found_row = each_of (IsListed m) says.infos current.list stops.item says.listed there in
