@@ -201,10 +201,10 @@ module _ (left files : Files) (same : (path : List ℕ) → IsReached left path 
   one_too_many : (c : CompletedInstant) → Contains (completed_in files) c → list_any (bytes_eq c.name) theirs ≡ false → ⊥
   one_too_many c within new =
       let few = few_texts (theirs ++ c.name ∷ []) all (IsDistinct-push nat_list_eq_equiv theirs c.name (distinct_order theirs (in_byte_order left)) new) (λ name there.
-          ⊎_elim
-          (λ (old : Contains theirs name). let d = from_names (completed_in left) name old in subst (Contains all) d.2 (still_there d.0 d.1))
-          (λ (last : c.name ≡ name). subst (Contains all) last (in_names (completed_in files) c within))
-          (Contains-push_cases theirs c.name name there)) in
+      ⊎_elim
+      (λ (old : Contains theirs name). let d = from_names (completed_in left) name old in subst (Contains all) d.2 (still_there d.0 d.1))
+      (λ (last : c.name ≡ name). subst (Contains all) last (in_names (completed_in files) c within))
+      (Contains-push_cases theirs c.name name there)) in
       let more = length-append theirs (c.name ∷ []) in
       let mine = length-map (completed_in files) (λ (d : CompletedInstant). d.name) in
       let other = length-map (completed_in left) (λ (d : CompletedInstant). d.name) in
