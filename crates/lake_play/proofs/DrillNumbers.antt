@@ -1,5 +1,5 @@
 -- Which numbers of a target a drill may pass.
-use Rattle.std.proofs.Common.{◌≡◌, ◌≢◌, ◌⊎◌, inl, inr, ⊎_elim, ℕ, zero, suc, ◌+◌, ◌^◌, ◌≤◌, ◌<◌, List, [], ◌∷◌, length, map, take, Contains, Option, Some, None, Result, Ok, Err, refl, sym, ap, subst, ◌∙◌, arith}
+use Rattle.std.proofs.Common.{◌≡◌, ◌≢◌, ◌⊎◌, inl, inr, ⊎_elim, ℕ, zero, suc, ◌+◌, ◌*◌, ◌^◌, ◌≤◌, ◌<◌, true, false, List, [], ◌∷◌, length, map, take, Contains, Option, Some, None, Result, Ok, Err, refl, sym, ap, subst, ◌∙◌, arith}
 use Rattle.std.specs.Prelude.{slice_get}
 use Rattle.std.proofs.lemmas.Bool.{false≢true}
 use Rattle.std.proofs.lemmas.List.{length-append, length-map, length-take-le}
@@ -153,16 +153,13 @@ module _ (number : ℕ) (rows : List Row) (table : Table) (i : ℕ) (less : i < 
       let each = length-map rows (λ (r : Row). r.path) in
       omega (arith, count, all, each)
 
-distinct_rows : (files : Files) (v : View) → iceberg_reading.Reads files v → HasDistinctPaths v.table.rows
-distinct_rows files v (inl none) = subst (λ (w : View). HasDistinctPaths w.table.rows) (sym none.1) refl
-distinct_rows files v (inr ours) = ours.distinct
-
 -- A target of a drill has few rows.
 few_shown : (number : ℕ) (files : Files) (j : ℕ) (v : View) → iceberg_reading.Reads files v → ShowsTable Delta meaning_of_iceberg.image (drill_history number 200) j v → length v.table.rows ≤ MAX_LIVE_FILES
-few_shown number files zero v reads shows = let none = ap (λ (w : View). length w.table.rows) shows in omega (arith, none)
-few_shown number files (suc k) v reads shows =
+few_shown number files j v (inl none) shows = let empty = ap (λ (w : View). length w.table.rows) none.1 in omega (arith, empty)
+few_shown number files zero v (inr ours) shows = let empty = ap (λ (w : View). length w.table.rows) shows in omega (arith, empty)
+few_shown number files (suc k) v (inr ours) shows =
     let of = table_of number shows.0 (at_contains (drill_history number 200) k shows.0 shows.1) in
-    let few = few_rows number v.table.rows shows.0.1 of.0 of.2 of.1 (λ row there. (shows.2.rows row).0 there) (distinct_rows files v reads) in
+    let few = few_rows number v.table.rows shows.0.1 of.0 of.2 of.1 (λ row there. (shows.2.rows row).0 there) ours.distinct in
     omega (arith, few)
 
 -- ---- what is answered

@@ -19,7 +19,7 @@ returns-in-Ok-play-clause-played c =
       log = plays.log legal.order c.requires.fresh;
       stand = plays.stand legal.order c.requires.fresh;
       once = plays.once legal.order c.requires.fresh;
-      caused = plays.caused legal.order c.requires.fresh;
+      caused = λ history is. plays.caused legal.order c.requires.fresh history is plays.plays.0 plays.plays.1 plays.plays.2;
     }) in
     on_ok_weaker c.refusal_of.result (played_through c.args.number c.args.store.now c.play.new.store c.in-Ok-play.answers played c.requires.fresh c.requires.unscripted) c.refusal_of.ensures.ended
 
