@@ -101,7 +101,7 @@ module _ (faulty : Before → Type 0) (now : ℕ) (history : History) (all : Lis
   answered : (events : List Event) (some : Bool) (count : ℕ) (before : Before) (so_far : Progress) (old : FuseStore) (after : Progress) (new : FuseStore) (plays : PlaysAll now events so_far old after new)
       → IsPlain some events → AreInOrder count events → AreCaused faulty now history before events so_far old after new plays → before.shortened ≡ false → (some ≡ true → before.commits ≡ [] → ⊥) → before.commits ++ extensions events ≡ all
       → (place : ℕ) (given : Status) → slice_get (answers_in now events so_far old after new plays) place ≡ Some given → IsAnswered faulty now history all given
-  answered [] some count before so_far old after new plays plain order caused kept behind_some whole place given at = absurd (none_there given at)
+  answered [] some count before so_far old after new plays _ order caused kept behind_some whole place given at = absurd (none_there given at)
   answered (event.Extend bytes ∷ events) some count before so_far old after new plays plain order caused kept behind_some whole place given at =
       answered events true (count + 1) (behind (event.Extend bytes) before) plays.0 plays.1 after new plays.3 plain order caused kept (λ is. not_empty before.commits bytes) (append_assoc before.commits (bytes ∷ []) (extensions events) ∙ whole) place given at
   answered (event.Shorten below ∷ events) some count before so_far old after new plays plain order caused kept behind_some whole place given at = absurd plain

@@ -3,7 +3,7 @@ use Rattle.std.proofs.Common.{◌≡◌, ◌⊎◌, inl, inr, ⊎_elim, ℕ, zer
 use Rattle.std.specs.FinMap as file_map
 use Rattle.std.specs.List.{AllByRecursion}
 use Rattle.std.specs.Prelude.{IsSome, pos, slice_get}
-use Rattle.std.proofs.lemmas.Bool.{cases_lt, false≢true}
+use Rattle.std.proofs.lemmas.Bool.{false≢true}
 use Rattle.std.proofs.lemmas.List.{append-nil, length-append, length-take-le}
 use Rattle.std.proofs.lemmas.List.Elements.{Contains-append_cases, Contains-append_left}
 use Rattle.lake_basics.specs.declared.limits.TheConstants.{MAX_ICEBERG_VERSION, MAX_PUBLISHED_COMMITS}
@@ -35,9 +35,9 @@ use Rattle.iceberg_table.specs.Folder.{metadata_folder}
 use Rattle.iceberg_version.specs.KeptEnd.{view_of}
 use Rattle.iceberg_version.specs.declared.kept.IcebergKept.{IcebergKept}
 use Rattle.target_core.proofs.Apart.{folders_apart}
-use Rattle.target_core.specs.Folders.{SameIn, folder_of}
+use Rattle.target_core.specs.Folders.{SameIn}
 use Rattle.target_core.specs.Gained.{Gained}
-use Rattle.target_core.specs.Views.{IsUnpublished, Standing, View}
+use Rattle.target_core.specs.Views.{Standing, View}
 use Rattle.target_core.specs.Written.{IsAsLeft}
 use Rattle.target_core.specs.declared.target.TargetError.{TargetError}
 use Rattle.target_core.specs.declared.target.TargetError.TheVariants as target_error
@@ -68,7 +68,7 @@ use Rattle.target_sync.specs.declared.status.Status.TheVariants as status
 use Rattle.lake_play.specs.Formats.{from_delta, place, to_hudi, to_iceberg}
 use Rattle.lake_play.specs.Playing.{Brings, Extends, IsSynced, PlaysAll, nothing_played, scripted, status_of, with_answer}
 use Rattle.lake_play.specs.Scripted.{scripted_store}
-use Rattle.lake_play.specs.Standing.{IsFresh, floor_behind, meaning_of_iceberg}
+use Rattle.lake_play.specs.Standing.{IsFresh, floor_behind}
 use Rattle.lake_play.specs.declared.playing.Progress.{Progress}
 use Rattle.lake_play.proofs.Causes.{due_states, iceberg_views, marked_none}
 use Rattle.lake_play.proofs.Histories.{same_length}
@@ -344,7 +344,7 @@ module _ (schema : ColumnTrees) (history : History) (one : (entry : List ℕ × 
     keep : AllByRecursion KeepsTypes answers
 
   answered_too : (so_far after : Progress) (given : Status) → KeepsTypes given → KeepAll (with_answer so_far given) after → KeepAll so_far after
-  answered_too so_far after given kept others = record {
+  answered_too so_far _ given kept others = record {
     answers = given ∷ others.answers;
     told = others.told ∙ append_assoc so_far.answers (given ∷ []) others.answers;
     keep = (kept, others.keep);
@@ -418,7 +418,7 @@ no_answer : (given : Status) → None ≡ Some given → ⊥
 no_answer given is = cc
 
 keeps_at : (answers : List Status) → AllByRecursion KeepsTypes answers → (place : ℕ) (given : Status) → slice_get answers place ≡ Some given → KeepsTypes given
-keeps_at [] keep place given at = absurd (no_answer given at)
+keeps_at [] keep _ given at = absurd (no_answer given at)
 keeps_at (first ∷ answers) keep zero given at = subst KeepsTypes (some_same first given at) keep.0
 keeps_at (first ∷ answers) keep (suc place) given at = keeps_at answers keep.1 place given at
 
