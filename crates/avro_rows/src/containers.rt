@@ -6,7 +6,7 @@ use rows::hex_of;
 use std::alloc::{AllocError, Global};
 
 /// The bytes that the digits of all lines give.
-fn bytes_below(alloc: Global, lines: &[&str]) -> Result<Vec<u8>, AllocError> {
+pub fn bytes_below(alloc: Global, lines: &[&str]) -> Result<Vec<u8>, AllocError> {
     let mut bytes = Vec::new(alloc);
     for line in lines {
         bytes.extend_from_slice(&bytes_of(alloc, line)?)?;

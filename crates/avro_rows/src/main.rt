@@ -2,6 +2,7 @@
 #![tactic(auto)]
 
 mod containers;
+mod pieces;
 mod schemas;
 mod values;
 
@@ -37,6 +38,9 @@ impl Steps for Avro {
             ["encode"] => values::show_encoded(self.alloc, lines, shown),
             ["container"] => containers::show_container(self.alloc, lines, shown),
             ["container", "again"] => containers::show_again(self.alloc, lines, shown),
+            ["cut", "in", "two"] => pieces::show_cuts(self.alloc, lines, shown),
+            ["byte", "by", "byte"] => pieces::show_bytes(self.alloc, lines, shown),
+            ["pieces"] => pieces::show_pieces(self.alloc, lines, shown),
             _ => writeln!(shown, "no step: {}", step.words()),
         }
     }
