@@ -1,7 +1,9 @@
 //! Commits of a Delta log as lines.
 use delta_change::change_of;
+use delta_feeding::LineFeeder;
 use delta_log::{
-    DeltaCommit, FileAction, MetaData, Protocol, name_of_version, read_commit, version_of_name,
+    DeltaCommit, DeltaError, FileAction, MetaData, Protocol, name_of_version, read_commit,
+    version_of_name,
 };
 use delta_text::commit_text;
 use lake_basics::{Items, Text};
@@ -109,16 +111,76 @@ fn show_commit(alloc: Global, commit: &DeltaCommit, shown: &mut String) -> Resul
     show_line(shown, line.as_str())
 }
 
+fn show_reading(
+    alloc: Global,
+    reading: &Result<DeltaCommit, DeltaError>,
+    shown: &mut String,
+) -> Result<(), AllocError> {
+    match reading {
+        Ok(commit) => show_commit(alloc, commit, shown),
+        Err(error) => show_line(shown, format!(in alloc; "{error:?}")?.as_str()),
+    }
+}
+
 /// Adds what the commit of these bytes says, or why it isn't read.
 pub(crate) fn tell_commit(
     alloc: Global,
     bytes: &[u8],
     shown: &mut String,
 ) -> Result<(), AllocError> {
-    match read_commit(alloc, bytes) {
-        Ok(commit) => show_commit(alloc, &commit, shown),
-        Err(error) => show_line(shown, format!(in alloc; "{error:?}")?.as_str()),
+    show_reading(alloc, &read_commit(alloc, bytes), shown)
+}
+
+/// What two pieces say, of which the second one is read after a refusal too.
+fn read_in_two(alloc: Global, front: &[u8], behind: &[u8]) -> Result<DeltaCommit, DeltaError> {
+    let mut feeder = LineFeeder::new(alloc);
+    drop(feeder.feed(front));
+    drop(feeder.feed(behind));
+    feeder.finish()
+}
+
+/// What as many pieces say as there are bytes.
+fn read_in_bytes(alloc: Global, bytes: &[u8]) -> Result<DeltaCommit, DeltaError> {
+    let mut feeder = LineFeeder::new(alloc);
+    for at in 0..bytes.len() {
+        drop(feeder.feed(&bytes[at..at + 1]));
     }
+    feeder.finish()
+}
+
+/// The first place at which the commit of these bytes is cut in two and says something else.
+fn odd_cut(alloc: Global, bytes: &[u8], whole: &str) -> Result<Option<usize>, AllocError> {
+    for at in 0..bytes.len() + 1 {
+        let mut shown = String::new(alloc);
+        let reading = read_in_two(alloc, &bytes[..at], &bytes[at..]);
+        show_reading(alloc, &reading, &mut shown)?;
+        if shown.as_str() != whole {
+            return Ok(Some(at));
+        }
+    }
+    Ok(None)
+}
+
+/// Adds what the commit of these bytes says, and whether it says the same where it is cut in two at each
+/// place, and where it is read byte by byte.
+pub(crate) fn tell_cuts(
+    alloc: Global,
+    bytes: &[u8],
+    shown: &mut String,
+) -> Result<(), AllocError> {
+    let mut whole = String::new(alloc);
+    tell_commit(alloc, bytes, &mut whole)?;
+    let mut bytewise = String::new(alloc);
+    show_reading(alloc, &read_in_bytes(alloc, bytes), &mut bytewise)?;
+    shown.push_str(whole.as_str())?;
+    if bytewise.as_str() != whole.as_str() {
+        shown.push_str(bytewise.as_str())?;
+    }
+    let line = match odd_cut(alloc, bytes, whole.as_str())? {
+        None => format!(in alloc; "the same at each of {} cuts", bytes.len() + 1)?,
+        Some(at) => format!(in alloc; "something else where it is cut at {at}")?,
+    };
+    show_line(shown, line.as_str())
 }
 
 /// Adds the text that the commit of this text is written in.

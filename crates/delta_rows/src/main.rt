@@ -3,6 +3,8 @@
 //! A row begins with an empty store. Its steps on texts are:
 //!
 //! - `read` shows what the commit below it says, `read bytes` that of hexadecimal digits, and `write` the text of that commit at noon of 2024-01-05;
+//! - `cut` shows what the commit below it says, and whether it says the same where it is cut in two at each
+//!   place, and where it is read byte by byte, `cut unended` that without the last newline;
 //! - `change` shows the change that the commit below it makes as the first of a table, and `follow` the one
 //!   that it makes of the table behind those before it, which is empty at first;
 //! - `version of NAME` and `name of VERSION` show a version by its file's name, and the name.

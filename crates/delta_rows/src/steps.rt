@@ -1,6 +1,6 @@
 //! The steps of a script.
 use crate::commits::{
-    NOW_MS, tell_commit, tell_first, tell_name, tell_next, tell_text, tell_version,
+    NOW_MS, tell_commit, tell_cuts, tell_first, tell_name, tell_next, tell_text, tell_version,
 };
 use crate::logs::{tell_compacted, tell_file, tell_log, tell_versions};
 use delta_table::version_path;
@@ -56,6 +56,11 @@ impl DeltaSteps {
                 Some(bytes) => tell_commit(self.alloc, bytes.as_slice(), shown)?,
                 None => return Ok(false),
             },
+            "cut" => tell_cuts(self.alloc, text.as_str().as_bytes(), shown)?,
+            "cut unended" => {
+                let text = text.as_str().trim_end_matches('\n');
+                tell_cuts(self.alloc, text.as_bytes(), shown)?;
+            }
             "write" => tell_text(self.alloc, text.as_str(), shown)?,
             "change" => tell_first(self.alloc, text.as_str(), shown)?,
             "follow" => tell_next(self.alloc, text.as_str(), &mut self.table, shown)?,
