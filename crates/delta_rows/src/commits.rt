@@ -163,11 +163,7 @@ fn odd_cut(alloc: Global, bytes: &[u8], whole: &str) -> Result<Option<usize>, Al
 
 /// Adds what the commit of these bytes says, and whether it says the same where it is cut in two at each
 /// place, and where it is read byte by byte.
-pub(crate) fn tell_cuts(
-    alloc: Global,
-    bytes: &[u8],
-    shown: &mut String,
-) -> Result<(), AllocError> {
+pub(crate) fn tell_cuts(alloc: Global, bytes: &[u8], shown: &mut String) -> Result<(), AllocError> {
     let mut whole = String::new(alloc);
     tell_commit(alloc, bytes, &mut whole)?;
     let mut bytewise = String::new(alloc);

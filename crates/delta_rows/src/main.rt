@@ -21,9 +21,18 @@
 //!   read over, in the lines below it;
 //! - `inspect for SOURCE` shows what the target tells, `fits COLUMN ..` whether the commits below it fit a
 //!   target that has none yet, and `publish POSITION from SOURCE` publishes what leads to the table below it.
+//!
+//! Those on log compactions are:
+//!
+//! - `range of NAME` shows the versions that a name names, and `name of FIRST to LAST` the name;
+//! - `commit` takes the lines below it as one commit more, `commit unended` without the last newline;
+//! - `join` shows the text of the commits together;
+//! - `agrees` tells whether the lines below it agree with the commits.
 #![tactic(auto)]
 
 mod commits;
+mod compactions;
+mod joined;
 mod logs;
 mod steps;
 

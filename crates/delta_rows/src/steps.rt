@@ -2,6 +2,7 @@
 use crate::commits::{
     NOW_MS, tell_commit, tell_cuts, tell_first, tell_name, tell_next, tell_text, tell_version,
 };
+use crate::compactions::CompactionSteps;
 use crate::logs::{tell_compacted, tell_file, tell_log, tell_versions};
 use delta_table::version_path;
 use lake_basics::limits::MAX_DELTA_VERSION;
@@ -17,12 +18,13 @@ use table_rows::{
 };
 use target_delta::DeltaTarget;
 
-/// The store of a row, with the table behind its commits so far.
+/// The store of a row, with the table behind its commits so far, and the commits that are joined.
 #[derive(Drop)]
 pub(crate) struct DeltaSteps {
     alloc: Global,
     store: FuseStore,
     table: Table,
+    compactions: CompactionSteps,
 }
 
 fn empty_store(alloc: Global) -> FuseStore {
@@ -44,6 +46,7 @@ impl DeltaSteps {
             alloc,
             store: empty_store(alloc),
             table: Table::empty(alloc, &[])?,
+            compactions: CompactionSteps::new(alloc),
         })
     }
 
@@ -233,7 +236,7 @@ impl Steps for DeltaSteps {
     fn begin(&mut self) -> Result<(), AllocError> {
         self.store = empty_store(self.alloc);
         self.table = Table::empty(self.alloc, &[])?;
-        Ok(())
+        self.compactions.begin()
     }
 
     fn step(&mut self, step: &Step<'_>, shown: &mut String) -> Result<(), AllocError> {
@@ -241,10 +244,9 @@ impl Steps for DeltaSteps {
             || self.on_files(step, shown)?
             || self.on_source(step, shown)?
             || self.on_target(step, shown)?;
-        if !is_known {
-            shown.push_str("no step: ")?;
-            show_line(shown, step.words())?;
+        if is_known {
+            return Ok(());
         }
-        Ok(())
+        self.compactions.step(step, shown)
     }
 }

@@ -1,36 +1,24 @@
-//! Plays scripts on log compactions, and prints their transcripts. Its steps on texts are:
-//!
-//! - `range of NAME` shows the versions that a name names, and `name of FIRST to LAST` the name;
-//! - `commit` takes the lines below it as one commit more, `commit unended` without the last newline;
-//! - `join` shows the text of the commits together;
-//! - `agrees` tells whether the lines below it agree with the commits.
-#![tactic(auto)]
-
-mod texts;
-
-use crate::texts::{tell_agreement, tell_name, tell_range, tell_text};
+//! The steps of rows of log compactions.
+use crate::joined::{tell_agreement, tell_name, tell_range, tell_text};
 use lake_basics::Blob;
-use rows::{Step, Steps, play_files};
+use rows::{Step, Steps};
 use std::alloc::{AllocError, Global};
-use std::process::ExitCode;
 
-fn main(rt: HostRuntime) -> ExitCode {
-    let alloc = rt.alloc();
-    let mut steps = CompactionSteps {
-        alloc,
-        commits: Vec::new(alloc),
-    };
-    play_files(&rt, &mut steps)
-}
-
-/// The commits of a row so far.
+/// The commits of a row that are joined.
 #[derive(Drop)]
-struct CompactionSteps {
+pub(crate) struct CompactionSteps {
     alloc: Global,
     commits: Vec<Blob>,
 }
 
 impl CompactionSteps {
+    pub(crate) fn new(alloc: Global) -> CompactionSteps {
+        CompactionSteps {
+            alloc,
+            commits: Vec::new(alloc),
+        }
+    }
+
     fn push(&mut self, text: &str) -> Result<(), AllocError> {
         self.commits
             .push(Blob::from_slice(self.alloc, text.as_bytes())?)?;
