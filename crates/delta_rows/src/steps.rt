@@ -20,7 +20,7 @@ use target_delta::DeltaTarget;
 
 /// The store of a row, with the table behind its commits so far, and the commits that are joined.
 #[derive(Drop)]
-pub(crate) struct DeltaSteps {
+pub struct DeltaSteps {
     alloc: Global,
     store: FuseStore,
     table: Table,
@@ -41,7 +41,8 @@ fn target(alloc: Global) -> Result<DeltaTarget, AllocError> {
 }
 
 impl DeltaSteps {
-    pub(crate) fn new(alloc: Global) -> Result<DeltaSteps, AllocError> {
+    /// A row that has just begun.
+    pub fn new(alloc: Global) -> Result<DeltaSteps, AllocError> {
         Ok(DeltaSteps {
             alloc,
             store: empty_store(alloc),

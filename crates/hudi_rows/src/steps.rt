@@ -16,7 +16,7 @@ use table_rows::show_line;
 
 /// The store of a row, with what its steps have said of the table.
 #[derive(Drop)]
-pub(crate) struct HudiSteps {
+pub struct HudiSteps {
     pub alloc: Global,
     pub store: FuseStore,
     pub table: HudiTable,
@@ -26,7 +26,8 @@ pub(crate) struct HudiSteps {
 }
 
 impl HudiSteps {
-    pub(crate) fn new(alloc: Global) -> Result<HudiSteps, AllocError> {
+    /// A row that has just begun.
+    pub fn new(alloc: Global) -> Result<HudiSteps, AllocError> {
         Ok(HudiSteps {
             alloc,
             store: empty_store(alloc),

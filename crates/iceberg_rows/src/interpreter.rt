@@ -25,7 +25,7 @@ const NOON_MS: u64 = 1_704_456_000_000;
 
 /// The files of a row, and what its steps have set.
 #[derive(Drop)]
-pub(crate) struct IcebergSteps {
+pub struct IcebergSteps {
     alloc: Global,
     store: FuseStore,
     /// The time of what is published, in milliseconds since 1970-01-01.
@@ -78,7 +78,7 @@ fn source_of<'a, 'w>(words: &'w [&'a str]) -> Option<(&'a str, &'w [&'a str])> {
 
 impl IcebergSteps {
     /// A row without files, at noon.
-    pub(crate) fn new(alloc: Global) -> IcebergSteps {
+    pub fn new(alloc: Global) -> IcebergSteps {
         IcebergSteps {
             alloc,
             store: empty_store(alloc),
