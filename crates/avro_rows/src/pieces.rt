@@ -55,11 +55,11 @@ fn read_whole(alloc: Global, bytes: &[u8]) -> Result<String, AllocError> {
 pub fn show_cuts(alloc: Global, lines: &[&str], shown: &mut String) -> Result<(), AllocError> {
     let bytes = bytes_below(alloc, lines)?;
     let first = read_in_pieces(alloc, &[bytes.as_slice()])?;
-    let mut alike = 0;
+    let mut alike = 0usize;
     for cut in 0..bytes.len() + 1 {
         let read = read_in_pieces(alloc, &[&bytes[..cut], &bytes[cut..]])?;
         if read == first {
-            alike += 1;
+            alike = alike.saturating_add(1);
         } else {
             write!(shown, "cut at {cut}: {read}")?;
         }
