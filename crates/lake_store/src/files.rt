@@ -80,6 +80,13 @@ impl FileMap {
         self.files.remove(path)
     }
 
+    /// How many files there are.
+    pub fn len(&self) -> u64
+        ensures { result ≡ map.len self.now }
+    {
+        self.files.len() as u64
+    }
+
     /// Equal files in memory of their own.
     pub fn copy(&self) -> Result<FileMap, AllocError>
         ensures { IfOk result (λ files. files ≡ self.now) }

@@ -7,8 +7,8 @@ ghost use Rattle.std.specs.Cmp.Lexicographic.{slice_cmp};
 ghost use Rattle.std.specs.List.Sorted.{IsStrictlySortedBy};
 ghost use Rattle.std.specs.FinMap as map;
 ghost use Rattle.lake_store.specs.Cause.{HasContest, HasFault, HasNoContest, IsNotTooLong, IsTooLong};
-ghost use Rattle.lake_store.specs.Disk.{HasLength, IsClean, IsPartlySynced, ListsFolder, Moves, SameElsewhere, names_in, removed, stored, synced, written};
-ghost use Rattle.lake_store.specs.Fuse.{CanFail, FuseCanBeContested, FuseCanFail, PublishesByScript, RunsByScript, calls_of, contests_of, counted, fails, faults_of, fuse_disk, fuse_left_since, fuse_time, inner_of, script_of, with_stop};
+ghost use Rattle.lake_store.specs.Disk.{AddsShort, HasLength, IsClean, IsPartlySynced, ListsFolder, Moves, SameElsewhere, names_in, removed, stored, synced, written};
+ghost use Rattle.lake_store.specs.Fuse.{CanFail, FuseCanBeContested, FuseCanFail, PublishesByScript, RunsByScript, calls_of, contests_of, counted, fails, faults_of, fuse_disk, fuse_left_since, fuse_time, inner_of, room_of, script_of, with_stop};
 ghost use Rattle.lake_store.specs.FuseLoan.{LendsInner};
 ghost use Rattle.lake_store.specs.Moments.{Elapses};
 
@@ -74,6 +74,20 @@ impl FuseStore {
         ensures inner { result.now ≡ inner_of self.old }
     {
         &mut self.inner
+    }
+
+    /// How many files there may be at most once all calls fail: those that are there, and one for
+    /// each call that is left until the stop, up to `u64::MAX`. 0 where there is no stop.
+    pub fn room(&self) -> u64
+        ensures { result ≡ room_of self.now }
+    {
+        match self.script.stop {
+            Some(stop) => {
+                let left = stop.saturating_sub(self.calls);
+                self.inner.file_count().saturating_add(left)
+            }
+            None => 0,
+        }
     }
 
     // Counts a call, and a fault where it fails.
@@ -207,6 +221,10 @@ impl Store for FuseStore {
         // The file is absent or has any bytes, and a crash may damage it.
         ensures err { OnErr result
             (SameElsewhere path.now (fuse_disk self.old) (fuse_disk self.new)) }
+
+        // It has no more bytes than were to be written, or is as before.
+        ensures short { OnErr result
+            (AddsShort (length bytes.now) (fuse_disk self.old).files (fuse_disk self.new).files) }
         ensures elapses { Elapses fuse_disk fuse_time fuse_left_since self.old self.new }
         ensures cause { HasFault faults_of FuseCanFail self.old self.new
             (IsErrOf result StoreError.Failed) }
@@ -247,6 +265,10 @@ impl Store for FuseStore {
         // Another writer's file came there, durably and with any bytes.
         ensures taken { IsErrOf result StoreError.Taken
             → (bytes : List ℕ) × (fuse_disk self.new ≡ stored (fuse_disk self.old) to.now bytes) }
+
+        // It isn't too long to be read.
+        ensures short { IsErrOf result StoreError.Taken
+            → AddsShort MAX_FILE_BYTES (fuse_disk self.old).files (fuse_disk self.new).files }
 
         // All is as before, or the file has moved.
         ensures err { OnErr result ((IsErrOf result StoreError.Taken → ⊥)

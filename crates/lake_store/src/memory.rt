@@ -78,6 +78,13 @@ impl MemoryStore {
         }
     }
 
+    /// How many files there are.
+    pub fn file_count(&self) -> u64
+        ensures { result ≡ map.len self.now.disk.files }
+    {
+        self.files.len()
+    }
+
     /// Sets the bytes of a file, durably.
     pub fn put(&mut self, path: &str, bytes: &[u8]) -> Result<(), AllocError>
         ensures ok { OnOk result

@@ -1,7 +1,9 @@
 //! Publishing a file in one step.
-ghost use Rattle.std.specs.Prelude.{◌≡◌, ◌≢◌, IsErrOf, None, OnOk};
+ghost use Rattle.std.specs.Prelude.{◌≡◌, ◌≢◌, ◌≤◌, length, IsErrOf, None, OnOk};
 ghost use Rattle.std.specs.FinMap as map;
+ghost use Rattle.lake_basics.specs.declared.limits.TheConstants.{MAX_FILE_BYTES};
 ghost use Rattle.lake_store.specs.Cause.{IsNotTooLong};
+ghost use Rattle.lake_store.specs.Disk.{AddsShort};
 ghost use Rattle.lake_store.specs.Publication.{IsPublished, IsStaged, IsStagedImage, IsTaken};
 ghost use Rattle.lake_store.specs.Runs.{FailsBy, IsContestedBy, LeavesOnly};
 
@@ -23,6 +25,8 @@ pub fn stage_and_publish<S: Store>(
         → IsTaken ⟦<S as Store>⟧ staged.now name.now bytes.now store.old store.new }
     ensures left { S.tells → IsStaged staged.now name.now bytes.now
         (IsErrOf result StoreError.Taken) (S.disk store.old) (S.disk store.new) }
+    ensures short { S.tells → length bytes.now ≤ MAX_FILE_BYTES
+        → AddsShort MAX_FILE_BYTES (S.disk store.old).files (S.disk store.new).files }
     ensures any_moment { LeavesOnly ⟦<S as Store>⟧ store.old store.new
         (IsStagedImage staged.now name.now bytes.now (IsErrOf result StoreError.Taken)
         (S.disk store.old)) }

@@ -6,7 +6,7 @@ ghost use Rattle.std.specs.Ordering.{nat_cmp};
 ghost use Rattle.std.specs.Cmp.Lexicographic.{slice_cmp};
 ghost use Rattle.std.specs.List.Sorted.{IsStrictlySortedBy};
 ghost use Rattle.lake_store.specs.Cause.{HasContest, HasFault, HasNoContest, IsNotTooLong, IsTooLong};
-ghost use Rattle.lake_store.specs.Disk.{Disk, Files, HasLength, IsClean, IsPartlySynced, ListsFolder, MayLeave, Moves, SameElsewhere, names_in, removed, stored, synced, written};
+ghost use Rattle.lake_store.specs.Disk.{AddsShort, Disk, Files, HasLength, IsClean, IsPartlySynced, ListsFolder, MayLeave, Moves, SameElsewhere, names_in, removed, stored, synced, written};
 ghost use Rattle.lake_store.specs.Moments.{Elapses};
 ghost use Rattle.lake_store.specs.declared.store.StoreError.TheVariants.{Memory};
 
@@ -137,6 +137,10 @@ pub trait Store {
         // The file is absent or has any bytes, and a crash may damage it.
         ensures err { tells → OnErr result
             (SameElsewhere path.now (disk self.old) (disk self.new)) }
+
+        // It has no more bytes than were to be written, or is as before.
+        ensures short { tells → OnErr result
+            (AddsShort (length bytes.now) (disk self.old).files (disk self.new).files) }
         ensures elapses { tells → Elapses disk time left_since self.old self.new }
         ensures cause { HasFault faults may_fail self.old self.new
             (IsErrOf result StoreError.Failed) }
@@ -165,6 +169,10 @@ pub trait Store {
         // Another writer's file came there, durably and with any bytes.
         ensures taken { tells → IsErrOf result StoreError.Taken
             → (bytes : List ℕ) × (disk self.new ≡ stored (disk self.old) to.now bytes) }
+
+        // It isn't too long to be read.
+        ensures short { tells → IsErrOf result StoreError.Taken
+            → AddsShort MAX_FILE_BYTES (disk self.old).files (disk self.new).files }
 
         // All is as before, or the file has moved.
         ensures err { tells → OnErr result ((IsErrOf result StoreError.Taken → ⊥)
