@@ -1,10 +1,10 @@
 //! One commit, with the recovery before it.
-ghost use Rattle.std.specs.Prelude.{◌≡◌, ◌<◌, ℕ, List, IsErrOf, IsSome, None, OnOk, Some, codes, length};
+ghost use Rattle.std.specs.Prelude.{◌≡◌, ◌<◌, ◌≤◌, ℕ, List, IfSome, IsErrOf, IsSome, None, OnOk, Some, codes, length};
 ghost use Rattle.std.specs.Option.{option_copied};
 ghost use Rattle.std.specs.FinMap as map;
-ghost use Rattle.lake_basics.specs.declared.limits.TheConstants.{MAX_NAMES};
+ghost use Rattle.lake_basics.specs.declared.limits.TheConstants.{MAX_FILE_BYTES, MAX_NAMES};
 ghost use Rattle.lake_store.specs.Cause.{IsNotTooLong};
-ghost use Rattle.lake_store.specs.Disk.{Files, names_in};
+ghost use Rattle.lake_store.specs.Disk.{AddsShort, Files, names_in};
 ghost use Rattle.lake_store.specs.Runs.{ChangesOnlyIn, FailsBy, IsContestedBy, IsEachMoment, LeavesAlone};
 ghost use Rattle.hudi_names.specs.Time.{IsSomeTime};
 ghost use Rattle.hudi_commit.specs.Names.{IsThere, StaysOrGoes, claims_folder, completed_path, properties_path, staged_properties_path, timeline_folder};
@@ -40,6 +40,9 @@ fn prepare<S: Store>(store: &mut S, properties: Option<&[u8]>) -> Result<(), Sto
         × IsThere (S.disk store.new).files properties_path }
     ensures alone { S.tells → LeavesAlone ⟦<S as Store>⟧ (IsKeptBut (option_copied properties.entry))
         store.old store.new }
+    ensures short { S.tells
+        → IfSome (option_copied properties.entry) (λ text. length text ≤ MAX_FILE_BYTES)
+        → AddsShort MAX_FILE_BYTES (S.disk store.old).files (S.disk store.new).files }
     ensures cause { FailsBy ⟦<S as Store>⟧ store.old store.new (IsErrOf result StoreError.Failed) }
     ensures contest { IsContestedBy ⟦<S as Store>⟧ store.old store.new
         (IsErrOf result StoreError.Taken) }
@@ -90,6 +93,12 @@ pub fn publish_commit<S: Store>(
         → IsEachMoment ⟦<S as Store>⟧ store.old store.new
         (LacksOrIs instant.now (S.disk store.old) (S.disk store.new).files) }
     ensures folder { S.tells → ChangesOnlyIn ⟦<S as Store>⟧ timeline_folder store.old store.new }
+
+    // Each file is as before, or can be read whole, where the texts can.
+    ensures short { S.tells
+        → IfSome (option_copied properties.entry) (λ text. length text ≤ MAX_FILE_BYTES)
+        → length text.now ≤ MAX_FILE_BYTES
+        → AddsShort MAX_FILE_BYTES (S.disk store.old).files (S.disk store.new).files }
     ensures cause { FailsBy ⟦<S as Store>⟧ store.old store.new (IsErrOf result StoreError.Failed) }
     ensures contest { IsContestedBy ⟦<S as Store>⟧ store.old store.new
         (IsErrOf result StoreError.Taken) }

@@ -1,7 +1,8 @@
 //! The properties of a table, published before its first commit.
-ghost use Rattle.std.specs.Prelude.{◌≡◌, IsErrOf, OnOk, Some};
+ghost use Rattle.std.specs.Prelude.{◌≡◌, ◌≤◌, IsErrOf, OnOk, Some, length};
+ghost use Rattle.lake_basics.specs.declared.limits.TheConstants.{MAX_FILE_BYTES};
 ghost use Rattle.lake_store.specs.Cause.{IsNotTooLong};
-ghost use Rattle.lake_store.specs.Disk.{Files};
+ghost use Rattle.lake_store.specs.Disk.{AddsShort, Files};
 ghost use Rattle.lake_store.specs.Runs.{FailsBy, IsContestedBy, LeavesAlone};
 ghost use Rattle.hudi_commit.specs.Names.{IsThere, properties_path};
 ghost use Rattle.hudi_commit.specs.Runs.{HasProperties, IsNoProperties, IsQuiet, IsUncontested, StaysBefore};
@@ -24,6 +25,10 @@ pub fn publish_properties<S: Store>(store: &mut S, properties: &[u8]) -> Result<
         → IsThere (S.disk store.new).files properties_path }
     ensures alone { S.tells → LeavesAlone ⟦<S as Store>⟧ IsNoProperties
         store.old store.new }
+
+    // Each file is as before, or can be read whole, where the properties can.
+    ensures short { S.tells → length properties.now ≤ MAX_FILE_BYTES
+        → AddsShort MAX_FILE_BYTES (S.disk store.old).files (S.disk store.new).files }
     ensures cause { FailsBy ⟦<S as Store>⟧ store.old store.new (IsErrOf result StoreError.Failed) }
     ensures contest { IsContestedBy ⟦<S as Store>⟧ store.old store.new
         (IsErrOf result StoreError.Taken) }

@@ -1,8 +1,9 @@
 //! The names of one instant, from its claim to its completed file.
-ghost use Rattle.std.specs.Prelude.{◌≡◌, IsErrOf, None, OnOk, Some};
+ghost use Rattle.std.specs.Prelude.{◌≡◌, ◌≤◌, IsErrOf, None, OnOk, Some, length};
 ghost use Rattle.std.specs.FinMap as map;
+ghost use Rattle.lake_basics.specs.declared.limits.TheConstants.{MAX_FILE_BYTES};
 ghost use Rattle.lake_store.specs.Cause.{IsNotTooLong};
-ghost use Rattle.lake_store.specs.Disk.{Files, with_file};
+ghost use Rattle.lake_store.specs.Disk.{AddsShort, Files, with_file};
 ghost use Rattle.lake_store.specs.Runs.{FailsBy, IsContestedBy, IsEachMoment, IsUncontestedBy, LeavesAlone};
 ghost use Rattle.hudi_names.specs.Time.{IsSomeTime};
 ghost use Rattle.hudi_commit.specs.Names.{IsThere, completed_path};
@@ -21,6 +22,8 @@ fn claim<S: Store>(store: &mut S, paths: &InstantPaths, bytes: &[u8]) -> Result<
     ensures claimed { S.tells
         → OnOk result (S.disk store.new ≡ claimed paths.now bytes.now (S.disk store.old)) }
     ensures alone { S.tells → LeavesAlone ⟦<S as Store>⟧ (IsNotOf paths.now) store.old store.new }
+    ensures short { S.tells → length bytes.now ≤ MAX_FILE_BYTES
+        → AddsShort MAX_FILE_BYTES (S.disk store.old).files (S.disk store.new).files }
     ensures cause { FailsBy ⟦<S as Store>⟧ store.old store.new (IsErrOf result StoreError.Failed) }
     ensures contest { IsUncontestedBy ⟦<S as Store>⟧ store.old store.new
         (IsErrOf result StoreError.Taken) }
@@ -39,6 +42,8 @@ fn announce<S: Store>(store: &mut S, paths: &InstantPaths) -> Result<(), StoreEr
     ensures announced { S.tells
         → OnOk result (S.disk store.new ≡ announced paths.now (S.disk store.old)) }
     ensures alone { S.tells → LeavesAlone ⟦<S as Store>⟧ (IsNotOf paths.now) store.old store.new }
+    ensures short { S.tells
+        → AddsShort MAX_FILE_BYTES (S.disk store.old).files (S.disk store.new).files }
     ensures cause { FailsBy ⟦<S as Store>⟧ store.old store.new (IsErrOf result StoreError.Failed) }
     ensures contest { IsUncontestedBy ⟦<S as Store>⟧ store.old store.new
         (IsErrOf result StoreError.Taken) }
@@ -73,6 +78,8 @@ pub fn complete<S: Store>(
         (LacksOrIs paths.now (S.disk store.old) (S.disk store.new).files) }
     ensures alone { S.tells → LeavesAlone ⟦<S as Store>⟧ (IsNoFileOf paths.now)
         store.old store.new }
+    ensures short { S.tells → length bytes.now ≤ MAX_FILE_BYTES
+        → AddsShort MAX_FILE_BYTES (S.disk store.old).files (S.disk store.new).files }
     ensures cause { FailsBy ⟦<S as Store>⟧ store.old store.new (IsErrOf result StoreError.Failed) }
     ensures contest { IsContestedBy ⟦<S as Store>⟧ store.old store.new
         (IsErrOf result StoreError.Taken) }

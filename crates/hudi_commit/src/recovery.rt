@@ -1,8 +1,8 @@
 //! Undoing what stopped commits left.
 ghost use Rattle.std.specs.Prelude.{◌≡◌, ◌<◌, ℕ, IsErrOf, OnOk, length};
-ghost use Rattle.lake_basics.specs.declared.limits.TheConstants.{MAX_NAMES};
+ghost use Rattle.lake_basics.specs.declared.limits.TheConstants.{MAX_FILE_BYTES, MAX_NAMES};
 ghost use Rattle.lake_store.specs.Cause.{IsNotTooLong};
-ghost use Rattle.lake_store.specs.Disk.{Files, names_in};
+ghost use Rattle.lake_store.specs.Disk.{AddsShort, Files, names_in};
 ghost use Rattle.lake_store.specs.Runs.{FailsBy, IsUncontestedBy, LeavesAlone};
 ghost use Rattle.hudi_names.specs.Time.{IsSomeTime};
 ghost use Rattle.hudi_commit.specs.Names.{claims_folder};
@@ -21,6 +21,8 @@ fn clear_claim<S: Store>(store: &mut S, paths: &InstantPaths) -> Result<(), Stor
         → StaysAlike ⟦<S as Store>⟧ base store.old store.new }
     ensures cleared { S.tells → OnOk result (S.disk store.new ≡ cleared paths.now (S.disk store.old)) }
     ensures alone { S.tells → LeavesAlone ⟦<S as Store>⟧ (IsNotOf paths.now) store.old store.new }
+    ensures short { S.tells
+        → AddsShort MAX_FILE_BYTES (S.disk store.old).files (S.disk store.new).files }
     ensures cause { FailsBy ⟦<S as Store>⟧ store.old store.new (IsErrOf result StoreError.Failed) }
     ensures contest { IsUncontestedBy ⟦<S as Store>⟧ store.old store.new
         (IsErrOf result StoreError.Taken) }
@@ -39,6 +41,8 @@ fn recover_claim<S: Store>(alloc: Global, store: &mut S, name: &str) -> Result<(
     ensures recovered { S.tells → OnOk result (IsRecoveredAt (S.disk store.new) name.now) }
     ensures alone { S.tells → LeavesAlone ⟦<S as Store>⟧ (IsNotOpen (S.disk store.old).files)
         store.old store.new }
+    ensures short { S.tells
+        → AddsShort MAX_FILE_BYTES (S.disk store.old).files (S.disk store.new).files }
     ensures cause { FailsBy ⟦<S as Store>⟧ store.old store.new (IsErrOf result StoreError.Failed) }
     ensures contest { IsUncontestedBy ⟦<S as Store>⟧ store.old store.new
         (IsErrOf result StoreError.Taken) }
@@ -63,6 +67,8 @@ pub fn clear_claims<S: Store>(alloc: Global, store: &mut S) -> Result<(), StoreE
     ensures recovered { S.tells → OnOk result (IsRecovered (S.disk store.new)) }
     ensures alone { S.tells → LeavesAlone ⟦<S as Store>⟧ (IsNotOpen (S.disk store.old).files)
         store.old store.new }
+    ensures short { S.tells
+        → AddsShort MAX_FILE_BYTES (S.disk store.old).files (S.disk store.new).files }
     ensures cause { FailsBy ⟦<S as Store>⟧ store.old store.new (IsErrOf result StoreError.Failed) }
     ensures contest { IsUncontestedBy ⟦<S as Store>⟧ store.old store.new
         (IsErrOf result StoreError.Taken) }

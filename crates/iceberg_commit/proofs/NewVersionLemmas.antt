@@ -116,7 +116,7 @@ module _ (kept : IcebergKept) (commit : Commit) (can : CanPublish (view_of kept)
         version_kept = numbered;
         metadata_kept = held;
         within = within;
-        small = texts.small;
+        short = texts.short;
         entries_back = texts.entries_back;
         infos_back = texts.infos_back;
         again = texts.again;

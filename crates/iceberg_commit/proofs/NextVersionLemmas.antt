@@ -1,7 +1,7 @@
 -- The next version's files are what is written for the commit, and what is kept stands behind it.
 use Rattle.std.proofs.Common.{◌≡◌, inl, inr, ⊎_elim, ◌+◌, ◌<◌, ℕ, ℤ, suc, List, [], ◌∷◌, ◌++◌, map, filter, length, Bool, true, false, cond, not, Bor, Contains, Option, Some, None, IsSome, refl, sym, ap, subst, ◌∙◌, arith}
 use Rattle.std.specs.Prelude.{is_some, option_map, unwrap_or}
-use Rattle.std.specs.List.{list_all, list_any}
+use Rattle.std.specs.List.{All, list_all, list_any}
 use Rattle.std.specs.Ordering.{int_eq}
 use Rattle.std.proofs.lemmas.Bool.{false≢true}
 use Rattle.std.proofs.lemmas.Bool.Decides.{Decides-int_eq}
@@ -48,6 +48,7 @@ use Rattle.iceberg_version.proofs.NextLemmas.{all_next}
 use Rattle.iceberg_commit.specs.Behind.{AreAddedParts, IsTableBehind}
 use Rattle.iceberg_commit.specs.NewVersion.{IsNewVersion, KeepsRest}
 use Rattle.iceberg_commit.specs.NextVersion.{AreListedBehind, HasCurrent, IsKeptBehind, IsNextVersion, OwnEachRow, VersionFiles, image}
+use Rattle.iceberg_commit.specs.Texts.{IsShort}
 use Rattle.iceberg_commit.specs.declared.version.NewVersion.{NewVersion}
 use Rattle.iceberg_commit.proofs.AddedLemmas.{rows_cut}
 use Rattle.iceberg_commit.proofs.ListedLemmas.{kept_are, listed_contents, listed_rows, next_once}
@@ -313,7 +314,11 @@ module _ (kept mid : IcebergKept) (origin : Origin) (now : ℕ) (commit : Commit
         manifests = subst (λ (texts : List (List ℕ)). AreEach (λ entries bytes. AreEntries new.is.columns bytes entries) (new_entries new.is.manifests.next) texts) new.manifests new.entries_back;
       };
       within = new.within;
-      small = new.small;
+      short = record {
+        manifests_are = subst (λ (ts : List (List ℕ)). All IsShort ts) (sym manifests) new.short.manifests_are;
+        list_is = subst IsShort (sym list) new.short.list_is;
+        metadata_is = subst IsShort (sym metadata) new.short.metadata_is;
+      };
       files = λ i. record { version = (version ∙ new.version_kept) i; manifests = (manifests ∙ new.manifests) i; list = (list ∙ new.list) i; metadata = (metadata ∙ new.metadata) i };
       advanced = advanced;
       version = behind.version ∙ new.version_kept;

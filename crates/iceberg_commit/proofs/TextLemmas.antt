@@ -1,5 +1,7 @@
 -- The rows of a new list and the texts of its new manifests, one manifest more.
 use Rattle.std.proofs.Common.{◌≡◌, ℕ, Bor, zero, suc, ◌+◌, ◌<◌, List, [], ◌∷◌, ◌++◌, map, length, take, get_or, Contains, refl, sym, ap, subst, ◌∙◌, arith}
+use Rattle.std.specs.List.{All}
+use Rattle.std.proofs.lemmas.List.Elements.{All-nil, All-push}
 use Rattle.std.proofs.lemmas.List.{length-append, length-map, map-append, take_more}
 use Rattle.iceberg_manifest.specs.Entry.{EntryData}
 use Rattle.iceberg_manifest.specs.Lists.{AreEach}
@@ -32,7 +34,7 @@ use Rattle.target_core.specs.declared.target.TargetError.TheVariants.{Contested,
 use Rattle.iceberg_version.specs.Writing.{IsLong, spec_json}
 use Rattle.iceberg_version.specs.Manifests.{AreListed, IsInfoOf, LiveManifest, NextManifest, added_entry, added_manifest, born_at, left, new, new_entries, stays, with_place}
 use Rattle.iceberg_version.specs.Manifests.{rewritten_entries as anew}
-use Rattle.iceberg_commit.specs.Texts.{Adds, AddsKept, AddsNew, AreTexts, CanBeMade, HasOwners, IsListOf, IsMadeOf, IsMetadataIn, IsTextAmong, IsTextIn, IsTextOfNext, IsTextRefusal, IsWritableIn}
+use Rattle.iceberg_commit.specs.Texts.{Adds, AddsKept, AddsNew, AreTexts, CanBeMade, HasOwners, IsListOf, IsMadeOf, IsMetadataIn, IsShort, IsTextAmong, IsTextIn, IsTextOfNext, IsTextRefusal, IsWritableIn}
 use Rattle.iceberg_version.specs.declared.before.Before.{Before}
 use Rattle.iceberg_version.specs.declared.carrying.Next.{Next}
 use Rattle.iceberg_version.specs.declared.layout.Layout.{Layout}
@@ -121,6 +123,7 @@ no_texts layout list ms infos texts none =
       infos = infos;
       are = subst (λ (ts : List (List ℕ)). AreListed layout.front layout.version 0 0 [] ts []) (sym texts) tt;
       each = subst (λ (ts : List (List ℕ)). AreEach (IsTextIn layout) [] ts) (sym texts) tt;
+      short = subst (λ (ts : List (List ℕ)). All IsShort ts) (sym texts) (All-nil IsShort);
     })
 
 infos_of : List LiveManifest → List ManifestInfo
@@ -139,6 +142,7 @@ text_more layout ms (stays m) old now texts adds =
       infos = adds.infos ∙ ap (λ (l : List ManifestInfo). l ++ with_place m.info place ∷ []) texts.infos ∙ sym (infos_push texts.listed (moved m place));
       are = subst (λ (ts : List (List ℕ)). AreListed layout.front layout.version 0 0 (ms ++ stays m ∷ []) ts (texts.listed ++ moved m place ∷ [])) (sym adds.manifests) (listed_kept layout.front layout.version 0 0 ms old.manifests.items texts.listed m place at texts.are);
       each = subst (λ (ts : List (List ℕ)). AreEach (IsTextIn layout) (new_entries (ms ++ stays m ∷ [])) ts) (sym adds.manifests) (subst (λ (es : List (List EntryData)). AreEach (IsTextIn layout) es old.manifests.items) (sym (entries_kept ms m)) texts.each);
+      short = subst (λ (ts : List (List ℕ)). All IsShort ts) (sym adds.manifests) texts.short;
     }
 text_more layout ms (new es rows) old now texts adds =
     let place = length old.infos.items in
@@ -150,6 +154,7 @@ text_more layout ms (new es rows) old now texts adds =
       infos = adds.infos ∙ ap (λ (l : List ManifestInfo). l ++ adds.info ∷ []) texts.infos ∙ sym (infos_push texts.listed one);
       are = subst (λ (ts : List (List ℕ)). AreListed layout.front layout.version 0 0 (ms ++ new es rows ∷ []) ts (texts.listed ++ one ∷ [])) (sym adds.manifests) (listed_new layout.front layout.version 0 0 ms old.manifests.items texts.listed es rows adds.bytes adds.info number place (omega arith) at adds.info_is texts.are);
       each = subst (λ (ts : List (List ℕ)). AreEach (IsTextIn layout) (new_entries (ms ++ new es rows ∷ [])) ts) (sym adds.manifests) (subst (λ (fs : List (List EntryData)). AreEach (IsTextIn layout) fs (old.manifests.items ++ adds.bytes ∷ [])) (sym (entries_new ms es rows)) (each_push (IsTextIn layout) (new_entries ms) old.manifests.items es adds.bytes texts.each adds.text));
+      short = subst (λ (ts : List (List ℕ)). All IsShort ts) (sym adds.manifests) (All-push IsShort old.manifests.items adds.bytes texts.short adds.short);
     }
 
 pub one_longer : (layout : Layout) (m : NextManifest) (old now : NewList) → Adds layout m old now → length now.infos.items ≡ length old.infos.items + 1

@@ -1,7 +1,8 @@
 -- The texts of a version are those behind its end.
-use Rattle.std.proofs.Common.{◌≡◌, inl, inr, ◌+◌, ◌≤◌, ℕ, ℤ, pos, List, [], ◌∷◌, map, length, get_or, Contains, IsSome, Option, Some, slice_get, refl, sym, ap, subst, ◌∙◌}
+use Rattle.std.specs.List.{All}
+use Rattle.std.proofs.Common.{◌≡◌, inl, inr, ◌+◌, ℕ, ℤ, pos, List, [], ◌∷◌, map, get_or, Contains, IsSome, Option, Some, slice_get, refl, sym, ap, subst, ◌∙◌}
 use Rattle.std.specs.Prelude.{IfErr, IsErrAnd, Result, is_some}
-use Rattle.lake_basics.specs.declared.limits.TheConstants.{MAX_AVRO_VALUES, MAX_FILE_BYTES}
+use Rattle.lake_basics.specs.declared.limits.TheConstants.{MAX_AVRO_VALUES}
 use Rattle.avro_container.specs.Writing.{IsWritten as IsContainerWritten}
 use Rattle.partition_map.specs.Columns.{column_kind}
 use Rattle.table_history.specs.TypeTree.{ColumnTrees}
@@ -26,7 +27,7 @@ use Rattle.iceberg_version.specs.KeptEnd.{end_with, manifests_of, view_of}
 use Rattle.iceberg_version.specs.Manifests.{AreListed, AreNextManifests, LiveManifest, NextManifest, new_entries}
 use Rattle.iceberg_commit.specs.NewVersion.{AreNextOf, AreTextsBehind, ChangesKinds, HasLongBehind, HoldsCurrent, IsBehind, IsLayoutOf, IsNewText, IsTextsRefusal, schema_behind}
 use Rattle.iceberg_version.specs.Schemas.{AreSpecFields, FIRST_PARTITION_ID, Schemas}
-use Rattle.iceberg_commit.specs.Texts.{AreTexts, IsListOf, IsMetadataIn, IsTextIn, IsTextRefusal}
+use Rattle.iceberg_commit.specs.Texts.{AreTexts, IsListOf, IsMetadataIn, IsShort, IsTextIn, IsTextRefusal}
 use Rattle.iceberg_version.specs.Writing.{AreColumns, AreWritten, HasLongList, HasLongManifest, IsLong, IsManifestText, TableEnd, spec_of}
 use Rattle.iceberg_version.specs.declared.kept.IcebergKept.{IcebergKept}
 use Rattle.iceberg_version.specs.declared.layout.Layout.{Layout}
@@ -148,8 +149,8 @@ module _ (kept : IcebergKept) (commit : Commit) (can : CanPublish (view_of kept)
           (subst (λ (p : Option ℤ). IsContainerWritten MAX_AVRO_VALUES bytes (list_meta (pos (kept.version + 1)) p (pos (kept.version + 1))) list_type marker (map info_tree infos)) (sym behind.parent_is)
           (subst (λ (n : ℕ). IsContainerWritten MAX_AVRO_VALUES bytes (list_meta (pos n) parent (pos n)) list_type marker (map info_tree infos)) behind.next text.written))
 
-      pub texts_behind : (next : List NextManifest) (list : NewList) (w : NewVersion) → AreNextOf kept layout commit.change next → AreTexts layout next list → w.infos.items ≡ list.infos.items → w.manifests.items ≡ list.manifests.items → IsListOf list.infos.items version parent w.list → IsMetadataIn m w.metadata → length w.metadata ≤ MAX_FILE_BYTES → AreTextsBehind (end_with kept before) commit.change m schemas fields w
-      texts_behind next list w are texts is_infos is_manifests listed told few =
+      pub texts_behind : (next : List NextManifest) (list : NewList) (w : NewVersion) → AreNextOf kept layout commit.change next → AreTexts layout next list → w.infos.items ≡ list.infos.items → w.manifests.items ≡ list.manifests.items → IsListOf list.infos.items version parent w.list → IsMetadataIn m w.metadata → IsShort w.list → IsShort w.metadata → AreTextsBehind (end_with kept before) commit.change m schemas fields w
+      texts_behind next list w are texts is_infos is_manifests listed told list_short metadata_short =
           let each : AreEach (IsTextIn layout) (new_entries next) w.manifests.items = subst (λ (ts : List (List ℕ)). AreEach (IsTextIn layout) (new_entries next) ts) (sym is_manifests) texts.each in
           let ones : AreListed layout.front layout.version 0 0 next w.manifests.items texts.listed = subst (λ (ts : List (List ℕ)). AreListed layout.front layout.version 0 0 next ts texts.listed) (sym is_manifests) texts.are in
           record {
@@ -160,7 +161,7 @@ module _ (kept : IcebergKept) (commit : Commit) (can : CanPublish (view_of kept)
             manifests = written_behind next w.manifests.items texts.listed are each ones;
             list = list_behind list.infos.items texts.listed w.list texts.infos listed;
             metadata_is = told.written;
-            small = subst (λ (bytes : List ℕ). length bytes ≤ MAX_FILE_BYTES) told.written few;
+            short = record { manifests_are = subst (λ (ts : List (List ℕ)). All IsShort ts) (sym is_manifests) texts.short; list_is = list_short; metadata_is = metadata_short };
             entries_back = each_back layout (new_entries next) w.manifests.items each;
             infos_back = subst (λ (is : List ManifestInfo). StandsFor MAX_AVRO_VALUES infos_of w.list is) (sym is_infos) listed.reads_back;
             again = told.again;

@@ -34,7 +34,7 @@ use Rattle.target_core.specs.declared.target.TargetError.TheVariants.{Limit, Mem
 use Rattle.iceberg_version.specs.KeptEnd.{end_of, manifests_of}
 use Rattle.iceberg_version.specs.Manifests.{AreNextManifests, LiveManifest, NextManifest, new_entries}
 use Rattle.iceberg_version.specs.Schemas.{AreNextSchemas, AreSpecFields, FIRST_PARTITION_ID, Schemas, with_schemas}
-use Rattle.iceberg_commit.specs.Texts.{IsTextIn}
+use Rattle.iceberg_commit.specs.Texts.{AreShort, IsTextIn}
 use Rattle.iceberg_version.specs.Writing.{AreColumns, AreWritten, HasLongList, HasLongManifest, IsListText, IsLong, IsWritten, TableEnd, mark_of, snapshot_of, spec_of, with_properties, with_snapshot, with_spec}
 use Rattle.iceberg_version.specs.Writing as writing
 use Rattle.iceberg_version.specs.declared.kept.IcebergKept.{IcebergKept}
@@ -110,7 +110,7 @@ pub record IsBehind (kept : IcebergKept) (before : Metadata) (m : Metadata) (pla
   pub at : slice_get m.schemas place ≡ Some schemas.current
   pub specs : m.specs ≡ spec_of fields ∷ []
 
--- The bytes are those of the manifests, their list and the metadata, which is no longer than a file may be. Reading gives what they are of back.
+-- The bytes are those of the manifests, their list and the metadata, each short enough to be read. Reading gives what they are of back.
 pub record AreTextsBehind (end : TableEnd) (change : Change) (m : Metadata) (schemas : Schemas) (fields : List SpecField) (w : NewVersion) : Type 0 where
   pub columns : List PartColumn
   pub columns_are : AreColumns schemas.current.1 end.partition fields columns
@@ -119,7 +119,7 @@ pub record AreTextsBehind (end : TableEnd) (change : Change) (m : Metadata) (sch
   pub manifests : AreWritten end change schemas fields columns w.manifests.items listed
   pub list : IsListText end listed w.list
   pub metadata_is : w.metadata ≡ metadata_text m
-  pub small : length (metadata_text m) ≤ MAX_FILE_BYTES
+  pub short : AreShort w.manifests.items w.list w.metadata
   pub entries_back : AreEach (λ entries bytes. StandsFor MAX_AVRO_VALUES (entries_of columns) bytes entries) (new_entries manifests.next) w.manifests.items
   pub infos_back : StandsFor MAX_AVRO_VALUES infos_of w.list w.infos.items
   pub again : Metadata
@@ -138,8 +138,8 @@ IsTextsRefusal end change m schemas fields _ = ⊥
 
 -- ---- the whole
 
--- The bytes are those of the version that the commit is written as, and `next` is what is kept of its number and its metadata. Neither the number nor
--- the length of the metadata passes the greatest. Reading gives the entries, the rows of the list, the metadata and the mark back.
+-- The bytes are those of the version that the commit is written as, and `next` is what is kept of its number and its metadata. The number doesn't pass
+-- the greatest, and each text is short enough to be read. Reading gives the entries, the rows of the list, the metadata and the mark back.
 pub record IsNewVersion (kept : IcebergKept) (origin : Origin) (now : ℕ) (commit : Commit) (w : NewVersion) (next : IcebergKept) : Type 0 where
   pub written : writing.NewVersion
   pub is : IsWritten (end_of kept) origin now commit written
@@ -150,7 +150,7 @@ pub record IsNewVersion (kept : IcebergKept) (origin : Origin) (now : ℕ) (comm
   pub version_kept : next.version ≡ kept.version + 1
   pub metadata_kept : next.metadata ≡ written.metadata
   pub within : kept.version + 1 ≤ MAX_ICEBERG_VERSION
-  pub small : length (metadata_text written.metadata) ≤ MAX_FILE_BYTES
+  pub short : AreShort w.manifests.items w.list w.metadata
   pub entries_back : AreEach (λ entries bytes. StandsFor MAX_AVRO_VALUES (entries_of is.columns) bytes entries) (new_entries is.manifests.next) w.manifests.items
   pub infos_back : StandsFor MAX_AVRO_VALUES infos_of w.list w.infos.items
   pub again : Metadata

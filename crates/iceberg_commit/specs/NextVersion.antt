@@ -1,8 +1,8 @@
 -- What is made for a commit: the files of the new version, and what is kept behind it.
-use Rattle.std.specs.Prelude.{◌≡◌, ◌+◌, ◌≤◌, ℕ, List, Contains, Ok, Option, Some, length, map, nat_eq, option_map, unwrap_or}
+use Rattle.std.specs.Prelude.{◌≡◌, ◌+◌, ◌≤◌, ℕ, List, Contains, Ok, Option, Some, map, nat_eq, option_map, unwrap_or}
 use Rattle.std.specs.List.{IsDistinct}
 use Rattle.serde_json.specs.Written.{compact_text}
-use Rattle.lake_basics.specs.declared.limits.TheConstants.{MAX_FILE_BYTES, MAX_ICEBERG_VERSION}
+use Rattle.lake_basics.specs.declared.limits.TheConstants.{MAX_ICEBERG_VERSION}
 use Rattle.schema_map.specs.Image.{wide_columns}
 use Rattle.table_history.specs.TypeTree.{ColumnTrees}
 use Rattle.table_history.specs.declared.table.Change.{Change}
@@ -25,6 +25,7 @@ use Rattle.iceberg_version.specs.Writing.{IsWritten, NewVersion, TableEnd, mark_
 use Rattle.iceberg_version.specs.declared.kept.IcebergKept.{IcebergKept}
 use Rattle.iceberg_version.specs.declared.kept.KeptManifest.{KeptManifest}
 use Rattle.iceberg_commit.specs.Behind.{IsTableBehind}
+use Rattle.iceberg_commit.specs.Texts.{AreShort}
 
 -- how an Iceberg table holds a schema
 abbrev pub image : ColumnTrees → Option ColumnTrees
@@ -83,13 +84,13 @@ pub record IsKeptBehind (kept : IcebergKept) (change : Change) (mark : Mark) (li
 
 -- These are the files of the version that the commit is written as, and `next` is what is kept behind it: its number, its metadata, its mark and the
 -- table, and of each manifest of its list the live rows. Each manifest has an owner of its own, where each had one before. Reading gives back what is
--- written, and neither the version nor the length of its metadata passes the greatest.
+-- written, each text is short enough to be read, and the version doesn't pass the greatest.
 pub record IsNextVersion (kept : IcebergKept) (origin : Origin) (now : ℕ) (commit : Commit) (new : VersionFiles) (next : IcebergKept) : Type 0 where
   pub written : NewVersion
   pub is : IsWritten (end_of kept) origin now commit written
   pub back : IsReadBack (end_of kept) origin now commit written is
   pub within : kept.version + 1 ≤ MAX_ICEBERG_VERSION
-  pub small : length (metadata_text written.metadata) ≤ MAX_FILE_BYTES
+  pub short : AreShort new.manifests new.list new.metadata
   pub files : new ≡ version_files (end_of kept) written
   pub advanced : IsAdvanced image origin (view_of kept) commit (view_of next)
   pub version : next.version ≡ kept.version + 1

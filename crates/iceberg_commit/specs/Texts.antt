@@ -1,4 +1,5 @@
 -- The texts of a new version's manifests and their rows in the list, as they are made one by one.
+use Rattle.std.specs.List.{All}
 use Rattle.std.specs.Prelude.{◌≡◌, ◌≤◌, ◌<◌, ◌^◌, ◌++◌, ◌∷◌, [], ℕ, ℤ, pos, List, Contains, IsSome, Ok, Option, length, map}
 use Rattle.file_links.specs.Rows.{rows_of as owned_rows}
 use Rattle.file_links.specs.declared.slots.Held.{Held}
@@ -27,6 +28,16 @@ use Rattle.iceberg_version.specs.declared.carrying.Next.{Next}
 use Rattle.iceberg_version.specs.declared.kept.KeptManifest.{KeptManifest}
 use Rattle.iceberg_version.specs.declared.layout.Layout.{Layout}
 use Rattle.iceberg_commit.specs.declared.new_list.NewList.{NewList}
+
+-- A file can be read whole that has these bytes.
+abbrev pub IsShort : List ℕ → Type 0
+IsShort bytes = length bytes ≤ MAX_FILE_BYTES
+
+-- The texts of new manifests, of their list and of the metadata are all so.
+pub record AreShort (manifests : List (List ℕ)) (list metadata : List ℕ) : Type 0 where
+  pub manifests_are : All IsShort manifests
+  pub list_is : IsShort list
+  pub metadata_is : IsShort metadata
 
 -- A text of this kind is too long, or memory runs out.
 abbrev pub IsTextRefusal : (List ℕ → Type 0) → TargetError → Type 0
@@ -84,6 +95,7 @@ pub record AddsNew (layout : Layout) (entries : List EntryData) (before after : 
   pub bytes : List ℕ
   pub info : ManifestInfo
   pub text : IsTextIn layout entries bytes
+  pub short : IsShort bytes
   pub info_is : IsInfoOf layout.front layout.version (length before.manifests.items) entries bytes (length before.infos.items) info
   pub manifests : after.manifests.items ≡ before.manifests.items ++ bytes ∷ []
   pub infos : after.infos.items ≡ before.infos.items ++ info ∷ []
@@ -99,12 +111,13 @@ Adds layout (new entries rows) before after = AddsNew layout entries before afte
 
 -- ---- all of them
 
--- The new ones of these manifests have these texts, and the list has these rows of all.
+-- The new ones of these manifests have these texts, each short enough to be read, and the list has these rows of all.
 pub record AreTexts (layout : Layout) (next : List NextManifest) (list : NewList) : Type 0 where
   pub listed : List LiveManifest
   pub infos : list.infos.items ≡ map (λ m. m.info) listed
   pub are : AreListed layout.front layout.version 0 0 next list.manifests.items listed
   pub each : AreEach (IsTextIn layout) (new_entries next) list.manifests.items
+  pub short : All IsShort list.manifests.items
 
 -- the bytes are those of the new manifest that is made of one of these
 abbrev pub IsTextAmong : Layout → Before → List Next → List ℕ → Type 0

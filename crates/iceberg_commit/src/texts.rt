@@ -1,6 +1,6 @@
 //! The bytes of a new version's manifests and of their list, with the rows of that list.
 
-ghost use Rattle.std.specs.Prelude.{◌≡◌, ◌≤◌, ◌<◌, ◌^◌, Contains, IfErr, IfOk, List, OnOk, length, map, slice_get};
+ghost use Rattle.std.specs.Prelude.{◌≡◌, ◌<◌, ◌^◌, Contains, IfErr, IfOk, List, OnOk, length, map, slice_get};
 ghost use Rattle.iceberg_version.specs.Carrying.{parts_at};
 ghost use Rattle.iceberg_version.specs.Manifests.{added_entry as added_entry_of};
 ghost use Rattle.table_history.specs.Row.{Row};
@@ -9,7 +9,7 @@ ghost use Rattle.iceberg_manifest.specs.ListWriting.{IsWritableList};
 ghost use Rattle.iceberg_metadata.specs.Writing.{IsWritable};
 ghost use Rattle.iceberg_version.specs.KeptEnd.{held_rows};
 ghost use Rattle.iceberg_version.specs.Manifests.{NextManifest, rewritten_entries as anew, with_place};
-ghost use Rattle.iceberg_commit.specs.Texts.{Adds, AddsKept, AddsNew, AreTexts, CanBeMade, HasOwners, IsListOf, IsMadeOf, IsMetadataIn, IsTextAmong, IsTextIn, IsTextOfNext, IsTextRefusal, IsWritableIn};
+ghost use Rattle.iceberg_commit.specs.Texts.{Adds, AddsKept, AddsNew, AreTexts, CanBeMade, HasOwners, IsListOf, IsMadeOf, IsMetadataIn, IsShort, IsTextAmong, IsTextIn, IsTextOfNext, IsTextRefusal, IsWritableIn};
 ghost use Rattle.iceberg_version.specs.Writing.{IsLong};
 ghost use Rattle.iceberg_version.specs.declared.carrying.Next.{Next};
 ghost use Rattle.iceberg_version.specs.declared.kept.KeptManifest.{KeptManifest};
@@ -32,7 +32,7 @@ use target_core::TargetError;
 /// The bytes, where a file may have so many.
 fn within(bytes: Blob) -> Result<Blob, TargetError>
     ensures same { IfOk result (λ kept. kept ≡ bytes) }
-    ensures small { IfOk result (λ kept. length kept ≤ MOST_BYTES) }
+    ensures short { IfOk result IsShort }
     ensures long { IfErr result (λ e. (e ≡ Limit File MOST_BYTES) × IsLong bytes) }
 {
     if MAX_FILE_BYTES < bytes.as_slice().len() as u64 {
@@ -48,6 +48,7 @@ fn within(bytes: Blob) -> Result<Blob, TargetError>
 fn manifest_text(alloc: Global, layout: &Layout<'_>, entries: &[Entry]) -> Result<Blob, TargetError>
     requires { IsWritableIn layout.now entries.now }
     ensures text { IfOk result (IsTextIn layout.now entries.now) }
+    ensures short { IfOk result IsShort }
     ensures refusal { IfErr result (IsTextRefusal (IsTextIn layout.now entries.now)) }
 {
     match manifest_bytes(
@@ -74,6 +75,7 @@ pub(crate) fn list_text(
 ) -> Result<Blob, TargetError>
     requires { IsWritableList MAX_AVRO_VALUES infos.now }
     ensures text { IfOk result (IsListOf infos.now version parent) }
+    ensures short { IfOk result IsShort }
     ensures refusal { IfErr result (IsTextRefusal (IsListOf infos.now version parent)) }
 {
     let snapshot = i64::from(version);
@@ -87,7 +89,7 @@ pub(crate) fn list_text(
 pub(crate) fn text_of(alloc: Global, metadata: &Metadata) -> Result<Blob, TargetError>
     requires { IsWritable metadata.now }
     ensures text { IfOk result (IsMetadataIn metadata.now) }
-    ensures small { IfOk result (λ bytes. length bytes ≤ MOST_BYTES) }
+    ensures short { IfOk result IsShort }
     ensures refusal { IfErr result (IsTextRefusal (IsMetadataIn metadata.now)) }
 {
     match metadata_text(alloc, metadata) {

@@ -5,7 +5,7 @@ use Rattle.lake_store.specs.Runs.{Keeps, KeepsImage, LeavesAlone}
 use Rattle.lake_store.specs.declared.store.Store.{Ghosts}
 use Rattle.lake_store.proofs.RunLaws.{NowOnly, keeps_crash, keeps_first}
 use Rattle.lake_batch.specs.Fence.{HasStayed, IsFenced}
-use Rattle.lake_batch.specs.Part.{IsBeside, PartElapses, StaysBeside}
+use Rattle.lake_batch.specs.Part.{IsBeside, PartElapses, StaysBeside, part_files}
 
 module _ {S : Type 0} (store : Ghosts S) (folder : List ℕ) where
   -- a run that leaves the paths beside the part alone is one since its start
@@ -50,6 +50,11 @@ module _ {S : Type 0} (store : Ghosts S) (folder : List ℕ) where
   -- where the folder and the store are known under other names
   pub fenced_call : (first : Disk) (start : ℕ) (left : ℕ → Files → Type 0) (here : List ℕ) (old new : S) → here ≡ folder → IsFenced store folder first start left old → StaysBeside store here old new → IsFenced store folder first start left new
   fenced_call first start left here old new is fenced beside = fenced_more first start left old new fenced (subst (λ f. StaysBeside store f old new) is beside)
+
+  pub fenced_files : (here : List ℕ) (inside old new : S) → here ≡ folder → inside ≡ old → (P : Files → Files → Type 0) → P (part_files here (store.disk inside).files) (part_files here (store.disk new).files)
+      → P (part_files folder (store.disk old).files) (part_files folder (store.disk new).files)
+  fenced_files here inside old new is same P has = subst (λ f. P (part_files f (store.disk old).files) (part_files f (store.disk new).files)) is
+      (subst (λ s. P (part_files here (store.disk s).files) (part_files here (store.disk new).files)) same has)
 
   pub fenced_elapses : (here : List ℕ) (inside old new : S) → here ≡ folder → inside ≡ old → PartElapses store here inside new → PartElapses store folder old new
   fenced_elapses here inside old new is same call = subst (λ f. PartElapses store f old new) is (subst (λ s. PartElapses store here s new) same call)

@@ -4,7 +4,7 @@ use Rattle.std.specs.Prelude.{Result, Ok, Err, Option, None, IfOk, IsErrOf, IsSo
 use Rattle.std.specs.Option.{option_map}
 use Rattle.std.specs.FinMap as map
 use Rattle.lake_store.specs.Cause.{IsTooLong}
-use Rattle.lake_store.specs.Disk.{Disk, Files, HasLength, IsClean, IsPartlySynced, ListsFolder, MayLeave, Moves, SameElsewhere, names_in, removed, stored, synced, written}
+use Rattle.lake_store.specs.Disk.{AddsShort, Disk, Files, HasLength, IsClean, IsPartlySynced, ListsFolder, MayLeave, Moves, SameElsewhere, names_in, removed, stored, synced, written}
 use Rattle.lake_store.specs.Moments.{Elapses}
 use Rattle.lake_store.specs.declared.store.StoreError.{StoreError}
 use Rattle.lake_store.specs.declared.store.StoreError.TheVariants.{Taken}
@@ -12,7 +12,7 @@ use Rattle.lake_store.proofs.OrderLaws.{names_in_listed}
 use Rattle.lake_batch.specs.Part.{folder_in, part_disk, part_files, part_left_since, path_in}
 use Rattle.lake_batch.specs.declared.part.Under.{Under}
 use Rattle.lake_batch.specs.PartAt.{clean-part, get-part}
-use Rattle.lake_batch.proofs.PartLaws.{part-elsewhere, part-moves, part-partly, part-removed, part-stored, part-synced, part-written}
+use Rattle.lake_batch.proofs.PartLaws.{part-elsewhere, part-moves, part-partly, part-removed, part-short, part-stored, part-synced, part-written}
 use Rattle.lake_batch.proofs.PartNames.{names_in_part}
 
 module _ (folder : List ℕ) where
@@ -77,6 +77,13 @@ module _ (folder : List ℕ) where
         on_err : (r : Result T StoreError) → OnErr r (SameElsewhere whole old new) → OnErr r (SameElsewhere p (part_disk folder old) (part_disk folder new))
         on_err (Ok x) err = tt
         on_err (Err e) err = part-elsewhere folder old new p (subst (λ w. SameElsewhere w old new) is err)
+
+    pub stays_short : (most : ℕ) → OnErr r (AddsShort most old.files new.files) → OnErr r (AddsShort most (part_files folder old.files) (part_files folder new.files))
+    stays_short most given = on_err r given
+      where
+        on_err : (r : Result T StoreError) → OnErr r (AddsShort most old.files new.files) → OnErr r (AddsShort most (part_files folder old.files) (part_files folder new.files))
+        on_err (Ok x) err = tt
+        on_err (Err e) err = part-short folder most old.files new.files err
 
     pub has_synced : OnOk r (new ≡ synced old) → OnOk r (part_disk folder new ≡ synced (part_disk folder old))
     has_synced given = on_ok r given

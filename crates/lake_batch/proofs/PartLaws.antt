@@ -1,11 +1,11 @@
 -- What the calls of the whole store do to its part.
-use Rattle.std.proofs.Common.{◌≡◌, ◌≢◌, ℕ, ◌||◌, ◌&&◌, not, cond, List, sym, ◌∙◌, ap}
+use Rattle.std.proofs.Common.{◌≡◌, ◌≢◌, inl, inr, ⊎_elim, ℕ, ◌||◌, ◌&&◌, not, cond, List, sym, ◌∙◌, ap}
 use Rattle.std.specs.Prelude.{Some, None}
 use Rattle.std.specs.Ordering.{nat_cmp}
 use Rattle.std.specs.Cmp.Lexicographic.{slice_cmp, nat_list_cmp_total}
 use Rattle.std.specs.FinMap as map
 use Rattle.std.specs.FinSet as set
-use Rattle.lake_store.specs.Disk.{Disk, Files, IsPartlySynced, Moves, Paths, SameElsewhere, behind, front_of, moved, removed, stored, synced, written}
+use Rattle.lake_store.specs.Disk.{AddsShort, Disk, Files, IsPartlySynced, Moves, Paths, SameElsewhere, behind, front_of, moved, removed, stored, synced, written}
 use Rattle.lake_batch.specs.Part.{part_disk, part_files, part_paths, path_in}
 use Rattle.lake_batch.specs.PartAt.{behind_front, clean-part, contains-part, get-part, here, part-clean, same_files, same_paths}
 
@@ -62,6 +62,9 @@ module _ (folder : List ℕ) where
     files = λ q other. get-part folder e.files q ∙ same.files (path_in folder q) (apart p q other) ∙ sym (get-part folder d.files q);
     dirty = λ q other. contains-part folder e.dirty q ∙ same.dirty (path_in folder q) (apart p q other) ∙ sym (contains-part folder d.dirty q);
   }
+
+  pub part-short : (most : ℕ) (old new : Files) → AddsShort most old new → AddsShort most (part_files folder old) (part_files folder new)
+  part-short most old new short q bytes there = ⊎_elim (λ before. inl (get-part folder old q ∙ before)) (λ few. inr few) (short (path_in folder q) bytes (sym (get-part folder new q) ∙ there))
 
   pub part-partly : (d e : Disk) → IsPartlySynced d e → IsPartlySynced (part_disk folder d) (part_disk folder e)
   part-partly d e partly = record {

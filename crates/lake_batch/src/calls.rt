@@ -6,7 +6,7 @@ ghost use Rattle.std.specs.Ordering.{nat_cmp};
 ghost use Rattle.std.specs.Cmp.Lexicographic.{slice_cmp};
 ghost use Rattle.std.specs.List.Sorted.{IsStrictlySortedBy};
 ghost use Rattle.lake_store.specs.Cause.{HasContest, HasFault, HasNoContest, IsNotTooLong, IsTooLong};
-ghost use Rattle.lake_store.specs.Disk.{HasLength, IsClean, IsPartlySynced, ListsFolder, Moves, SameElsewhere, names_in, removed, stored, synced, written};
+ghost use Rattle.lake_store.specs.Disk.{AddsShort, HasLength, IsClean, IsPartlySynced, ListsFolder, Moves, SameElsewhere, names_in, removed, stored, synced, written};
 ghost use Rattle.lake_batch.specs.Part.{PartElapses, StaysBeside, folder_in, part_disk, part_files, path_in};
 
 use lake_basics::limits::{MAX_FILE_BYTES, MAX_NAMES};
@@ -134,6 +134,9 @@ pub(crate) fn write<S: Store>(
         ≡ written (part_disk folder.now (S.disk store.old)) path.now bytes.now) }
     ensures err { S.tells → OnErr result (SameElsewhere path.now
         (part_disk folder.now (S.disk store.old)) (part_disk folder.now (S.disk store.new))) }
+    ensures short { S.tells → OnErr result (AddsShort (length bytes.now)
+        (part_files folder.now (S.disk store.old).files)
+        (part_files folder.now (S.disk store.new).files)) }
     ensures elapses { PartElapses ⟦<S as Store>⟧ folder.now store.old store.new }
     ensures cause { HasFault S.faults S.may_fail store.old store.new
         (IsErrOf result StoreError.Failed) }
@@ -179,6 +182,9 @@ pub(crate) fn publish<S: Store>(
     ensures taken { S.tells → IsErrOf result StoreError.Taken
         → (bytes : List ℕ) × (part_disk folder.now (S.disk store.new)
         ≡ stored (part_disk folder.now (S.disk store.old)) to.now bytes) }
+    ensures short { S.tells → IsErrOf result StoreError.Taken → AddsShort MAX_FILE_BYTES
+        (part_files folder.now (S.disk store.old).files)
+        (part_files folder.now (S.disk store.new).files) }
     ensures err { S.tells → OnErr result ((IsErrOf result StoreError.Taken → ⊥)
         → (part_disk folder.now (S.disk store.new) ≡ part_disk folder.now (S.disk store.old))
         ⊎ Moves from.now to.now

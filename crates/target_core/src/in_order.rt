@@ -2,7 +2,8 @@
 
 ghost use Rattle.std.specs.Prelude.{◌≡◌, ◌<◌, ◌^◌, ℕ, List, [], length, IfErr, IfOk, IsErrOf, OnOk, is_ok};
 ghost use Rattle.std.specs.Option.{option_copied};
-ghost use Rattle.lake_store.specs.Disk.{Files};
+ghost use Rattle.lake_basics.specs.declared.limits.TheConstants.{MAX_FILE_BYTES};
+ghost use Rattle.lake_store.specs.Disk.{AddsShort, Files};
 ghost use Rattle.lake_store.specs.Runs.{ChangesOnlyIn, FailsBy, IsContestedBy, IsEachMoment, OnlyReads};
 ghost use Rattle.target_core.specs.Conditions.{CanPublishAll, Fits, GoesOn};
 ghost use Rattle.target_core.specs.Folders.{folder_of};
@@ -47,6 +48,10 @@ pub fn follow<T: Target, S: Store>(
     ensures alone { S.tells
         → ChangesOnlyIn ⟦<S as Store>⟧ (folder_of (T.kind target.now)) store.old store.new }
     ensures none { S.tells → commits.now ≡ [] → OnlyReads ⟦<S as Store>⟧ store.old store.new }
+
+    // Each file is as before, or can be read whole, whatever it answers.
+    ensures short { S.tells
+        → AddsShort MAX_FILE_BYTES (S.disk store.old).files (S.disk store.new).files }
 
     // At `Ok` it has published them all, and what is kept goes on by them.
     ensures count { IfOk result (λ count. count ≡ length commits.now) }

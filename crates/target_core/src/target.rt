@@ -3,7 +3,7 @@
 ghost use Rattle.std.specs.Prelude.{◌≡◌, ◌≢◌, ◌+◌, ◌<◌, ◌≤◌, ◌^◌, ◌↔◌, ◌⊎◌, ℕ, List, [], ◌∷◌, None, Option, Some, IfErr, IfOk, IsErrOf, OnOk, is_ok, option_map};
 ghost use Rattle.std.specs.Option.{option_copied};
 ghost use Rattle.std.specs.FinMap as map;
-ghost use Rattle.lake_store.specs.Disk.{Disk, Files, IsClean};
+ghost use Rattle.lake_store.specs.Disk.{AddsShort, Disk, Files, IsClean};
 ghost use Rattle.lake_store.specs.Runs.{ChangesOnlyIn, FailsBy, IsContestedBy, IsEachMoment, IsIn, IsUncontestedBy, OnlyReads};
 ghost use Rattle.table_history.specs.History.{FitsColumn, column_type};
 ghost use Rattle.table_history.specs.Rows.{HasPath, SameRows};
@@ -254,6 +254,10 @@ pub trait Target {
         // It touches its own folder alone, at each moment and whatever it answers.
         ensures alone { S.tells
             → ChangesOnlyIn ⟦<S as Store>⟧ (folder_of (kind self.now)) store.old store.new }
+
+        // Each file is as before, or can be read whole, whatever it answers.
+        ensures short { S.tells
+            → AddsShort MAX_FILE_BYTES (S.disk store.old).files (S.disk store.new).files }
 
         // What is kept goes on by the commit.
         ensures view { OnOk result (IsAdvanced (image self.now)

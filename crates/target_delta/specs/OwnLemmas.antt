@@ -7,7 +7,7 @@ use Rattle.table_history.specs.declared.kind.Kind.{Kind}
 use Rattle.table_history.specs.declared.limit.LimitKind.{LimitKind}
 use Rattle.table_history.specs.declared.table.Table.{Table}
 use Rattle.delta_table.specs.Log.{IsStep, IsTaken}
-use Rattle.delta_table.specs.SameVersions.{has_too, holds_too, log_too, own_versions, says_too}
+use Rattle.delta_table.specs.SameVersions.{has_too, large_too, log_too, own_versions, says_too, unreadable_too}
 use Rattle.delta_table.specs.Versions.{log_folder}
 use Rattle.target_core.specs.Folders.{SameIn}
 use Rattle.target_core.specs.FolderLemmas.{names_own, same_back}
@@ -27,7 +27,7 @@ stray_own a b same name h = record { proper = h.proper; there = subst (λ (o : O
 
 faulty_own : (a b : Files) → SameIn log_folder a b → (version : ℕ) (base : Option Table) → IsFaulty a version base → IsFaulty b version base
 faulty_own a b same version base (inl missing) = inl (λ has. missing (has_too b a (own_versions b a (same_back log_folder a b same)) version has))
-faulty_own a b same version base (inr (e, fault, inl h)) = inr (e, fault, inl (h.0, holds_too a b (own_versions a b same) version h.0 h.1, h.2))
+faulty_own a b same version base (inr (e, fault, inl h)) = inr (e, fault, inl (unreadable_too a b (own_versions a b same) version e h))
 faulty_own a b same version base (inr (e, fault, inr h)) = inr (e, fault, inr (h.0, says_too a b (own_versions a b same) version h.0 h.1, h.2))
 
 first_stray_own : (a b : Files) (path : List ℕ) → SameIn log_folder a b → IsFirstStray a path → IsFirstStray b path
@@ -69,8 +69,8 @@ foreign_own source a b path same (inr (inr h)) = inr (inr (unmarked_own source a
 -- ---- numbers that are passed
 
 passes_in_own : (a b : Files) → SameIn log_folder a b → (version : ℕ) (base : Option Table) (which : LimitKind) (number : ℕ) → PassesIn a version base which number → PassesIn b version base which number
-passes_in_own a b same version base which number (inl h) = inl (h.0, h.1, (h.2.0, holds_too a b (own_versions a b same) version h.2.0 h.2.1, h.2.2))
-passes_in_own a b same version base which number (inr (is, inl h)) = inr (is, inl (h.0, holds_too a b (own_versions a b same) version h.0 h.1, h.2))
+passes_in_own a b same version base which number (inl h) = inl (h.0, h.1, large_too a b (own_versions a b same) version h.2)
+passes_in_own a b same version base which number (inr (is, inl h)) = inr (is, inl (unreadable_too a b (own_versions a b same) version _ h))
 passes_in_own a b same version base which number (inr (is, inr h)) = inr (is, inr (h.0, says_too a b (own_versions a b same) version h.0 h.1, h.2))
 
 past_own : (a b : Files) → SameIn log_folder a b → (count : ℕ) → GoesPast a count → GoesPast b count

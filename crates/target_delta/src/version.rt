@@ -4,7 +4,7 @@ ghost use Rattle.std.specs.Prelude.{◌≡◌, ◌<◌, ◌≤◌, ◌^◌, ◌�
 ghost use Rattle.std.specs.List.{IsDistinct};
 ghost use Rattle.std.specs.Option.{option_copied};
 ghost use Rattle.std.specs.Str.{bytes_eq};
-ghost use Rattle.lake_basics.specs.declared.limits.TheConstants.{MAX_DELTA_VERSION, MAX_LIVE_FILES};
+ghost use Rattle.lake_basics.specs.declared.limits.TheConstants.{MAX_DELTA_VERSION, MAX_FILE_BYTES as MOST_BYTES, MAX_LIVE_FILES};
 ghost use Rattle.table_history.specs.Path.{IsPath};
 ghost use Rattle.table_history.specs.Row.{Row};
 ghost use Rattle.table_history.specs.Rows.{HasDistinctPaths};
@@ -77,6 +77,7 @@ fn text_of(
     requires few { length change.now.removed ≤ MAX_LIVE_FILES }
     requires partition { IsDistinct bytes_eq behind.now.table.partition }
     ensures text { IfOk result (λ bytes. IsTextOf behind.now change.now mark.now now_ms bytes) }
+    ensures short { IfOk result (λ bytes. length bytes ≤ MOST_BYTES) }
     ensures refusal { IfErr result (IsTextRefusal behind.now change.now mark.now now_ms) }
 {
     let written = written_of(alloc, behind, change, mark)?;
@@ -117,6 +118,7 @@ pub(crate) fn new_version(
     ensures is { IfOk result (λ version. IsNewVersion
         (record { source = source; table = option_copied table.entry }) now_ms kept.old commit.now
         version.bytes kept.new) }
+    ensures short { IfOk result (λ version. length version.bytes ≤ MOST_BYTES) }
     ensures refusal { IfErr result (IsVersionRefusal (Passes (end_of kept.old)
         (record { source = source; table = option_copied table.entry }) now_ms
         (commit.now ∷ []))) }

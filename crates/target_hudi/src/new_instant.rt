@@ -1,6 +1,6 @@
 //! The instant that a commit is written as.
 
-ghost use Rattle.std.specs.Prelude.{◌≡◌, ◌<◌, ◌+◌, ◌∷◌, [], IfErr, IfOk, IfSome, IsErrOf, IsSome, List, OnOk, Ok, Some, ℕ, ℤ, length};
+ghost use Rattle.std.specs.Prelude.{◌≡◌, ◌<◌, ◌≤◌, ◌+◌, ◌∷◌, [], IfErr, IfOk, IfSome, IsErrOf, IsSome, List, OnOk, Ok, Some, ℕ, ℤ, length};
 ghost use Rattle.std.specs.Cmp.Lexicographic.{slice_cmp};
 ghost use Rattle.std.specs.Option.{option_copied};
 ghost use Rattle.std.specs.Ordering.{nat_cmp};
@@ -88,6 +88,7 @@ fn next_time(alloc: Global, kept: &HudiKept, now_ms: u64) -> Result<Text, Target
 /// These bytes. `Limit` where they are too many for a file.
 fn file_of(bytes: Blob) -> Result<Blob, TargetError>
     ensures same { IfOk result (λ same. same ≡ bytes) }
+    ensures short { IfOk result (λ same. length same ≤ MAX_FILE_BYTES) }
     ensures refusal { IfErr result (IsFileRefusal (MAX_FILE_BYTES < length bytes)) }
 {
     if bytes.as_slice().len() as u64 > MAX_FILE_BYTES {
@@ -106,6 +107,8 @@ fn first_properties(
     kept: &HudiKept,
 ) -> Result<Option<Blob>, TargetError>
     ensures given { IfOk result (AreGiven (end_of name.now kept.now)) }
+    ensures short { IfOk result
+        (λ given. IfSome given (λ bytes. length bytes ≤ MAX_FILE_BYTES)) }
     ensures refusal { IfErr result (IsFileRefusal (HasLargeProperties (end_of name.now kept.now))) }
 {
     if kept.newest.is_some() {
@@ -120,6 +123,7 @@ fn text_of(alloc: Global, written: &Instant) -> Result<Blob, TargetError>
     requires { IsWritable written.now }
     ensures text { IfOk result (λ bytes. bytes ≡ instant_text written.now) }
     ensures read { IfOk result (λ bytes. json_instant bytes ≡ Ok written.now) }
+    ensures short { IfOk result (λ bytes. length bytes ≤ MAX_FILE_BYTES) }
     ensures refusal { IfErr result
         (IsFileRefusal (MAX_FILE_BYTES < length (instant_text written.now))) }
 {
@@ -202,6 +206,9 @@ pub(crate) fn new_instant(
     ensures is { IfOk result (λ new. IsNewInstant (end_of name.now kept.old)
         (record { source = source; table = option_copied table.entry }) now_ms kept.old commit.now
         new.time new.properties new.text kept.new) }
+    ensures short { IfOk result (λ new. length new.text ≤ MAX_FILE_BYTES) }
+    ensures short_properties { IfOk result
+        (λ new. IfSome new.properties (λ bytes. length bytes ≤ MAX_FILE_BYTES)) }
     ensures refusal { IfErr result (IsInstantRefusal (PassesLast (end_of name.now kept.old)
         (record { source = source; table = option_copied table.entry }) now_ms
         (commit.now ∷ []))) }

@@ -10,7 +10,7 @@ use Rattle.std.specs.Cmp.Lexicographic.{slice_cmp}
 use Rattle.std.proofs.lemmas.Bool.{cases_lt}
 use Rattle.std.proofs.lemmas.Fmt.{decimal_is_IsNumeral, decimal_nonempty, first_decimal, length-decimal-le_succ}
 use Rattle.std.proofs.lemmas.List.{length-map}
-use Rattle.lake_basics.specs.declared.limits.TheConstants.{MAX_ICEBERG_VERSION}
+use Rattle.lake_basics.specs.declared.limits.TheConstants.{MAX_FILE_BYTES, MAX_ICEBERG_VERSION}
 use Rattle.lake_store.specs.Disk.{Disk, Files, IsClean, IsDirty}
 use Rattle.lake_store.specs.Runs.{Keeps, KeepsImage}
 use Rattle.lake_store.proofs.DiskLaws.{path_cases}
@@ -328,7 +328,7 @@ module _ (kept next : IcebergKept) (origin : Origin) (now : ℕ) (commit : Commi
         fits = fits;
         writes = writes_now id location disk.files after stands is;
         within = v.within;
-        small = v.small;
+        small = subst (λ (f : VersionFiles). length f.metadata ≤ MAX_FILE_BYTES) v.files v.short.metadata_is;
       }
 
       pub is_behind : IsBehind (iceberg_meaning id) origin (view_of kept) disk.files commit (view_of next) after

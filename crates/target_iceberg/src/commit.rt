@@ -2,6 +2,8 @@
 
 ghost use Rattle.std.specs.Prelude.{◌≡◌, ◌<◌, ◌≤◌, ◌+◌, ◌^◌, ◌++◌, ◌∷◌, [], IfErr, IsErrOf, List, OnOk, is_ok, ℕ};
 ghost use Rattle.std.specs.Option.{option_copied};
+ghost use Rattle.lake_basics.specs.declared.limits.TheConstants.{MAX_FILE_BYTES};
+ghost use Rattle.lake_store.specs.Disk.{AddsShort};
 ghost use Rattle.lake_store.specs.Runs.{ChangesOnlyIn, FailsBy, IsContestedBy, IsEachMoment, OnlyReads};
 ghost use Rattle.iceberg_table.specs.Folder.{metadata_folder};
 ghost use Rattle.iceberg_commit.specs.NextVersion.{image};
@@ -49,6 +51,8 @@ pub(crate) fn publish_commit<S: Store>(
     requires can { CanPublish (view_of kept.old) commit.now }
     requires fits { Fits (Unfit (state_of kept.old)) kept.old.table.partition (commit.now ∷ []) }
     ensures alone { S.tells → ChangesOnlyIn ⟦<S as Store>⟧ metadata_folder store.old store.new }
+    ensures short { S.tells
+        → AddsShort MAX_FILE_BYTES (S.disk store.old).files (S.disk store.new).files }
     ensures view { OnOk result (IsAdvanced image
         (record { source = source; table = option_copied table.entry })
         (view_of kept.old) commit.now (view_of kept.new)) }

@@ -1,10 +1,14 @@
 //! The store calls that publish a new version.
 
+ghost use Rattle.std.specs.List.{All};
 ghost use Rattle.std.specs.Prelude.{◌≡◌, IfErr, IfOk, IsErrOf, None, OnOk, is_ok, length};
 ghost use Rattle.std.specs.FinMap as map;
 ghost use Rattle.iceberg_table.specs.Folder.{metadata_folder, path_of, version_path};
+ghost use Rattle.iceberg_commit.specs.Texts.{AreShort, IsShort};
 ghost use Rattle.iceberg_version.specs.Names.{manifest_name};
+ghost use Rattle.lake_basics.specs.declared.limits.TheConstants.{MAX_FILE_BYTES};
 ghost use Rattle.lake_store.specs.Cause.{IsNotTooLong};
+ghost use Rattle.lake_store.specs.Disk.{AddsShort};
 ghost use Rattle.lake_store.specs.Runs.{ChangesOnlyIn, FailsBy, IsContestedBy, IsUncontestedBy, LeavesAlone};
 ghost use Rattle.target_core.specs.Outcome.{Uncontested};
 ghost use Rattle.target_core.specs.Refusals.{IsCommitRefusal};
@@ -43,10 +47,13 @@ fn write_manifests<S: Store>(
 ) -> Result<(), StoreError>
     requires same { length paths.now ≡ length manifests.now }
     requires apart { AreApart paths.now }
+    requires short { All IsShort manifests.now }
     ensures alone { S.tells
         → LeavesAlone ⟦<S as Store>⟧ (IsNoneOf paths.now) store.old store.new }
     ensures written { S.tells
         → OnOk result (HaveBytes paths.now manifests.now (S.disk store.new).files) }
+    ensures short { S.tells
+        → AddsShort MAX_FILE_BYTES (S.disk store.old).files (S.disk store.new).files }
     ensures cause { FailsBy ⟦<S as Store>⟧ store.old store.new (IsErrOf result StoreError.Failed) }
     ensures contest { IsUncontestedBy ⟦<S as Store>⟧ store.old store.new
         (IsErrOf result StoreError.Taken) }
@@ -70,11 +77,14 @@ pub(crate) fn publish_version<S: Store>(
     metadata: &Blob,
 ) -> Result<(), TargetError>
     requires free { S.tells → map.get (S.disk store.old).files (version_path version) ≡ None }
+    requires short { AreShort manifests.now list.now metadata.now }
     ensures publishes { S.tells → PublishesVersion ⟦<S as Store>⟧
         (record { version = version; manifests = manifests.now; list = list.now; metadata = metadata.now })
         (Uncontested result) (IsErrOf result TargetError.Contested) (is_ok result)
         store.old store.new }
     ensures alone { S.tells → ChangesOnlyIn ⟦<S as Store>⟧ metadata_folder store.old store.new }
+    ensures short { S.tells
+        → AddsShort MAX_FILE_BYTES (S.disk store.old).files (S.disk store.new).files }
     ensures refusal { IfErr result (IsCommitRefusal (λ which number. ⊥)) }
     ensures cause { FailsBy ⟦<S as Store>⟧ store.old store.new
         (IsErrOf result TargetError.StoreFault) }

@@ -29,6 +29,7 @@ use Rattle.target_sync.specs.Applied.{Applies, IsApplyRefusal, IsLimitedAt, IsTo
 use Rattle.target_sync.specs.Targets.{IsStart}
 use Rattle.target_sync.specs.declared.apply.Report.{Report}
 use Rattle.target_sync.proofs.Counting.{contested_as, contested_never, fails_as, fails_never}
+use Rattle.target_sync.proofs.Sizes.{StaysShort, short_reading}
 
 -- what a crash leaves of a settled target
 pub record CrashLaws (target : Meaning) : Type 0 where
@@ -120,6 +121,7 @@ module _ {S : Type 0} (store : Ghosts S) (target : Meaning) (origin : Origin) (s
         let reading : store.tells → OnlyReads store s s = λ told. reading_begins store only_now s told in
         record {
           alone = λ told. alone_by_reading store (IsOutside (folder_of target.kind)) s s (reading told);
+          short = short_reading store s s reading;
           publishes = λ told stands. publishes_nothing only_now crash s (Uncontested {T = Report} (Err e)) told (from stands).0 (from stands).1;
           none = λ told none. reading told;
           columns = λ some. inr ((λ is. false_true is), reading);
@@ -133,7 +135,8 @@ module _ {S : Type 0} (store : Ghosts S) (target : Meaning) (origin : Origin) (s
           contest = contested_never store.contests store.may_contest s _ (λ same. no_contest e is (err_same e Contested same));
         }
 
-    module _ (Stands : Type 0) (old new : S) (columns : commits ≢ [] → start.table.partition ≡ partition) (still : store.tells → commits ≡ [] → OnlyReads store old new) (alone : store.tells → ChangesOnlyIn store (folder_of target.kind) old new) where
+    module _ (Stands : Type 0) (old new : S) (columns : commits ≢ [] → start.table.partition ≡ partition) (still : store.tells → commits ≡ [] → OnlyReads store old new) (alone : store.tells → ChangesOnlyIn store (folder_of target.kind) old new)
+        (short : store.tells → StaysShort store old new) where
       refusal_at : (Idle : Type 0) (place : ℕ) → place < length commits → (e : TargetError) → IsCommitRefusal (passes (take (place + 1) commits)) e → IsApplyRefusal Idle unfit (PassesIn passes commits) e
       refusal_at Idle place within Memory is = tt
       refusal_at Idle place within StoreFault is = tt
@@ -157,6 +160,7 @@ module _ {S : Type 0} (store : Ghosts S) (target : Meaning) (origin : Origin) (s
           → Applies store target unfit passes written origin start partition commits full Stands old new (Err e)
       applies_refused e publishes refused kept cause contest = record {
         alone = alone;
+        short = short;
         publishes = publishes;
         none = still;
         columns = λ some. inl (columns some);
@@ -215,6 +219,7 @@ module _ {S : Type 0} (store : Ghosts S) (target : Meaning) (origin : Origin) (s
         pub applies_untold : NowOnly store → (store.tells → Stands → written commits (store.disk new).files) → Applies store target unfit passes written origin start partition commits full Stands old new (Err Memory)
         applies_untold only_now has_written = record {
           alone = alone;
+          short = short;
           publishes = λ told stands. publishes_as (Unit {0}) (Memory ≡ Contested → ⊥) true false old new (λ v. tt) (λ is. absurd (false_true is)) (publishes told stands);
           none = still;
           columns = λ some. inl (columns some);
@@ -246,6 +251,7 @@ module _ {S : Type 0} (store : Ghosts S) (target : Meaning) (origin : Origin) (s
         pub applies_all : (store.tells → Stands → written commits (store.disk new).files) → (report : Report) → IsTold target origin start commits full (store.tells × Stands) (store.disk new).files report → Applies store target unfit passes written origin start partition commits full Stands old new (Ok report)
         applies_all has_written report told = record {
           alone = alone;
+          short = short;
           publishes = publishes;
           none = still;
           columns = λ some. inl (columns some);

@@ -33,6 +33,7 @@ use Rattle.target_sync.proofs.Counting.{fails_then}
 use Rattle.target_sync.proofs.Following.{caused_as, source_of_others}
 use Rattle.target_sync.proofs.Mixing.{whole_image, whole_may_leave, whole_same}
 use Rattle.target_sync.proofs.Owning.{FaultLaws, OwnLaws, absent_of_two, absent_own, as_before_own, at_head_own, at_head_since, can_own, caused_own, due_own, either_own, either_since, gained_own, gained_since, over_own, same_back, stands_at_head, status_own}
+use Rattle.target_sync.proofs.Sizes.{StaysShort, short_further}
 use Rattle.target_sync.proofs.Standing.{SourceLaws}
 
 -- what may be left now may be left since any time before
@@ -149,7 +150,7 @@ module _ {S : Type 0} (store : Ghosts S) (only_now : NowOnly store) (now_counts 
 
   -- ---- the other's changes come behind
 
-  module _ (old mid new : S) (answer : Answer) (sync : IsSync store source target None mode now old mid answer) (run : store.tells → ChangesOnlyIn store beside mid new)
+  module _ (old mid new : S) (answer : Answer) (sync : IsSync store source target None mode now old mid answer) (run : store.tells → ChangesOnlyIn store beside mid new) (more : store.tells → StaysShort store mid new)
       (A B : Type 0) (fault : HasFault store.faults store.may_fail mid new A) (contest : HasFault store.contests store.may_contest mid new B) where
     abbrev before : Files
     before = (store.disk old).files
@@ -294,6 +295,7 @@ module _ {S : Type 0} (store : Ghosts S) (only_now : NowOnly store) (now_counts 
     pub beside_behind : IsSync store source target (Some other) mode now old new answer
     beside_behind = record {
       alone = alone_on;
+      short = short_further store old mid new sync.short more;
       source_stays = λ told far clean. source_of_others store source laws target.files.kind (Some other) old new told far (alone_on told) clean;
       synced = synced_on;
       reported = λ told start reads goes. reported_on told start (target.files.settled (store.disk old)) answer (sync.reported told start reads goes);
@@ -317,7 +319,7 @@ module _ {S : Type 0} (store : Ghosts S) (only_now : NowOnly store) (now_counts 
 
   -- ---- the other's changes came before
 
-  module _ (far : source.kind ≡ other → ⊥) (old mid new : S) (answer : Answer) (sync : IsSync store source target None mode now mid new answer) (run : store.tells → ChangesOnlyIn store beside old mid)
+  module _ (far : source.kind ≡ other → ⊥) (old mid new : S) (answer : Answer) (sync : IsSync store source target None mode now mid new answer) (run : store.tells → ChangesOnlyIn store beside old mid) (before_it : store.tells → StaysShort store old mid)
       (A B : Type 0) (fault : HasFault store.faults store.may_fail old mid A) (contest : HasFault store.contests store.may_contest old mid B) where
     abbrev first : Files
     first = (store.disk old).files
@@ -483,6 +485,7 @@ module _ {S : Type 0} (store : Ghosts S) (only_now : NowOnly store) (now_counts 
     pub beside_before : IsSync store source target (Some other) mode now old new answer
     beside_before = record {
       alone = alone_since;
+      short = short_further store old mid new before_it sync.short;
       source_stays = λ told clear clean. source_of_others store source laws target.files.kind (Some other) old new told clear (alone_since told) clean;
       synced = synced_since;
       reported = λ told start reads goes. reported_since told start (target.files.settled (store.disk mid)) (target.files.settled (store.disk old)) (settled_on old mid (run told)) answer (sync.reported told start (reads_mid told start reads) goes);

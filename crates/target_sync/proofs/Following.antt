@@ -22,6 +22,7 @@ use Rattle.target_sync.specs.declared.status.Status.{Status}
 use Rattle.target_sync.specs.declared.status.Status.TheVariants as status
 use Rattle.target_sync.proofs.Applying.{CrashLaws, stay_behind}
 use Rattle.target_sync.proofs.Counting.{contested_then, fails_then}
+use Rattle.target_sync.proofs.Sizes.{short_further, short_reading}
 use Rattle.target_sync.proofs.Standing.{SourceLaws, source_kept, source_left, synced_behind}
 
 -- what is idle in one way is so in another
@@ -93,6 +94,7 @@ module _ {S : Type 0} (store : Ghosts S) (source : SourceMeaning) (target : Targ
       let contest = contest_behind store old mid new reading other B (answer ≡ Some (Err (status.Contested target.files.kind))) quiet sync.contest in
       record {
         alone = alone;
+        short = short_further store old mid new (short_reading store old mid reading) sync.short;
         source_stays = λ told apart clean. source_of_others store source own target.files.kind other old new told apart (alone told) clean;
         synced = λ told start ready.
             synced_behind source own target.files mode crash store start _ _ old mid new told (reading told) ready.reads ready.settled (sync.synced told start (ready_mid told start ready));

@@ -12,5 +12,6 @@ pub mod Pairing
 pub mod Planning
 pub mod Refusing
 pub mod Running
+pub mod Sizes
 pub mod Standing
 pub mod Syncing

@@ -18,6 +18,7 @@ use Rattle.target_sync.proofs.Applying.{CrashLaws}
 use Rattle.target_sync.proofs.Beside.{NowCounts, beside_before, beside_behind, fails_before}
 use Rattle.target_sync.proofs.Counting.{contested_of_none, fails_as, fails_then}
 use Rattle.target_sync.proofs.Owning.{FaultLaws, OwnLaws}
+use Rattle.target_sync.proofs.Sizes.{short_reading}
 use Rattle.target_sync.proofs.Standing.{SourceLaws, source_kept, synced_idle}
 
 -- what was counted, whoever was refused for it
@@ -39,6 +40,7 @@ sync_none store source target mode now own crash old new reading A B cause quiet
     let alone : store.tells → ChangesOnlyIn store folder old new = λ told. alone_by_reading store (IsOutside folder) old new (reading told) in
     record {
       alone = alone;
+      short = short_reading store old new reading;
       source_stays = λ told apart clean. source_kept store source own target.files.kind apart old new told (alone told) clean;
       synced = λ told start ready. synced_idle source own target.files mode crash store start (Unit {0}) ⊥ (λ never. never) old new told (reading told) ready.reads ready.settled;
       reported = λ told start reads goes. tt;
@@ -65,11 +67,11 @@ module _ {S : Type 0} (store : Ghosts S) (only_now : NowOnly store) (now_counts 
     (apart : first.files.kind ≡ second.files.kind → ⊥) (back : second.files.kind ≡ first.files.kind → ⊥) (far : source.kind ≡ first.files.kind → ⊥) (mode : Mode) (now : ℕ) (old mid new : S) (one two : Answer)
     (first_sync : IsSync store source first None mode now old mid one) (second_sync : IsSync store source second None mode now mid new two) where
   pub first_turn : IsSync store source first (Some second.files.kind) mode now old new one
-  first_turn = beside_behind store only_now now_counts source laws faults first first_crash first_own second.files.kind back mode now old mid new one first_sync second_sync.alone
+  first_turn = beside_behind store only_now now_counts source laws faults first first_crash first_own second.files.kind back mode now old mid new one first_sync second_sync.alone second_sync.short
       (two ≡ Some (Err status.StoreFault)) (two ≡ Some (Err (status.Contested second.files.kind))) second_sync.fault (as_fault store.contests store.may_contest mid new (two ≡ Some (Err (status.Contested second.files.kind))) second_sync.contest)
 
   pub second_turn : IsSync store source second (Some first.files.kind) mode now old new two
-  second_turn = beside_before store only_now now_counts source laws faults second second_crash second_own first.files.kind apart mode now far old mid new two second_sync first_sync.alone
+  second_turn = beside_before store only_now now_counts source laws faults second second_crash second_own first.files.kind apart mode now far old mid new two second_sync first_sync.alone first_sync.short
       (one ≡ Some (Err status.StoreFault)) (one ≡ Some (Err (status.Contested first.files.kind))) first_sync.fault (as_fault store.contests store.may_contest old mid (one ≡ Some (Err (status.Contested first.files.kind))) first_sync.contest)
 
   pub both_fault : FailsBy store old new ((one ≡ Some (Err status.StoreFault)) ⊎ (two ≡ Some (Err status.StoreFault)))

@@ -36,6 +36,7 @@ use Rattle.target_sync.specs.declared.status.Status.TheVariants as status
 use Rattle.target_sync.proofs.Applying.{CrashLaws, goes_on_start, stay_behind}
 use Rattle.target_sync.proofs.Counting.{contested_as, contested_of_none, contested_then, fails_as, fails_then}
 use Rattle.target_sync.proofs.Refusing.{late_of_apply, only_memory, refusal_of_apply}
+use Rattle.target_sync.proofs.Sizes.{short_further, short_reading}
 use Rattle.target_sync.proofs.Standing.{AreOne, SourceLaws, ViewLaws, contested_here, due_here, limited_here, source_kept, still_none, stopped_here, synced_all, synced_behind, synced_idle, told_due}
 
 pub few_of_target : (kind : Kind) (e : TargetError) → IsOfSync kind (status_of_target kind e)
@@ -119,6 +120,7 @@ module _ {S F T K : Type 0} (store : Ghosts S) (only_now : NowOnly store) (sourc
       let alone : store.tells → ChangesOnlyIn store folder old new = λ told. alone_by_reading store (IsOutside folder) old new (reading told) in
       record {
         alone = alone;
+        short = short_reading store old new reading;
         source_stays = λ told apart clean. source_kept store (source_meaning source f) laws.source_own (target.kind t) apart old new told (alone told) clean;
         synced = λ told start ready. synced_idle (source_meaning source f) laws.source_own (meaning target t) mode laws.crash store start (¬ IsContest e) ⊥ (λ never. never) old new told (reading told) ready.reads ready.settled;
         reported = λ told start reads goes. tt;
@@ -362,6 +364,7 @@ module _ {S F T K : Type 0} (store : Ghosts S) (only_now : NowOnly store) (sourc
         (contest_back (target.kind t) answer) (contested_then store.contests store.may_contest old mid new Other (IsErrOf answer target_error.Contested) quiet given.contest) in
         record {
           alone = alone;
+          short = short_further store old mid new (short_reading store old mid reading) given.short;
           source_stays = λ told apart clean. source_kept store (source_meaning source f) laws.source_own (target.kind t) apart old new told (alone told) clean;
           synced = λ told start ready. synced_is told start ready answer given;
           reported = λ told start reads goes. reported_is told start reads answer given;

@@ -1,7 +1,8 @@
 -- What a sync of one target answers, and why.
 use Rattle.std.specs.Prelude.{◌≡◌, ◌⊎◌, ℕ, List, length, Option, Some, None, Result, Ok, Err, true}
+use Rattle.lake_basics.specs.declared.limits.TheConstants.{MAX_FILE_BYTES}
 use Rattle.lake_store.specs.Cause.{Rose}
-use Rattle.lake_store.specs.Disk.{Files, IsClean}
+use Rattle.lake_store.specs.Disk.{AddsShort, Files, IsClean}
 use Rattle.lake_store.specs.Runs.{FailsBy, IsIn}
 use Rattle.lake_store.specs.declared.store.Store.{Ghosts}
 use Rattle.table_history.specs.Rows.{HasDistinctPaths}
@@ -287,6 +288,8 @@ StandsAtHead source files start = IsMarked start (λ standing. IsWhole source fi
 pub record IsSync {S : Type 0} (store : Ghosts S) (source : SourceMeaning) (target : TargetFacts) (other : Option Kind) (mode : Mode) (now : ℕ) (old new : S) (answer : Answer) : Type 0 where
   -- No file outside the targets' folders changes.
   pub alone : store.tells → ChangesTargets store target.files.kind other old new
+  -- Each file is as before, or can be read whole, whatever is answered.
+  pub short : store.tells → AddsShort MAX_FILE_BYTES (store.disk old).files (store.disk new).files
   pub source_stays : store.tells → IsApart source.kind target.files.kind other → ((path : List ℕ) → IsIn (folder_of source.kind) path → IsClean (store.disk old) path) → KeepsSource store source old new
   pub synced : store.tells → (start : View) → IsReady source target (store.disk old).files start (target.files.settled (store.disk old))
       → Synced store source target.files mode start (IsUndisturbed answer) (IsDone answer) old new

@@ -1,6 +1,7 @@
 -- What applying a plan answers and leaves.
 use Rattle.std.specs.Prelude.{◌≡◌, ◌≢◌, ◌⊎◌, ◌+◌, ◌<◌, ◌≤◌, ℕ, Bool, List, [], length, take, Option, Some, None, IfErr, IfOk, IsErrOf, Result, Ok, Err, is_ok, true}
-use Rattle.lake_store.specs.Disk.{Files}
+use Rattle.lake_basics.specs.declared.limits.TheConstants.{MAX_FILE_BYTES}
+use Rattle.lake_store.specs.Disk.{AddsShort, Files}
 use Rattle.lake_store.specs.Runs.{ChangesOnlyIn, FailsBy, IsContestedBy, IsEachMoment, OnlyReads}
 use Rattle.lake_store.specs.declared.store.Store.{Ghosts}
 use Rattle.source_core.specs.declared.error.SourceError.{SourceError}
@@ -138,6 +139,7 @@ answer_of_target kind (Err e) = Err (status_of_target kind e)
 pub record Applies {S : Type 0} (store : Ghosts S) (target : Meaning) (unfit : TargetError → Type 0) (passes : List Commit → LimitKind → ℕ → Type 0) (written : List Commit → Files → Type 0) (origin : Origin) (start : View) (partition : List (List ℕ)) (commits : List Commit) (full : Bool) (Stands : Type 0)
     (old new : S) (answer : Result Report TargetError) : Type 0 where
   pub alone : store.tells → ChangesOnlyIn store (folder_of target.kind) old new
+  pub short : store.tells → AddsShort MAX_FILE_BYTES (store.disk old).files (store.disk new).files
   pub publishes : store.tells → Stands → Publishes store target origin start commits (Uncontested answer) (is_ok answer) old new
   pub none : store.tells → commits ≡ [] → OnlyReads store old new
   pub columns : commits ≢ [] → (start.table.partition ≡ partition) ⊎ ((is_ok answer ≡ true → ⊥) × (store.tells → OnlyReads store old new))

@@ -1,5 +1,5 @@
-use Rattle.std.proofs.Common.{◌≡◌, inl, List, ℕ, refl, ap, sym, ◌∙◌, subst}
-use Rattle.std.specs.Prelude.{Option, Some, is_some, OnOk}
+use Rattle.std.proofs.Common.{◌≡◌, ◌≤◌, inl, List, ℕ, refl, ap, sym, ◌∙◌, subst}
+use Rattle.std.specs.Prelude.{IfSome, Option, Some, is_some, length, OnOk}
 use Rattle.std.specs.Option.{option_copied}
 use Rattle.std.proofs.lemmas.Result.{on_ok_weaker}
 use Rattle.lake_store.proofs.RunLaws.{alone_of_fewer}
@@ -8,6 +8,8 @@ use Rattle.hudi_commit.proofs.AloneLaws.{alone_begun}
 use Rattle.hudi_commit.proofs.CommitLaws.{nothing_prepared, ready_quiet, with_properties_prepared}
 use Rattle.hudi_commit.proofs.OtherLaws.{properties_others}
 use Rattle.hudi_commit.proofs.StagingLaws.{before_begun, first_base}
+use Rattle.lake_basics.specs.declared.limits.TheConstants.{MAX_FILE_BYTES}
+use Rattle.lake_store.proofs.ShortLaws.{short_same}
 use Rattle.hudi_commit.proofs.commit.prepare.Goals as goal
 
 pub returns-in-Some-clause-keeps : goal.returns-in-Some-clause-keeps
@@ -73,3 +75,13 @@ returns-in-None-clause-prepared g c told base stands idle ready =
 
 pub returns-in-None-clause-alone : goal.returns-in-None-clause-alone
 returns-in-None-clause-alone g c told = alone_begun g.S.Store told g.met.S.Store.only_now (IsKeptBut (option_copied c.args.properties)) c.args.store.now
+
+pub returns-in-Some-clause-short : goal.returns-in-Some-clause-short
+returns-in-Some-clause-short g c told le =
+    c.publish_properties.ensures.short told (subst (λ (o : Option (List ℕ)). IfSome o (λ text. length text ≤ MAX_FILE_BYTES)) (ap (λ o. option_copied o) c.in-Some.is) le)
+
+pub returns-in-None-clause-short : goal.returns-in-None-clause-short
+returns-in-None-clause-short g c told le =
+    let disk = g.S.Store.disk in
+    let d0 = disk c.args.store.now in
+    short_same MAX_FILE_BYTES d0.files d0.files refl

@@ -17,6 +17,8 @@ use Rattle.hudi_commit.proofs.OpenLaws.{completed_not_open, open_same}
 use Rattle.hudi_commit.proofs.OtherLaws.{others_kept, staged_no_file}
 use Rattle.hudi_commit.proofs.StagingLaws.{alike_before, before_then, never_come}
 use Rattle.hudi_commit.proofs.TheirsLaws.{IsCompleted, none_yet, theirs_after}
+use Rattle.lake_basics.specs.declared.limits.TheConstants.{MAX_FILE_BYTES}
+use Rattle.lake_store.proofs.ShortLaws.{short_same, short_sync, short_then}
 use Rattle.hudi_commit.proofs.commit.publish_commit.Goals as goal
 
 pub returns-in_err-paths-clause-one_step : goal.returns-in_err-paths-clause-one_step
@@ -432,3 +434,46 @@ returns-clause-theirs g c told taken =
     let s4 = c.complete.new.store in
     theirs_after store told t s0 s3 s4 (c.requires.free told) a3
     (subst (λ x. IsEachMoment store s3 s4 (LacksOrIs x (disk s3) (disk s4).files)) c.in_ok-paths.ensures (c.complete.ensures.theirs told taken))
+
+pub returns-in_err-paths-clause-short : goal.returns-in_err-paths-clause-short
+returns-in_err-paths-clause-short g c told few le =
+    let disk = g.S.Store.disk in
+    let d0 = disk c.args.store.now in
+    short_same MAX_FILE_BYTES d0.files d0.files refl
+
+pub returns-in_err-sync-clause-short : goal.returns-in_err-sync-clause-short
+returns-in_err-sync-clause-short g c told few le =
+    let disk = g.S.Store.disk in
+    let d0 = disk c.args.store.now in
+    let d1 = disk c.sync.new.self in
+    short_sync c.sync.result MAX_FILE_BYTES d0 d1 (c.sync.ensures.ok told) (c.sync.ensures.err told)
+
+pub returns-in_err-clear_claims-clause-short : goal.returns-in_err-clear_claims-clause-short
+returns-in_err-clear_claims-clause-short g c told few le =
+    let disk = g.S.Store.disk in
+    let d0 = disk c.args.store.now in
+    let d1 = disk c.sync.new.self in
+    let d2 = disk c.clear_claims.new.store in
+    short_then MAX_FILE_BYTES d0.files d1.files d2.files (short_sync c.sync.result MAX_FILE_BYTES d0 d1 (c.sync.ensures.ok told) (c.sync.ensures.err told)) (c.clear_claims.ensures.short told)
+
+pub returns-in_err-prepare-clause-short : goal.returns-in_err-prepare-clause-short
+returns-in_err-prepare-clause-short g c told few le =
+    let disk = g.S.Store.disk in
+    let d0 = disk c.args.store.now in
+    let d1 = disk c.sync.new.self in
+    let d2 = disk c.clear_claims.new.store in
+    let d3 = disk c.prepare.new.store in
+    short_then MAX_FILE_BYTES d0.files d1.files d3.files (short_sync c.sync.result MAX_FILE_BYTES d0 d1 (c.sync.ensures.ok told) (c.sync.ensures.err told))
+    (short_then MAX_FILE_BYTES d1.files d2.files d3.files (c.clear_claims.ensures.short told) (c.prepare.ensures.short told few))
+
+pub returns-clause-short : goal.returns-clause-short
+returns-clause-short g c told few le =
+    let disk = g.S.Store.disk in
+    let d0 = disk c.args.store.now in
+    let d1 = disk c.sync.new.self in
+    let d2 = disk c.clear_claims.new.store in
+    let d3 = disk c.prepare.new.store in
+    let d4 = disk c.complete.new.store in
+    short_then MAX_FILE_BYTES d0.files d1.files d4.files (short_sync c.sync.result MAX_FILE_BYTES d0 d1 (c.sync.ensures.ok told) (c.sync.ensures.err told))
+    (short_then MAX_FILE_BYTES d1.files d2.files d4.files (c.clear_claims.ensures.short told)
+    (short_then MAX_FILE_BYTES d2.files d3.files d4.files (c.prepare.ensures.short told few) (c.complete.ensures.short told le)))

@@ -9,6 +9,8 @@ use Rattle.hudi_commit.specs.Settled.{Stands}
 use Rattle.hudi_commit.proofs.AloneLaws.{alone_begun, alone_publish, alone_remove, alone_sync, alone_write}
 use Rattle.hudi_commit.proofs.PublishLaws.{bare_stands, full_base, bare_base, has_properties, has_stands, moved_has, properties_free, staged_clean, staged_here, staged_stands, stored_there, written_stands}
 use Rattle.hudi_commit.proofs.StagingLaws.{Standing, before_begun, before_on, uncontested}
+use Rattle.lake_basics.specs.declared.limits.TheConstants.{MAX_FILE_BYTES}
+use Rattle.lake_store.proofs.ShortLaws.{short_publish, short_removal, short_sync, short_then, short_write}
 use Rattle.hudi_commit.proofs.properties.publish_properties.Goals as goal
 
 own_properties : IsNoProperties properties_path → ⊥
@@ -137,3 +139,43 @@ returns-clause-published g c told = let p = c.args.properties.now in on_ok_weake
 
 pub returns-clause-taken : goal.returns-clause-taken
 returns-clause-taken g c told taken = stored_there (g.S.Store.disk c.sync.new.self) (g.S.Store.disk c.publish.new.self) properties_path properties_path refl (c.publish.ensures.taken told taken)
+
+pub returns-in_err-remove-clause-short : goal.returns-in_err-remove-clause-short
+returns-in_err-remove-clause-short g c told le =
+    let disk = g.S.Store.disk in
+    let d0 = disk c.args.store.now in
+    let d1 = disk c.remove.new.self in
+    short_removal c.remove.result MAX_FILE_BYTES d0 d1 properties_path (c.remove.ensures.ok told) (c.remove.ensures.err told)
+
+pub returns-in_err-write-clause-short : goal.returns-in_err-write-clause-short
+returns-in_err-write-clause-short g c told le =
+    let disk = g.S.Store.disk in
+    let d0 = disk c.args.store.now in
+    let d1 = disk c.remove.new.self in
+    let d2 = disk c.write.new.self in
+    let p = c.args.properties.now in
+    short_then MAX_FILE_BYTES d0.files d1.files d2.files (short_removal c.remove.result MAX_FILE_BYTES d0 d1 properties_path (c.remove.ensures.ok told) (c.remove.ensures.err told)) (short_write c.write.result MAX_FILE_BYTES d1 d2 staged_properties_path p le (c.write.ensures.ok told) (c.write.ensures.short told))
+
+pub returns-in_err-sync-clause-short : goal.returns-in_err-sync-clause-short
+returns-in_err-sync-clause-short g c told le =
+    let disk = g.S.Store.disk in
+    let d0 = disk c.args.store.now in
+    let d1 = disk c.remove.new.self in
+    let d2 = disk c.write.new.self in
+    let d3 = disk c.sync.new.self in
+    let p = c.args.properties.now in
+    short_then MAX_FILE_BYTES d0.files d1.files d3.files (short_removal c.remove.result MAX_FILE_BYTES d0 d1 properties_path (c.remove.ensures.ok told) (c.remove.ensures.err told))
+    (short_then MAX_FILE_BYTES d1.files d2.files d3.files (short_write c.write.result MAX_FILE_BYTES d1 d2 staged_properties_path p le (c.write.ensures.ok told) (c.write.ensures.short told)) (short_sync c.sync.result MAX_FILE_BYTES d2 d3 (c.sync.ensures.ok told) (c.sync.ensures.err told)))
+
+pub returns-clause-short : goal.returns-clause-short
+returns-clause-short g c told le =
+    let disk = g.S.Store.disk in
+    let d0 = disk c.args.store.now in
+    let d1 = disk c.remove.new.self in
+    let d2 = disk c.write.new.self in
+    let d3 = disk c.sync.new.self in
+    let d4 = disk c.publish.new.self in
+    let p = c.args.properties.now in
+    short_then MAX_FILE_BYTES d0.files d1.files d4.files (short_removal c.remove.result MAX_FILE_BYTES d0 d1 properties_path (c.remove.ensures.ok told) (c.remove.ensures.err told))
+    (short_then MAX_FILE_BYTES d1.files d2.files d4.files (short_write c.write.result MAX_FILE_BYTES d1 d2 staged_properties_path p le (c.write.ensures.ok told) (c.write.ensures.short told))
+    (short_then MAX_FILE_BYTES d2.files d3.files d4.files (short_sync c.sync.result MAX_FILE_BYTES d2 d3 (c.sync.ensures.ok told) (c.sync.ensures.err told)) (short_publish c.publish.result d3 d4 staged_properties_path properties_path p (staged_here p d0 d1 d2 d3 (c.in_ok-remove.ensures.ok told) (c.in_ok-write.ensures.ok told) (c.in_ok-sync.ensures.ok told)) le (c.publish.ensures.ok told) (c.publish.ensures.taken told) (c.publish.ensures.err told) (c.publish.ensures.short told))))

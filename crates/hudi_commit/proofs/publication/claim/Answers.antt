@@ -4,6 +4,8 @@ use Rattle.hudi_commit.specs.Runs.{IsNotOf}
 use Rattle.hudi_commit.proofs.AloneLaws.{alone_begun, alone_sync, alone_write}
 use Rattle.hudi_commit.proofs.KeepLaws.{begun, sync_keeps, write_keeps_at}
 use Rattle.hudi_commit.proofs.StepLaws.{claim_stands}
+use Rattle.lake_basics.specs.declared.limits.TheConstants.{MAX_FILE_BYTES}
+use Rattle.lake_store.proofs.ShortLaws.{short_sync, short_then, short_write}
 use Rattle.hudi_commit.proofs.publication.claim.Goals as goal
 
 pub returns-in_err-write-clause-keeps : goal.returns-in_err-write-clause-keeps
@@ -49,3 +51,18 @@ returns-clause-alone g c told =
     let s2 = c.sync.new.self in
     let k1 = alone_write store told g.met.S.Store.only_now (IsNotOf t) s0 s0 s1 a0 c.write.ensures.elapses c.write.result c.claim.result.now c.args.bytes.now (λ kept. kept (inl c.claim.ensures)) c.write.ensures.ok c.write.ensures.err in
     alone_sync store told g.met.S.Store.only_now (IsNotOf t) s0 s1 s2 k1 c.sync.ensures.elapses c.sync.result c.sync.ensures.ok c.sync.ensures.err
+
+pub returns-in_err-write-clause-short : goal.returns-in_err-write-clause-short
+returns-in_err-write-clause-short g c told le =
+    let disk = g.S.Store.disk in
+    let d0 = disk c.args.store.now in
+    let d1 = disk c.write.new.self in
+    short_write c.write.result MAX_FILE_BYTES d0 d1 c.claim.result.now c.args.bytes.now le (c.write.ensures.ok told) (c.write.ensures.short told)
+
+pub returns-clause-short : goal.returns-clause-short
+returns-clause-short g c told le =
+    let disk = g.S.Store.disk in
+    let d0 = disk c.args.store.now in
+    let d1 = disk c.write.new.self in
+    let d2 = disk c.sync.new.self in
+    short_then MAX_FILE_BYTES d0.files d1.files d2.files (short_write c.write.result MAX_FILE_BYTES d0 d1 c.claim.result.now c.args.bytes.now le (c.write.ensures.ok told) (c.write.ensures.short told)) (short_sync c.sync.result MAX_FILE_BYTES d1 d2 (c.sync.ensures.ok told) (c.sync.ensures.err told))

@@ -12,6 +12,8 @@ use Rattle.hudi_commit.proofs.KeepLaws.{keeps_then}
 use Rattle.hudi_commit.proofs.PublishLaws.{stored_there}
 use Rattle.hudi_commit.proofs.StagingLaws.{announced_clean, claim_here, claimed_announceable, commit_published, gains_on, has_come_at, never_come, not_yet, still_free, uncontested_at}
 use Rattle.hudi_commit.proofs.TheirsLaws.{IsCompleted, completed_not_of, theirs_come}
+use Rattle.lake_basics.specs.declared.limits.TheConstants.{MAX_FILE_BYTES}
+use Rattle.lake_store.proofs.ShortLaws.{short_publish, short_then}
 use Rattle.hudi_commit.proofs.publication.complete.Goals as goal
 
 pub returns-in_err-claim-clause-gains : goal.returns-in_err-claim-clause-gains
@@ -180,3 +182,29 @@ returns-clause-theirs g c told taken =
     theirs_come store told t s₀ s₂ c.publish.new.self (c.requires.free told) a₂
     (announced_clean t c.args.bytes.now c.requires.real (disk s₀) (disk s₁) (disk s₂) (c.in_ok-claim.ensures.claimed told) (c.in_ok-announce.ensures.announced told))
     c.publish.ensures.elapses c.completed.result.now (c.publish.ensures.taken told taken)
+
+pub returns-in_err-claim-clause-short : goal.returns-in_err-claim-clause-short
+returns-in_err-claim-clause-short g c told le =
+    c.claim.ensures.short told le
+
+pub returns-in_err-announce-clause-short : goal.returns-in_err-announce-clause-short
+returns-in_err-announce-clause-short g c told le =
+    let disk = g.S.Store.disk in
+    let d0 = disk c.args.store.now in
+    let d1 = disk c.claim.new.store in
+    let d2 = disk c.announce.new.store in
+    short_then MAX_FILE_BYTES d0.files d1.files d2.files (c.claim.ensures.short told le) (c.announce.ensures.short told)
+
+pub returns-clause-short : goal.returns-clause-short
+returns-clause-short g c told le =
+    let disk = g.S.Store.disk in
+    let d0 = disk c.args.store.now in
+    let d1 = disk c.claim.new.store in
+    let d2 = disk c.announce.new.store in
+    let d3 = disk c.publish.new.self in
+    let b = c.args.bytes.now in
+    short_then MAX_FILE_BYTES d0.files d1.files d3.files (c.claim.ensures.short told le)
+    (short_then MAX_FILE_BYTES d1.files d2.files d3.files (c.announce.ensures.short told)
+    (short_publish c.publish.result d2 d3 c.claim-2.result.now c.completed.result.now b
+    (ap (map.get d2.files) c.claim-2.ensures ∙ claim_here c.args.paths.now b c.requires.real d0 d1 d2 (c.in_ok-claim.ensures.claimed told) (c.in_ok-announce.ensures.announced told))
+    le (c.publish.ensures.ok told) (c.publish.ensures.taken told) (c.publish.ensures.err told) (c.publish.ensures.short told)))

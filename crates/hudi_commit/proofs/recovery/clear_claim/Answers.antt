@@ -4,6 +4,8 @@ use Rattle.hudi_commit.specs.Runs.{IsNotOf}
 use Rattle.hudi_commit.proofs.AloneLaws.{alone_begun, alone_remove}
 use Rattle.hudi_commit.proofs.KeepLaws.{begun, remove_keeps}
 use Rattle.hudi_commit.proofs.StepLaws.{claim_removed_at, pending_removed_at}
+use Rattle.lake_basics.specs.declared.limits.TheConstants.{MAX_FILE_BYTES}
+use Rattle.lake_store.proofs.ShortLaws.{short_removal, short_then}
 use Rattle.hudi_commit.proofs.recovery.clear_claim.Goals as goal
 
 pub returns-in_err-remove-clause-keeps : goal.returns-in_err-remove-clause-keeps
@@ -77,3 +79,28 @@ returns-clause-alone g c told =
     let k1 = alone_remove store told g.met.S.Store.only_now (IsNotOf t) s0 s0 s1 a0 c.remove.ensures.elapses c.remove.result c.inflight.result.now (λ kept. kept (inr (Inflight, c.inflight.ensures))) c.remove.ensures.ok c.remove.ensures.err in
     let k2 = alone_remove store told g.met.S.Store.only_now (IsNotOf t) s0 s1 s2 k1 c.remove-2.ensures.elapses c.remove-2.result c.requested.result.now (λ kept. kept (inr (Requested, c.requested.ensures))) c.remove-2.ensures.ok c.remove-2.ensures.err in
     alone_remove store told g.met.S.Store.only_now (IsNotOf t) s0 s2 s3 k2 c.remove-3.ensures.elapses c.remove-3.result c.claim.result.now (λ kept. kept (inl c.claim.ensures)) c.remove-3.ensures.ok c.remove-3.ensures.err
+
+pub returns-in_err-remove-clause-short : goal.returns-in_err-remove-clause-short
+returns-in_err-remove-clause-short g c told =
+    let disk = g.S.Store.disk in
+    let d0 = disk c.args.store.now in
+    let d1 = disk c.remove.new.self in
+    short_removal c.remove.result MAX_FILE_BYTES d0 d1 c.inflight.result.now (c.remove.ensures.ok told) (c.remove.ensures.err told)
+
+pub returns-in_err-remove-2-clause-short : goal.returns-in_err-remove-2-clause-short
+returns-in_err-remove-2-clause-short g c told =
+    let disk = g.S.Store.disk in
+    let d0 = disk c.args.store.now in
+    let d1 = disk c.remove.new.self in
+    let d2 = disk c.remove-2.new.self in
+    short_then MAX_FILE_BYTES d0.files d1.files d2.files (short_removal c.remove.result MAX_FILE_BYTES d0 d1 c.inflight.result.now (c.remove.ensures.ok told) (c.remove.ensures.err told)) (short_removal c.remove-2.result MAX_FILE_BYTES d1 d2 c.requested.result.now (c.remove-2.ensures.ok told) (c.remove-2.ensures.err told))
+
+pub returns-clause-short : goal.returns-clause-short
+returns-clause-short g c told =
+    let disk = g.S.Store.disk in
+    let d0 = disk c.args.store.now in
+    let d1 = disk c.remove.new.self in
+    let d2 = disk c.remove-2.new.self in
+    let d3 = disk c.remove-3.new.self in
+    short_then MAX_FILE_BYTES d0.files d1.files d3.files (short_removal c.remove.result MAX_FILE_BYTES d0 d1 c.inflight.result.now (c.remove.ensures.ok told) (c.remove.ensures.err told))
+    (short_then MAX_FILE_BYTES d1.files d2.files d3.files (short_removal c.remove-2.result MAX_FILE_BYTES d1 d2 c.requested.result.now (c.remove-2.ensures.ok told) (c.remove-2.ensures.err told)) (short_removal c.remove-3.result MAX_FILE_BYTES d2 d3 c.claim.result.now (c.remove-3.ensures.ok told) (c.remove-3.ensures.err told)))

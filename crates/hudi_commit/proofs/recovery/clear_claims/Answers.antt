@@ -1,7 +1,7 @@
 use Rattle.lake_store.specs.Runs.{LeavesAlone}
 use Rattle.lake_store.specs.declared.store.Store.{Ghosts}
 use Rattle.hudi_commit.proofs.OpenLaws.{open_same}
-use Rattle.std.proofs.Common.{◌∙◌, subst, arith, length, List, ℕ, ◌≡◌, ◌<◌, take, true}
+use Rattle.std.proofs.Common.{◌∙◌, ap, subst, arith, length, List, ℕ, ◌≡◌, ◌<◌, take, true}
 use Rattle.std.specs.List.{list_any}
 use Rattle.lake_store.proofs.DiskLaws.{is_path}
 use Rattle.lake_store.proofs.RunLaws.{alone_further, alone_of_fewer}
@@ -9,6 +9,9 @@ use Rattle.hudi_commit.specs.Runs.{IsNotOpen, IsTidied, IsRecoveredAt}
 use Rattle.hudi_commit.proofs.AloneLaws.{alone_begun, alone_read}
 use Rattle.hudi_commit.proofs.KeepLaws.{begun, keeps_then, read_keeps}
 use Rattle.hudi_commit.proofs.RecoveryLaws.{all_recovered, recovered_more, tidied_completed, tidied_same, tidied_then}
+use Rattle.lake_basics.specs.declared.limits.TheConstants.{MAX_FILE_BYTES}
+use Rattle.lake_store.specs.Disk.{Disk}
+use Rattle.lake_store.proofs.ShortLaws.{short_same, short_then}
 use Rattle.hudi_commit.proofs.recovery.clear_claims.Goals as goal
 
 -- what one claim leaves alone, where the same instants are completed
@@ -33,6 +36,7 @@ loop-name-init g c = record {
   tidied = λ told. tidied_same (g.S.Store.disk c.args.store.now) (g.S.Store.disk c.list.new.self) (c.list.ensures.same told);
   recovered = λ told name none. absurd (cc none);
   alone = λ told. alone_read g.S.Store told g.met.S.Store.only_now (IsNotOpen (g.S.Store.disk c.args.store.now).files) c.args.store.now c.args.store.now c.list.new.self (alone_begun g.S.Store told g.met.S.Store.only_now (IsNotOpen (g.S.Store.disk c.args.store.now).files) c.args.store.now) c.list.ensures.elapses c.list.ensures.same;
+  short = λ told. short_same MAX_FILE_BYTES (g.S.Store.disk c.args.store.now).files (g.S.Store.disk c.list.new.self).files (ap (λ (d : Disk). d.files) (c.list.ensures.same told));
   faults = c.list.ensures.cause.later;
   may_fail = c.list.ensures.cause.still;
   contests = c.list.ensures.contest.same;
@@ -52,6 +56,7 @@ loop-name-preserved g c =
           (c.in_ok-recover_claim.ensures.tidied told) (so_far.recovered told)
           (subst (IsRecoveredAt (g.S.Store.disk c.recover_claim.new.store)) (c.as_str.ensures.value ∙ c.name-item.is) (c.in_ok-recover_claim.ensures.recovered told));
       alone = λ told. alone_further g.S.Store (IsNotOpen (g.S.Store.disk c.args.store.now).files) c.args.store.now c.loop-name.store c.recover_claim.new.store so_far.alone (λ told. more_alone g.S.Store c.args.store.now c.loop-name.store c.recover_claim.new.store (so_far.tidied told) (c.recover_claim.ensures.alone told)) told;
+      short = λ told. short_then MAX_FILE_BYTES (g.S.Store.disk c.args.store.now).files (g.S.Store.disk c.loop-name.store).files (g.S.Store.disk c.recover_claim.new.store).files (so_far.short told) (c.recover_claim.ensures.short told);
       faults = omega (arith, so_far.faults, c.recover_claim.ensures.cause.later);
       may_fail = λ may. so_far.may_fail (c.recover_claim.ensures.cause.still may);
       contests = c.recover_claim.ensures.contest.same ∙ so_far.contests;
@@ -70,3 +75,18 @@ returns-in_err-recover_claim-clause-keeps g c told base stands =
 pub returns-in_err-recover_claim-clause-alone : goal.returns-in_err-recover_claim-clause-alone
 returns-in_err-recover_claim-clause-alone g c told =
     alone_further g.S.Store (IsNotOpen (g.S.Store.disk c.args.store.now).files) c.args.store.now c.loop-name.store c.recover_claim.new.store c.loop-name.invariant.alone (λ told. more_alone g.S.Store c.args.store.now c.loop-name.store c.recover_claim.new.store (c.loop-name.invariant.tidied told) (c.recover_claim.ensures.alone told)) told
+
+pub returns-in_err-names-clause-short : goal.returns-in_err-names-clause-short
+returns-in_err-names-clause-short g c told =
+    let disk = g.S.Store.disk in
+    let d0 = disk c.args.store.now in
+    let d1 = disk c.list.new.self in
+    short_same MAX_FILE_BYTES d0.files d1.files (ap (λ (d : Disk). d.files) (c.list.ensures.same told))
+
+pub returns-in_err-recover_claim-clause-short : goal.returns-in_err-recover_claim-clause-short
+returns-in_err-recover_claim-clause-short g c told =
+    let disk = g.S.Store.disk in
+    let d0 = disk c.args.store.now in
+    let d1 = disk c.loop-name.store in
+    let d2 = disk c.recover_claim.new.store in
+    short_then MAX_FILE_BYTES d0.files d1.files d2.files (c.loop-name.invariant.short told) (c.recover_claim.ensures.short told)

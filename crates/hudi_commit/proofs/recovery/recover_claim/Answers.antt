@@ -1,5 +1,5 @@
 use Rattle.lake_store.specs.Runs.{LeavesAlone}
-use Rattle.std.proofs.Common.{◌≡◌, sym, ◌∙◌, ap, subst}
+use Rattle.std.proofs.Common.{◌≡◌, refl, sym, ◌∙◌, ap, subst}
 use Rattle.std.specs.Prelude.{None}
 use Rattle.std.specs.FinMap as map
 use Rattle.hudi_names.specs.Time.{IsSomeTime}
@@ -10,6 +10,9 @@ use Rattle.hudi_commit.specs.Runs.{IsNotOf, IsNotOpen}
 use Rattle.hudi_commit.proofs.AloneLaws.{alone_begun, alone_read}
 use Rattle.hudi_commit.proofs.KeepLaws.{begun, keeps_then, read_keeps}
 use Rattle.hudi_commit.proofs.RecoveryLaws.{clearing_recovers, clearing_tidies, no_name, real_name}
+use Rattle.lake_basics.specs.declared.limits.TheConstants.{MAX_FILE_BYTES}
+use Rattle.lake_store.specs.Disk.{Disk}
+use Rattle.lake_store.proofs.ShortLaws.{short_same, short_then}
 use Rattle.hudi_commit.proofs.recovery.recover_claim.Goals as goal
 
 pub returns-then-is_none-clause-keeps : goal.returns-then-is_none-clause-keeps
@@ -71,3 +74,37 @@ returns-clause-alone g c told =
     let cleared : store.tells → LeavesAlone store (IsNotOpen files) c.read_part.new.self c.clear_claim.new.store = λ told.
     alone_of_fewer store (IsNotOf t) (IsNotOpen files) c.read_part.new.self c.clear_claim.new.store (λ q. not_of files q t real none) (c.clear_claim.ensures.alone told) in
     alone_further store (IsNotOpen files) c.args.store.now c.read_part.new.self c.clear_claim.new.store read cleared told
+
+pub returns-then-is_none-clause-short : goal.returns-then-is_none-clause-short
+returns-then-is_none-clause-short g c told =
+    let disk = g.S.Store.disk in
+    let d0 = disk c.args.store.now in
+    short_same MAX_FILE_BYTES d0.files d0.files refl
+
+pub returns-in_err-paths-clause-short : goal.returns-in_err-paths-clause-short
+returns-in_err-paths-clause-short g c told =
+    let disk = g.S.Store.disk in
+    let d0 = disk c.args.store.now in
+    short_same MAX_FILE_BYTES d0.files d0.files refl
+
+pub returns-in_err-completed-clause-short : goal.returns-in_err-completed-clause-short
+returns-in_err-completed-clause-short g c told =
+    let disk = g.S.Store.disk in
+    let d0 = disk c.args.store.now in
+    let d1 = disk c.read_part.new.self in
+    short_same MAX_FILE_BYTES d0.files d1.files (ap (λ (d : Disk). d.files) (c.read_part.ensures.same told))
+
+pub returns-in-Some-clause-short : goal.returns-in-Some-clause-short
+returns-in-Some-clause-short g c told =
+    let disk = g.S.Store.disk in
+    let d0 = disk c.args.store.now in
+    let d1 = disk c.read_part.new.self in
+    short_same MAX_FILE_BYTES d0.files d1.files (ap (λ (d : Disk). d.files) (c.read_part.ensures.same told))
+
+pub returns-clause-short : goal.returns-clause-short
+returns-clause-short g c told =
+    let disk = g.S.Store.disk in
+    let d0 = disk c.args.store.now in
+    let d1 = disk c.read_part.new.self in
+    let d2 = disk c.clear_claim.new.store in
+    short_then MAX_FILE_BYTES d0.files d1.files d2.files (short_same MAX_FILE_BYTES d0.files d1.files (ap (λ (d : Disk). d.files) (c.read_part.ensures.same told))) (c.clear_claim.ensures.short told)

@@ -110,4 +110,4 @@ returns-clause-texts c = λ before schemas spec behind.
     let made = c.in_ok-made.ensures.texts in
     let listed = subst (λ (infos : List ManifestInfo). IsListOf infos c.args.version c.args.parent c.in_ok-list.list) c.as_slice-5.ensures.value c.in_ok-list.ensures.text in
     let list = c.in_ok-made.made in
-    texts_behind kept commit can kinds m place holds c.args.version c.args.parent before schemas spec behind layout here made.0 list (record { infos = list.infos; manifests = list.manifests; list = c.in_ok-list.list; metadata = c.in_ok-text.text }) made.1 made.2 refl refl listed c.in_ok-text.ensures.text c.in_ok-text.ensures.small
+    texts_behind kept commit can kinds m place holds c.args.version c.args.parent before schemas spec behind layout here made.0 list (record { infos = list.infos; manifests = list.manifests; list = c.in_ok-list.list; metadata = c.in_ok-text.text }) made.1 made.2 refl refl listed c.in_ok-text.ensures.text c.in_ok-list.ensures.short c.in_ok-text.ensures.short

@@ -1,6 +1,8 @@
 use Rattle.std.proofs.Common.{◌∙◌}
+use Rattle.lake_basics.specs.declared.limits.TheConstants.{MAX_FILE_BYTES}
 use Rattle.lake_batch.specs.PartImages.{part_elapses}
 use Rattle.lake_batch.proofs.PartAnswers.{clean_in, free, has_moved, is_taken, may_have_moved, there}
+use Rattle.lake_batch.proofs.PartLaws.{part-short}
 use Rattle.lake_batch.proofs.PartCalls.{beside_publish}
 use Rattle.lake_batch.proofs.calls.publish.Goals as goal
 
@@ -27,3 +29,6 @@ returns-clause-elapses g c = λ told. part_elapses c.args.folder.now g.S.Store.t
 
 pub returns-clause-beside : goal.returns-clause-beside
 returns-clause-beside g c = beside_publish g.S.Store g.met.S.Store.only_now c.args.folder.now c.args.store.now c.publish.new.self c.publish.ensures.elapses c.publish.result c.as_str-from.result.now c.args.from.now c.as_str-to.result.now c.args.to.now (c.as_str-from.ensures.value ∙ c.in_ok-whole_from.ensures) (c.as_str-to.ensures.value ∙ c.in_ok-whole_to.ensures) c.publish.ensures.ok c.publish.ensures.taken c.publish.ensures.err
+
+pub returns-clause-short : goal.returns-clause-short
+returns-clause-short g c = λ told taken. part-short c.args.folder.now MAX_FILE_BYTES (g.S.Store.disk c.args.store.now).files (g.S.Store.disk c.publish.new.self).files (c.publish.ensures.short told taken)

@@ -1,6 +1,6 @@
-use Rattle.std.proofs.Common.{◌∙◌}
+use Rattle.std.proofs.Common.{◌∙◌, length}
 use Rattle.lake_batch.specs.PartImages.{part_elapses}
-use Rattle.lake_batch.proofs.PartAnswers.{has_written, is_elsewhere}
+use Rattle.lake_batch.proofs.PartAnswers.{has_written, is_elsewhere, stays_short}
 use Rattle.lake_batch.proofs.PartCalls.{beside_write}
 use Rattle.lake_batch.proofs.calls.write.Goals as goal
 
@@ -15,3 +15,6 @@ returns-clause-elapses g c = λ told. part_elapses c.args.folder.now g.S.Store.t
 
 pub returns-clause-beside : goal.returns-clause-beside
 returns-clause-beside g c = beside_write g.S.Store g.met.S.Store.only_now c.args.folder.now c.args.store.now c.write.new.self c.write.ensures.elapses c.write.result c.as_str.result.now c.args.path.now c.args.bytes.now (c.as_str.ensures.value ∙ c.in_ok-whole.ensures) c.write.ensures.ok c.write.ensures.err
+
+pub returns-clause-short : goal.returns-clause-short
+returns-clause-short g c = λ told. stays_short c.args.folder.now c.write.result (g.S.Store.disk c.args.store.now) (g.S.Store.disk c.write.new.self) (length c.args.bytes.now) (c.write.ensures.short told)

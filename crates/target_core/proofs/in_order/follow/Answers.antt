@@ -4,8 +4,10 @@ use Rattle.std.proofs.lemmas.Option.{slice_get-get_or}
 use Rattle.std.proofs.lemmas.Result.{err_from_is_err_and}
 use Rattle.std.specs.Prelude.{IfErr, is_ok, slice_get}
 use Rattle.std.specs.Option.{option_copied}
+use Rattle.lake_basics.specs.declared.limits.TheConstants.{MAX_FILE_BYTES}
 use Rattle.lake_store.specs.Disk.{Disk, Files}
 use Rattle.lake_store.specs.Runs.{IsEachMoment, IsOutside}
+use Rattle.lake_store.proofs.ShortLaws.{short_same, short_then}
 use Rattle.lake_store.proofs.RunLaws.{alone_by_reading, alone_further, reading_begins, reading_further}
 use Rattle.table_history.specs.declared.table.Commit.{Commit}
 use Rattle.target_core.specs.Folders.{folder_of}
@@ -37,6 +39,7 @@ loop-commit-init g c =
     record {
       alone = λ told. alone_by_reading store (IsOutside (folder_of (target.kind t))) s s (reading told);
       none = λ told none. reading told;
+      short = λ told. short_same MAX_FILE_BYTES (store.disk s).files (store.disk s).files refl;
       view = same_refl start;
       source = c.requires.source;
       can = c.requires.can;
@@ -98,6 +101,7 @@ loop-commit-preserved g c =
     record {
       alone = alone_further store (IsOutside (folder_of (target.kind t))) s mid c.commit.new.store so_far.alone step.alone;
       none = λ told none. absurd (omega (arith, none));
+      short = λ told. short_then MAX_FILE_BYTES (store.disk s).files (store.disk mid).files (store.disk c.commit.new.store).files (so_far.short told) (step.short told);
       view = advanced_take (target.image t) origin start commits i here commit next at so_far.view step.view;
       can = (can_here (target.image t) origin here commits i commit at so_far.can).1 next step.view;
       source = inr (standing_at origin commit.position, step.view.mark, refl);
@@ -123,6 +127,11 @@ loop-commit-preserved g c =
 pub returns-in_err-commit-clause-alone : goal.returns-in_err-commit-clause-alone
 returns-in_err-commit-clause-alone g c =
     alone_further g.S.Store (IsOutside (folder_of (g.T.Target.kind c.args.target.now))) c.args.store.now c.loop-commit.store c.commit.new.store c.loop-commit.invariant.alone c.in_err-commit.ensures.alone
+
+pub returns-in_err-commit-clause-short : goal.returns-in_err-commit-clause-short
+returns-in_err-commit-clause-short g c told =
+    let disk = g.S.Store.disk in
+    short_then MAX_FILE_BYTES (disk c.args.store.now).files (disk c.loop-commit.store).files (disk c.commit.new.store).files (c.loop-commit.invariant.short told) (c.in_err-commit.ensures.short told)
 
 pub returns-in_err-commit-clause-publishes : goal.returns-in_err-commit-clause-publishes
 returns-in_err-commit-clause-publishes g c told was settled =

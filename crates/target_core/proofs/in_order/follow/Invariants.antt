@@ -1,5 +1,7 @@
 use Rattle.std.proofs.Common.{◌≡◌, ℕ, take, drop, List, ◌++◌}
 use Rattle.std.specs.Option.{option_copied}
+use Rattle.lake_basics.specs.declared.limits.TheConstants.{MAX_FILE_BYTES}
+use Rattle.lake_store.specs.Disk.{AddsShort}
 use Rattle.lake_store.specs.Runs.{ChangesOnlyIn, FailsBy, IsUncontestedBy, OnlyReads}
 use Rattle.table_history.specs.declared.limit.LimitKind.{LimitKind}
 use Rattle.table_history.specs.declared.table.Commit.{Commit}
@@ -22,6 +24,7 @@ invariant-loop-commit g l =
     record {
       alone : store.tells → ChangesOnlyIn store (folder_of (target.kind t)) l.fn.store l.store;
       none : store.tells → i ≡ 0 → OnlyReads store l.fn.store l.store;
+      short : store.tells → AddsShort MAX_FILE_BYTES (store.disk l.fn.store).files (store.disk l.store).files;
       view : IsAdvancedAll (target.image t) origin start (take i l.commits) (target.view t l.kept);
       source : GoesOn l.source (target.view t l.kept);
       can : CanPublishAll (target.image t) origin (target.view t l.kept) (drop i l.commits);

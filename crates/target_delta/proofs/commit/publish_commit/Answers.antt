@@ -1,8 +1,10 @@
-use Rattle.std.proofs.Common.{◌≡◌, ℕ, suc, Bool, true, [], ◌∷◌, Err, refl, sym, ap, subst, arith}
-use Rattle.std.specs.Prelude.{is_ok}
+use Rattle.std.proofs.Common.{◌≡◌, ℕ, suc, Bool, true, List, [], ◌∷◌, Err, refl, sym, ap, subst, arith}
+use Rattle.std.specs.Prelude.{is_ok, length, ◌≤◌}
 use Rattle.std.specs.Option.{option_copied}
 use Rattle.std.proofs.lemmas.Result.{err_from_is_err_and}
+use Rattle.lake_basics.specs.declared.limits.TheConstants.{MAX_FILE_BYTES}
 use Rattle.lake_store.proofs.RunLaws.{reading_begins}
+use Rattle.lake_store.proofs.ShortLaws.{short_same}
 use Rattle.delta_table.specs.Versions.{IsVersionPath}
 use Rattle.target_core.specs.Outcome.{Uncontested}
 use Rattle.target_core.specs.Publishing.{Publishes}
@@ -295,3 +297,14 @@ returns-clause-came g c told id stands settled come =
     let v = subst (λ b. IsNewVersion origin c.args.now_ms kept c.args.commit.now b next) (sym c.as_slice.ensures.value) c.in_ok-version.ensures.is in
     as_left store old new told staged name bytes kept.commits is_staged named _ (c.in_ok-stage_and_publish.ensures.left told) c.in_ok-stage_and_publish.ensures.any_moment id origin c.args.now_ms kept next c.args.commit.now refl v c.requires.can c.requires.fits stands settled
     (c.in_ok-stage_and_publish.ensures.published told).file
+
+pub returns-in_err-version-clause-short : goal.returns-in_err-version-clause-short
+returns-in_err-version-clause-short g c told =
+    let files = (g.S.Store.disk c.args.store.now).files in
+    short_same MAX_FILE_BYTES files files refl
+
+pub returns-in_err-stage_and_publish-clause-short : goal.returns-in_err-stage_and_publish-clause-short
+returns-in_err-stage_and_publish-clause-short g c told = c.in_err-stage_and_publish.ensures.short told (subst (λ (b : List ℕ). length b ≤ MAX_FILE_BYTES) (sym c.as_slice.ensures.value) c.in_ok-version.ensures.short)
+
+pub returns-clause-short : goal.returns-clause-short
+returns-clause-short g c told = c.in_ok-stage_and_publish.ensures.short told (subst (λ (b : List ℕ). length b ≤ MAX_FILE_BYTES) (sym c.as_slice.ensures.value) c.in_ok-version.ensures.short)

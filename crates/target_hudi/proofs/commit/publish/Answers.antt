@@ -1,8 +1,9 @@
-use Rattle.std.proofs.Common.{◌≡◌, Bool, true, false, [], ◌∷◌, sym, ap, subst, ◌∙◌, arith}
-use Rattle.std.specs.Prelude.{is_ok}
+use Rattle.std.proofs.Common.{◌≡◌, ◌≤◌, ℕ, List, refl, Bool, true, false, [], ◌∷◌, sym, ap, subst, ◌∙◌, arith}
+use Rattle.std.specs.Prelude.{IfSome, Option, is_ok, length}
 use Rattle.std.specs.Option.{option_copied}
 use Rattle.std.proofs.lemmas.Result.{err_from_is_err_and}
-use Rattle.lake_basics.specs.declared.limits.TheConstants.{MAX_NAMES}
+use Rattle.lake_basics.specs.declared.limits.TheConstants.{MAX_FILE_BYTES, MAX_NAMES}
+use Rattle.lake_store.proofs.ShortLaws.{short_same}
 use Rattle.lake_store.proofs.RunLaws.{reading_begins}
 use Rattle.table_history.specs.declared.limit.LimitKind.TheVariants.{Names}
 use Rattle.target_core.specs.Outcome.{Uncontested, answer_of}
@@ -358,3 +359,20 @@ pub returns-clause-contest : goal.returns-clause-contest
 returns-clause-contest g c =
     contest_too g.S.Store.contests g.S.Store.may_contest c.args.store.now c.publish_commit.new.store _ _
     (λ taken. contested_error c.in-Err.error c.of_list.result c.of_list.ensures taken) (λ contested. taken_answer c.in-Err.error c.of_list.result c.of_list.ensures contested) c.in-Err.ensures.contest
+
+pub returns-in_err-new-clause-short : goal.returns-in_err-new-clause-short
+returns-in_err-new-clause-short g c told =
+    let files = (g.S.Store.disk c.args.store.now).files in
+    short_same MAX_FILE_BYTES files files refl
+
+pub returns-in-Ok-clause-short : goal.returns-in-Ok-clause-short
+returns-in-Ok-clause-short g c told =
+    c.publish_commit.ensures.short told
+    (subst (λ (o : Option (List ℕ)). IfSome o (λ bytes. length bytes ≤ MAX_FILE_BYTES)) (sym c.bytes_of-properties.ensures) c.in_ok-new.ensures.short_properties)
+    (subst (λ (bytes : List ℕ). length bytes ≤ MAX_FILE_BYTES) (sym c.as_slice.ensures.value) c.in_ok-new.ensures.short)
+
+pub returns-clause-short : goal.returns-clause-short
+returns-clause-short g c told =
+    c.publish_commit.ensures.short told
+    (subst (λ (o : Option (List ℕ)). IfSome o (λ bytes. length bytes ≤ MAX_FILE_BYTES)) (sym c.bytes_of-properties.ensures) c.in_ok-new.ensures.short_properties)
+    (subst (λ (bytes : List ℕ). length bytes ≤ MAX_FILE_BYTES) (sym c.as_slice.ensures.value) c.in_ok-new.ensures.short)

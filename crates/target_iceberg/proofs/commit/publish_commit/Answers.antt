@@ -1,4 +1,4 @@
-use Rattle.std.proofs.Common.{◌≡◌, ℕ, Bool, List, [], ◌∷◌, None, sym, ap, subst}
+use Rattle.std.proofs.Common.{◌≡◌, ℕ, Bool, List, [], ◌∷◌, None, refl, sym, ap, subst}
 use Rattle.std.specs.Prelude.{IsErrOf, is_ok}
 use Rattle.std.specs.FinMap as map
 use Rattle.std.specs.Option.{option_copied}
@@ -8,7 +8,9 @@ use Rattle.iceberg_version.specs.KeptEnd.{end_of, view_of}
 use Rattle.iceberg_version.specs.Writing.{Passes}
 use Rattle.iceberg_commit.specs.NextVersion.{IsNextVersion, VersionFiles}
 use Rattle.iceberg_commit.specs.NewVersion.{IsVersionRefusal}
+use Rattle.lake_basics.specs.declared.limits.TheConstants.{MAX_FILE_BYTES}
 use Rattle.lake_store.proofs.RunLaws.{reading_begins}
+use Rattle.lake_store.proofs.ShortLaws.{short_same}
 use Rattle.target_core.specs.Outcome.{Uncontested}
 use Rattle.target_core.specs.Publishing.{Publishes}
 use Rattle.target_core.specs.Views.{Origin}
@@ -85,8 +87,8 @@ returns-in_err-new-clause-contest g c =
 pub next_version-requires-clause-kinds : goal.next_version-requires-clause-kinds
 next_version-requires-clause-kinds g c = kinds_stay c.args.kept.now c.args.commit.now c.requires.fits
 
-pub publish_version-requires : goal.publish_version-requires
-publish_version-requires g c =
+pub publish_version-requires-clause-free : goal.publish_version-requires-clause-free
+publish_version-requires-clause-free g c =
     let kept = c.args.kept.now in
     let next = c.next_version.new.kept in
     let old = c.args.store.now in
@@ -96,7 +98,19 @@ publish_version-requires g c =
     let files : VersionFiles = record { version = made.version; manifests = c.as_slice-manifests.result.now; list = made.list; metadata = made.metadata } in
     let v : IsNextVersion kept origin c.args.now_ms commit files next =
     subst (λ (texts : List (List ℕ)). IsNextVersion kept origin c.args.now_ms commit (record { version = made.version; manifests = texts; list = made.list; metadata = made.metadata }) next) (sym c.as_slice-manifests.ensures.value) c.in_ok-new.ensures.is in
-    record { free = λ told. subst (λ (n : ℕ). map.get (g.S.Store.disk old).files (version_path n) ≡ None) (sym (number kept next origin c.args.now_ms commit files v)) (free_path (g.S.Store.disk old).files kept.version v.within (c.requires.counted told)) }
+    λ told. subst (λ (n : ℕ). map.get (g.S.Store.disk old).files (version_path n) ≡ None) (sym (number kept next origin c.args.now_ms commit files v)) (free_path (g.S.Store.disk old).files kept.version v.within (c.requires.counted told))
+
+pub publish_version-requires-clause-short : goal.publish_version-requires-clause-short
+publish_version-requires-clause-short g c =
+    let kept = c.args.kept.now in
+    let next = c.next_version.new.kept in
+    let commit = c.args.commit.now in
+    let origin : Origin = record { source = c.args.source; table = option_copied c.args.table } in
+    let made = c.in_ok-new.new in
+    let files : VersionFiles = record { version = made.version; manifests = c.as_slice-manifests.result.now; list = made.list; metadata = made.metadata } in
+    let v : IsNextVersion kept origin c.args.now_ms commit files next =
+    subst (λ (texts : List (List ℕ)). IsNextVersion kept origin c.args.now_ms commit (record { version = made.version; manifests = texts; list = made.list; metadata = made.metadata }) next) (sym c.as_slice-manifests.ensures.value) c.in_ok-new.ensures.is in
+    v.short
 
 pub returns-clause-counted : goal.returns-clause-counted
 returns-clause-counted g c told =
@@ -240,3 +254,11 @@ returns-clause-ahead g c =
     let v : IsNextVersion kept origin c.args.now_ms commit files next =
     subst (λ (texts : List (List ℕ)). IsNextVersion kept origin c.args.now_ms commit (record { version = made.version; manifests = texts; list = made.list; metadata = made.metadata }) next) (sym c.as_slice-manifests.ensures.value) c.in_ok-new.ensures.is in
     on_ok c.publish_version.result _ (λ is. passes_behind kept next origin c.args.now_ms commit files v)
+
+pub returns-in_err-new-clause-short : goal.returns-in_err-new-clause-short
+returns-in_err-new-clause-short g c told =
+    let files = (g.S.Store.disk c.args.store.now).files in
+    short_same MAX_FILE_BYTES files files refl
+
+pub returns-clause-short : goal.returns-clause-short
+returns-clause-short g c told = c.publish_version.ensures.short told

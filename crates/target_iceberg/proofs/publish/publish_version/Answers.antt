@@ -1,6 +1,9 @@
-use Rattle.std.proofs.Common.{◌≡◌, Bool, true, false, length, Err, arith, subst, sym, ap, ◌∙◌}
+use Rattle.std.proofs.Common.{◌≡◌, List, ℕ, Bool, true, false, length, Err, arith, refl, subst, sym, ap, ◌∙◌}
 use Rattle.std.specs.Prelude.{IsErrOf, is_ok, is_some}
 use Rattle.std.specs.FinMap as map
+use Rattle.lake_basics.specs.declared.limits.TheConstants.{MAX_FILE_BYTES}
+use Rattle.lake_store.proofs.ShortLaws.{short_publish, short_same, short_sync, short_then, short_write}
+use Rattle.iceberg_commit.specs.Texts.{IsShort}
 use Rattle.std.proofs.lemmas.Bool.{false≢true}
 use Rattle.std.proofs.lemmas.Result.{err_from_is_err_and}
 use Rattle.iceberg_table.specs.Folder.{metadata_folder, path_of, version_path}
@@ -372,3 +375,125 @@ returns-clause-alone g c told =
     let s₅ = c.publish.new.self in
     alone_of_fewer store (IsOther new) (IsOutside metadata_folder) s₀ s₅ (outside_other new) (published_as store told only_now new s₀ s₄ s₅ so_far w c.publish.ensures.elapses c.as_str-3.result.now c.as_str-4.result.now staged_is path_is c.publish.result c.publish.ensures.ok c.publish.ensures.taken c.publish.ensures.err
     ⊥ ⊥ false (λ never. absurd never) (λ never. absurd never) (λ never. absurd (false≢true never))).others
+
+pub returns-in_err-manifest_paths-clause-short : goal.returns-in_err-manifest_paths-clause-short
+returns-in_err-manifest_paths-clause-short g c told =
+    let files = (g.S.Store.disk c.args.store.now).files in
+    short_same MAX_FILE_BYTES files files refl
+
+pub returns-in_err-list_path-clause-short : goal.returns-in_err-list_path-clause-short
+returns-in_err-list_path-clause-short g c told =
+    let files = (g.S.Store.disk c.args.store.now).files in
+    short_same MAX_FILE_BYTES files files refl
+
+pub returns-in_err-staged_path-clause-short : goal.returns-in_err-staged_path-clause-short
+returns-in_err-staged_path-clause-short g c told =
+    let files = (g.S.Store.disk c.args.store.now).files in
+    short_same MAX_FILE_BYTES files files refl
+
+pub returns-in_err-path-clause-short : goal.returns-in_err-path-clause-short
+returns-in_err-path-clause-short g c told =
+    let files = (g.S.Store.disk c.args.store.now).files in
+    short_same MAX_FILE_BYTES files files refl
+
+pub write_manifests-requires-clause-short : goal.write_manifests-requires-clause-short
+write_manifests-requires-clause-short g c = c.requires.short.manifests_are
+
+pub returns-in_err-write_manifests-clause-short : goal.returns-in_err-write_manifests-clause-short
+returns-in_err-write_manifests-clause-short g c told = c.write_manifests.ensures.short told
+
+pub returns-in_err-write-clause-short : goal.returns-in_err-write-clause-short
+returns-in_err-write-clause-short g c told =
+    let disk = g.S.Store.disk in
+    let s₀ = c.args.store.now in
+    let s₁ = c.write_manifests.new.store in
+    let s₂ = c.write.new.self in
+    let list_short : IsShort c.as_slice-2.result.now = subst IsShort (sym c.as_slice-2.ensures.value) c.requires.short.list_is in
+    let so_far₂ = short_then MAX_FILE_BYTES (disk s₀).files (disk s₁).files (disk s₂).files (c.write_manifests.ensures.short told)
+    (short_write c.write.result MAX_FILE_BYTES (disk s₁) (disk s₂) c.as_str.result.now c.as_slice-2.result.now list_short (c.write.ensures.ok told) (c.write.ensures.short told)) in
+    so_far₂
+
+pub returns-in_err-write-2-clause-short : goal.returns-in_err-write-2-clause-short
+returns-in_err-write-2-clause-short g c told =
+    let disk = g.S.Store.disk in
+    let s₀ = c.args.store.now in
+    let s₁ = c.write_manifests.new.store in
+    let s₂ = c.write.new.self in
+    let list_short : IsShort c.as_slice-2.result.now = subst IsShort (sym c.as_slice-2.ensures.value) c.requires.short.list_is in
+    let so_far₂ = short_then MAX_FILE_BYTES (disk s₀).files (disk s₁).files (disk s₂).files (c.write_manifests.ensures.short told)
+    (short_write c.write.result MAX_FILE_BYTES (disk s₁) (disk s₂) c.as_str.result.now c.as_slice-2.result.now list_short (c.write.ensures.ok told) (c.write.ensures.short told)) in
+    let s₃ = c.write-2.new.self in
+    let metadata_short : IsShort c.as_slice-3.result.now = subst IsShort (sym c.as_slice-3.ensures.value) c.requires.short.metadata_is in
+    let so_far₃ = short_then MAX_FILE_BYTES (disk s₀).files (disk s₂).files (disk s₃).files so_far₂
+    (short_write c.write-2.result MAX_FILE_BYTES (disk s₂) (disk s₃) c.as_str-2.result.now c.as_slice-3.result.now metadata_short (c.write-2.ensures.ok told) (c.write-2.ensures.short told)) in
+    so_far₃
+
+pub returns-in_err-sync-clause-short : goal.returns-in_err-sync-clause-short
+returns-in_err-sync-clause-short g c told =
+    let disk = g.S.Store.disk in
+    let s₀ = c.args.store.now in
+    let s₁ = c.write_manifests.new.store in
+    let s₂ = c.write.new.self in
+    let list_short : IsShort c.as_slice-2.result.now = subst IsShort (sym c.as_slice-2.ensures.value) c.requires.short.list_is in
+    let so_far₂ = short_then MAX_FILE_BYTES (disk s₀).files (disk s₁).files (disk s₂).files (c.write_manifests.ensures.short told)
+    (short_write c.write.result MAX_FILE_BYTES (disk s₁) (disk s₂) c.as_str.result.now c.as_slice-2.result.now list_short (c.write.ensures.ok told) (c.write.ensures.short told)) in
+    let s₃ = c.write-2.new.self in
+    let metadata_short : IsShort c.as_slice-3.result.now = subst IsShort (sym c.as_slice-3.ensures.value) c.requires.short.metadata_is in
+    let so_far₃ = short_then MAX_FILE_BYTES (disk s₀).files (disk s₂).files (disk s₃).files so_far₂
+    (short_write c.write-2.result MAX_FILE_BYTES (disk s₂) (disk s₃) c.as_str-2.result.now c.as_slice-3.result.now metadata_short (c.write-2.ensures.ok told) (c.write-2.ensures.short told)) in
+    let s₄ = c.sync.new.self in
+    let so_far₄ = short_then MAX_FILE_BYTES (disk s₀).files (disk s₃).files (disk s₄).files so_far₃
+    (short_sync c.sync.result MAX_FILE_BYTES (disk s₃) (disk s₄) (c.sync.ensures.ok told) (c.sync.ensures.err told)) in
+    so_far₄
+
+pub returns-in_err-publish-clause-short : goal.returns-in_err-publish-clause-short
+returns-in_err-publish-clause-short g c told =
+    let disk = g.S.Store.disk in
+    let s₀ = c.args.store.now in
+    let s₁ = c.write_manifests.new.store in
+    let s₂ = c.write.new.self in
+    let list_short : IsShort c.as_slice-2.result.now = subst IsShort (sym c.as_slice-2.ensures.value) c.requires.short.list_is in
+    let so_far₂ = short_then MAX_FILE_BYTES (disk s₀).files (disk s₁).files (disk s₂).files (c.write_manifests.ensures.short told)
+    (short_write c.write.result MAX_FILE_BYTES (disk s₁) (disk s₂) c.as_str.result.now c.as_slice-2.result.now list_short (c.write.ensures.ok told) (c.write.ensures.short told)) in
+    let s₃ = c.write-2.new.self in
+    let metadata_short : IsShort c.as_slice-3.result.now = subst IsShort (sym c.as_slice-3.ensures.value) c.requires.short.metadata_is in
+    let so_far₃ = short_then MAX_FILE_BYTES (disk s₀).files (disk s₂).files (disk s₃).files so_far₂
+    (short_write c.write-2.result MAX_FILE_BYTES (disk s₂) (disk s₃) c.as_str-2.result.now c.as_slice-3.result.now metadata_short (c.write-2.ensures.ok told) (c.write-2.ensures.short told)) in
+    let s₄ = c.sync.new.self in
+    let so_far₄ = short_then MAX_FILE_BYTES (disk s₀).files (disk s₃).files (disk s₄).files so_far₃
+    (short_sync c.sync.result MAX_FILE_BYTES (disk s₃) (disk s₄) (c.sync.ensures.ok told) (c.sync.ensures.err told)) in
+    let s₅ = c.publish.new.self in
+    let new : VersionFiles = record { version = c.args.version; manifests = c.args.manifests.now; list = c.args.list.now; metadata = c.args.metadata.now } in
+    let are = subst (AreManifestPaths c.args.version (length c.args.manifests.now)) (sym c.as_slice.ensures.value) c.in_ok-manifest_paths.ensures in
+    let w = written_aside new c.as_slice.result.now are (disk s₁) (disk s₂) (disk s₃) (disk s₄) (c.in_ok-write_manifests.ensures.written told)
+    c.as_str.result.now c.as_slice-2.result.now (c.as_str.ensures.value ∙ c.in_ok-list_path.ensures) c.as_slice-2.ensures.value (c.in_ok-write.ensures.ok told)
+    c.as_str-2.result.now c.as_slice-3.result.now (c.as_str-2.ensures.value ∙ c.in_ok-staged_path.ensures) c.as_slice-3.ensures.value (c.in_ok-write-2.ensures.ok told) (c.in_ok-sync.ensures.ok told) in
+    let staged_file = ap (λ (p : List ℕ). map.get (disk s₄).files p) (c.as_str-3.ensures.value ∙ c.in_ok-staged_path.ensures) ∙ w.staged in
+    short_then MAX_FILE_BYTES (disk s₀).files (disk s₄).files (disk s₅).files so_far₄
+    (short_publish c.publish.result (disk s₄) (disk s₅) c.as_str-3.result.now c.as_str-4.result.now c.args.metadata.now staged_file c.requires.short.metadata_is (c.publish.ensures.ok told) (c.publish.ensures.taken told) (c.publish.ensures.err told) (c.publish.ensures.short told))
+
+pub returns-clause-short : goal.returns-clause-short
+returns-clause-short g c told =
+    let disk = g.S.Store.disk in
+    let s₀ = c.args.store.now in
+    let s₁ = c.write_manifests.new.store in
+    let s₂ = c.write.new.self in
+    let list_short : IsShort c.as_slice-2.result.now = subst IsShort (sym c.as_slice-2.ensures.value) c.requires.short.list_is in
+    let so_far₂ = short_then MAX_FILE_BYTES (disk s₀).files (disk s₁).files (disk s₂).files (c.write_manifests.ensures.short told)
+    (short_write c.write.result MAX_FILE_BYTES (disk s₁) (disk s₂) c.as_str.result.now c.as_slice-2.result.now list_short (c.write.ensures.ok told) (c.write.ensures.short told)) in
+    let s₃ = c.write-2.new.self in
+    let metadata_short : IsShort c.as_slice-3.result.now = subst IsShort (sym c.as_slice-3.ensures.value) c.requires.short.metadata_is in
+    let so_far₃ = short_then MAX_FILE_BYTES (disk s₀).files (disk s₂).files (disk s₃).files so_far₂
+    (short_write c.write-2.result MAX_FILE_BYTES (disk s₂) (disk s₃) c.as_str-2.result.now c.as_slice-3.result.now metadata_short (c.write-2.ensures.ok told) (c.write-2.ensures.short told)) in
+    let s₄ = c.sync.new.self in
+    let so_far₄ = short_then MAX_FILE_BYTES (disk s₀).files (disk s₃).files (disk s₄).files so_far₃
+    (short_sync c.sync.result MAX_FILE_BYTES (disk s₃) (disk s₄) (c.sync.ensures.ok told) (c.sync.ensures.err told)) in
+    let s₅ = c.publish.new.self in
+    let new : VersionFiles = record { version = c.args.version; manifests = c.args.manifests.now; list = c.args.list.now; metadata = c.args.metadata.now } in
+    let are = subst (AreManifestPaths c.args.version (length c.args.manifests.now)) (sym c.as_slice.ensures.value) c.in_ok-manifest_paths.ensures in
+    let w = written_aside new c.as_slice.result.now are (disk s₁) (disk s₂) (disk s₃) (disk s₄) (c.in_ok-write_manifests.ensures.written told)
+    c.as_str.result.now c.as_slice-2.result.now (c.as_str.ensures.value ∙ c.in_ok-list_path.ensures) c.as_slice-2.ensures.value (c.in_ok-write.ensures.ok told)
+    c.as_str-2.result.now c.as_slice-3.result.now (c.as_str-2.ensures.value ∙ c.in_ok-staged_path.ensures) c.as_slice-3.ensures.value (c.in_ok-write-2.ensures.ok told) (c.in_ok-sync.ensures.ok told) in
+    let staged_file = ap (λ (p : List ℕ). map.get (disk s₄).files p) (c.as_str-3.ensures.value ∙ c.in_ok-staged_path.ensures) ∙ w.staged in
+    short_then MAX_FILE_BYTES (disk s₀).files (disk s₄).files (disk s₅).files so_far₄
+    (short_publish c.publish.result (disk s₄) (disk s₅) c.as_str-3.result.now c.as_str-4.result.now c.args.metadata.now staged_file c.requires.short.metadata_is (c.publish.ensures.ok told) (c.publish.ensures.taken told) (c.publish.ensures.err told) (c.publish.ensures.short told))
