@@ -2,7 +2,7 @@
 
 ghost use Rattle.std.specs.Prelude.{◌≡◌, ◌++◌, [], Ok, Some, IfOk, IsErrOf, codes, option_map, option_to_list};
 ghost use Rattle.serde_json.specs.Find.{get};
-ghost use Rattle.serde_json.specs.View.{view, items_view, members_view};
+ghost use Rattle.json_outline.specs.View.{view, items_view, members_view, sorted_view};
 ghost use Rattle.json_reading.specs.Json.{items, pairs, present, text, json};
 ghost use Rattle.lake_basics.specs.Outcome.{required};
 ghost use Rattle.hudi_names.specs.Errors.{Gives, GivesBy, malformed};
@@ -13,10 +13,12 @@ ghost use Rattle.hudi_instant.specs.declared.instant.Instant.{Instant};
 ghost use Rattle.hudi_instant.specs.Instants.{size_number, text_member, data_path, within_actions, size, stat, with_stats, with_partitions, with_ids, with_replaced, replaced, extra_text, instant, json_instant};
 
 use hudi_names::{HudiError, MALFORMED};
-use json_reading::{count_in, present_of, read_json, text_of};
+use json::Scratch;
+use json_outline::{
+    Members, Node, SortedMembers, count_in, present_of, read_json, sorted_members, text_of,
+};
 use lake_basics::limits::MAX_ACTIONS;
 use lake_basics::{Items, ReadError, Text};
-use serde_json::{Map, Value};
 use std::alloc::Global;
 use table_history::{LimitKind, path_form_of_any_length};
 
@@ -39,14 +41,14 @@ pub struct Instant {
     pub mark: Option<Text>,
 }
 
-fn text_in(alloc: Global, value: &Value) -> Result<Text, HudiError>
+fn text_in(alloc: Global, value: &Node<'_>) -> Result<Text, HudiError>
     ensures { Gives result (text malformed (view value.now)) }
 {
     let text = value.as_str().ok_or(MALFORMED)?;
     Ok(Text::from_str(alloc, text)?)
 }
 
-fn required_text(alloc: Global, value: &Value, name: &str) -> Result<Text, HudiError>
+fn required_text(alloc: Global, value: &Node<'_>, name: &str) -> Result<Text, HudiError>
     ensures { Gives result (text_member name.now (view value.now)) }
 {
     let member = value.get(name).ok_or(MALFORMED)?;
@@ -54,7 +56,7 @@ fn required_text(alloc: Global, value: &Value, name: &str) -> Result<Text, HudiE
 }
 
 /// The path of a data file, which may yet be too long.
-fn data_path(alloc: Global, value: &Value) -> Result<Text, HudiError>
+fn data_path(alloc: Global, value: &Node<'_>) -> Result<Text, HudiError>
     ensures { Gives result (data_path (view value.now)) }
 {
     let path = text_in(alloc, value)?;
@@ -66,14 +68,14 @@ fn data_path(alloc: Global, value: &Value) -> Result<Text, HudiError>
 }
 
 /// The whole number from 0 to 2^63 - 1 that the value is.
-fn size_in(value: &Value) -> Option<u64>
+fn size_in(value: &Node<'_>) -> Option<u64>
     ensures { result ≡ size_number (view value.now) }
 {
     let number = count_in(value)?;
     if number < 1 << 63 { Some(number) } else { None }
 }
 
-fn size_of_stat(value: &Value) -> Result<u64, HudiError>
+fn size_of_stat(value: &Node<'_>) -> Result<u64, HudiError>
     ensures { Gives result (size (get (codes "fileSizeInBytes") (view value.now))) }
 {
     match value.get("fileSizeInBytes") {
@@ -84,7 +86,7 @@ fn size_of_stat(value: &Value) -> Result<u64, HudiError>
 
 /// The write stat, or None where it names no file.
 #[tactic(auto, unfolding(crate::specs::Instants::stat))]
-fn stat_of(alloc: Global, value: &Value) -> Result<Option<Stat>, HudiError>
+fn stat_of(alloc: Global, value: &Node<'_>) -> Result<Option<Stat>, HudiError>
     ensures { Gives result (stat (view value.now)) }
 {
     if !value.is_object() {
@@ -121,7 +123,7 @@ fn push_if_any(stats: Items<Stat>, stat: Option<Stat>) -> Result<Items<Stat>, Hu
 fn with_stats(
     alloc: Global,
     stats: Items<Stat>,
-    list: &Vec<Value>,
+    list: &Vec<Node<'_>>,
 ) -> Result<Items<Stat>, HudiError>
     ensures { Gives result (with_stats stats (items (items_view list.now.items))) }
 {
@@ -133,22 +135,28 @@ fn with_stats(
     Ok(found)
 }
 
-fn stats_of(alloc: Global, members: &Map<String, Value>) -> Result<Items<Stat>, HudiError>
-    ensures { Gives result (with_partitions [] (pairs (members_view members.now.entries))) }
+fn stats_in(alloc: Global, sorted: &SortedMembers<'_, '_>) -> Result<Items<Stat>, HudiError>
+    ensures { Gives result (with_partitions [] (pairs (sorted_view sorted.now.entries))) }
 {
     let mut found = Items::new(alloc);
-    for (_, value) in members {
+    for (_, value) in sorted {
         let list = value.as_array().ok_or(MALFORMED)?;
         found = with_stats(alloc, found, list)?;
     }
     Ok(found)
 }
 
+fn stats_of(alloc: Global, members: &Members<'_>) -> Result<Items<Stat>, HudiError>
+    ensures { Gives result (with_partitions [] (pairs (members_view members.now.items))) }
+{
+    stats_in(alloc, &sorted_members(alloc, members)?)
+}
+
 fn with_ids(
     alloc: Global,
     replaced: Items<(Text, Text)>,
     partition: &str,
-    list: &Vec<Value>,
+    list: &Vec<Node<'_>>,
 ) -> Result<Items<(Text, Text)>, HudiError>
     ensures { Gives result (with_ids replaced partition.now (items (items_view list.now.items))) }
 {
@@ -161,21 +169,24 @@ fn with_ids(
     Ok(found)
 }
 
-fn replaced_of(
-    alloc: Global,
-    members: &Map<String, Value>,
-) -> Result<Items<(Text, Text)>, HudiError>
-    ensures { Gives result (with_replaced [] (pairs (members_view members.now.entries))) }
+fn ids_in(alloc: Global, sorted: &SortedMembers<'_, '_>) -> Result<Items<(Text, Text)>, HudiError>
+    ensures { Gives result (with_replaced [] (pairs (sorted_view sorted.now.entries))) }
 {
     let mut found = Items::new(alloc);
-    for (partition, value) in members {
+    for (partition, value) in sorted {
         let list = value.as_array().ok_or(MALFORMED)?;
-        found = with_ids(alloc, found, partition.as_str(), list)?;
+        found = with_ids(alloc, found, *partition, list)?;
     }
     Ok(found)
 }
 
-fn replaced_in(alloc: Global, value: &Value) -> Result<Items<(Text, Text)>, HudiError>
+fn replaced_of(alloc: Global, members: &Members<'_>) -> Result<Items<(Text, Text)>, HudiError>
+    ensures { Gives result (with_replaced [] (pairs (members_view members.now.items))) }
+{
+    ids_in(alloc, &sorted_members(alloc, members)?)
+}
+
+fn replaced_in(alloc: Global, value: &Node<'_>) -> Result<Items<(Text, Text)>, HudiError>
     ensures { Gives result (replaced (present (codes "partitionToReplaceFileIds") (view value.now))) }
 {
     match present_of(value, "partitionToReplaceFileIds") {
@@ -185,7 +196,11 @@ fn replaced_in(alloc: Global, value: &Value) -> Result<Items<(Text, Text)>, Hudi
 }
 
 /// A text of the extra metadata, where that is there.
-fn extra_text(alloc: Global, extra: Option<&Value>, name: &str) -> Result<Option<Text>, HudiError>
+fn extra_text(
+    alloc: Global,
+    extra: Option<&Node<'_>>,
+    name: &str,
+) -> Result<Option<Text>, HudiError>
     ensures { Gives result (extra_text (option_map (λ v. view v.now) extra.entry) name.now) }
 {
     let Some(extra) = extra else {
@@ -201,7 +216,7 @@ fn extra_text(alloc: Global, extra: Option<&Value>, name: &str) -> Result<Option
 }
 
 /// The mark in the extra metadata. What isn't a text there is none.
-fn mark_in(alloc: Global, extra: Option<&Value>) -> Result<Option<Text>, HudiError>
+fn mark_in(alloc: Global, extra: Option<&Node<'_>>) -> Result<Option<Text>, HudiError>
     ensures { Gives result (Ok (mark_in (option_map (λ v. view v.now) extra.entry))) }
 {
     let Some(extra) = extra else {
@@ -214,7 +229,7 @@ fn mark_in(alloc: Global, extra: Option<&Value>) -> Result<Option<Text>, HudiErr
 }
 
 #[tactic(auto, unfolding(crate::specs::Instants::instant))]
-fn instant_in(alloc: Global, value: &Value) -> Result<Instant, HudiError>
+fn instant_in(alloc: Global, value: &Node<'_>) -> Result<Instant, HudiError>
     ensures { Gives result (instant (view value.now)) }
 {
     if !value.is_object() {
@@ -235,10 +250,14 @@ fn instant_in(alloc: Global, value: &Value) -> Result<Instant, HudiError>
 }
 
 #[tactic(auto, using(hudi_names::proofs::ErrorLemmas::fault_given))]
-fn json_of(alloc: Global, bytes: &[u8]) -> Result<Value, HudiError>
+fn json_of<'t>(
+    alloc: Global,
+    scratch: &'t mut Scratch<Global>,
+    bytes: &'t [u8],
+) -> Result<Node<'t>, HudiError>
     ensures { GivesBy view result (required malformed (json bytes.now)) }
 {
-    match read_json(alloc, bytes, MALFORMED) {
+    match read_json(alloc, scratch, bytes, MALFORMED) {
         Ok(value) => Ok(value),
         Err(ReadError::Memory) => Err(HudiError::Memory),
         Err(ReadError::Fault(fault)) => Err(fault),
@@ -261,7 +280,8 @@ pub fn read_instant(alloc: Global, bytes: &[u8]) -> Result<Instant, HudiError>
 fn instant_of(alloc: Global, bytes: &[u8]) -> Result<Instant, HudiError>
     ensures { Gives result (json_instant bytes.now) }
 {
-    let value = json_of(alloc, bytes)?;
+    let mut scratch = Scratch::new(alloc);
+    let value = json_of(alloc, &mut scratch, bytes)?;
     let instant = instant_in(alloc, &value)?;
     within_actions(instant)
 }

@@ -1,5 +1,5 @@
 use Rattle.std.proofs.Common.{◌≡◌, drop}
-use Rattle.serde_json.specs.View.{items_view}
+use Rattle.json_outline.specs.View.{items_view}
 use Rattle.json_reading.specs.Json.{items}
 use Rattle.hudi_instant.specs.Instants.{with_stats}
 use Rattle.hudi_instant.proofs.instant.with_stats.Given as goal

@@ -1,0 +1,10 @@
+use Rattle.std.proofs.Common.{◌≡◌, ◌≤◌, length, take}
+use Rattle.serde_json.specs.Find.{get_member}
+use Rattle.json_outline.specs.View.{members_view}
+use Rattle.json_outline.proofs.node.last_named.Given as goal
+
+abbrev pub invariant-members : goal.invariant-members
+invariant-members l = (get_member l.name (members_view l.members.items) ≡ get_member l.name (members_view (take l.left l.members.items))) × (l.left ≤ length l.members.items)
+
+abbrev pub decreases-members : goal.decreases-members
+decreases-members l = l.left
