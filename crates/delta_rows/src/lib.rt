@@ -11,14 +11,16 @@
 //!
 //! Those on the store are:
 //!
-//! - `file PATH` puts the lines below it, `file PATH unended` without the last newline, and `empty versions
-//!   FIRST to LAST` a version without a line at each of these numbers; `show PATH` shows a file, and `stop
-//!   at call NUMBER` lets all calls of the store from this one on fail, counted from 0;
+//! - `file PATH` puts the lines below it, `file PATH unended` without the last newline, `file PATH filled
+//!   to NUMBER bytes` with so many newlines behind them, and `empty versions FIRST to LAST` a version without
+//!   a line at each of these numbers; `show PATH` shows a file, and `stop at call NUMBER` lets all calls of
+//!   the store from this one on fail, counted from 0;
 //! - `versions` shows which versions are there, and `log VERSION` what the log says up to this one;
 //! - `compacted table in NUMBER calls` writes the log compactions, and shows the table that is read with them in
 //!   so many calls of the store;
-//! - `head`, `table` and `since POSITION` show what the source tells; `base` gives the table that commits are
-//!   read over, in the lines below it;
+//! - `head`, `table` and `since POSITION` show what the source tells, and `table in NUMBER calls` the table
+//!   that it tells in so many calls of the store behind those that find the head; `base` gives the table that
+//!   commits are read over, in the lines below it;
 //! - `inspect for SOURCE` shows what the target tells, `fits COLUMN ..` whether the commits below it fit a
 //!   target that has none yet, and `publish POSITION from SOURCE` publishes what leads to the table below it.
 //!

@@ -3,9 +3,11 @@ use delta_compact::{CompactFault, compact, whole_compacted};
 use delta_table::{Log, list_versions, read_log};
 use lake_basics::limits::MAX_DELTA_VERSION;
 use lake_store::{FuseStore, Store};
+use source_core::Source;
+use source_delta::DeltaSource;
 use std::alloc::{AllocError, Global};
 use table_history::Table;
-use table_rows::{show_line, show_table};
+use table_rows::{show_line, show_source_error, show_table};
 
 /// Adds which versions of the log are there.
 pub(crate) fn tell_versions(
@@ -69,6 +71,28 @@ pub(crate) fn tell_compacted(
     match table {
         Ok(table) => show_table(alloc, &table, shown),
         Err(error) => show_line(shown, format!(in alloc; "{error}")?.as_str()),
+    }
+}
+
+/// Adds the table at the source's head, or why it isn't read in so many calls of the store behind those
+/// that find the head.
+pub(crate) fn tell_whole(
+    alloc: Global,
+    store: &mut FuseStore,
+    calls: u64,
+    shown: &mut String,
+) -> Result<(), AllocError> {
+    let source = DeltaSource::new();
+    let head = match source.head(alloc, store) {
+        Ok(head) => head,
+        Err(error) => return show_source_error(alloc, &error, shown),
+    };
+    store.set_stop(Some(calls));
+    let table = source.whole(alloc, store, &head);
+    store.set_stop(None);
+    match table {
+        Ok(table) => show_table(alloc, &table, shown),
+        Err(error) => show_source_error(alloc, &error, shown),
     }
 }
 

@@ -3,7 +3,7 @@ use crate::commits::{
     NOW_MS, tell_commit, tell_cuts, tell_first, tell_name, tell_next, tell_text, tell_version,
 };
 use crate::compactions::CompactionSteps;
-use crate::logs::{tell_compacted, tell_file, tell_log, tell_versions};
+use crate::logs::{tell_compacted, tell_file, tell_log, tell_versions, tell_whole};
 use delta_table::version_path;
 use lake_basics::limits::MAX_DELTA_VERSION;
 use lake_basics::{Items, Text};
@@ -98,14 +98,32 @@ impl DeltaSteps {
                 let text = text.as_str().trim_end_matches('\n');
                 self.store.inner().put(path, text.as_bytes())?;
             }
+            ["file", path, "filled", "to", length, "bytes"] => {
+                return self.put_filled(path, text.as_str(), length);
+            }
             ["empty", "versions", first, "to", last] => return self.put_versions(first, last),
             ["show", path] => tell_file(self.alloc, &mut self.store, path, shown)?,
             ["stop", "at", "call", number] => return self.stop(number),
             ["versions"] => tell_versions(self.alloc, &mut self.store, shown)?,
             ["log", version] => return self.log(version, shown),
             ["compacted", "table", "in", number, "calls"] => return self.compacted(number, shown),
+            ["table", "in", number, "calls"] => return self.whole(number, shown),
             _ => return Ok(false),
         }
+        Ok(true)
+    }
+
+    /// Puts the text with so many newlines behind it that the file has this length.
+    fn put_filled(&mut self, path: &str, text: &str, length: &str) -> Result<bool, AllocError> {
+        let Ok(length) = length.parse::<usize>() else {
+            return Ok(false);
+        };
+        let mut bytes = Vec::new(self.alloc);
+        bytes.extend_from_slice(text.as_bytes())?;
+        for _ in text.len()..length {
+            bytes.push(b'\n')?;
+        }
+        self.store.inner().put(path, bytes.as_slice())?;
         Ok(true)
     }
 
@@ -145,6 +163,14 @@ impl DeltaSteps {
             return Ok(false);
         };
         tell_compacted(self.alloc, &mut self.store, calls, shown)?;
+        Ok(true)
+    }
+
+    fn whole(&mut self, calls: &str, shown: &mut String) -> Result<bool, AllocError> {
+        let Ok(calls) = calls.parse::<u64>() else {
+            return Ok(false);
+        };
+        tell_whole(self.alloc, &mut self.store, calls, shown)?;
         Ok(true)
     }
 

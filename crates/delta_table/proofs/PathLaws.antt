@@ -8,7 +8,7 @@ use Rattle.std.proofs.lemmas.List.Elements.{All-contains, All-from_recursion, Co
 use Rattle.std.proofs.lemmas.Str.Parse.{digit_at, digit_from_value}
 use Rattle.std.proofs.lemmas.Bool.Decides.{nat_tests}
 use Rattle.std.specs.Prelude.{IsSome, nat_lt}
-use Rattle.lake_store.specs.Disk.{Files, HasLength, IsName, ListsFolder}
+use Rattle.lake_store.specs.Disk.{Files, IsName, ListsFolder}
 use Rattle.delta_log.specs.VersionName.{IsVersionDigits, IsVersionName}
 use Rattle.delta_log.specs.declared.commit.DeltaCommit.{DeltaCommit}
 use Rattle.delta_log.specs.declared.error.DeltaError.{DeltaError}
@@ -17,8 +17,7 @@ use Rattle.delta_log.proofs.ReadableLemmas.{is_read}
 use Rattle.delta_log.proofs.VersionLemmas.{parts_of}
 use Rattle.delta_table.specs.Versions.{IsNamed, IsVersionPath, HoldsVersion, HasVersion, log_folder}
 use Rattle.delta_table.specs.Log.{SaysCommit}
-use Rattle.delta_table.specs.Refusals.{IsVersionRefusal, error_of_read}
-use Rattle.lake_basics.specs.declared.limits.TheConstants.{MAX_FILE_BYTES}
+use Rattle.delta_table.specs.Refusals.{IsVersionRefusal, TellsOf, error_of_read}
 use Rattle.lake_store.specs.declared.store.StoreError.{StoreError}
 use Rattle.lake_store.specs.declared.store.StoreError.TheVariants as store
 
@@ -96,16 +95,18 @@ missing_here files version path is none held =
     none_some : (b : List ℕ) → None ≡ Some b → ⊥
     none_some b e = cc
 
--- what is told of a version's file that the store refuses
-pub read_refused : (files : Files) (version : ℕ) (path : List ℕ) (e : StoreError) → IsVersionPath path version → ((n : ℕ) → e ≡ store.TooLong n → (MAX_FILE_BYTES < n) × HasLength files path n)
-    → IsVersionRefusal files version (error_of_read version e)
-read_refused files version path store.Memory is long = tt
-read_refused files version path store.Failed is long = tt
-read_refused files version path (store.TooLong n) is long =
-    let few = (long n refl).0 in
-    let has = (long n refl).1 in
-    (refl, (has.0, record { path = path; is = is; there = has.1 }, subst (λ k. MAX_FILE_BYTES < k) has.2 few))
-read_refused files version path store.Taken is long = tt
+-- what is told of a piece of a version's file that the store refuses
+pub read_refused : (files : Files) (version : ℕ) (e : StoreError) → ((n : ℕ) → e ≡ store.TooLong n → ⊥) → IsVersionRefusal files version (error_of_read version e)
+read_refused files version store.Memory never = tt
+read_refused files version store.Failed never = tt
+read_refused files version (store.TooLong n) never = absurd (never n refl)
+read_refused files version store.Taken never = tt
+
+pub read_told : (version : ℕ) (e : StoreError) → TellsOf (λ v. v ≡ version) (error_of_read version e)
+read_told version store.Memory = tt
+read_told version store.Failed = tt
+read_told version (store.TooLong n) = refl
+read_told version store.Taken = tt
 
 -- ---- the names in the log's folder
 

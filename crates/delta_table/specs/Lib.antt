@@ -1,4 +1,5 @@
 pub mod Versions
 pub mod Log
+pub mod Pieces
 pub mod Refusals
 pub mod SameVersions

@@ -1,5 +1,5 @@
 -- Why a log isn't read.
-use Rattle.std.specs.Prelude.{◌≡◌, ◌⊎◌, ℕ, ◌<◌, ◌≤◌, ◌+◌, List, length, Option}
+use Rattle.std.specs.Prelude.{◌≡◌, ◌⊎◌, ℕ, ◌<◌, ◌≤◌, ◌+◌, List, length, take, Option}
 use Rattle.lake_basics.specs.declared.limits.TheConstants.{MAX_COMMITS, MAX_FILE_BYTES, MAX_NAMES}
 use Rattle.lake_store.specs.Disk.{Files, names_in}
 use Rattle.lake_store.specs.declared.store.StoreError.{StoreError}
@@ -10,6 +10,7 @@ use Rattle.delta_log.specs.Readable.{IsFirstFault}
 use Rattle.delta_log.specs.declared.commit.DeltaCommit.{DeltaCommit}
 use Rattle.delta_log.specs.declared.error.DeltaError.{DeltaError}
 use Rattle.delta_log.specs.declared.error.DeltaError.TheVariants as delta
+use Rattle.delta_feeding.specs.Laws.{IsFaultWithin}
 use Rattle.delta_table.specs.Log.{IsReadLog, SaysCommit}
 use Rattle.delta_table.specs.Versions.{HasVersion, HoldsVersion, log_folder}
 use Rattle.delta_table.specs.declared.error.LogError.{LogError}
@@ -48,13 +49,17 @@ IsListRefusal files error.StoreFault = Unit {0}
 IsListRefusal files error.ManyNames = MAX_NAMES < length (names_in files log_folder)
 IsListRefusal files _ = ⊥
 
--- The version's file has more bytes than are read.
-abbrev pub IsLarge : Files → ℕ → Type 0
-IsLarge files version = (bytes : List ℕ) × HoldsVersion files version bytes × (MAX_FILE_BYTES < length bytes)
+-- The version's file has no more bytes than are read.
+abbrev pub IsShort : Files → ℕ → Type 0
+IsShort files version = (bytes : List ℕ) → HoldsVersion files version bytes → length bytes ≤ MAX_FILE_BYTES
 
--- A line of the version's commit is the first at fault, and has this fault.
+-- The version's file has more bytes than are read, and of these no line that a newline ends is at fault.
+abbrev pub IsLarge : Files → ℕ → Type 0
+IsLarge files version = (bytes : List ℕ) × HoldsVersion files version bytes × (MAX_FILE_BYTES < length bytes) × ((e : DeltaError) → ¬ IsFaultWithin (take MAX_FILE_BYTES bytes) e)
+
+-- A line of the version's commit is the first at fault, and has this fault. Where the file has more bytes than are read, a newline ends that line among these.
 abbrev pub IsUnreadable : Files → ℕ → DeltaError → Type 0
-IsUnreadable files version e = (bytes : List ℕ) × HoldsVersion files version bytes × IsFirstFault bytes e
+IsUnreadable files version e = (bytes : List ℕ) × HoldsVersion files version bytes × IsFirstFault bytes e × (MAX_FILE_BYTES < length bytes → IsFaultWithin (take MAX_FILE_BYTES bytes) e)
 
 -- The version's commit can be read, and can't be taken over the table before it, for this cause.
 abbrev pub IsUnfit : Files → ℕ → Option Table → DeltaError → Type 0

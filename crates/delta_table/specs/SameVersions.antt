@@ -71,11 +71,11 @@ module _ (a b : Files) (same : SameVersions a b) where
   lacks_too : (version : ℕ) → ¬ HasVersion a version → ¬ HasVersion b version
   lacks_too version none has = none (has_too b a (versions_sym a b same) version has)
 
-  large_too : (version : ℕ) → IsLarge a version → IsLarge b version
-  large_too version h = (h.0, holds_too a b same version h.0 h.1, h.2)
+  pub large_too : (version : ℕ) → IsLarge a version → IsLarge b version
+  large_too version h = (h.0, holds_too a b same version h.0 h.1, h.2, h.3)
 
   pub unreadable_too : (version : ℕ) (e : DeltaError) → IsUnreadable a version e → IsUnreadable b version e
-  unreadable_too version e h = (h.0, holds_too a b same version h.0 h.1, h.2)
+  unreadable_too version e h = (h.0, holds_too a b same version h.0 h.1, h.2, h.3)
 
   pub unfit_too : (version : ℕ) (base : Option Table) (e : DeltaError) → IsUnfit a version base e → IsUnfit b version base e
   unfit_too version base e h = (h.0, says_too a b same version h.0 h.1, h.2)

@@ -2,7 +2,7 @@
 
 ghost use Rattle.std.specs.Prelude.{◌≡◌};
 ghost use Rattle.delta_table.specs.declared.error.LogError.TheVariants.{Memory};
-ghost use Rattle.delta_table.specs.Refusals.{error_of_list, error_of_read};
+ghost use Rattle.delta_table.specs.Refusals.{error_at, error_of_list, error_of_read};
 
 use delta_log::DeltaError;
 use lake_store::StoreError;
@@ -69,5 +69,15 @@ pub(crate) fn error_of_read(error: StoreError, version: u64) -> LogError
         StoreError::Memory | StoreError::Taken => LogError::Memory,
         StoreError::Failed => LogError::StoreFault,
         StoreError::TooLong { .. } => LogError::Large { version },
+    }
+}
+
+/// What is told of a version's commit that is refused.
+pub(crate) fn error_at(version: u64, error: DeltaError) -> LogError
+    ensures { result ≡ error_at version error }
+{
+    match error {
+        DeltaError::Memory => LogError::Memory,
+        error => LogError::Refused { version, error },
     }
 }

@@ -4,6 +4,7 @@
 
 mod error;
 mod log;
+mod pieces;
 mod versions;
 
 pub use error::LogError;

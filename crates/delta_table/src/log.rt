@@ -6,13 +6,14 @@ ghost use Rattle.lake_store.specs.Runs.{FailsBy, IsUncontestedBy, OnlyReads};
 ghost use Rattle.delta_change.specs.Change.{IsChangeRefusal, IsTableOfLog};
 ghost use Rattle.delta_log.specs.Sound.{IsSound};
 ghost use Rattle.delta_table.specs.Log.{HasLiveRows, IsLogOf, IsTaken, SaysCommit, stated_at};
-ghost use Rattle.delta_table.specs.Refusals.{IsLogRefusal, IsStepRefusal, IsVersionRefusal, TellsOf, error_at};
+ghost use Rattle.delta_table.specs.Refusals.{IsLogRefusal, IsShort, IsStepRefusal, IsVersionRefusal, TellsOf};
 ghost use Rattle.delta_table.specs.declared.error.LogError.TheVariants.{ManyCommits, StoreFault};
 
-use crate::error::{LogError, error_of_read};
+use crate::error::{LogError, error_at};
+use crate::pieces::read_whole;
 use crate::versions::version_path;
 use delta_change::change_of;
-use delta_log::{DeltaCommit, DeltaError, MetaData, Protocol, read_commit};
+use delta_log::{DeltaCommit, DeltaError, MetaData, Protocol};
 use lake_basics::limits::MAX_COMMITS;
 use lake_store::Store;
 use std::alloc::Global;
@@ -28,7 +29,8 @@ pub struct Log {
     pub protocol: Protocol,
 }
 
-/// The commit of a version, up to version 2^63 - 1.
+/// The commit of a version, up to version 2^63 - 1. Its file is read in pieces of 65,536 bytes, and
+/// isn't kept. Where it is too large, a line at fault among the bytes that are read is told instead.
 pub fn read_version<S: Store>(
     alloc: Global,
     store: &mut S,
@@ -36,6 +38,7 @@ pub fn read_version<S: Store>(
 ) -> Result<DeltaCommit, LogError>
     requires { version ≤ MAX_DELTA_VERSION }
     ensures says { S.tells → IfOk result (SaysCommit (S.disk store.old).files version) }
+    ensures short { S.tells → OnOk result (IsShort (S.disk store.old).files version) }
     ensures sound { IfOk result IsSound }
     ensures told { IfErr result (TellsOf (λ v. v ≡ version)) }
     ensures refused { S.tells → IfErr result (IsVersionRefusal (S.disk store.old).files version) }
@@ -44,24 +47,10 @@ pub fn read_version<S: Store>(
     ensures contest { IsUncontestedBy ⟦<S as Store>⟧ store.old store.new ⊥ }
 {
     let path = version_path(alloc, version)?;
-    let bytes = match store.read(alloc, path.as_str()) {
-        Ok(Some(bytes)) => bytes,
-        Ok(None) => return Err(LogError::Missing { version }),
-        Err(error) => return Err(error_of_read(error, version)),
-    };
-    match read_commit(alloc, bytes.as_slice()) {
+    let feeder = read_whole(alloc, store, version, path.as_str())?;
+    match feeder.finish() {
         Ok(commit) => Ok(commit),
         Err(error) => Err(error_at(version, error)),
-    }
-}
-
-/// What is told of a version's commit that is refused.
-fn error_at(version: u64, error: DeltaError) -> LogError
-    ensures { result ≡ error_at version error }
-{
-    match error {
-        DeltaError::Memory => LogError::Memory,
-        error => LogError::Refused { version, error },
     }
 }
 

@@ -7,7 +7,7 @@ use Rattle.table_history.specs.declared.table.Table.{Table}
 use Rattle.delta_log.specs.declared.commit.DeltaCommit.{DeltaCommit}
 use Rattle.delta_table.specs.Log.{IsTaken, SaysCommit}
 use Rattle.delta_table.specs.Refusals.{IsVersionRefusal}
-use Rattle.delta_table.specs.SameVersions.{has_too, holds_too, live_rows_too, log_refusal_too, log_too, own_versions, says_too, unreadable_too}
+use Rattle.delta_table.specs.SameVersions.{has_too, holds_too, large_too, live_rows_too, log_refusal_too, log_too, own_versions, says_too, unreadable_too}
 use Rattle.delta_table.specs.Versions.{HasVersion, log_folder}
 use Rattle.delta_table.specs.declared.error.LogError.{LogError}
 use Rattle.delta_table.specs.declared.error.LogError.TheVariants as log
@@ -119,7 +119,7 @@ module _ (a b : Files) (same : SameIn log_folder a b) where
   version_refusal_own version log.ManyNames h = h
   version_refusal_own version log.ManyCommits h = h
   version_refusal_own version (log.Missing v) h = (h.0, λ has. h.1 (has_back a b same version has))
-  version_refusal_own version (log.Large v) h = (h.0, (h.1.0, holds_too a b (own_versions a b same) version h.1.0 h.1.1, h.1.2))
+  version_refusal_own version (log.Large v) h = (h.0, large_too a b (own_versions a b same) version h.1)
   version_refusal_own version (log.Refused v e) h = (h.0, unreadable_too a b (own_versions a b same) version e h.1)
 
   refused_behind_own : (version : ℕ) (before : Table) (actions : ℕ) (e : SourceError) → IsRefusedBehind a version before actions e → IsRefusedBehind b version before actions e
