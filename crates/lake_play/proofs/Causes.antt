@@ -5,7 +5,7 @@ use Rattle.std.specs.Fmt.{decimal}
 use Rattle.std.proofs.lemmas.Bool.{cases_lt}
 use Rattle.std.proofs.lemmas.List.Elements.{Contains-append_right}
 use Rattle.lake_store.specs.Disk.{Files}
-use Rattle.lake_store.specs.Fuse.{CanFail, FuseCanBeContested, FuseCanFail, contests_of, fuse_disk, with_stop}
+use Rattle.lake_store.specs.Fuse.{CanFail, FuseCanBeContested, FuseCanFail, contests_of, fuse_disk, room_of, with_stop}
 use Rattle.lake_store.specs.declared.fuse.FuseStore.{FuseStore}
 use Rattle.lake_store.specs.declared.fuse.Script.{Script}
 use Rattle.conformance.specs.Histories.{IsHistoryFrom}
@@ -51,10 +51,12 @@ use Rattle.target_sync.specs.declared.status.Status.TheVariants as status
 use Rattle.lake_play.specs.Causes.{Before, HasColumns, IsCauseAt, IsOver, IsUnfitBetween, LeadFrom, PassesNumber, StateSchemasOf}
 use Rattle.lake_play.specs.Formats.{from_delta, to_hudi, to_iceberg}
 use Rattle.lake_play.specs.Playing.{Brings, scripted, status_of}
-use Rattle.lake_play.specs.Scripted.{scripted_contests, scripted_store, some_of}
+use Rattle.lake_play.specs.Scripted.{scripted_store, some_of}
 use Rattle.lake_play.proofs.Faults.{IsPlayedFault, at_head_fault, from_position_fault, from_scratch_fault}
 use Rattle.lake_play.proofs.Histories.{entry_of, holds_history, is_history, not_absent, same_length}
 use Rattle.lake_play.proofs.Logs.{HoldsCommits, some_same}
+use Rattle.lake_play.proofs.Rooms.{enters_free, told_by}
+use Rattle.lake_play.proofs.Syncs.{same_told}
 use Rattle.lake_play.proofs.Targets.{IsPlayed, at_front, shows_whole}
 
 -- ---- the laws of a target that are used
@@ -106,12 +108,8 @@ module _ (script : Script) (stopped : Bool) (old new : FuseStore) (may : MayFail
   brings_may target mode now given brings none = record {
     can = λ can. may.can (brings.sync.sync.fault.still can);
     named = ⊎_elim inl (λ (was : (old.script.failing.items ≡ []) × (contests_of old ≡ 0)).
-        let same : scripted_contests (scripted new) ≡ scripted_contests (scripted old) = brings.sync.sync.contest.same (λ refused. none (brings.sync.sync.contest.allowed refused)) in
-        let before : some_of old.script.failing.items ≡ 0 = ap some_of was.0 in
-        let count : contests_of old ≡ 0 = was.1 in
-        let ends : contests_of new ≤ 2 ^ 64 - 1 = omega arith in
-        let none_now : some_of new.script.failing.items ≡ 0 = omega (arith, same, before, count) in
-        inr (none_of new.script.failing.items none_now, omega (arith, same, before, count))) may.named;
+        let told = told_by (scripted (room_of old) old) (scripted brings.room new) was.1 (same_told target mode now old new given brings none) in
+        inr (none_of new.script.failing.items (told.some ∙ ap some_of was.0), told.contests)) may.named;
   }
 
 -- ---- views of the same files
@@ -188,7 +186,7 @@ module _ (target : TargetFacts) (views : Views target) (mode : Mode) (now : ℕ)
   abbrev files : Files
   files = (fuse_disk old).files
 
-  abbrev sync : IsWholeSync scripted_store from_delta target None mode now (scripted old) (scripted new) (Some brings.answer)
+  abbrev sync : IsWholeSync scripted_store from_delta target None mode now (scripted (room_of old) old) (scripted brings.room new) (Some brings.answer)
   sync = brings.sync
 
   abbrev j : ℕ
@@ -291,6 +289,18 @@ module _ (target : TargetFacts) (views : Views target) (mode : Mode) (now : ℕ)
     columns_by zero shows false full = let is = since full in absurd (marked_none start is.marked.0 shows is.marked.1)
     columns_by (suc k) shows false full = let is = since full in (shows.0, at_contains front k shows.0 shows.1, sym (is.columns ∙ shows.2.partition))
 
+  -- What is due is so to a view that shows the table at which the target stands.
+  pub due_shows : (start : View) → target.files.reads files start → ShowsTable Delta target.files.image front j start
+  due_shows start reads = shows_start target views front files j here.view start here.reads reads here.shows
+
+  -- It leads from there to the last table.
+  pub due_leads : (start : View) → target.files.reads files start → (due : Due from_delta mode files start) → LeadFrom front j start due.commits
+  due_leads start reads due = lead_by (some_due start due) start due j (due_shows start reads) due.full refl
+
+  -- Its partition columns are those of a table of the history.
+  pub due_columns : (start : View) → target.files.reads files start → (due : Due from_delta mode files start) → HasColumns front due.partition
+  due_columns start reads due = columns_by (some_due start due) start due j (due_shows start reads) due.full refl
+
   -- Each schema that a commit states which is due is that of a table of the history.
   pub due_states : (start : View) → target.files.reads files start → (due : Due from_delta mode files start) → StateSchemasOf front due.commits
   due_states start reads due = states_by (some_due start due) start due j (shows_start target views front files j here.view start here.reads reads here.shows) due.full refl
@@ -322,7 +332,7 @@ module _ (target : TargetFacts) (views : Views target) (mode : Mode) (now : ℕ)
 
   module _ (before : Before) (same : before.commits ≡ commits) (shortened : 0 < first → before.shortened ≡ true) (Faulty : Type 0) (faulty : brings.answer ≡ Err status.StoreFault → Faulty) where
     abbrev Idle : Type 0
-    Idle = IsIdle scripted_store None (scripted old) (scripted new)
+    Idle = IsIdle scripted_store None (scripted (room_of old) old) (scripted brings.room new)
 
     abbrev Cause : Status → Type 0
     Cause e = IsCauseAt target mode now (front ++ rest) before files Faulty e
@@ -360,7 +370,7 @@ module _ (target : TargetFacts) (views : Views target) (mode : Mode) (now : ℕ)
     refused (status.Unsupported (side.Target kind) feature path) is h few = (h.1, subst (λ (cs : List (List ℕ)). IsUnfitBetween target (front ++ rest) cs files feature path) (sym same) (unfit_between feature path h.2))
     refused (status.Limit of which n) is h few = passes (status.Limit of which n) (number of which n h)
     refused (status.Foreign kind path) is h few = absurd (foreign path h.3)
-    refused (status.Contested kind) is h few = absurd (none (sync.sync.contest.allowed (ap (λ (a : Result Report Status). Some a) is ∙ ap (λ (k : Kind). Some (Err (status.Contested k))) few)))
+    refused (status.Contested kind) is h few = absurd (enters_free old none (sync.sync.contest.allowed (ap (λ (a : Result Report Status). Some a) is ∙ ap (λ (k : Kind). Some (Err (status.Contested k))) few)))
     refused status.StoreFault is h few = faulty is
     refused status.SinkFault is h few = absurd few
     refused (status.Behind kind at head) is h few = absurd few

@@ -32,22 +32,24 @@ use Rattle.target_sync.specs.declared.status.Side.TheVariants as side
 use Rattle.target_sync.specs.declared.status.Status.{Status}
 use Rattle.target_sync.specs.declared.status.Status.TheVariants as status
 use Rattle.lake_play.specs.Causes.{AreCaused, Before, IsCause, IsCauseAt, IsFaulty, behind, nothing_before}
-use Rattle.lake_play.specs.Drilled.{IsBrought, IsDrillEnd, IsEnded, IsPlayedThrough, IsRefusedSync, LeavesDrill}
+use Rattle.lake_play.specs.Drilled.{IsBrought, IsEnded, IsFirstRefusal, IsPlayedThrough, LeavesDrill}
 use Rattle.lake_play.specs.Formats.{to_hudi, to_iceberg}
 use Rattle.lake_play.specs.Playing.{PlaysAll, nothing_played}
 use Rattle.lake_play.specs.Standing.{BothHaveEachOnce, BothStand, HasEachOnce, HoldsFrom, IsFresh, IsSyncedEarly, LogHolds, StandsWithin, answer_count, first_from, floor_of, meaning_of_hudi, meaning_of_iceberg}
 use Rattle.lake_play.specs.declared.playing.Progress.{Progress}
-use Rattle.lake_play.proofs.AtSyncs.{IsPlain}
+use Rattle.lake_play.proofs.AtSyncs.{EndBefore, IsPlain}
 use Rattle.lake_play.proofs.Causes.{Views, hudi_views, iceberg_views}
 use Rattle.lake_play.proofs.DrillEvents.{plain}
 use Rattle.lake_play.proofs.DrillFits.{hudi_fits, iceberg_fits, table_of}
 use Rattle.lake_play.proofs.DrillLog.{AreFirst}
-use Rattle.lake_play.proofs.DrillNumbers.{left_at_sync}
+use Rattle.lake_play.proofs.DrillNumbers.{none_at_sync}
 use Rattle.lake_play.proofs.DrillReading.{source_within}
+use Rattle.lake_play.proofs.Ends.{all_at, at_place}
 use Rattle.lake_play.proofs.Folds.{Folds, GoWell, IsGood, drill_folds, none_removed}
 use Rattle.lake_play.proofs.Logs.{some_same}
 use Rattle.lake_play.proofs.OneSchema.{types_keep}
 use Rattle.lake_play.proofs.Places.{numbers_at}
+use Rattle.lake_play.proofs.Targets.{first_get}
 
 -- ---- the answers of a run
 
@@ -210,9 +212,6 @@ module _ (number : ℕ) (old new : FuseStore) (answers : List Status) (played : 
         answered faulty drill_time tables (map (drill_bytes number) (numbers_under 200)) events false 0 nothing_before nothing_played old played.after new played.plays (plain number) played.legal.order (played.caused tables tables_are) refl (λ some. absurd (false_true some)) all_are place given
         (ap (λ (l : List Status). slice_get l place) (sym answers_are) ∙ at)
 
-    refused : (given : Status) → slice_get answers place ≡ Some given → IsRefusedSync number new given
-    refused given at = record { start = old; fresh = fresh; unscripted = unscripted; after = played.after; plays = played.plays; place = place; answered = ap (λ (l : List Status). slice_get l place) played.told ∙ at }
-
     never : (given : Status) → slice_get answers place ≡ Some given → (given ≡ status.Memory → ⊥)
         → ((before : Before) (had : Files) → before.shortened ≡ false → (before.commits ≡ [] → ⊥) → AreFirst number before.commits → (facts : TargetFacts) → Views facts → IsCauseAt facts modes.Sync drill_time tables before had (faulty before) given → ⊥) → ⊥
     never given at not_memory refuted =
@@ -243,27 +242,32 @@ module _ (number : ℕ) (old new : FuseStore) (answers : List Status) (played : 
         let of : kind ≡ Iceberg = cause.0 in
         types path (subst (λ (f : Feature). slice_get answers place ≡ Some (status.Unsupported (side.Target Iceberg) f path)) one (subst (λ (k : Kind). slice_get answers place ≡ Some (status.Unsupported (side.Target k) feature path)) of at)))
 
-    pub end_of : (given : Status) → slice_get answers place ≡ Some given → (IsEnded given → ⊥) → IsDrillEnd number new given
-    end_of status.Done at not_ended = absurd (not_ended (inl refl))
-    end_of status.Memory at not_ended = inl refl
-    end_of status.Usage at not_ended = absurd (never status.Usage at (λ is. cc) (λ before had kept some first facts views c. c))
-    end_of status.Absent at not_ended = absurd (never status.Absent at (λ is. cc) (λ before had kept some first facts views c. some c))
-    end_of (status.Malformed path) at not_ended = absurd (never (status.Malformed path) at (λ is. cc) (λ before had kept some first facts views c. c))
-    end_of (status.Unsupported side.Source feature path) at not_ended =
+    pub end_of : (given : Status) → slice_get answers place ≡ Some given → EndBefore IsEnded answers place → (IsEnded given → ⊥) → given ≡ status.Memory
+    end_of status.Done at before not_ended = absurd (not_ended (inl refl))
+    end_of status.Memory at before not_ended = refl
+    end_of status.Usage at before not_ended = absurd (never status.Usage at (λ is. cc) (λ before had kept some first facts views c. c))
+    end_of status.Absent at before not_ended = absurd (never status.Absent at (λ is. cc) (λ before had kept some first facts views c. some c))
+    end_of (status.Malformed path) at before not_ended = absurd (never (status.Malformed path) at (λ is. cc) (λ before had kept some first facts views c. c))
+    end_of (status.Unsupported side.Source feature path) at before not_ended =
         absurd (never (status.Unsupported side.Source feature path) at (λ is. cc) (λ before had kept some first facts views c. false_true (sym kept ∙ c.1)))
-    end_of (status.Unsupported (side.Target kind) feature path) at not_ended = absurd (no_unfit kind feature path at)
-    end_of (status.Limit side.Source which n) at not_ended =
+    end_of (status.Unsupported (side.Target kind) feature path) at before not_ended = absurd (no_unfit kind feature path at)
+    end_of (status.Limit side.Source which n) at before not_ended =
         absurd (never (status.Limit side.Source which n) at (λ is. cc) (λ before had kept some first facts views c. source_within number said facts views modes.Sync drill_time before.commits first which n c))
-    end_of (status.Limit (side.Target kind) which n) at not_ended =
-        let given : Status = status.Limit (side.Target kind) which n in
-        inr (left_at_sync number said old played.after new fresh played.plays played.legal.order place kind which n (ap (λ (l : List Status). slice_get l place) played.told ∙ at), inr (refused given at))
-    end_of (status.Foreign kind path) at not_ended = absurd (never (status.Foreign kind path) at (λ is. cc) (λ before had kept some first facts views c. c))
-    end_of (status.Contested kind) at not_ended = absurd (never (status.Contested kind) at (λ is. cc) (λ before had kept some first facts views c. c))
-    end_of status.StoreFault at not_ended = absurd (not_ended (inr refl))
-    end_of status.SinkFault at not_ended = absurd (never status.SinkFault at (λ is. cc) (λ before had kept some first facts views c. c))
-    end_of (status.Behind kind mark head) at not_ended = absurd (never (status.Behind kind mark head) at (λ is. cc) (λ before had kept some first facts views c. c))
-    end_of (status.Differs kind path) at not_ended = absurd (never (status.Differs kind path) at (λ is. cc) (λ before had kept some first facts views c. c))
-    end_of (status.Stale path) at not_ended = absurd (never (status.Stale path) at (λ is. cc) (λ before had kept some first facts views c. c))
+    end_of (status.Limit (side.Target kind) which n) at before not_ended =
+        absurd (none_at_sync number said old played.after new fresh unscripted played.plays played.legal.order place kind which n (ap (λ (l : List Status). slice_get l place) played.told ∙ at) (subst (λ (l : List Status). EndBefore IsEnded l place) (sym played.told) before))
+    end_of (status.Foreign kind path) at before not_ended = absurd (never (status.Foreign kind path) at (λ is. cc) (λ before had kept some first facts views c. c))
+    end_of (status.Contested kind) at before not_ended = absurd (never (status.Contested kind) at (λ is. cc) (λ before had kept some first facts views c. c))
+    end_of status.StoreFault at before not_ended = absurd (not_ended (inr refl))
+    end_of status.SinkFault at before not_ended = absurd (never status.SinkFault at (λ is. cc) (λ before had kept some first facts views c. c))
+    end_of (status.Behind kind mark head) at before not_ended = absurd (never (status.Behind kind mark head) at (λ is. cc) (λ before had kept some first facts views c. c))
+    end_of (status.Differs kind path) at before not_ended = absurd (never (status.Differs kind path) at (λ is. cc) (λ before had kept some first facts views c. c))
+    end_of (status.Stale path) at before not_ended = absurd (never (status.Stale path) at (λ is. cc) (λ before had kept some first facts views c. c))
+
+  -- the first answer that isn't one of these is want of memory
+  pub first_end : IsFresh old → (CanFail (script_of old) → ⊥) → AreSaid number → (given : Status) → IsFirstRefusal answers given → given ≡ status.Memory
+  first_end fresh unscripted said given is =
+      end_of fresh unscripted said (length is.0) given (ap (λ (l : List Status). slice_get l (length is.0)) is.2 ∙ at_place is.0 given is.1)
+      (λ i one less at. all_at IsEnded is.0 i one is.3 (sym (first_get is.0 (given ∷ is.1) i less) ∙ ap (λ (l : List Status). slice_get l i) (sym is.2) ∙ at)) is.4
 
   -- ---- where all syncs ended as they may
 

@@ -31,7 +31,7 @@ use Rattle.hudi_names.specs.declared.name.State.TheVariants as state
 use Rattle.hudi_table.specs.Instants.{path_of, time_of}
 use Rattle.hudi_table.specs.declared.instants.CompletedInstant.{CompletedInstant}
 use Rattle.lake_store.specs.Disk.{Disk, Files, IsName}
-use Rattle.lake_store.specs.Fuse.{FuseCanBeContested, fuse_disk}
+use Rattle.lake_store.specs.Fuse.{FuseCanBeContested, fuse_disk, room_of}
 use Rattle.lake_store.specs.Runs.{IsIn}
 use Rattle.lake_store.specs.declared.fuse.FuseStore.{FuseStore}
 use Rattle.source_core.specs.Histories.{IsAt, ShowsTable}
@@ -248,9 +248,9 @@ module _ (t : HudiTarget) (now : ℕ) (old new : FuseStore) (given : Status) (br
       up_to_later (most + length told.due.commits) (most + (length commits + 1)) after (omega (arith, count)) come.times
 
   refused : (e : Status) → brings.answer ≡ Err e → AreUpTo (most + (length commits + 1)) after
-  refused e is = by (subst (λ (a : Result Report Status). StopsSo scripted_store from_delta facts None modes.Sync now start (scripted old) (scripted new) (Some a)) is (brings.sync.sync.stopped tt start ready))
+  refused e is = by (subst (λ (a : Result Report Status). StopsSo scripted_store from_delta facts None modes.Sync now start (scripted (room_of old) old) (scripted brings.room new) (Some a)) is (brings.sync.sync.stopped tt start ready))
     where
-      by : StopsSo scripted_store from_delta facts None modes.Sync now start (scripted old) (scripted new) (Some (Err e)) → AreUpTo (most + (length commits + 1)) after
+      by : StopsSo scripted_store from_delta facts None modes.Sync now start (scripted (room_of old) old) (scripted brings.room new) (Some (Err e)) → AreUpTo (most + (length commits + 1)) after
       by (inl idle) = up_to_later most (most + (length commits + 1)) after (omega arith) (subst (λ (d : Disk). AreUpTo most d.files) (sym idle.disk) are)
       by (inr stopped) =
           let gained = stopped.gained (subst (λ (a : Result Report Status). IsUndisturbed (Some a)) is (alone facts modes.Sync now old new given brings none)) in

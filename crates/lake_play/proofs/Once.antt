@@ -14,7 +14,7 @@ use Rattle.delta_table.specs.Log.{SaysCommit}
 use Rattle.delta_table.specs.Versions.{HasVersion}
 use Rattle.delta_table.proofs.PathLaws.{bytes_once, says_once}
 use Rattle.lake_store.specs.Disk.{Files}
-use Rattle.lake_store.specs.Fuse.{FuseCanBeContested, fuse_disk}
+use Rattle.lake_store.specs.Fuse.{FuseCanBeContested, fuse_disk, room_of}
 use Rattle.lake_store.specs.declared.fuse.FuseStore.{FuseStore}
 use Rattle.source_core.specs.Histories.{IsAt, ShowsTable}
 use Rattle.source_delta.specs.Heads.{IsTableId}
@@ -253,7 +253,7 @@ module _ (target : TargetFacts) (counts : Counts target.files) (now : ℕ) (old 
 
   -- ---- where it stands
 
-  goes : GoesOnAlong scripted_store from_delta target.files modes.Sync front was.j here.view (IsUndisturbed (Some brings.answer)) (IsDone (Some brings.answer)) (scripted old) (scripted new)
+  goes : GoesOnAlong scripted_store from_delta target.files modes.Sync front was.j here.view (IsUndisturbed (Some brings.answer)) (IsDone (Some brings.answer)) (scripted (room_of old) old) (scripted brings.room new)
   goes = brings.sync.along.goes tt front (is_history commits front is few) (holds_history commits 0 (fuse_disk old) log some front is) was.j here settled
 
   on : StandsFrom from_delta target.files modes.Sync front was.j start before after

@@ -1,15 +1,14 @@
 -- Events whose tables all have one schema change the type of no column of an Iceberg target.
-use Rattle.std.proofs.Common.{◌≡◌, ◌⊎◌, inl, inr, ⊎_elim, ℕ, zero, suc, ◌+◌, ◌^◌, ◌≤◌, ◌<◌, max, min, Bool, true, false, List, [], ◌∷◌, ◌++◌, length, map, take, Contains, Option, None, Some, Result, Ok, Err, refl, sym, ap, subst, ◌∙◌, append_assoc, arith, if◌then◌else◌}
-use Rattle.std.specs.FinMap as file_map
+use Rattle.std.proofs.Common.{◌≡◌, inl, inr, ⊎_elim, ℕ, zero, suc, ◌+◌, ◌^◌, ◌≤◌, ◌<◌, max, min, Bool, true, false, List, [], ◌∷◌, ◌++◌, length, map, Contains, Option, None, Some, Result, Ok, Err, refl, sym, ap, subst, ◌∙◌, append_assoc, arith, if◌then◌else◌}
 use Rattle.std.specs.List.{AllByRecursion}
 use Rattle.std.specs.Prelude.{IsSome, pos, slice_get}
 use Rattle.std.proofs.lemmas.Bool.{false≢true}
-use Rattle.std.proofs.lemmas.List.{append-nil, length-append, length-take-le}
+use Rattle.std.proofs.lemmas.List.{append-nil, length-append}
 use Rattle.std.proofs.lemmas.List.Elements.{Contains-append_cases, Contains-append_left}
-use Rattle.lake_basics.specs.declared.limits.TheConstants.{MAX_ICEBERG_VERSION, MAX_PUBLISHED_COMMITS}
+use Rattle.lake_basics.specs.declared.limits.TheConstants.{MAX_PUBLISHED_COMMITS}
 use Rattle.lake_store.specs.Disk.{Disk, Files, empty_disk}
-use Rattle.lake_store.specs.Fuse.{FuseCanBeContested, fuse_disk}
-use Rattle.lake_store.specs.Runs.{IsIn, OnlyReads}
+use Rattle.lake_store.specs.Fuse.{FuseCanBeContested, fuse_disk, room_of}
+use Rattle.lake_store.specs.Runs.{IsIn}
 use Rattle.lake_store.specs.declared.fuse.FuseStore.{FuseStore}
 use Rattle.conformance.specs.Histories.{AreInOrder, IsHistoryFrom, IsHistoryOf, extensions}
 use Rattle.conformance.specs.declared.event.Event.{Event}
@@ -36,9 +35,7 @@ use Rattle.iceberg_version.specs.KeptEnd.{view_of}
 use Rattle.iceberg_version.specs.declared.kept.IcebergKept.{IcebergKept}
 use Rattle.target_core.proofs.Apart.{folders_apart}
 use Rattle.target_core.specs.Folders.{SameIn}
-use Rattle.target_core.specs.Gained.{Gained}
 use Rattle.target_core.specs.Views.{Standing, View}
-use Rattle.target_core.specs.Written.{IsAsLeft}
 use Rattle.target_core.specs.declared.target.TargetError.{TargetError}
 use Rattle.target_core.specs.declared.target.TargetError.TheVariants as target_error
 use Rattle.target_hudi.specs.declared.target.HudiTarget.{HudiTarget}
@@ -47,18 +44,16 @@ use Rattle.target_iceberg.specs.CountLemmas.{commits_read}
 use Rattle.target_iceberg.specs.Fitting.{ChangesType, HasTypeChange, HeldState, IdSchema, IsFirstChange, Unfit, is_current, may_become, state_behind, state_of, stated_in, type_at}
 use Rattle.target_iceberg.specs.IcebergMeaning.{iceberg_meaning}
 use Rattle.target_iceberg.specs.Kept.{StandsFor}
-use Rattle.target_iceberg.specs.Reached.{IsReached}
 use Rattle.target_iceberg.specs.Reading.{Reads}
 use Rattle.target_iceberg.specs.SettledLemmas.{crash_reached, own_reached}
 use Rattle.target_iceberg.specs.TableId.{table_id}
-use Rattle.target_iceberg.specs.ViewLemmas.{is_absent, no_commits}
+use Rattle.target_iceberg.specs.ViewLemmas.{is_absent}
 use Rattle.target_iceberg.specs.declared.target.IcebergTarget.{IcebergTarget}
 use Rattle.target_sync.specs.Along.{IsWholeSync}
-use Rattle.target_sync.specs.Answered.{IsCaused, IsContest, IsFew, IsOfSync, IsReady, IsReport, IsReported, IsUndisturbed, IsUnfit, Leaves, StopsSo}
-use Rattle.target_sync.specs.Dues.{AreSinceMark, Due, IsInFull, origin_of}
+use Rattle.target_sync.specs.Answered.{IsCaused, IsFew, IsOfSync, IsReady, IsUnfit}
+use Rattle.target_sync.specs.Dues.{AreSinceMark, Due, IsInFull}
 use Rattle.target_sync.specs.Others.{IsIdle}
-use Rattle.target_sync.specs.Synced.{IsStopped, with_columns}
-use Rattle.target_sync.specs.Targets.{HaveWritten, IsKept, TargetFacts, target_facts}
+use Rattle.target_sync.specs.Targets.{IsKept, TargetFacts, target_facts}
 use Rattle.target_sync.specs.declared.apply.Report.{Report}
 use Rattle.target_sync.specs.declared.plan.Mode.{Mode}
 use Rattle.target_sync.specs.declared.plan.Mode.TheVariants as modes
@@ -71,11 +66,12 @@ use Rattle.lake_play.specs.Scripted.{scripted_store}
 use Rattle.lake_play.specs.Standing.{IsFresh, floor_behind}
 use Rattle.lake_play.specs.declared.playing.Progress.{Progress}
 use Rattle.lake_play.proofs.Causes.{due_states, iceberg_views, marked_none}
+use Rattle.lake_play.proofs.Gains.{stays_or_comes}
 use Rattle.lake_play.proofs.Histories.{same_length}
 use Rattle.lake_play.proofs.Logs.{HoldsCommits, extended_elsewhere, shed_elsewhere, some_same}
-use Rattle.lake_play.proofs.Once.{advanced_count}
 use Rattle.lake_play.proofs.Plays.{Keeps, begins, crash_keeps, extend_keeps, nothing_keeps, shorten_keeps, sync_keeps}
-use Rattle.lake_play.proofs.Schemas.{BeginsStated, HoldsOnly, StateOnly, along, begins_later, left_only, only_none, only_too, schemas_only, stated_image, table_only}
+use Rattle.lake_play.proofs.Newest.{of_same, sync_holds}
+use Rattle.lake_play.proofs.Schemas.{BeginsStated, HasOnly, HoldsOnly, MayState, StateOnly, all_state, begins_later, only_none, only_step, only_too, schemas_only, stated_image, table_only}
 use Rattle.lake_play.proofs.Syncs.{alone, going, same_beside}
 use Rattle.lake_play.proofs.Targets.{IsPlayed, at_front, iceberg_laws}
 
@@ -130,19 +126,6 @@ type_cause state partition commits _ (Unfit.type name few alike is) path same =
     let one : name ≡ path = cc in
     subst (IsFirstChange state commits) one is
 
--- ---- the first of some commits
-
-in_take : {X : Type 0} (n : ℕ) (xs : List X) (x : X) → Contains (take n xs) x → Contains xs x
-in_take zero xs x there = absurd (Contains-none x there)
-in_take (suc n) [] x there = there
-in_take (suc n) (y ∷ xs) x there =
-    ⊎_elim (λ (here : y ≡ x). subst (Contains (y ∷ xs)) here (Contains-head y xs)) (λ later. Contains-tail y xs x (in_take n xs x later)) (Contains-cases y (take n xs) x there)
-
-begins_take : (version n : ℕ) (commits : List Commit) → BeginsStated version commits → BeginsStated version (take n commits)
-begins_take version zero commits first = tt
-begins_take version (suc n) [] first = tt
-begins_take version (suc n) (commit ∷ commits) first = first
-
 -- ---- one sync
 
 -- An answer of a sync that isn't for the type of a column of an Iceberg target.
@@ -165,7 +148,7 @@ module _ (schema : ColumnTrees) (t : IcebergTarget) (mode : Mode) (now : ℕ) (o
   abbrev after : Files
   after = (fuse_disk new).files
 
-  abbrev sync : IsWholeSync scripted_store from_delta facts None mode now (scripted old) (scripted new) (Some brings.answer)
+  abbrev sync : IsWholeSync scripted_store from_delta facts None mode now (scripted (room_of old) old) (scripted brings.room new) (Some brings.answer)
   sync = brings.sync
 
   abbrev k : ℕ
@@ -179,7 +162,7 @@ module _ (schema : ColumnTrees) (t : IcebergTarget) (mode : Mode) (now : ℕ) (o
 
   -- ---- what is due
 
-  states : (start : View) → Reads before start → (due : Due from_delta mode before start) → StateOnly image due.commits
+  pub states : (start : View) → Reads before start → (due : Due from_delta mode before start) → StateOnly image due.commits
   states start reads due commit stated there said =
       let of = due_states facts (iceberg_views t) mode now old new given brings none commits first log front rest is few floor was start reads due commit stated there said in
       ap wide_columns (sym of.2 ∙ one of.0 of.1)
@@ -192,7 +175,7 @@ module _ (schema : ColumnTrees) (t : IcebergTarget) (mode : Mode) (now : ℕ) (o
   some_commit start standing (inr ours) marked = ours.first
 
   -- a target without a commit takes the whole table
-  begins_stated : (start : View) → Reads before start → (due : Due from_delta mode before start) (kept : IcebergKept) → StandsFor t.id t.location kept before → BeginsStated kept.version due.commits
+  pub begins_stated : (start : View) → Reads before start → (due : Due from_delta mode before start) (kept : IcebergKept) → StandsFor t.id t.location kept before → BeginsStated kept.version due.commits
   begins_stated start reads due kept stands =
       ⊎_elim
       (λ (since : AreSinceMark from_delta mode before start due.partition due.commits due.full).
@@ -205,74 +188,21 @@ module _ (schema : ColumnTrees) (t : IcebergTarget) (mode : Mode) (now : ℕ) (o
 
   -- ---- what is left
 
-  -- just what some of the commits write, at each path that they reach
-  published : (start : View) → Reads before start → (due : Due from_delta mode before start) (cs : List Commit) → StateOnly image cs → ((kept : IcebergKept) → StandsFor t.id t.location kept before → BeginsStated kept.version cs)
-      → (view : View) → Reads after view → view.commits ≡ start.commits + length cs → (left : Files) → Leaves facts None now before due.partition (origin_of due) cs left → ((path : List ℕ) → IsReached left path → file_map.get after path ≡ file_map.get left path) → HoldsOnly image after
-  published start reads due cs stated first_stated view shown count left leaves same =
-      let all : (kept : IcebergKept) × IsKept to_iceberg t before due.partition kept × HaveWritten to_iceberg t kept before (origin_of due) now cs left = leaves in
-      let kept = all.0 in
-      let stands : StandsFor t.id t.location kept before = all.1.0 in
-      let written = all.2 in
-      let start_count = same_count start reads kept stands in
-      let end = along image (columns_twice schema) t.id t.location (origin_of due) now cs kept before stands only stated (first_stated kept stands) (room view (kept.version + length cs) shown (omega (arith, count, start_count))) written.0 left written.1 in
-      let last = end.version_is in
-      left_only image t.id t.location written.0 left after end.stands end.only same view shown (omega (arith, count, start_count, last))
-    where
-      room : (v : View) (n : ℕ) → Reads after v → v.commits ≡ n → n ≤ MAX_ICEBERG_VERSION
-      room v n (inl nothing) same_n = let no = no_commits v nothing.1 in omega (arith, no, same_n)
-      room v n (inr ours) same_n = let low = ours.newest.there.2.within in omega (arith, low, same_n)
-
-  settled : facts.files.settled (fuse_disk old)
-  settled = was.settled
-
-  counts : (due : Due from_delta mode before here.view) (n : ℕ) → (gained : Gained facts.files (origin_of due) (with_columns due.partition here.view) before due.commits n after) → gained.view.commits ≡ here.view.commits + length (take n due.commits)
-  counts due n gained = advanced_count facts.files.image (origin_of due) (with_columns due.partition here.view) gained.view (take n due.commits) gained.leads
-
-  done : (report : Report) → brings.answer ≡ Ok report → HoldsOnly image after
-  done report answered =
-      let told = sync.sync.reported tt here.view here.reads (going facts mode now old new given brings none front k here.view here.shows) in
-      let r : IsReport from_delta facts None mode now here.view (facts.files.settled (fuse_disk old)) before after report =
-      subst (λ (a : Result Report Status). IsReported from_delta facts None mode now here.view (facts.files.settled (fuse_disk old)) before after (Some a)) answered told in
-      let gained = r.gained settled in
-      let all : length (take (length r.due.commits) r.due.commits) ≡ length r.due.commits = length-take-le (length r.due.commits) r.due.commits (omega arith) in
-      let count = counts r.due (length r.due.commits) gained in
-      published here.view here.reads r.due r.due.commits (states here.view here.reads r.due) (λ kept stands. begins_stated here.view here.reads r.due kept stands)
-      gained.view gained.stands (omega (arith, count, all)) after (r.written settled) (λ path reached. refl)
-
   ready : IsReady from_delta facts before here.view (facts.files.settled (fuse_disk old))
-  ready = record { reads = here.reads; goes_on = going facts mode now old new given brings none front k here.view here.shows; settled = settled }
-
-  refused : (e : Status) → brings.answer ≡ Err e → HoldsOnly image after
-  refused e answered =
-      let stops = subst (λ (a : Result Report Status). StopsSo scripted_store from_delta facts None mode now here.view (scripted old) (scripted new) (Some a)) answered (sync.sync.stopped tt here.view ready) in
-      let uncontested : ¬ IsContest e = subst (λ (a : Result Report Status). IsUndisturbed (Some a)) answered (alone facts mode now old new given brings none) in
-      ⊎_elim
-      (λ (idle : OnlyReads scripted_store (scripted old) (scripted new)). subst (λ (disk : Disk). HoldsOnly image disk.files) (sym idle.disk) only)
-      (λ (stopped : IsStopped scripted_store from_delta facts.files (Leaves facts None now) mode here.view (¬ IsContest e) before (scripted new)).
-      let due = stopped.due in
-      let so_far = stopped.gained uncontested in
-      let n = so_far.0 in
-      let gained : Gained facts.files (origin_of due) (with_columns due.partition here.view) before due.commits n after = so_far.3 in
-      let as_left : IsAsLeft facts.files.reached (Leaves facts None now before due.partition (origin_of due) (take n due.commits)) after = so_far.4 in
-      published here.view here.reads due (take n due.commits)
-      (λ commit stated there said. states here.view here.reads due commit stated (in_take n due.commits commit there) said)
-      (λ kept stands. begins_take kept.version n due.commits (begins_stated here.view here.reads due kept stands))
-      gained.view gained.stands (counts due n gained) as_left.0 as_left.1 as_left.2)
-      stops
-
-  by_answer : (answer : Result Report Status) → brings.answer ≡ answer → HoldsOnly image after
-  by_answer (Ok report) answered = done report answered
-  by_answer (Err e) answered = refused e answered
+  ready = record { reads = here.reads; goes_on = going facts mode now old new given brings none front k here.view here.shows; settled = was.settled }
 
   -- The target holds the one schema behind the sync too.
   pub sync_only : HoldsOnly image after
-  sync_only = by_answer brings.answer refl
+  sync_only =
+      sync_holds (HoldsOnly image) (MayState image) (of_same (HasOnly image)) from_delta t mode now here.view before after here.reads only (λ origin. only_step image (columns_twice schema) t.id t.location origin now)
+      (λ due kept stands. all_state image kept.version due.commits (states here.view here.reads due) (begins_stated here.view here.reads due kept stands))
+      (stays_or_comes scripted_store tt from_delta facts mode now (scripted (room_of old) old) (scripted brings.room new) brings.answer sync.sync (alone facts mode now old new given brings none) here.view ready)
 
   -- ---- the answer
 
   never : (path : List ℕ) → brings.answer ≡ Err (status.Unsupported (side.Target Iceberg) TypeChange path) → ⊥
   never path answered =
-      let refusal = subst (λ (a : Result Report Status). IsCaused (IsIdle scripted_store None (scripted old) (scripted new)) from_delta facts mode now before (Some a)) answered (sync.sync.caused tt) in
+      let refusal = subst (λ (a : Result Report Status). IsCaused (IsIdle scripted_store None (scripted (room_of old) old) (scripted brings.room new)) from_delta facts mode now before (Some a)) answered (sync.sync.caused tt) in
       let unfit : IsUnfit from_delta facts mode before (target_error.Unsupported TypeChange path) = refusal.2 in
       let start = unfit.0 in
       let reads : Reads before start = unfit.1 in

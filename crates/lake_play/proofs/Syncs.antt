@@ -3,7 +3,7 @@ use Rattle.std.proofs.Common.{◌≡◌, inl, inr, ⊎_elim, ℕ, zero, suc, ◌
 use Rattle.std.proofs.lemmas.Bool.{cases_lt, false≢true}
 use Rattle.std.specs.FinMap as map
 use Rattle.lake_store.specs.Disk.{IsClean}
-use Rattle.lake_store.specs.Fuse.{FuseCanBeContested, fuse_disk}
+use Rattle.lake_store.specs.Fuse.{FuseCanBeContested, fuse_disk, room_of}
 use Rattle.lake_store.specs.Runs.{IsIn, IsOutside, OnlyReads}
 use Rattle.lake_store.specs.declared.fuse.FuseStore.{FuseStore}
 use Rattle.conformance.specs.Histories.{IsHistoryFrom}
@@ -26,10 +26,11 @@ use Rattle.target_sync.specs.declared.status.Status.{Status}
 use Rattle.target_sync.specs.declared.status.Status.TheVariants as status
 use Rattle.lake_play.specs.Formats.{from_delta}
 use Rattle.lake_play.specs.Playing.{Brings, scripted, status_of}
-use Rattle.lake_play.specs.Scripted.{scripted_store}
+use Rattle.lake_play.specs.Scripted.{ScriptedCanBeContested, scripted_contests, scripted_store}
 use Rattle.lake_play.specs.Standing.{floor_behind, is_done, is_same}
 use Rattle.lake_play.proofs.Histories.{holds_history, is_absent, is_history, same_length}
 use Rattle.lake_play.proofs.Logs.{HoldsCommits}
+use Rattle.lake_play.proofs.Rooms.{enters_free}
 use Rattle.lake_play.proofs.Targets.{IsPlayed, at_front, at_whole}
 
 -- ---- answers
@@ -92,7 +93,7 @@ none_left (x ∷ xs) is = absurd (omega (arith, is))
 -- ---- one sync
 
 module _ (target : TargetFacts) (mode : Mode) (now : ℕ) (old new : FuseStore) (given : Status) (brings : Brings target mode now old new given) (none : FuseCanBeContested old → ⊥) where
-  abbrev sync : IsWholeSync scripted_store from_delta target None mode now (scripted old) (scripted new) (Some brings.answer)
+  abbrev sync : IsWholeSync scripted_store from_delta target None mode now (scripted (room_of old) old) (scripted brings.room new) (Some brings.answer)
   sync = brings.sync
 
   -- what isn't in the target's folder stays
@@ -103,13 +104,20 @@ module _ (target : TargetFacts) (mode : Mode) (now : ℕ) (old new : FuseStore) 
   outside_clean path out = (sync.sync.alone tt).disk.clean path out
 
   pub still_uncontested : FuseCanBeContested new → ⊥
-  still_uncontested can = none (sync.sync.contest.still can)
+  still_uncontested can = enters_free old none (sync.sync.contest.still (inl can))
+
+  -- nor is more taken than there was room for
+  pub still_free : ScriptedCanBeContested (scripted brings.room new) → ⊥
+  still_free can = enters_free old none (sync.sync.contest.still can)
+
+  pub same_told : scripted_contests (scripted brings.room new) ≡ scripted_contests (scripted (room_of old) old)
+  same_told = sync.sync.contest.same (λ refused. enters_free old none (sync.sync.contest.allowed refused))
 
   undisturbed : (answer : Result Report Status) → brings.answer ≡ answer → IsUndisturbed (Some answer)
   undisturbed (Ok report) is = tt
   undisturbed (Err e) is = λ contest.
       let few : IsOfSync target.files.kind e = subst (λ (a : Result Report Status). IsFew target.files.kind (Some a)) is sync.sync.few in
-      none (sync.sync.contest.allowed (ap (λ (a : Result Report Status). Some a) is ∙ ap (λ (s : Status). Some (Err s)) (contest_of target.files.kind e few contest)))
+      enters_free old none (sync.sync.contest.allowed (ap (λ (a : Result Report Status). Some a) is ∙ ap (λ (s : Status). Some (Err s)) (contest_of target.files.kind e few contest)))
 
   pub alone : IsUndisturbed (Some brings.answer)
   alone = undisturbed brings.answer refl
@@ -157,7 +165,7 @@ module _ (target : TargetFacts) (mode : Mode) (now : ℕ) (old new : FuseStore) 
 
       -- there is a table
       module _ (some : 0 < count) where
-        goes : GoesOnAlong scripted_store from_delta target.files mode history k here.view (IsUndisturbed (Some brings.answer)) (IsDone (Some brings.answer)) (scripted old) (scripted new)
+        goes : GoesOnAlong scripted_store from_delta target.files mode history k here.view (IsUndisturbed (Some brings.answer)) (IsDone (Some brings.answer)) (scripted (room_of old) old) (scripted brings.room new)
         goes = sync.along.goes tt history (is_history commits history is few) (holds_history commits first (fuse_disk old) log some history is) k here was.settled
 
         at_end : (report : Report) → brings.answer ≡ Ok report → Left
@@ -201,9 +209,9 @@ module _ (target : TargetFacts) (mode : Mode) (now : ℕ) (old new : FuseStore) 
 
         as_it_was : (e : Status) → brings.answer ≡ Err e → Left
         as_it_was e is =
-            let stops = subst (λ (a : Result Report Status). StopsSo scripted_store from_delta target None mode now here.view (scripted old) (scripted new) (Some a)) is (sync.sync.stopped tt here.view ready) in
+            let stops = subst (λ (a : Result Report Status). StopsSo scripted_store from_delta target None mode now here.view (scripted (room_of old) old) (scripted brings.room new) (Some a)) is (sync.sync.stopped tt here.view ready) in
             ⊎_elim
-            (λ (idle : OnlyReads scripted_store (scripted old) (scripted new)).
+            (λ (idle : OnlyReads scripted_store (scripted (room_of old) old) (scripted brings.room new)).
             subst (λ (n : ℕ). IsPlayed target.files (history ++ behind) n count (fuse_disk new)) (sym (refused e is))
             (subst (IsPlayed target.files (history ++ behind) floor count) (sym idle.disk) was))
             (λ stopped. absurd (no_due stopped.due))

@@ -1,5 +1,5 @@
 -- What a drill leaves in its store, and what it prints of that.
-use Rattle.std.specs.Prelude.{◌≡◌, ◌⊎◌, ◌≤◌, ◌<◌, ℕ, true, List, ◌++◌, Some, slice_get, take}
+use Rattle.std.specs.Prelude.{◌≡◌, ◌⊎◌, ◌≤◌, ◌<◌, ℕ, true, List, ◌∷◌, ◌++◌, take}
 use Rattle.std.specs.List.{AllByRecursion}
 use Rattle.conformance.specs.Drill.{commit_count, drill_bytes, drill_time}
 use Rattle.conformance.specs.Events.{drill_events}
@@ -22,7 +22,6 @@ use Rattle.table_history.specs.Rows.{IsInPathOrder, SameRows}
 use Rattle.table_history.specs.declared.kind.Kind.{Kind}
 use Rattle.table_history.specs.declared.kind.Kind.TheVariants.{Delta, Hudi, Iceberg}
 use Rattle.table_history.specs.declared.limit.LimitKind.{LimitKind}
-use Rattle.table_history.specs.declared.limit.LimitKind.TheVariants as limit
 use Rattle.table_history.specs.declared.table.Table.{Table}
 use Rattle.target_core.specs.Meaning.{Meaning}
 use Rattle.target_core.specs.Views.{IsOfSource, View}
@@ -46,6 +45,10 @@ pub record IsBrought (target : Meaning) (history : History) (files : Files) : Ty
 -- a sync is done, or the store failed in it
 abbrev pub IsEnded : Status → Type 0
 IsEnded given = (given ≡ status.Done) ⊎ (given ≡ status.StoreFault)
+
+-- the first answer that isn't so
+abbrev pub IsFirstRefusal : List Status → Status → Type 0
+IsFirstRefusal answers given = (front : List Status) × (behind : List Status) × (answers ≡ front ++ given ∷ behind) × AllByRecursion IsEnded front × ¬ IsEnded given
 
 -- The drill was played from a store without files that fails by no script, and each sync of it was done, or the store stopped in it. This is the store on
 -- which it was played: its disk and all that stands around it are as the last event left them.
@@ -105,7 +108,7 @@ IsBroughtOnce target files = (view : View) × IsRead target files view
 abbrev pub TellsTarget : Meaning → Files → List ℕ → Type 0
 TellsTarget target files text = (view : View) → target.reads files view → TellsOf (target_line target.kind view.commits) view.table.rows text
 
--- ---- what isn't ruled out
+-- ---- why a line isn't made
 
 -- what inspecting the target of this format reads of the files at the end passes this number
 abbrev pub IsReadPast : Files → Kind → LimitKind → ℕ → Type 0
@@ -127,37 +130,6 @@ IsLookEnd target is_crowded given = (given ≡ status.Memory) ⊎ ((which : Limi
 abbrev pub IsTableRefusal : Files → SourceError → Type 0
 IsTableRefusal files e = (IsHeadRefusal (IsAbsent files) (ShowsAtHead files) e ⊎ IsReadRefusal (ShowsFromScratch files) e) × ¬ (e ≡ source_error.StoreFault)
 
--- The drill was played, from a store without files that fails by no script, to this one, and a sync of it was answered so. What is passed or doesn't fit is
--- said by the sync itself, over the files that it had.
-pub record IsRefusedSync (number : ℕ) (store : FuseStore) (given : Status) : Type 0 where
-  pub start : FuseStore
-  pub fresh : IsFresh start
-  pub unscripted : ¬ CanFail (script_of start)
-  pub after : Progress
-  pub plays : PlaysAll drill_time (drill_events number true) nothing_played start after store
-  pub place : ℕ
-  pub answered : slice_get after.answers place ≡ Some given
-
--- the numbers of a target of this format that aren't ruled out
-abbrev pub IsLeft : Kind → LimitKind → Type 0
-IsLeft Hudi limit.File = Unit {0}
-IsLeft Hudi limit.Names = Unit {0}
-IsLeft Iceberg limit.File = Unit {0}
-IsLeft Iceberg limit.Names = Unit {0}
-IsLeft Iceberg limit.Actions = Unit {0}
-IsLeft Iceberg limit.Versions = Unit {0}
-IsLeft _ _ = ⊥
-
--- Such a number is passed in a target.
-abbrev pub IsCutShort : ℕ → FuseStore → Status → Type 0
-IsCutShort number store (status.Limit (side.Target target) which n) =
-    IsLeft target which × (IsReadPast (fuse_disk store).files target which n ⊎ IsRefusedSync number store (status.Limit (side.Target target) which n))
-IsCutShort number store _ = ⊥
-
--- memory ran out, or the drill is cut short
-abbrev pub IsDrillEnd : ℕ → FuseStore → Status → Type 0
-IsDrillEnd number store given = (given ≡ status.Memory) ⊎ IsCutShort number store given
-
 -- ---- putting
 
 -- The lines are out; or memory ran out, or the sink failed, and a front of them is.
@@ -171,12 +143,11 @@ pub record PutsText {O : Type 0} (sink : Ghosts O) (old new : O) (text : List �
 -- ---- the answer
 
 -- At Done the lines are out, and the store is the one that they tell of. Where the sink failed, it is too, and a front of them is out. Where memory ran out,
--- nothing is out, or a front of the lines that tell of the store. With another answer nothing is.
+-- nothing is out, or a front of the lines that tell of the store.
 pub record Drills {O : Type 0} (sink : Ghosts O) (number : ℕ) (old new : O) (given : Status) (store : FuseStore) : Type 0 where
   pub later : sink.faults old ≤ sink.faults new
   pub can_fail : sink.may_fail new → sink.may_fail old
-  pub ends : (given ≡ status.Done) ⊎ (given ≡ status.Memory) ⊎ ((given ≡ status.SinkFault) × Rose (sink.faults old) (sink.faults new) × sink.may_fail old) ⊎ IsCutShort number store given
-  pub cut : IsCutShort number store given → new ≡ old
+  pub ends : (given ≡ status.Done) ⊎ (given ≡ status.Memory) ⊎ ((given ≡ status.SinkFault) × Rose (sink.faults old) (sink.faults new) × sink.may_fail old)
   pub done : given ≡ status.Done → (lines : List ℕ) × IsDrilled number store lines × (sink.tells → sink.output new ≡ sink.output old ++ lines)
   pub sink_fault : given ≡ status.SinkFault → (lines : List ℕ) × IsDrilled number store lines × (sink.tells → (n : ℕ) × (sink.output new ≡ sink.output old ++ take n lines))
   pub memory : given ≡ status.Memory → sink.tells → (sink.output new ≡ sink.output old) ⊎ ((lines : List ℕ) × (n : ℕ) × IsDrilled number store lines × (sink.output new ≡ sink.output old ++ take n lines))

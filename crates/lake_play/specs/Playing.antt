@@ -4,7 +4,7 @@ use Rattle.std.specs.FinMap as map
 use Rattle.delta_table.specs.Versions.{IsVersionPath}
 use Rattle.lake_store.specs.Crash.{IsCrashed}
 use Rattle.lake_store.specs.Disk.{Disk, IsClean, MayLeave, synced, written}
-use Rattle.lake_store.specs.Fuse.{fuse_disk, with_stop}
+use Rattle.lake_store.specs.Fuse.{fuse_disk, room_of, with_stop}
 use Rattle.lake_store.specs.declared.fuse.FuseStore.{FuseStore}
 use Rattle.conformance.specs.declared.event.Event.{Event}
 use Rattle.conformance.specs.declared.event.Event.TheVariants as event
@@ -63,14 +63,16 @@ abbrev pub status_of : Result Report Status → Status
 status_of (Ok report) = status.Done
 status_of (Err e) = e
 
-abbrev pub scripted : FuseStore → Scripted
-scripted fuse = record { fuse = fuse }
+-- the store in which a fuse stands while a target is synced
+abbrev pub scripted : ℕ → FuseStore → Scripted
+scripted room fuse = record { fuse = fuse; room = room }
 
--- The target was synced from the Delta source, and this was answered.
+-- The target was synced from the Delta source, over a store of the room that the fuse had, and this was answered.
 pub record Brings (target : TargetFacts) (mode : Mode) (now : ℕ) (old new : FuseStore) (given : Status) : Type 0 where
   pub answer : Result Report Status
   pub told : given ≡ status_of answer
-  pub sync : IsWholeSync scripted_store from_delta target None mode now (scripted old) (scripted new) (Some answer)
+  pub room : ℕ
+  pub sync : IsWholeSync scripted_store from_delta target None mode now (scripted (room_of old) old) (scripted room new) (Some answer)
 
 -- nothing was done, for this reason
 abbrev pub GivesUp : Status → FuseStore → FuseStore → Status → Type 0

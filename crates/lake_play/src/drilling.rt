@@ -11,7 +11,7 @@ ghost use Rattle.source_delta.specs.Heads.{IsDeltaHead, IsTableAtHead};
 ghost use Rattle.table_history.specs.History.{History};
 ghost use Rattle.table_history.specs.declared.kind.Kind.TheVariants.{Delta};
 ghost use Rattle.target_core.specs.TargetMeanings.{meaning};
-ghost use Rattle.lake_play.specs.Drilled.{AreDrillLines, Drills, IsBroughtOnce, IsDrillEnd, IsEnded, IsLookEnd, IsPlayedThrough, IsRead, IsReadEnd, IsTableRefusal, LeavesDrill, TellsLast, TellsTarget};
+ghost use Rattle.lake_play.specs.Drilled.{AreDrillLines, Drills, IsBroughtOnce, IsEnded, IsFirstRefusal, IsLookEnd, IsPlayedThrough, IsRead, IsReadEnd, IsTableRefusal, LeavesDrill, TellsLast, TellsTarget};
 ghost use Rattle.lake_play.specs.Lines.{source_line};
 ghost use Rattle.lake_play.specs.Standing.{IsFresh, meaning_of_hudi, meaning_of_iceberg};
 
@@ -48,8 +48,7 @@ fn is_ended(answer: &Status) -> bool
 /// The first answer that is neither Done nor that of a store that stopped, if there is one.
 fn refusal_of(answers: Items<Status>) -> Result<(), Status>
     ensures ended { OnOk result (AllByRecursion IsEnded answers) }
-    ensures refused { IfErr result (λ e. (place : ℕ) × (slice_get answers place ≡ Some e)
-        × ¬ IsEnded e) }
+    ensures refused { IfErr result (IsFirstRefusal answers) }
 {
     for answer in answers.into_vec() {
         if !is_ended(&answer) {
@@ -66,7 +65,7 @@ fn play_drill(alloc: Global, number: u64, store: &mut FuseStore) -> Result<(), S
     ensures played { OnOk result (IsPlayedThrough number store.new) }
     ensures leaves { OnOk result (LeavesDrill number (fuse_disk store.new).files) }
     ensures said { OnOk result (AreSaid number) }
-    ensures refused { IfErr result (IsDrillEnd number store.new) }
+    ensures refused { IfErr result (λ e. e ≡ Status.Memory) }
 {
     let Ok(events) = events(alloc, number, true) else {
         return Err(Status::Memory);
@@ -218,8 +217,7 @@ fn drill_over<O: Sink>(alloc: Global, number: u64, store: &mut FuseStore, out: &
 
 /// Plays the drill of a number over a store that it makes, prints a line of the source and one of
 /// each target by a put of its own, and hands the store back as it stands. It ends with Done,
-/// with Memory, with SinkFault where the sink failed, or with the Limit of a target: of the bytes of
-/// a file, of the names in a folder, or of Iceberg's entries, versions and field ids.
+/// with Memory, or with SinkFault where the sink failed.
 pub fn drill<O: Sink>(alloc: Global, number: u64, out: &mut O) -> (Status, FuseStore)
     ensures { Drills ⟦<O as Sink>⟧ number out.old out.new result.0 result.1 }
 {

@@ -5,10 +5,13 @@ use lake_store::{FuseStore, MemoryStore, Names, Script, Store, StoreError};
 use std::alloc::Global;
 use std::mem;
 
-/// A fuse of which contracts see too that its script goes on naming the calls that it named.
+/// A fuse of which contracts see too that its script goes on naming the calls that it named, and
+/// that behind a stop its files stay within the room that it had.
 #[derive(Drop)]
 pub(crate) struct Scripted {
     pub(crate) fuse: FuseStore,
+    /// What `FuseStore::room` said at first.
+    pub(crate) room: u64,
 }
 
 impl Store for Scripted {

@@ -53,8 +53,10 @@ fn bring<T: Target>(
     ensures { Brings (target_facts ⟦<T as Target>⟧ target.now) mode now_ms
         store.old store.new result }
 {
+    let room = store.room();
     let mut scripted = Scripted {
         fuse: mem::replace(store, empty_fuse(alloc)),
+        room,
     };
     let answer = sync_one(
         alloc,
@@ -64,7 +66,7 @@ fn bring<T: Target>(
         mode,
         now_ms,
     );
-    let Scripted { fuse } = scripted;
+    let Scripted { fuse, .. } = scripted;
     *store = fuse;
     status_of(answer)
 }

@@ -1,14 +1,12 @@
 -- A command is ended by a fault of the store, or of the output, only where that count rose.
-use Rattle.std.proofs.Common.{◌≡◌, ◌⊎◌, inl, inr, ⊎_elim, ℕ, ◌≤◌, Bool, true, false, List, refl, sym, ◌∙◌, ap, subst, arith}
-use Rattle.std.specs.Prelude.{nat_le, Option, Some, None, Result, Ok, Err}
+use Rattle.std.proofs.Common.{◌≡◌, ◌⊎◌, inl, inr, ⊎_elim, ℕ, ◌≤◌, Bool, true, false, List, refl, sym, ◌∙◌, subst, arith}
+use Rattle.std.specs.Prelude.{nat_le, Option, Some, None, Ok, Err}
 use Rattle.std.proofs.lemmas.Bool.Decides.{nat_tests}
 use Rattle.delta_compact.specs.declared.error.CompactFault.TheVariants as compaction
-use Rattle.lake_play.specs.Drilled.{IsCutShort}
 use Rattle.lake_store.specs.Cause.{Rose}
 use Rattle.lake_store.specs.declared.sink.Sink as sinks
 use Rattle.lake_store.specs.declared.store.Store.{Ghosts}
 use Rattle.lake_sweep.specs.declared.error.SweepError.TheVariants as sweep
-use Rattle.source_core.specs.declared.error.SourceError.{SourceError}
 use Rattle.source_core.specs.declared.error.SourceError.TheVariants as source
 use Rattle.table_history.specs.declared.kind.Kind.{Kind}
 use Rattle.table_history.specs.declared.kind.Kind.TheVariants.{Delta, Hudi, Iceberg}
@@ -19,7 +17,7 @@ use Rattle.target_sync.specs.declared.plan.Mode.{Mode}
 use Rattle.target_sync.specs.declared.plan.Mode.TheVariants as modes
 use Rattle.target_sync.specs.declared.status.Status.{Status}
 use Rattle.target_sync.specs.declared.status.Status.TheVariants as status
-use Rattle.sync_driver.specs.Answers.{BringsEach, BringsTo, BringsTwo, Command, ComparesTo, GivesUp, PlaysDrill, SweepsTo}
+use Rattle.sync_driver.specs.Answers.{BringsEach, Command, ComparesTo, GivesUp, PlaysDrill, SweepsTo}
 use Rattle.sync_driver.specs.Both.{SyncsBoth, both_status, first_refusal, status_behind}
 use Rattle.sync_driver.specs.Checked.{CheckAnswer, Checks, IsFewOfCheck, check_status}
 use Rattle.sync_driver.specs.Commands.{Syncs, answer_status}
@@ -49,12 +47,6 @@ three : {A B C D : Type 0} → A ⊎ B ⊎ C → (A → D) → (B → D) → (C 
 three (inl a) f g h = f a
 three (inr (inl b)) f g h = g b
 three (inr (inr c)) f g h = h c
-
-four : {A B C D E : Type 0} → A ⊎ B ⊎ C ⊎ D → (A → E) → (B → E) → (C → E) → (D → E) → E
-four (inl a) f g h i = f a
-four (inr (inl b)) f g h i = g b
-four (inr (inr (inl c))) f g h i = h c
-four (inr (inr (inr d))) f g h i = i d
 
 -- ---- answers
 
@@ -207,16 +199,14 @@ module _ {S O : Type 0} (store : Ghosts S) (sink : sinks.Ghosts O) (old new : S)
   drill_end : (number : ℕ) → PlaysDrill sink number old new out_old out_new given → EndsBy store sink old new out_old out_new given
   drill_end number plays = record {
     store_later = subst (λ s. store.faults old ≤ store.faults s) (sym plays.0) (omega arith);
-    store_fault = λ is. four plays.1.1.ends
+    store_fault = λ is. three plays.1.1.ends
         (λ done. let both : status.Done ≡ status.StoreFault = sym done ∙ is in absurd (cc both))
         (λ memory. let both : status.Memory ≡ status.StoreFault = sym memory ∙ is in absurd (cc both))
-        (λ cut. let both : status.SinkFault ≡ status.StoreFault = sym cut.0 ∙ is in absurd (cc both))
-        (λ short. absurd (subst (IsCutShort number plays.1.0) is short));
-    sink_fault = λ is. four plays.1.1.ends
+        (λ fault. let both : status.SinkFault ≡ status.StoreFault = sym fault.0 ∙ is in absurd (cc both));
+    sink_fault = λ is. three plays.1.1.ends
         (λ done. let both : status.Done ≡ status.SinkFault = sym done ∙ is in absurd (cc both))
         (λ memory. let both : status.Memory ≡ status.SinkFault = sym memory ∙ is in absurd (cc both))
-        (λ cut. cut.1)
-        (λ short. absurd (subst (IsCutShort number plays.1.0) is short));
+        (λ fault. fault.1);
     sink_later = plays.1.1.later;
   }
 

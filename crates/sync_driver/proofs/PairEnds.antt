@@ -28,6 +28,7 @@ use Rattle.target_sync.proofs.Beside.{beside_behind}
 use Rattle.target_sync.proofs.Counting.{fails_as, fails_never}
 use Rattle.target_sync.proofs.Following.{source_of_others}
 use Rattle.target_sync.proofs.Refusing.{absence_of_head}
+use Rattle.target_sync.proofs.Sizes.{short_reading}
 use Rattle.target_sync.proofs.Standing.{SourceLaws, synced_idle}
 use Rattle.sync_driver.specs.Both.{AreSynced, GoesBoth, InPhases, IsContested, IsCut, IsDoneBut, IsEnd, IsRefused, SyncsBoth, both_lines, both_status, first_refusal, status_behind}
 use Rattle.sync_driver.specs.Commands.{IsPending, answer_line, answer_status}
@@ -267,6 +268,7 @@ sync_skipped store source target other mode now own crash old new reading A B ca
     let alone : store.tells → ChangesTargets store target.files.kind (Some other) old new = λ told. alone_by_reading store (IsOutsideBoth target.files.kind other) old new (reading told) in
     record {
       alone = alone;
+      short = short_reading store old new reading;
       source_stays = λ told apart clean. source_of_others store source own target.files.kind (Some other) old new told apart (alone told) clean;
       synced = λ told start ready. synced_idle source own target.files mode crash store start (Unit {0}) ⊥ (λ never. never) old new told (reading told) ready.reads ready.settled;
       reported = λ told start reads goes. tt;
@@ -328,7 +330,7 @@ module _ {S O : Type 0} (store : Ghosts S) (sink : sinks.Ghosts O) (source : Sou
       let idle : store.tells → ChangesOnlyIn store (folder_of second.files.kind) new new = λ tells. alone_by_reading store (IsOutside (folder_of second.files.kind)) new new (reading_begins store laws.only_now new tells) in
       syncs_both old new out_old out_new given None one None false
       (record {
-        first_sync = beside_behind store laws.only_now laws.now_counts source laws.source_laws laws.fault_laws first laws.first_crash laws.first_own second.files.kind (λ is. laws.apart (sym is)) mode now old new new one sync idle ⊥ ⊥
+        first_sync = beside_behind store laws.only_now laws.now_counts source laws.source_laws laws.fault_laws first laws.first_crash laws.first_own second.files.kind (λ is. laws.apart (sym is)) mode now old new new one sync idle (short_reading store new new (reading_begins store laws.only_now new)) ⊥ ⊥
             (fails_never store.faults store.may_fail new ⊥ (λ never. never)) (fails_never store.contests store.may_contest new ⊥ (λ never. never));
         second_sync = sync_skipped store source second first.files.kind mode now laws.source_laws laws.second_crash old new reading Fault A sync.fault quiet;
         order = λ tells. inr tt;

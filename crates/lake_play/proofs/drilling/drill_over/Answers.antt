@@ -21,7 +21,8 @@ returns-in-Ok-lines_of g c =
 pub returns-in-Err-lines_of : goal.returns-in-Err-lines_of
 returns-in-Err-lines_of g c =
     nothing_put g.O.Sink c.args.number c.args.out.now _ c.in-Err-lines_of.refused
-    (read_end c.args.number _ c.in-Err-lines_of.refused c.in-Ok.ensures.said (subst (λ (d : Disk). LeavesDrill c.args.number d.files) (sym (c.in-Err-lines_of.ensures.still ∙ ap disk_of c.inner.ensures.inner)) c.in-Ok.ensures.leaves)
+    (read_end c.args.number _ c.in-Err-lines_of.refused c.in-Ok.ensures.said
+    (read_through c.args.number c.play_drill.new.store c.lines_of.new.store (c.in-Err-lines_of.ensures.still ∙ ap disk_of c.inner.ensures.inner) c.in-Ok.ensures.played) (subst (λ (d : Disk). LeavesDrill c.args.number d.files) (sym (c.in-Err-lines_of.ensures.still ∙ ap disk_of c.inner.ensures.inner)) c.in-Ok.ensures.leaves)
     (subst (λ (d : Disk). IsReadEnd d.files c.in-Err-lines_of.refused) (sym c.in-Err-lines_of.ensures.still) c.in-Err-lines_of.ensures.refused))
 
 pub returns-in-Err : goal.returns-in-Err

@@ -2,7 +2,7 @@ use Rattle.std.proofs.Common.{List, subst, sym, ◌∙◌}
 use Rattle.std.proofs.lemmas.Result.{on_ok_weaker}
 use Rattle.conformance.specs.Histories.{AreLegal}
 use Rattle.conformance.specs.declared.event.Event.{Event}
-use Rattle.lake_play.proofs.Drills.{IsPlayedSo, end_of, leaves, played_through}
+use Rattle.lake_play.proofs.Drills.{IsPlayedSo, first_end, leaves, played_through}
 use Rattle.lake_play.proofs.Reading.{if_err_weaker, on_ok_of}
 use Rattle.lake_play.proofs.drilling.play_drill.Goals as goal
 
@@ -55,7 +55,7 @@ returns-in-Ok-play-clause-refused c =
       once = plays.once legal.order c.requires.fresh;
       caused = λ history is. plays.caused legal.order c.requires.fresh history is plays.plays.0 plays.plays.1 plays.plays.2;
     }) in
-    if_err_weaker c.refusal_of.result (λ e refused. end_of c.args.number c.args.store.now c.play.new.store c.in-Ok-play.answers played c.requires.fresh c.requires.unscripted c.in-Ok.ensures.said refused.0 e refused.1 refused.2) c.refusal_of.ensures.refused
+    if_err_weaker c.refusal_of.result (λ e refused. first_end c.args.number c.args.store.now c.play.new.store c.in-Ok-play.answers played c.requires.fresh c.requires.unscripted c.in-Ok.ensures.said e refused) c.refusal_of.ensures.refused
 
 pub returns-in-Ok-play-clause-said : goal.returns-in-Ok-play-clause-said
 returns-in-Ok-play-clause-said c = on_ok_of c.refusal_of.result c.in-Ok.ensures.said
