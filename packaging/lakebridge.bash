@@ -8,8 +8,8 @@ _lakebridge() {
     esac
     COMPREPLY=()
     if [ "$COMP_CWORD" = 1 ]; then
-        compopt -o filenames 2>/dev/null
-        mapfile -t COMPREPLY < <(compgen -d -- "$word")
+        # Folders are found by bash itself, which knows of quotes, `~` and variables.
+        compopt -o dirnames
     elif [ "$COMP_CWORD" = 2 ]; then
         mapfile -t COMPREPLY < <(compgen -W "sync full check show sweep compact drill batch" -- "$word")
     elif [ "$COMP_CWORD" -le "$most" ]; then
