@@ -3,57 +3,44 @@ use avro_value::{push_bytes, push_natural, put_long};
 use rows::bytes_of_hex;
 use std::alloc::{AllocError, Global};
 
-/// A container of one block.
-#[derive(Drop)]
-pub(crate) struct Container<'a> {
-    codec: &'a str,
-    schema: &'a str,
-    /// How many objects the block is said to hold.
-    count: i64,
-    objects: Vec<u8>,
+/// The bytes of a container of one block that is said to hold so many objects, of which the lines state the
+/// schema and, in hexadecimal digits, the objects.
+pub(crate) fn container_of_lines(
+    alloc: Global,
+    codec: &str,
+    count: &str,
+    lines: &[&str],
+) -> Result<Option<Vec<u8>>, AllocError> {
+    let (Ok(count), Some((schema, digits))) = (count.parse::<i64>(), lines.split_first()) else {
+        return Ok(None);
+    };
+    match bytes_of_lines(alloc, digits)? {
+        Some(objects) => {
+            let mut bytes = Vec::new(alloc);
+            push_head(&mut bytes, codec, schema)?;
+            push_block(&mut bytes, count, objects.as_slice())?;
+            Ok(Some(bytes))
+        }
+        None => Ok(None),
+    }
 }
 
-impl<'a> Container<'a> {
-    /// The container of this codec and count, of which the lines state the schema and, in hexadecimal
-    /// digits, the objects.
-    pub(crate) fn from_lines(
-        alloc: Global,
-        codec: &'a str,
-        count: &str,
-        lines: &'a [&'a str],
-    ) -> Result<Option<Container<'a>>, AllocError> {
-        let Ok(count) = count.parse::<i64>() else {
-            return Ok(None);
-        };
-        let Some((schema, digits)) = lines.split_first() else {
-            return Ok(None);
-        };
-        match bytes_of_lines(alloc, digits)? {
-            Some(objects) => Ok(Some(Container {
-                codec,
-                schema,
-                count,
-                objects,
-            })),
-            None => Ok(None),
-        }
-    }
+/// Adds a head, by "Object Container Files" of the Avro specification.
+fn push_head(out: &mut Vec<u8>, codec: &str, schema: &str) -> Result<(), AllocError> {
+    push_bytes(out, b"Obj\x01\x04")?;
+    push_sized(out, b"avro.codec")?;
+    push_sized(out, codec.as_bytes())?;
+    push_sized(out, b"avro.schema")?;
+    push_sized(out, schema.as_bytes())?;
+    push_bytes(out, b"\x00")?;
+    push_bytes(out, MARKER)
+}
 
-    /// Its bytes, by "Object Container Files" of the Avro specification.
-    pub(crate) fn bytes(&self, alloc: Global) -> Result<Vec<u8>, AllocError> {
-        let mut bytes = Vec::new(alloc);
-        push_bytes(&mut bytes, b"Obj\x01\x04")?;
-        push_sized(&mut bytes, b"avro.codec")?;
-        push_sized(&mut bytes, self.codec.as_bytes())?;
-        push_sized(&mut bytes, b"avro.schema")?;
-        push_sized(&mut bytes, self.schema.as_bytes())?;
-        push_bytes(&mut bytes, b"\x00")?;
-        push_bytes(&mut bytes, MARKER)?;
-        push_long(&mut bytes, self.count)?;
-        push_sized(&mut bytes, self.objects.as_slice())?;
-        push_bytes(&mut bytes, MARKER)?;
-        Ok(bytes)
-    }
+/// Adds a block, by the same.
+fn push_block(out: &mut Vec<u8>, count: i64, objects: &[u8]) -> Result<(), AllocError> {
+    push_long(out, count)?;
+    push_sized(out, objects)?;
+    push_bytes(out, MARKER)
 }
 
 /// What the marker of each container is.

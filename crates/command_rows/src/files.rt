@@ -1,7 +1,7 @@
 //! The files of a store in memory.
 use iceberg_manifest::Infos;
 use iceberg_manifest_reading::read_list;
-use lake_store::{Blob, FuseStore, MemoryStore, Names, Script, Store};
+use lake_store::{Blob, FuseStore, MemoryStore, Names, Script, Store, Text};
 use std::alloc::{AllocError, Global};
 
 /// The folders in which tables have metadata, and that of staged log compactions.
@@ -59,11 +59,21 @@ fn copy_folder(
     let names = names_in(alloc, store, folder)?;
     for name in names.as_slice() {
         let path = format!(in alloc; "{folder}/{}", name.as_str())?;
-        if let Some(bytes) = read(alloc, store, path.as_str())? {
-            copy.put(path.as_str(), bytes.as_slice())?;
-        }
+        copy_between(alloc, store, path.as_str(), copy)?;
     }
     Ok(())
+}
+
+fn copy_between(
+    alloc: Global,
+    store: &mut MemoryStore,
+    path: &str,
+    copy: &mut MemoryStore,
+) -> Result<(), AllocError> {
+    match read(alloc, store, path)? {
+        Some(bytes) => copy.put(path, bytes.as_slice()),
+        None => Ok(()),
+    }
 }
 
 /// The bytes as a text, if they are one.
@@ -85,6 +95,48 @@ pub(crate) fn file_text(
         Some(bytes) => text_of(alloc, bytes.as_slice()),
         None => String::from_str(alloc, "no file"),
     }
+}
+
+/// The lines so many times, with a number from 0 on in place of `NUMBER`, if the count is one.
+pub(crate) fn numbered_lines(
+    alloc: Global,
+    count: &str,
+    lines: &[&str],
+) -> Result<Option<String>, AllocError> {
+    let Ok(count) = count.parse::<u32>() else {
+        return Ok(None);
+    };
+    let mut text = String::new(alloc);
+    for number in 0..count {
+        push_numbered(alloc, lines, number, &mut text)?;
+    }
+    Ok(Some(text))
+}
+
+fn push_numbered(
+    alloc: Global,
+    lines: &[&str],
+    number: u32,
+    text: &mut String,
+) -> Result<(), AllocError> {
+    let number = format!(in alloc; "{number}")?;
+    for line in lines {
+        push_replaced(alloc, line, "NUMBER", number.as_str(), text)?;
+    }
+    Ok(())
+}
+
+/// Adds the line with this text in place of each such word.
+pub(crate) fn push_replaced(
+    alloc: Global,
+    line: &str,
+    word: &str,
+    by: &str,
+    text: &mut String,
+) -> Result<(), AllocError> {
+    let line = line.replace(alloc, word, by)?;
+    text.push_str(line.as_str())?;
+    text.push('\n')
 }
 
 /// Takes off a file's last byte.
@@ -119,37 +171,52 @@ pub(crate) fn remove_file(store: &mut FuseStore, path: &str) -> Result<(), Alloc
     }
 }
 
-/// The names in these folders, a line each.
-pub(crate) fn lists_of(
+/// Shows the text of a file.
+pub(crate) fn show_file(
     alloc: Global,
     store: &mut FuseStore,
-    folders: &str,
-) -> Result<String, AllocError> {
-    let mut lists = String::new(alloc);
-    for folder in folders.split_whitespace() {
-        lists.push_str(folder)?;
-        lists.push(':')?;
-        let names = names_in(alloc, store.inner(), folder)?;
-        for name in names.as_slice() {
-            lists.push(' ')?;
-            lists.push_str(name.as_str())?;
-        }
-        lists.push('\n')?;
-    }
-    Ok(lists)
+    path: &str,
+    shown: &mut String,
+) -> Result<(), AllocError> {
+    let text = file_text(alloc, store, path)?;
+    shown.push_str(text.as_str())
 }
 
-/// The paths and texts of the files in these folders.
-pub(crate) fn files_in(
+/// Shows the names in these folders, a line each.
+pub(crate) fn show_lists(
     alloc: Global,
     store: &mut FuseStore,
     folders: &str,
-) -> Result<String, AllocError> {
-    let mut all = String::new(alloc);
+    shown: &mut String,
+) -> Result<(), AllocError> {
     for folder in folders.split_whitespace() {
-        push_files(alloc, store, folder, &mut all)?;
+        let names = names_in(alloc, store.inner(), folder)?;
+        shown.push_str(folder)?;
+        shown.push(':')?;
+        show_names(&names, shown)?;
     }
-    Ok(all)
+    Ok(())
+}
+
+fn show_names(names: &Names, shown: &mut String) -> Result<(), AllocError> {
+    for name in names.as_slice() {
+        shown.push(' ')?;
+        shown.push_str(name.as_str())?;
+    }
+    shown.push('\n')
+}
+
+/// Shows the paths and texts of the files in these folders.
+pub(crate) fn show_files(
+    alloc: Global,
+    store: &mut FuseStore,
+    folders: &str,
+    shown: &mut String,
+) -> Result<(), AllocError> {
+    for folder in folders.split_whitespace() {
+        push_files(alloc, store, folder, shown)?;
+    }
+    Ok(())
 }
 
 /// The paths and texts of all files.
@@ -169,43 +236,49 @@ fn push_files(
 ) -> Result<(), AllocError> {
     let names = names_in(alloc, store.inner(), folder)?;
     for name in names.as_slice() {
-        let path = format!(in alloc; "{folder}/{}", name.as_str())?;
-        let text = file_text(alloc, store, path.as_str())?;
-        all.push_str(path.as_str())?;
-        all.push('\n')?;
-        all.push_str(text.as_str())?;
-        all.push('\n')?;
+        push_file(alloc, store, folder, name, all)?;
     }
     Ok(())
 }
 
-/// The manifests in the list at this path.
-pub(crate) fn manifests_at(
+fn push_file(
+    alloc: Global,
+    store: &mut FuseStore,
+    folder: &str,
+    name: &Text,
+    all: &mut String,
+) -> Result<(), AllocError> {
+    let path = format!(in alloc; "{folder}/{}", name.as_str())?;
+    let text = file_text(alloc, store, path.as_str())?;
+    writeln!(all, "{}\n{}", path.as_str(), text.as_str())
+}
+
+/// Shows the manifests in the list at this path.
+pub(crate) fn show_manifests(
     alloc: Global,
     store: &mut FuseStore,
     path: &str,
-) -> Result<String, AllocError> {
+    shown: &mut String,
+) -> Result<(), AllocError> {
     let Some(bytes) = read(alloc, store.inner(), path)? else {
-        return String::from_str(alloc, "no file");
+        return shown.push_str("no file");
     };
     match read_list(alloc, bytes.as_slice()) {
-        Ok(infos) => manifests_of(alloc, &infos),
-        Err(_) => String::from_str(alloc, "no list"),
+        Ok(infos) => show_infos(&infos, shown),
+        Err(_) => shown.push_str("no list"),
     }
 }
 
-/// The manifests, each with its files that were added, that were there, and that went.
-fn manifests_of(alloc: Global, infos: &Infos) -> Result<String, AllocError> {
-    let mut all = String::new(alloc);
+/// Shows the manifests, each with its files that were added, that were there, and that went.
+fn show_infos(infos: &Infos, shown: &mut String) -> Result<(), AllocError> {
     for info in infos.as_slice() {
-        let line = format!(in alloc;
-            "{} +{} {} -{}\n",
-            info.manifest_path.as_str(),
-            info.added_files_count,
-            info.existing_files_count,
+        let path = info.manifest_path.as_str();
+        let (added, existing) = (info.added_files_count, info.existing_files_count);
+        writeln!(
+            shown,
+            "{path} +{added} {existing} -{}",
             info.deleted_files_count
         )?;
-        all.push_str(line.as_str())?;
     }
-    Ok(all)
+    Ok(())
 }

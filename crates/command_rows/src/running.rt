@@ -1,10 +1,12 @@
 //! Commands that are run over a store in memory.
-use crate::files::text_of;
+use crate::files::{no_trouble, text_of};
 use crate::setting::{PLACE, Setting};
-use lake_store::{Clock, FuseStore, MemorySink};
+use lake_batch::run_all;
+use lake_store::{Clock, FuseStore, MemorySink, MemoryStore};
 use source_hudi::HudiSource;
 use std::alloc::{AllocError, Global};
-use sync_driver::{Mode, Report, run, sync_one};
+use std::mem;
+use sync_driver::{Mode, Report, sync_one};
 use target_delta::DeltaTarget;
 
 fn words_of(alloc: Global, place: &str, line: &str) -> Result<Vec<String>, AllocError> {
@@ -16,7 +18,7 @@ fn words_of(alloc: Global, place: &str, line: &str) -> Result<Vec<String>, Alloc
     Ok(words)
 }
 
-/// The number of a command's status, and its lines.
+/// The number of the status of a command or a batch, and its lines.
 pub(crate) fn answer(
     alloc: Global,
     setting: &Setting,
@@ -27,7 +29,10 @@ pub(crate) fn answer(
     let failing = Vec::from_slice(alloc, setting.failing_puts.as_slice())?;
     let mut out = MemorySink::new(alloc, failing);
     let mut clock = setting.clock;
-    let status = run(alloc, &words, store, &mut clock, &mut out);
+    let empty = FuseStore::new(alloc, MemoryStore::new(alloc), no_trouble(alloc));
+    let files = mem::replace(store, empty);
+    let (files, status) = run_all(alloc, &words, files, &mut clock, &mut out);
+    *store = files;
     let lines = text_of(alloc, out.bytes())?;
     format!(in alloc; "{}\n{lines}", status.number())
 }

@@ -54,3 +54,16 @@ pub(crate) fn numbers_of(alloc: Global, words: &str) -> Result<Option<Vec<u64>>,
     }
     Ok(Some(numbers))
 }
+
+/// The numbers behind `fail`, if the words are these.
+pub(crate) fn failing_of(alloc: Global, words: &str) -> Result<Option<Vec<u64>>, AllocError> {
+    match words.strip_prefix("fail ") {
+        Some(numbers) => numbers_of(alloc, numbers),
+        None => Ok(None),
+    }
+}
+
+/// The number behind `stop`, if the words are these.
+pub(crate) fn stop_of(words: &str) -> Option<u64> {
+    words.strip_prefix("stop ")?.parse::<u64>().ok()
+}

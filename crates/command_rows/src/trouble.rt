@@ -20,17 +20,17 @@ pub(crate) enum Trouble {
     StopAndCrash(Vec<u64>),
 }
 
-/// The trouble that the words name, if they do.
+/// The trouble at each call that the words name, if they do.
 pub(crate) fn trouble_of(alloc: Global, words: &str) -> Result<Option<Trouble>, AllocError> {
     match words {
-        "fail" => Ok(Some(Trouble::Fail)),
-        "contest" => Ok(Some(Trouble::Contest)),
+        "each call fail" => Ok(Some(Trouble::Fail)),
+        "each call contest" => Ok(Some(Trouble::Contest)),
         _ => crash_of(alloc, words),
     }
 }
 
 fn crash_of(alloc: Global, words: &str) -> Result<Option<Trouble>, AllocError> {
-    let Some(choices) = words.strip_prefix("stop and crash ") else {
+    let Some(choices) = words.strip_prefix("each call stop and crash ") else {
         return Ok(None);
     };
     match numbers_of(alloc, choices)? {

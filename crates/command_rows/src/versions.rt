@@ -1,4 +1,5 @@
 //! Delta versions that are made by their numbers.
+use crate::files::push_replaced;
 use std::alloc::{AllocError, Global};
 
 /// Versions that are alike: their numbers, and how many files each of them speaks of.
@@ -11,7 +12,9 @@ pub(crate) struct Versions {
 
 impl Versions {
     /// The versions that three words say, if they say some.
-    pub(crate) fn from_words(first: &str, last: &str, files: &str) -> Option<Versions> {
+    pub(crate) fn from_words(words: &str) -> Option<Versions> {
+        let (first, rest) = words.split_once(' ')?;
+        let (last, files) = rest.split_once(' ')?;
         Some(Versions {
             first: first.parse::<u64>().ok()?,
             last: last.parse::<u64>().ok()?,
@@ -39,17 +42,15 @@ impl Versions {
     fn of_version(self, alloc: Global, version: u64, line: &str) -> Result<String, AllocError> {
         let number = format!(in alloc; "{version}")?;
         let earlier = format!(in alloc; "{}", version.saturating_sub(self.first))?;
-        let own = replaced(alloc, line, "VERSION", number.as_str())?;
-        replaced(alloc, own.as_str(), "EARLIER", earlier.as_str())
+        let own = line.replace(alloc, "VERSION", number.as_str())?;
+        own.as_str().replace(alloc, "EARLIER", earlier.as_str())
     }
 
     fn push_line(self, alloc: Global, line: &str, text: &mut String) -> Result<(), AllocError> {
         let count = if line.contains("FILE") { self.files } else { 1 };
         for file in 0..count {
             let number = format!(in alloc; "{file:05}")?;
-            let line = replaced(alloc, line, "FILE", number.as_str())?;
-            text.push_str(line.as_str())?;
-            text.push('\n')?;
+            push_replaced(alloc, line, "FILE", number.as_str(), text)?;
         }
         Ok(())
     }
@@ -58,16 +59,4 @@ impl Versions {
 /// The path of a version.
 pub(crate) fn path_of(alloc: Global, version: u64) -> Result<String, AllocError> {
     format!(in alloc; "_delta_log/{version:020}.json")
-}
-
-/// The text with this one in place of each such word.
-fn replaced(alloc: Global, text: &str, word: &str, by: &str) -> Result<String, AllocError> {
-    let mut made = String::new(alloc);
-    for (place, part) in text.split(word).enumerate() {
-        if place > 0 {
-            made.push_str(by)?;
-        }
-        made.push_str(part)?;
-    }
-    Ok(made)
 }

@@ -1,32 +1,33 @@
-//! The names and the texts of log compactions as lines.
-use delta_compaction::{CompactError, agrees, name_of_range, range_of_name, reconcile};
+//! Log compactions as lines.
+use delta_compaction::{CompactError, agrees, reconcile};
 use lake_basics::Blob;
+use rows::{Step, show_no_step, unended};
 use std::alloc::{AllocError, Global};
+use table_rows::show_text;
 
-pub(crate) fn tell_range(alloc: Global, name: &str, shown: &mut String) -> Result<(), AllocError> {
-    drop(alloc);
-    match range_of_name(name.as_bytes()) {
-        Some((first, last)) => writeln!(shown, "{first} to {last}"),
-        None => writeln!(shown, "none"),
-    }
-}
-
-pub(crate) fn tell_name(
+/// Does a step on the commits that are joined.
+pub(crate) fn tell_joined_step(
     alloc: Global,
-    first: &str,
-    last: &str,
+    commits: &mut Vec<Blob>,
+    step: &Step<'_>,
+    text: &str,
     shown: &mut String,
 ) -> Result<(), AllocError> {
-    match (first.parse::<u64>(), last.parse::<u64>()) {
-        (Ok(first), Ok(last)) if first < last => {
-            let name = name_of_range(alloc, first, last)?;
-            writeln!(shown, "{}", name.as_str())
-        }
-        _ => writeln!(shown, "no range"),
+    match step.words() {
+        "commit" => add_commit(alloc, commits, text),
+        "commit unended" => add_commit(alloc, commits, unended(text)),
+        "join" => tell_joined(alloc, commits.as_slice(), shown),
+        "agrees" => tell_agreement(alloc, text.as_bytes(), commits.as_slice(), shown),
+        _ => show_no_step(shown, step),
     }
 }
 
-fn tell_error(error: CompactError, shown: &mut String) -> Result<(), AllocError> {
+fn add_commit(alloc: Global, commits: &mut Vec<Blob>, text: &str) -> Result<(), AllocError> {
+    commits.push(Blob::from_slice(alloc, text.as_bytes())?)?;
+    Ok(())
+}
+
+fn show_error(error: CompactError, shown: &mut String) -> Result<(), AllocError> {
     match error {
         CompactError::Memory => Err(AllocError),
         CompactError::Malformed { index, line } => {
@@ -41,21 +42,16 @@ fn tell_error(error: CompactError, shown: &mut String) -> Result<(), AllocError>
     }
 }
 
-pub(crate) fn tell_text(
-    alloc: Global,
-    commits: &[Blob],
-    shown: &mut String,
-) -> Result<(), AllocError> {
+/// Adds the text of the commits together.
+fn tell_joined(alloc: Global, commits: &[Blob], shown: &mut String) -> Result<(), AllocError> {
     match reconcile(alloc, commits) {
-        Ok(text) => match str::from_utf8(text.as_slice()) {
-            Ok(text) => shown.push_str(text),
-            Err(_) => writeln!(shown, "no text"),
-        },
-        Err(error) => tell_error(error, shown),
+        Ok(text) => show_text(text.as_slice(), shown),
+        Err(error) => show_error(error, shown),
     }
 }
 
-pub(crate) fn tell_agreement(
+/// Adds whether a compacted text agrees with the commits.
+fn tell_agreement(
     alloc: Global,
     compacted: &[u8],
     commits: &[Blob],
@@ -63,6 +59,6 @@ pub(crate) fn tell_agreement(
 ) -> Result<(), AllocError> {
     match agrees(alloc, compacted, commits) {
         Ok(is_so) => writeln!(shown, "{is_so}"),
-        Err(error) => tell_error(error, shown),
+        Err(error) => show_error(error, shown),
     }
 }

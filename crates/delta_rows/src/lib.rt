@@ -33,9 +33,9 @@
 #![tactic(auto)]
 
 mod commits;
-mod compactions;
 mod joined;
 mod logs;
+mod names;
 mod steps;
 
 pub use steps::DeltaSteps;

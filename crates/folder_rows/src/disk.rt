@@ -1,5 +1,6 @@
 //! Steps on the disk, by the system's own calls.
 use crate::shown::{show_line, show_text};
+use rows::Step;
 use std::alloc::AllocError;
 use std::fs::{self, File};
 use std::io::{self, ErrorKind, PipeReader, PipeWriter};
@@ -15,10 +16,45 @@ pub(crate) fn make_empty(rt: &HostRuntime, folder: &str) -> io::Result<()> {
     fs::create_dir(rt, folder)
 }
 
-/// Makes a file of so many zero bytes.
-pub(crate) fn make_long(rt: &HostRuntime, path: &str, count: u64) -> io::Result<()> {
-    let file = File::create(rt, path)?;
-    file.set_len(count)
+/// That the words of a step aren't those that it has.
+fn other_words() -> io::Error {
+    io::Error::from(ErrorKind::InvalidInput)
+}
+
+/// What stands before and behind this word.
+fn parts_at<'a>(words: &'a str, between: &str) -> io::Result<(&'a str, &'a str)> {
+    match words.split_once(between) {
+        Some(parts) => Ok(parts),
+        None => Err(other_words()),
+    }
+}
+
+/// Makes a file of the step's lines, or of so many zero bytes.
+pub(crate) fn make_file(rt: &HostRuntime, words: &str, step: &Step<'_>) -> io::Result<()> {
+    match words.split_once(" of ") {
+        Some((path, count)) => make_long(rt, path, count),
+        None => fs::write(rt, words, step.text(rt.alloc())?.as_str()),
+    }
+}
+
+fn make_long(rt: &HostRuntime, path: &str, length: &str) -> io::Result<()> {
+    let (count, _) = parts_at(length, " bytes")?;
+    let Ok(count) = count.parse::<u64>() else {
+        return Err(other_words());
+    };
+    File::create(rt, path)?.set_len(count)
+}
+
+/// Makes a symbolic link.
+pub(crate) fn make_link(rt: &HostRuntime, words: &str) -> io::Result<()> {
+    let (path, target) = parts_at(words, " to ")?;
+    symlink(rt, target, path)
+}
+
+/// Gives a file another name.
+pub(crate) fn make_name(rt: &HostRuntime, words: &str) -> io::Result<()> {
+    let (path, other) = parts_at(words, " of ")?;
+    fs::hard_link(rt, other, path)
 }
 
 /// A pipe that is open at both ends.

@@ -18,41 +18,47 @@ pub(crate) fn show_text(shown: &mut String, bytes: &[u8]) -> Result<(), AllocErr
     }
 }
 
+/// Adds that there is no such step.
+pub(crate) fn show_no_step(shown: &mut String) -> Result<(), AllocError> {
+    show_line(shown, "no step")
+}
+
 /// Adds why a store refused a call.
 pub(crate) fn show_refusal(
     alloc: Global,
-    shown: &mut String,
     error: StoreError,
+    shown: &mut String,
 ) -> Result<(), AllocError> {
-    let line = match error {
-        StoreError::Memory => "Err Memory".to_string(alloc)?,
-        StoreError::Failed => "Err Failed".to_string(alloc)?,
-        StoreError::Taken => "Err Taken".to_string(alloc)?,
-        StoreError::TooLong { length } => format!(in alloc; "Err TooLong {length}")?,
-    };
-    show_line(shown, line.as_str())
+    match error {
+        StoreError::Memory => show_line(shown, "Err Memory"),
+        StoreError::Failed => show_line(shown, "Err Failed"),
+        StoreError::Taken => show_line(shown, "Err Taken"),
+        StoreError::TooLong { length } => {
+            show_line(shown, format!(in alloc; "Err TooLong {length}")?.as_str())
+        }
+    }
 }
 
 /// Adds the answer of a call that gives nothing.
 pub(crate) fn show_done(
     alloc: Global,
-    shown: &mut String,
     answer: Result<(), StoreError>,
+    shown: &mut String,
 ) -> Result<(), AllocError> {
     match answer {
         Ok(()) => show_line(shown, "Ok"),
-        Err(error) => show_refusal(alloc, shown, error),
+        Err(error) => show_refusal(alloc, error, shown),
     }
 }
 
 /// Adds that a step on the disk failed, if it did.
-pub(crate) fn show_failure<T: Drop>(
+pub(crate) fn show_failure(
     alloc: Global,
+    answer: io::Result<()>,
     shown: &mut String,
-    answer: io::Result<T>,
 ) -> Result<(), AllocError> {
     match answer {
-        Ok(_) => Ok(()),
+        Ok(()) => Ok(()),
         Err(error) => {
             let line = format!(in alloc; "the step failed: {:?}", error.kind())?;
             show_line(shown, line.as_str())

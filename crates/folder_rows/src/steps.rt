@@ -1,17 +1,23 @@
 //! The steps of a script.
-use crate::disk::{Pipe, make_empty, make_long, make_pipe, show_at, show_in};
+use crate::disk::{Pipe, make_empty, make_file, make_link, make_name, make_pipe, show_at, show_in};
 use crate::locks::{Run, begin_run, end_run};
-use crate::shown::{show_failure, show_line};
-use crate::system::{Standing, show_clock, show_held, show_put, show_system_clock};
+use crate::shown::{show_failure, show_no_step};
+use crate::system::{put_out, show_clock, show_clock_at, show_held, show_system_clock};
 use crate::watch::{Call, Told, Watch, error_number};
 use crate::watched::Watched;
 use lake_system::{Access, FolderStore};
 use rows::{Step, Steps, bytes_of_hex};
 use std::alloc::{AllocError, Global};
 use std::cell::RefCell;
-use std::os::unix::fs::symlink;
-use std::time::Duration;
 use std::{fs, io};
+
+/// The first of the words, and those behind it.
+pub(crate) fn first_of(words: &str) -> (&str, &str) {
+    match words.split_once(' ') {
+        Some(parts) => parts,
+        None => (words, ""),
+    }
+}
 
 /// What a row has made so far.
 #[derive(Drop)]
@@ -59,11 +65,6 @@ impl<'a> FolderSteps<'a> {
         }
     }
 
-    fn change_store(&mut self, folder: &str, access: Access) -> Result<(), AllocError> {
-        self.store = store_over(self.watched(), folder, access)?;
-        Ok(())
-    }
-
     /// Shows the calls that were noted, and forgets them.
     pub(crate) fn show_noted(&self, shown: &mut String) -> Result<(), AllocError> {
         if let Ok(mut watch) = self.watch.try_borrow_mut() {
@@ -85,100 +86,117 @@ impl<'a> FolderSteps<'a> {
         }
     }
 
-    /// Does a step on the disk. Answers whether it is one.
-    fn on_disk(&mut self, step: &Step<'_>, shown: &mut String) -> io::Result<bool> {
-        let rt = self.rt;
-        let words: Vec<&str> = step.words().split(' ').collect(rt.alloc())?;
-        match words.as_slice() {
-            ["folder", path] => fs::create_dir_all(rt, *path)?,
-            ["file", path] => fs::write(rt, *path, step.text(rt.alloc())?.as_str())?,
-            ["file", path, "of", count, "bytes"] => match count.parse::<u64>() {
-                Ok(count) => make_long(rt, path, count)?,
-                Err(_) => return Ok(false),
-            },
-            ["link", path, "to", target] => symlink(rt, *target, *path)?,
-            ["name", path, "of", other] => fs::hard_link(rt, *other, *path)?,
-            ["pipe", path] => self.pipes.push(make_pipe(rt, path)?)?,
-            ["at", path] => show_at(rt, path, shown)?,
-            ["in", path] => show_in(rt, path, shown)?,
-            _ => return Ok(false),
+    /// Does a step on what the calls are told, or on the store.
+    fn on_calls(&mut self, step: &Step<'_>, shown: &mut String) -> Result<(), AllocError> {
+        if let Some((call, error)) = step.words().split_once(" answers ") {
+            return self.begin_error(call, error, shown);
         }
-        Ok(true)
+        match step.words().strip_suffix(" works") {
+            Some(call) => self.end_error(call, shown),
+            None => self.on_store(step, shown),
+        }
     }
 
-    /// Does a step on what the calls are told. Answers whether it is one.
-    fn on_calls(&mut self, words: &str) -> Result<bool, AllocError> {
-        if let Some(hex) = words.strip_prefix("lists begin with ") {
-            let Some(names) = bytes_of_hex(self.alloc(), hex)? else {
-                return Ok(false);
-            };
-            self.begin_lists_with(names);
-            return Ok(true);
-        }
-        if let Some(call) = words.strip_suffix(" works") {
-            self.tell(None);
-            return Ok(Call::from_words(call).is_some());
-        }
-        let Some((call, error)) = words.split_once(" answers ") else {
-            return Ok(false);
-        };
+    fn begin_error(&self, call: &str, error: &str, shown: &mut String) -> Result<(), AllocError> {
         let (Some(call), Some(error)) = (Call::from_words(call), error_number(error)) else {
-            return Ok(false);
+            return show_no_step(shown);
         };
         self.tell(Some(Told { call, error }));
-        Ok(true)
+        Ok(())
     }
 
-    /// Does a step on the system. Answers whether it is one.
-    fn on_system(&mut self, words: &str, shown: &mut String) -> Result<bool, AllocError> {
-        let alloc = self.alloc();
-        if let Some(text) = words.strip_prefix("put ") {
-            let mut told = String::new(alloc);
-            show_put(self.watched(), text, &mut told)?;
-            self.show_noted(shown)?;
-            shown.push_str(told.as_str())?;
-            return Ok(true);
+    fn end_error(&self, call: &str, shown: &mut String) -> Result<(), AllocError> {
+        self.tell(None);
+        match Call::from_words(call) {
+            Some(_) => Ok(()),
+            None => show_no_step(shown),
         }
-        let words: Vec<&str> = words.split(' ').collect(alloc)?;
-        match words.as_slice() {
-            ["reading", path] => self.change_store(path, Access::Reads)?,
-            ["writing", path] => self.change_store(path, Access::Writes)?,
-            ["held", "folder"] => show_held(alloc, shown)?,
-            ["run", name, "ends"] => end_run(&mut self.runs, name),
-            ["run", name, does, path] => return self.on_run(name, does, path, shown),
-            ["clock", "of", "the", "system"] => show_system_clock(self.rt, shown)?,
-            ["clock", "that", "fails"] => show_clock(alloc, Standing { time: None }, shown)?,
-            ["clock", "at", seconds, nanoseconds] => {
-                let (Ok(seconds), Ok(nanoseconds)) = (
-                    seconds.parse::<u64>(),
-                    nanoseconds.parse::<u64>(),
-                ) else {
-                    return Ok(false);
-                };
-                let time = Duration::from_secs(seconds).checked_add(Duration::from_nanos(
-                    nanoseconds,
-                ));
-                show_clock(alloc, Standing { time }, shown)?;
-            }
-            _ => return Ok(false),
-        }
-        Ok(true)
     }
 
-    fn on_run(
+    /// Does a step on the disk, or on the system.
+    pub(crate) fn on_disk(
         &mut self,
-        name: &str,
-        does: &str,
-        folder: &str,
+        step: &Step<'_>,
         shown: &mut String,
-    ) -> Result<bool, AllocError> {
-        let access = match does {
-            "reads" => Access::Reads,
-            "writes" => Access::Writes,
-            _ => return Ok(false),
+    ) -> Result<(), AllocError> {
+        let rt = self.rt;
+        let (verb, rest) = first_of(step.words());
+        match verb {
+            "folder" => show_failure(rt.alloc(), fs::create_dir_all(rt, rest), shown),
+            "file" => show_failure(rt.alloc(), make_file(rt, rest, step), shown),
+            "link" => show_failure(rt.alloc(), make_link(rt, rest), shown),
+            "name" => show_failure(rt.alloc(), make_name(rt, rest), shown),
+            "pipe" => show_failure(rt.alloc(), self.add_pipe(rest), shown),
+            "at" => show_failure(rt.alloc(), show_at(rt, rest, shown), shown),
+            "in" => show_failure(rt.alloc(), show_in(rt, rest, shown), shown),
+            _ => self.on_system(verb, rest, shown),
+        }
+    }
+
+    fn add_pipe(&mut self, path: &str) -> io::Result<()> {
+        let pipe = make_pipe(self.rt, path)?;
+        self.pipes.push(pipe)?;
+        Ok(())
+    }
+
+    fn on_system(&mut self, verb: &str, rest: &str, shown: &mut String) -> Result<(), AllocError> {
+        match verb {
+            "reading" => self.change_store(rest, Access::Reads),
+            "writing" => self.change_store(rest, Access::Writes),
+            "lists" => self.on_lists(rest, shown),
+            "held" => show_held(self.alloc(), shown),
+            "put" => self.put(rest, shown),
+            "run" => self.on_run(rest, shown),
+            "clock" => self.on_clock(rest, shown),
+            _ => show_no_step(shown),
+        }
+    }
+
+    fn change_store(&mut self, folder: &str, access: Access) -> Result<(), AllocError> {
+        self.store = store_over(self.watched(), folder, access)?;
+        Ok(())
+    }
+
+    fn on_lists(&mut self, words: &str, shown: &mut String) -> Result<(), AllocError> {
+        let Some(hex) = words.strip_prefix("begin with ") else {
+            return show_no_step(shown);
         };
-        begin_run(self.rt, &mut self.runs, name, folder, access, shown)?;
-        Ok(true)
+        match bytes_of_hex(self.alloc(), hex)? {
+            Some(names) => {
+                self.begin_lists_with(names);
+                Ok(())
+            }
+            None => show_no_step(shown),
+        }
+    }
+
+    fn put(&mut self, text: &str, shown: &mut String) -> Result<(), AllocError> {
+        let answer = put_out(self.watched(), text);
+        self.show_noted(shown)?;
+        shown.push_str(answer)
+    }
+
+    fn on_run(&mut self, words: &str, shown: &mut String) -> Result<(), AllocError> {
+        let (name, does) = first_of(words);
+        let (verb, folder) = first_of(does);
+        let rt = self.rt;
+        match verb {
+            "reads" => begin_run(rt, &mut self.runs, name, folder, Access::Reads, shown),
+            "writes" => begin_run(rt, &mut self.runs, name, folder, Access::Writes, shown),
+            "ends" => {
+                end_run(&mut self.runs, name);
+                Ok(())
+            }
+            _ => show_no_step(shown),
+        }
+    }
+
+    fn on_clock(&mut self, words: &str, shown: &mut String) -> Result<(), AllocError> {
+        match words {
+            "of the system" => show_system_clock(self.rt, shown),
+            "that fails" => show_clock(self.alloc(), None, shown),
+            _ => show_clock_at(self.alloc(), words, shown),
+        }
     }
 }
 
@@ -194,16 +212,6 @@ impl<'a> Steps for FolderSteps<'a> {
     }
 
     fn step(&mut self, step: &Step<'_>, shown: &mut String) -> Result<(), AllocError> {
-        match self.on_disk(step, shown) {
-            Ok(false) => {}
-            answer => return show_failure(self.alloc(), shown, answer),
-        }
-        let is_done = self.on_store(step, shown)?
-            || self.on_calls(step.words())?
-            || self.on_system(step.words(), shown)?;
-        if !is_done {
-            show_line(shown, "no step")?;
-        }
-        Ok(())
+        self.on_calls(step, shown)
     }
 }

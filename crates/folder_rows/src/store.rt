@@ -1,86 +1,118 @@
 //! Steps on the store.
-use crate::shown::{show_done, show_line, show_refusal, show_text};
-use crate::steps::FolderSteps;
-use lake_store::{Blob, Store, StoreError};
+use crate::shown::{show_done, show_line, show_no_step, show_refusal, show_text};
+use crate::steps::{FolderSteps, first_of};
+use lake_store::{Blob, Names, Store, StoreError, Text};
 use rows::Step;
 use std::alloc::{AllocError, Global};
 
+impl<'a> FolderSteps<'a> {
+    /// Does a step on the store, on the disk or on the system.
+    pub(crate) fn on_store(
+        &mut self,
+        step: &Step<'_>,
+        shown: &mut String,
+    ) -> Result<(), AllocError> {
+        let (verb, rest) = first_of(step.words());
+        match verb {
+            "list" => self.list(rest, shown),
+            "read" => self.read(rest, shown),
+            "part" => self.read_part(rest, shown),
+            "write" => self.write(rest, step, shown),
+            "sync" => self.sync(shown),
+            "publish" => self.publish(rest, shown),
+            "remove" => self.remove(rest, shown),
+            _ => self.on_disk(step, shown),
+        }
+    }
+
+    fn list(&mut self, path: &str, shown: &mut String) -> Result<(), AllocError> {
+        let alloc = self.alloc();
+        let answer = self.store.list(alloc, path);
+        self.show_noted(shown)?;
+        show_names(alloc, answer, shown)
+    }
+
+    fn read(&mut self, path: &str, shown: &mut String) -> Result<(), AllocError> {
+        let alloc = self.alloc();
+        let answer = self.store.read(alloc, path);
+        self.show_noted(shown)?;
+        show_bytes(alloc, answer, shown)
+    }
+
+    fn read_part(&mut self, words: &str, shown: &mut String) -> Result<(), AllocError> {
+        let (path, range) = first_of(words);
+        let Some((from, length)) = range_of(range) else {
+            return show_no_step(shown);
+        };
+        let alloc = self.alloc();
+        let answer = self.store.read_part(alloc, path, from, length);
+        self.show_noted(shown)?;
+        show_bytes(alloc, answer, shown)
+    }
+
+    fn write(&mut self, path: &str, step: &Step<'_>, shown: &mut String) -> Result<(), AllocError> {
+        let text = step.text(self.alloc())?;
+        let answer = self.store.write(path, text.as_str().as_bytes());
+        self.show_noted(shown)?;
+        show_done(self.alloc(), answer, shown)
+    }
+
+    fn sync(&mut self, shown: &mut String) -> Result<(), AllocError> {
+        let answer = self.store.sync();
+        self.show_noted(shown)?;
+        show_done(self.alloc(), answer, shown)
+    }
+
+    fn publish(&mut self, words: &str, shown: &mut String) -> Result<(), AllocError> {
+        let Some((from, to)) = words.split_once(" as ") else {
+            return show_no_step(shown);
+        };
+        let answer = self.store.publish(from, to);
+        self.show_noted(shown)?;
+        show_done(self.alloc(), answer, shown)
+    }
+
+    fn remove(&mut self, path: &str, shown: &mut String) -> Result<(), AllocError> {
+        let answer = self.store.remove(path);
+        self.show_noted(shown)?;
+        show_done(self.alloc(), answer, shown)
+    }
+}
+
+/// Where a part begins and how long it is.
+fn range_of(words: &str) -> Option<(u64, u32)> {
+    let (from, length) = words.split_once(' ')?;
+    Some((from.parse::<u64>().ok()?, length.parse::<u32>().ok()?))
+}
+
+fn show_names(
+    alloc: Global,
+    answer: Result<Names, StoreError>,
+    shown: &mut String,
+) -> Result<(), AllocError> {
+    match answer {
+        Ok(names) if names.is_empty() => show_line(shown, "no names"),
+        Ok(names) => show_lines(names.as_slice(), shown),
+        Err(error) => show_refusal(alloc, error, shown),
+    }
+}
+
+fn show_lines(names: &[Text], shown: &mut String) -> Result<(), AllocError> {
+    for name in names {
+        show_line(shown, name.as_str())?;
+    }
+    Ok(())
+}
+
 fn show_bytes(
     alloc: Global,
-    shown: &mut String,
     answer: Result<Option<Blob>, StoreError>,
+    shown: &mut String,
 ) -> Result<(), AllocError> {
     match answer {
         Ok(Some(bytes)) if bytes.as_slice().is_empty() => show_line(shown, "no bytes"),
         Ok(Some(bytes)) => show_text(shown, bytes.as_slice()),
         Ok(None) => show_line(shown, "no file"),
-        Err(error) => show_refusal(alloc, shown, error),
-    }
-}
-
-impl<'a> FolderSteps<'a> {
-    /// Does a step on the store. Answers whether it is one.
-    pub(crate) fn on_store(
-        &mut self,
-        step: &Step<'_>,
-        shown: &mut String,
-    ) -> Result<bool, AllocError> {
-        let alloc = self.alloc();
-        let words: Vec<&str> = step.words().split(' ').collect(alloc)?;
-        let mut told = String::new(alloc);
-        match words.as_slice() {
-            ["list", path] => self.list(path, &mut told)?,
-            ["read", path] => {
-                let answer = self.store.read(alloc, path);
-                show_bytes(alloc, &mut told, answer)?;
-            }
-            ["part", path, from, length] => {
-                let (Ok(from), Ok(length)) = (from.parse::<u64>(), length.parse::<u32>()) else {
-                    return Ok(false);
-                };
-                let answer = self.store.read_part(alloc, path, from, length);
-                show_bytes(alloc, &mut told, answer)?;
-            }
-            _ => match self.change(words.as_slice(), step)? {
-                Some(answer) => show_done(alloc, &mut told, answer)?,
-                None => return Ok(false),
-            },
-        }
-        self.show_noted(shown)?;
-        shown.push_str(told.as_str())?;
-        Ok(true)
-    }
-
-    /// Does a step that changes the store, and answers what it answers, if it is one.
-    fn change(
-        &mut self,
-        words: &[&str],
-        step: &Step<'_>,
-    ) -> Result<Option<Result<(), StoreError>>, AllocError> {
-        let answer = match words {
-            ["write", path] => {
-                let text = step.text(self.alloc())?;
-                self.store.write(path, text.as_str().as_bytes())
-            }
-            ["sync"] => self.store.sync(),
-            ["publish", from, "as", to] => self.store.publish(from, to),
-            ["remove", path] => self.store.remove(path),
-            _ => return Ok(None),
-        };
-        Ok(Some(answer))
-    }
-
-    fn list(&mut self, path: &str, told: &mut String) -> Result<(), AllocError> {
-        let alloc = self.alloc();
-        match self.store.list(alloc, path) {
-            Ok(names) if names.is_empty() => show_line(told, "no names"),
-            Ok(names) => {
-                for name in names.as_slice() {
-                    show_line(told, name.as_str())?;
-                }
-                Ok(())
-            }
-            Err(error) => show_refusal(alloc, told, error),
-        }
+        Err(error) => show_refusal(alloc, error, shown),
     }
 }

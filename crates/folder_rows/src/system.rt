@@ -1,5 +1,5 @@
 //! Steps on the clock, the standard output and a folder that another run holds.
-use crate::shown::{show_line, show_refusal};
+use crate::shown::{show_line, show_no_step, show_refusal};
 use crate::watched::Watched;
 use lake_store::{Clock, Sink, SinkError, Store, StoreError};
 use lake_system::{HeldFolder, StdSink, SystemClock};
@@ -23,15 +23,35 @@ impl time::Clock for Standing {
     }
 }
 
-/// Shows what the clock says that is made of a clock.
-pub(crate) fn show_clock<R: time::Clock + Drop>(
+/// Shows what the clock says that is made of one that stands at this time, or gives none.
+pub(crate) fn show_clock(
     alloc: Global,
-    clock: R,
+    time: Option<Duration>,
     shown: &mut String,
 ) -> Result<(), AllocError> {
-    let time = SystemClock::new(clock).now_ms();
+    let time = SystemClock::new(Standing { time }).now_ms();
     let line = format!(in alloc; "{time} ms")?;
     show_line(shown, line.as_str())
+}
+
+/// Shows what the clock says at so many seconds and nanoseconds.
+pub(crate) fn show_clock_at(
+    alloc: Global,
+    words: &str,
+    shown: &mut String,
+) -> Result<(), AllocError> {
+    match time_of(words) {
+        Some(time) => show_clock(alloc, time, shown),
+        None => show_no_step(shown),
+    }
+}
+
+/// The time that the words say, if they say one: that is none where no duration is so long.
+fn time_of(words: &str) -> Option<Option<Duration>> {
+    let (seconds, nanoseconds) = words.strip_prefix("at ")?.split_once(' ')?;
+    let seconds = Duration::from_secs(seconds.parse::<u64>().ok()?);
+    let nanoseconds = Duration::from_nanos(nanoseconds.parse::<u64>().ok()?);
+    Some(seconds.checked_add(nanoseconds))
 }
 
 /// Shows whether the system's clock says a time of this century in milliseconds.
@@ -45,16 +65,12 @@ pub(crate) fn show_system_clock(rt: &HostRuntime, shown: &mut String) -> Result<
     }
 }
 
-/// Puts the text out, and shows what came.
-pub(crate) fn show_put(
-    watched: Watched<'_>,
-    text: &str,
-    shown: &mut String,
-) -> Result<(), AllocError> {
+/// Puts the text out, and answers what came, as a line.
+pub(crate) fn put_out(watched: Watched<'_>, text: &str) -> &'static str {
     match StdSink::new(watched).put(text.as_bytes()) {
-        Ok(()) => show_line(shown, "Ok"),
-        Err(SinkError::Memory) => show_line(shown, "Err Memory"),
-        Err(SinkError::Failed) => show_line(shown, "Err Failed"),
+        Ok(()) => "Ok\n",
+        Err(SinkError::Memory) => "Err Memory\n",
+        Err(SinkError::Failed) => "Err Failed\n",
     }
 }
 
@@ -68,7 +84,7 @@ fn show_answer<T: Drop>(
     shown.push_str(": ")?;
     match answer {
         Ok(_) => show_line(shown, "Ok"),
-        Err(error) => show_refusal(alloc, shown, error),
+        Err(error) => show_refusal(alloc, error, shown),
     }
 }
 

@@ -20,19 +20,19 @@ pub(crate) enum Call {
     Print,
 }
 
-const CALLS: [(Call, &str); 12] = [
-    (Call::Look, "look"),
-    (Call::Open, "open"),
-    (Call::List, "list"),
-    (Call::Create, "create"),
-    (Call::Write, "write"),
-    (Call::SyncFile, "sync file"),
-    (Call::SyncFolder, "sync folder"),
-    (Call::MakeFolder, "make folder"),
-    (Call::Link, "link"),
-    (Call::Rename, "rename"),
-    (Call::Remove, "remove"),
-    (Call::Print, "print"),
+const CALLS: [Call; 12] = [
+    Call::Look,
+    Call::Open,
+    Call::List,
+    Call::Create,
+    Call::Write,
+    Call::SyncFile,
+    Call::SyncFolder,
+    Call::MakeFolder,
+    Call::Link,
+    Call::Rename,
+    Call::Remove,
+    Call::Print,
 ];
 
 /// The system's numbers of errors, by their names.
@@ -51,14 +51,28 @@ const ERRORS: [(i32, &str); 10] = [
 
 impl Call {
     pub(crate) fn from_words(words: &str) -> Option<Call> {
-        let (call, _) = CALLS.iter().find(|(_, its_words)| *its_words == words)?;
-        Some(*call)
+        for call in &CALLS {
+            if call.words() == words {
+                return Some(*call);
+            }
+        }
+        None
     }
 
     fn words(self) -> &'static str {
-        match CALLS.iter().find(|(call, _)| *call == self) {
-            Some((_, words)) => *words,
-            None => "",
+        match self {
+            Call::Look => "look",
+            Call::Open => "open",
+            Call::List => "list",
+            Call::Create => "create",
+            Call::Write => "write",
+            Call::SyncFile => "sync file",
+            Call::SyncFolder => "sync folder",
+            Call::MakeFolder => "make folder",
+            Call::Link => "link",
+            Call::Rename => "rename",
+            Call::Remove => "remove",
+            Call::Print => "print",
         }
     }
 
@@ -70,8 +84,12 @@ impl Call {
 
 /// The number of the error that has this name.
 pub(crate) fn error_number(name: &str) -> Option<i32> {
-    let (number, _) = ERRORS.iter().find(|(_, its_name)| *its_name == name)?;
-    Some(*number)
+    for (number, its_name) in &ERRORS {
+        if *its_name == name {
+            return Some(*number);
+        }
+    }
+    None
 }
 
 /// An error that a call is told to answer.

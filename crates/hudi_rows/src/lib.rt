@@ -41,7 +41,6 @@ mod changes;
 mod properties;
 mod steps;
 mod stops;
-mod store_steps;
 mod timelines;
 mod times;
 

@@ -1,127 +1,139 @@
 //! Properties and completed instants as lines.
-use hudi_instant::{Instant, read_instant};
+use crate::times::tell_time_step;
+use hudi_instant::{Instant, Stat, read_instant};
 use hudi_names::HudiError;
 use hudi_properties::{HudiTable, Pairs, check_properties, properties_text, read_properties};
+use lake_basics::{Blob, Text};
+use rows::{Step, bytes_given, unended};
 use std::alloc::{AllocError, Global};
-use table_rows::show_line;
+use table_rows::show_text;
 
-fn show_error(alloc: Global, error: HudiError, shown: &mut String) -> Result<(), AllocError> {
-    show_line(shown, format!(in alloc; "{error:?}")?.as_str())
+/// Does a step on a text: properties or a completed instant, which stand in the lines, or a name or a time.
+pub(crate) fn tell_text_step(
+    alloc: Global,
+    step: &Step<'_>,
+    text: &str,
+    shown: &mut String,
+) -> Result<(), AllocError> {
+    match step.words() {
+        "properties" => tell_properties(alloc, text.as_bytes(), shown),
+        "properties unended" => tell_properties(alloc, unended(text).as_bytes(), shown),
+        "properties bytes" => {
+            tell_properties(alloc, bytes_given(alloc, text)?.as_slice(), shown)
+        }
+        "properties text" => tell_written(alloc, text.as_bytes(), shown),
+        "properties table" => tell_checked(alloc, unended(text).as_bytes(), shown),
+        "instant" => tell_instant(alloc, unended(text).as_bytes(), shown),
+        _ => tell_time_step(alloc, step, shown),
+    }
+}
+
+/// Adds why something wasn't read.
+pub(crate) fn show_error(error: HudiError, shown: &mut String) -> Result<(), AllocError> {
+    writeln!(shown, "{error:?}")
 }
 
 fn show_pairs(pairs: &Pairs, shown: &mut String) -> Result<(), AllocError> {
     for (key, value) in pairs.as_slice() {
-        shown.push_str("[")?;
-        shown.push_str(key.as_str())?;
-        shown.push_str("]=[")?;
-        shown.push_str(value.as_str())?;
-        shown.push_str("]")?;
+        write!(shown, "[{}]=[{}]", key.as_str(), value.as_str())?;
     }
     shown.push('\n')
 }
 
 /// Adds the keys and values of properties, or why they aren't read.
-pub(crate) fn tell_properties(
-    alloc: Global,
-    bytes: &[u8],
-    shown: &mut String,
-) -> Result<(), AllocError> {
+fn tell_properties(alloc: Global, bytes: &[u8], shown: &mut String) -> Result<(), AllocError> {
     match read_properties(alloc, bytes) {
         Ok(pairs) => show_pairs(&pairs, shown),
-        Err(error) => show_error(alloc, error, shown),
+        Err(error) => show_error(error, shown),
     }
+}
+
+fn written(alloc: Global, bytes: &[u8]) -> Result<Blob, HudiError> {
+    let pairs = read_properties(alloc, bytes)?;
+    properties_text(alloc, &pairs)
 }
 
 /// Adds the text that properties are written in.
-pub(crate) fn tell_written(
-    alloc: Global,
-    bytes: &[u8],
-    shown: &mut String,
-) -> Result<(), AllocError> {
-    let written = match read_properties(alloc, bytes) {
-        Ok(pairs) => properties_text(alloc, &pairs),
-        Err(error) => Err(error),
-    };
-    match written {
-        Ok(text) => match str::from_utf8(text.as_slice()) {
-            Ok(text) => shown.push_str(text),
-            Err(_) => show_line(shown, "no text"),
-        },
-        Err(error) => show_error(alloc, error, shown),
+fn tell_written(alloc: Global, bytes: &[u8], shown: &mut String) -> Result<(), AllocError> {
+    match written(alloc, bytes) {
+        Ok(text) => show_text(text.as_slice(), shown),
+        Err(error) => show_error(error, shown),
     }
 }
 
-fn show_checked(alloc: Global, table: &HudiTable, shown: &mut String) -> Result<(), AllocError> {
+fn show_partition(names: &[Text], shown: &mut String) -> Result<(), AllocError> {
     shown.push_str("partition")?;
-    for name in table.partition.as_slice() {
-        shown.push_str(format!(in alloc; " [{}]", name.as_str())?.as_str())?;
+    for name in names {
+        write!(shown, " [{}]", name.as_str())?;
     }
-    let line = format!(in alloc;
+    Ok(())
+}
+
+fn show_checked(table: &HudiTable, shown: &mut String) -> Result<(), AllocError> {
+    show_partition(table.partition.as_slice(), shown)?;
+    writeln!(
+        shown,
         ", hive style {}, URL encoding {}, ours {}",
         table.hive_style, table.url_encode, table.ours
-    )?;
-    show_line(shown, line.as_str())
+    )
+}
+
+fn checked(alloc: Global, bytes: &[u8]) -> Result<HudiTable, HudiError> {
+    let pairs = read_properties(alloc, bytes)?;
+    check_properties(alloc, &pairs)
 }
 
 /// Adds the table that properties say, or why it isn't read.
-pub(crate) fn tell_checked(
-    alloc: Global,
-    bytes: &[u8],
-    shown: &mut String,
-) -> Result<(), AllocError> {
-    let table = match read_properties(alloc, bytes) {
-        Ok(pairs) => check_properties(alloc, &pairs),
-        Err(error) => Err(error),
-    };
-    match table {
-        Ok(table) => show_checked(alloc, &table, shown),
-        Err(error) => show_error(alloc, error, shown),
+fn tell_checked(alloc: Global, bytes: &[u8], shown: &mut String) -> Result<(), AllocError> {
+    match checked(alloc, bytes) {
+        Ok(table) => show_checked(&table, shown),
+        Err(error) => show_error(error, shown),
     }
 }
 
 // ---- instants
 
-fn show_instant(alloc: Global, instant: &Instant, shown: &mut String) -> Result<(), AllocError> {
+fn show_stat(stat: &Stat, shown: &mut String) -> Result<(), AllocError> {
+    let folder = stat.partition_path.as_str();
+    write!(shown, "write [{folder}] [{}] ", stat.file_id.as_str())?;
+    let path = stat.path.as_str();
+    writeln!(
+        shown,
+        "[{path}], {} records, {} bytes",
+        stat.writes, stat.size
+    )
+}
+
+fn show_replaced(replaced: &[(Text, Text)], shown: &mut String) -> Result<(), AllocError> {
+    for (folder, id) in replaced {
+        writeln!(shown, "replace [{}] [{}]", folder.as_str(), id.as_str())?;
+    }
+    Ok(())
+}
+
+/// Adds a line of a text behind a word, where there is one.
+fn show_some(word: &str, text: &Option<Text>, shown: &mut String) -> Result<(), AllocError> {
+    match text {
+        Some(text) => writeln!(shown, "{word} {}", text.as_str()),
+        None => Ok(()),
+    }
+}
+
+fn show_instant(instant: &Instant, shown: &mut String) -> Result<(), AllocError> {
     for stat in instant.stats.as_slice() {
-        let line = format!(in alloc;
-            "write [{}] [{}] [{}], {} records, {} bytes",
-            stat.partition_path.as_str(),
-            stat.file_id.as_str(),
-            stat.path.as_str(),
-            stat.writes,
-            stat.size
-        )?;
-        show_line(shown, line.as_str())?;
+        show_stat(stat, shown)?;
     }
-    for (partition, id) in instant.replaced.as_slice() {
-        let line = format!(in alloc; "replace [{}] [{}]", partition.as_str(), id.as_str())?;
-        show_line(shown, line.as_str())?;
-    }
-    if let Some(schema) = &instant.schema {
-        show_line(
-            shown,
-            format!(in alloc; "schema {}", schema.as_str())?.as_str(),
-        )?;
-    }
-    if let Some(mark) = &instant.mark {
-        show_line(shown, format!(in alloc; "mark {}", mark.as_str())?.as_str())?;
-    }
-    let line = format!(in alloc;
-        "{} stats, {} ids",
-        instant.stats.len(),
-        instant.replaced.len()
-    )?;
-    show_line(shown, line.as_str())
+    show_replaced(instant.replaced.as_slice(), shown)?;
+    show_some("schema", &instant.schema, shown)?;
+    show_some("mark", &instant.mark, shown)?;
+    let stats = instant.stats.len();
+    writeln!(shown, "{stats} stats, {} ids", instant.replaced.len())
 }
 
 /// Adds what a completed instant says, or why it isn't read.
-pub(crate) fn tell_instant(
-    alloc: Global,
-    bytes: &[u8],
-    shown: &mut String,
-) -> Result<(), AllocError> {
+fn tell_instant(alloc: Global, bytes: &[u8], shown: &mut String) -> Result<(), AllocError> {
     match read_instant(alloc, bytes) {
-        Ok(instant) => show_instant(alloc, &instant, shown),
-        Err(error) => show_error(alloc, error, shown),
+        Ok(instant) => show_instant(&instant, shown),
+        Err(error) => show_error(error, shown),
     }
 }

@@ -1,7 +1,7 @@
 //! Steps that read manifests and manifest lists.
-use crate::showing::{show_entry, show_info, show_live};
+use crate::showing::{show_entry, show_info, show_rows};
 use iceberg_live::{Rows, live_rows, metadata_path};
-use iceberg_manifest::{Entries, Infos, ManifestError, PartColumn};
+use iceberg_manifest::{Entry, ManifestError, ManifestInfo, PartColumn};
 use iceberg_manifest_reading::{read_list, read_manifest};
 use lake_basics::Text;
 use partition_map::PartKind;
@@ -28,10 +28,7 @@ fn column_of(word: &str) -> Option<PartColumn> {
 }
 
 /// The partition columns that words are.
-pub(crate) fn columns_of(
-    alloc: Global,
-    words: &[&str],
-) -> Result<Option<Vec<PartColumn>>, AllocError> {
+fn columns_of(alloc: Global, words: &[&str]) -> Result<Option<Vec<PartColumn>>, AllocError> {
     let mut columns = Vec::new(alloc);
     for word in words {
         match column_of(word) {
@@ -42,47 +39,56 @@ pub(crate) fn columns_of(
     Ok(Some(columns))
 }
 
-fn infos_told(alloc: Global, infos: &Infos) -> Result<String, AllocError> {
-    let mut told = String::from_str(alloc, "a list\n")?;
-    for info in infos.as_slice() {
-        show_info(&mut told, info)?;
-    }
-    Ok(told)
+fn show_error(error: ManifestError, shown: &mut String) -> Result<(), AllocError> {
+    write!(shown, "{error:?}")
 }
 
-fn entries_told(alloc: Global, entries: &Entries) -> Result<String, AllocError> {
-    let mut told = String::from_str(alloc, "a manifest\n")?;
-    for entry in entries.as_slice() {
-        show_entry(alloc, &mut told, entry)?;
+fn show_infos(infos: &[ManifestInfo], shown: &mut String) -> Result<(), AllocError> {
+    shown.push_str("a list\n")?;
+    for info in infos {
+        show_info(shown, info)?;
     }
-    Ok(told)
+    Ok(())
 }
 
-fn rows_told(alloc: Global, rows: &Rows) -> Result<String, AllocError> {
-    let mut told = String::from_str(alloc, "live rows\n")?;
-    for row in rows.as_slice() {
-        show_live(alloc, &mut told, row)?;
+fn show_entries(entries: &[Entry], shown: &mut String) -> Result<(), AllocError> {
+    shown.push_str("a manifest\n")?;
+    for entry in entries {
+        show_entry(shown, entry)?;
     }
-    Ok(told)
+    Ok(())
 }
 
-/// The rows of a manifest list.
-pub(crate) fn list_told(alloc: Global, bytes: &[u8]) -> Result<String, AllocError> {
+/// Adds the rows of a manifest list.
+pub(crate) fn tell_list(alloc: Global, bytes: &[u8], shown: &mut String) -> Result<(), AllocError> {
     match read_list(alloc, bytes) {
-        Ok(infos) => infos_told(alloc, &infos),
-        Err(error) => format!(in alloc; "{error:?}"),
+        Ok(infos) => show_infos(infos.as_slice(), shown),
+        Err(error) => show_error(error, shown),
     }
 }
 
-/// The entries of a manifest with these partition columns.
-pub(crate) fn manifest_told(
+fn tell_entries(
     alloc: Global,
     bytes: &[u8],
     columns: &[PartColumn],
-) -> Result<String, AllocError> {
+    shown: &mut String,
+) -> Result<(), AllocError> {
     match read_manifest(alloc, bytes, columns) {
-        Ok(entries) => entries_told(alloc, &entries),
-        Err(error) => format!(in alloc; "{error:?}"),
+        Ok(entries) => show_entries(entries.as_slice(), shown),
+        Err(error) => show_error(error, shown),
+    }
+}
+
+/// Adds the entries of a manifest with the partition columns that words are.
+pub(crate) fn tell_manifest(
+    alloc: Global,
+    bytes: &[u8],
+    words: &[&str],
+    shown: &mut String,
+) -> Result<(), AllocError> {
+    match columns_of(alloc, words)? {
+        Some(columns) => tell_entries(alloc, bytes, columns.as_slice(), shown),
+        None => shown.push_str("not asked: no columns"),
     }
 }
 
@@ -102,24 +108,34 @@ fn rows_of(
     live_rows(alloc, entries.as_slice(), info, location)
 }
 
-/// The live rows of a manifest, as `rows_of` has them.
-pub(crate) fn live_told(
+/// Adds the live rows of a manifest, as `rows_of` has them.
+pub(crate) fn tell_live(
     alloc: Global,
     list: &[u8],
     manifest: &[u8],
     location: &str,
-) -> Result<String, AllocError> {
+    shown: &mut String,
+) -> Result<(), AllocError> {
     match rows_of(alloc, list, manifest, location) {
-        Ok(rows) => rows_told(alloc, &rows),
-        Err(error) => format!(in alloc; "{error:?}"),
+        Ok(rows) => show_rows("live rows\n", rows.as_slice(), shown),
+        Err(error) => show_error(error, shown),
     }
 }
 
-/// The path in a table at this location of a list or a manifest of that name.
-pub(crate) fn path_told(alloc: Global, location: &str, name: &str) -> Result<String, AllocError> {
+fn path_of(alloc: Global, location: &str, name: &str) -> Result<Text, ManifestError> {
     let name = Text::from_str(alloc, name)?;
-    match metadata_path(alloc, location, &name) {
-        Ok(path) => String::from_str(alloc, path.as_str()),
-        Err(error) => format!(in alloc; "{error:?}"),
+    metadata_path(alloc, location, &name)
+}
+
+/// Adds the path in a table at this location of a list or a manifest of that name.
+pub(crate) fn tell_path(
+    alloc: Global,
+    location: &str,
+    name: &str,
+    shown: &mut String,
+) -> Result<(), AllocError> {
+    match path_of(alloc, location, name) {
+        Ok(path) => shown.push_str(path.as_str()),
+        Err(error) => show_error(error, shown),
     }
 }

@@ -1,7 +1,7 @@
 //! A manifest and a manifest list that are written.
 ghost use Rattle.std.specs.Prelude.{◌≡◌, ◌∷◌, [], IfOk, pos};
 
-use crate::showing::bytes_told;
+use crate::showing::show_bytes;
 use iceberg_manifest::{Entry, ManifestError, ManifestInfo, PartColumn};
 use iceberg_manifest_writing::{list_bytes, manifest_bytes};
 use lake_basics::{Blob, Items, Text};
@@ -125,19 +125,18 @@ fn list(alloc: Global) -> Result<Blob, ManifestError> {
     list_bytes(alloc, &infos, 30, Some(20), 3)
 }
 
-fn told(alloc: Global, written: Result<Blob, ManifestError>) -> Result<String, AllocError> {
+/// Adds the bytes of the manifest of three files, or of the list of one manifest.
+pub(crate) fn tell_written(
+    alloc: Global,
+    what: &str,
+    shown: &mut String,
+) -> Result<(), AllocError> {
+    let written = match what {
+        "manifest" => manifest(alloc),
+        _ => list(alloc),
+    };
     match written {
-        Ok(bytes) => bytes_told(alloc, bytes.as_slice()),
-        Err(error) => format!(in alloc; "{error:?}"),
+        Ok(bytes) => show_bytes(bytes.as_slice(), shown),
+        Err(error) => write!(shown, "{error:?}"),
     }
-}
-
-/// The bytes of the manifest of three files.
-pub(crate) fn manifest_written(alloc: Global) -> Result<String, AllocError> {
-    told(alloc, manifest(alloc))
-}
-
-/// The bytes of the list of one manifest.
-pub(crate) fn list_written(alloc: Global) -> Result<String, AllocError> {
-    told(alloc, list(alloc))
 }

@@ -1,8 +1,7 @@
 //! The parts of Iceberg tables as lines of a transcript.
 use iceberg_live::LiveRow;
 use iceberg_manifest::{Entry, ManifestInfo};
-use std::alloc::{AllocError, Global};
-use std::fmt::Write;
+use std::alloc::AllocError;
 use table_history::PartValue;
 
 fn push_value(shown: &mut String, value: &PartValue) -> Result<(), AllocError> {
@@ -16,15 +15,19 @@ fn push_value(shown: &mut String, value: &PartValue) -> Result<(), AllocError> {
     }
 }
 
-/// Values of partition columns, in brackets.
-fn values_told(alloc: Global, values: &[PartValue]) -> Result<String, AllocError> {
-    let mut told = String::new(alloc);
+fn push_behind(shown: &mut String, front: &str, value: &PartValue) -> Result<(), AllocError> {
+    shown.push_str(front)?;
+    push_value(shown, value)
+}
+
+/// Adds values of partition columns, in brackets.
+fn push_values(shown: &mut String, values: &[PartValue]) -> Result<(), AllocError> {
+    let mut front = "[";
     for value in values {
-        told.push_str(if told.is_empty() { "[" } else { ", " })?;
-        push_value(&mut told, value)?;
+        push_behind(shown, front, value)?;
+        front = ", ";
     }
-    told.push_str(if told.is_empty() { "[]" } else { "]" })?;
-    Ok(told)
+    shown.push_str(if values.is_empty() { "[]" } else { "]" })
 }
 
 fn status_word(status: u8) -> &'static str {
@@ -36,46 +39,46 @@ fn status_word(status: u8) -> &'static str {
 }
 
 /// Adds the line of an entry of a manifest.
-pub(crate) fn show_entry(
-    alloc: Global,
-    shown: &mut String,
-    entry: &Entry,
-) -> Result<(), AllocError> {
-    let values = values_told(alloc, entry.values.as_slice())?;
-    write!(
-        shown,
-        "{} {} {}: count {}, size {}, snapshot {:?}, ",
-        status_word(entry.status),
-        entry.path.as_str(),
-        values.as_str(),
-        entry.count,
-        entry.size,
-        entry.snapshot
-    )?;
+pub(crate) fn show_entry(shown: &mut String, entry: &Entry) -> Result<(), AllocError> {
+    let path = entry.path.as_str();
+    write!(shown, "{} {path} ", status_word(entry.status))?;
+    push_values(shown, entry.values.as_slice())?;
+    show_entry_numbers(shown, entry)
+}
+
+fn show_entry_numbers(shown: &mut String, entry: &Entry) -> Result<(), AllocError> {
+    write!(shown, ": count {}, size {}, ", entry.count, entry.size)?;
     writeln!(
         shown,
-        "sequence {:?}, file sequence {:?}",
-        entry.sequence, entry.file_sequence
+        "snapshot {:?}, sequence {:?}, file sequence {:?}",
+        entry.snapshot, entry.sequence, entry.file_sequence
     )
 }
 
 /// Adds the line of a live row.
-pub(crate) fn show_live(
-    alloc: Global,
-    shown: &mut String,
-    live: &LiveRow,
-) -> Result<(), AllocError> {
-    let values = values_told(alloc, live.row.values.as_slice())?;
+fn show_live(shown: &mut String, live: &LiveRow) -> Result<(), AllocError> {
+    let row = &live.row;
+    write!(shown, "{} ", row.path.as_str())?;
+    push_values(shown, row.values.as_slice())?;
+    write!(shown, ": count {}, size {}, ", row.count, row.size)?;
     writeln!(
         shown,
-        "{} {}: count {}, size {}, snapshot {}, sequence {}",
-        live.row.path.as_str(),
-        values.as_str(),
-        live.row.count,
-        live.row.size,
-        live.snapshot,
-        live.sequence
+        "snapshot {}, sequence {}",
+        live.snapshot, live.sequence
     )
+}
+
+/// Adds a line for each of the live rows, behind a text.
+pub(crate) fn show_rows(
+    front: &str,
+    rows: &[LiveRow],
+    shown: &mut String,
+) -> Result<(), AllocError> {
+    shown.push_str(front)?;
+    for live in rows {
+        show_live(shown, live)?;
+    }
+    Ok(())
 }
 
 /// Adds the line of a row of a manifest list.
@@ -105,23 +108,26 @@ pub(crate) fn show_info(shown: &mut String, info: &ManifestInfo) -> Result<(), A
     )
 }
 
-/// Bytes as a text where they are one of printable lines, else with a byte that isn't printable ASCII as
+/// Adds bytes as a text where they are one of printable lines, else with a byte that isn't printable ASCII as
 /// `\x` and two digits.
-pub(crate) fn bytes_told(alloc: Global, bytes: &[u8]) -> Result<String, AllocError> {
+pub(crate) fn show_bytes(bytes: &[u8], shown: &mut String) -> Result<(), AllocError> {
     match str::from_utf8(bytes) {
-        Ok(text) if !text.contains(|c: char| c < ' ' && c != '\n') => String::from_str(alloc, text),
-        _ => escaped(alloc, bytes),
+        Ok(text) if !text.contains(|c: char| c < ' ' && c != '\n') => shown.push_str(text),
+        _ => push_escaped(shown, bytes),
     }
 }
 
-fn escaped(alloc: Global, bytes: &[u8]) -> Result<String, AllocError> {
-    let mut text = String::new(alloc);
+fn push_escaped(shown: &mut String, bytes: &[u8]) -> Result<(), AllocError> {
     for byte in bytes {
-        if byte.is_ascii_graphic() || *byte == b' ' {
-            text.push(char::from(*byte))?;
-        } else {
-            write!(text, "\\x{byte:02x}")?;
-        }
+        push_byte(shown, *byte)?;
     }
-    Ok(text)
+    Ok(())
+}
+
+fn push_byte(shown: &mut String, byte: u8) -> Result<(), AllocError> {
+    if byte.is_ascii_graphic() || byte == b' ' {
+        shown.push(char::from(byte))
+    } else {
+        write!(shown, "\\x{byte:02x}")
+    }
 }

@@ -1,6 +1,7 @@
 //! Steps on the kinds of partition columns.
 use lake_basics::Text;
-use partition_map::{are_distinct, column_kinds, has_other_kind, part_kind};
+use partition_map::{PartKind, are_distinct, column_kinds, has_other_kind, part_kind};
+use rows::show_answer;
 use std::alloc::{AllocError, Global};
 use table_history::{Column, ColumnType, Schema};
 
@@ -22,53 +23,69 @@ impl Columns {
         }
     }
 
-    /// Does the step of these words, if it is one on the columns of tables.
-    pub fn step(
-        &mut self,
-        words: &[&str],
-        lines: &[&str],
-        shown: &mut String,
-    ) -> Result<bool, AllocError> {
-        match words {
-            ["columns", "before"] => self.before = schema_of(self.alloc, lines)?,
-            ["columns"] => self.schema = schema_of(self.alloc, lines)?,
-            ["kinds", "of"] => self.show_kinds(lines, shown)?,
-            ["changed", "kinds", "of"] => self.show_changed(lines, shown)?,
-            ["distinct", "names"] => {
-                let are_distinct = are_distinct(self.alloc, &texts(self.alloc, lines)?)?;
-                writeln!(shown, "{are_distinct}")?;
-            }
-            ["kind", "of", word] => match type_of(word).and_then(|kind| part_kind(&kind)) {
-                Some(kind) => writeln!(shown, "{kind:?}")?,
-                None => writeln!(shown, "none")?,
-            },
-            _ => return Ok(false),
-        }
-        Ok(true)
-    }
-
-    /// Shows the kinds that the columns of these names have.
-    fn show_kinds(&self, lines: &[&str], shown: &mut String) -> Result<(), AllocError> {
-        let names = texts(self.alloc, lines)?;
-        let kinds = column_kinds(self.alloc, &self.schema, &names)?;
-        for (line, kind) in lines.iter().zip(kinds.iter()) {
-            match kind {
-                Some(kind) => writeln!(shown, "{line} -> {kind:?}")?,
-                None => writeln!(shown, "{line} -> none")?,
-            }
-        }
+    /// Sets the schema before.
+    pub fn set_before(&mut self, lines: &[&str]) -> Result<(), AllocError> {
+        self.before = schema_of(self.alloc, lines)?;
         Ok(())
     }
 
+    /// Sets the schema.
+    pub fn set(&mut self, lines: &[&str]) -> Result<(), AllocError> {
+        self.schema = schema_of(self.alloc, lines)?;
+        Ok(())
+    }
+
+    /// Shows the kinds that the columns of these names have.
+    pub fn show_kinds(&self, lines: &[&str], shown: &mut String) -> Result<(), AllocError> {
+        let names = texts(self.alloc, lines)?;
+        let kinds = column_kinds(self.alloc, &self.schema, &names)?;
+        show_each(lines, &kinds, shown)
+    }
+
     /// Shows whether one of the names has another kind than before.
-    fn show_changed(&self, lines: &[&str], shown: &mut String) -> Result<(), AllocError> {
+    pub fn show_changed(&self, lines: &[&str], shown: &mut String) -> Result<(), AllocError> {
         let names = texts(self.alloc, lines)?;
         let changed = has_other_kind(self.alloc, &self.before, &self.schema, &names)?;
         writeln!(shown, "{changed}")
     }
+
+    /// Shows whether no name comes twice.
+    pub fn show_distinct(&self, lines: &[&str], shown: &mut String) -> Result<(), AllocError> {
+        let names = texts(self.alloc, lines)?;
+        let are_distinct = are_distinct(self.alloc, &names)?;
+        writeln!(shown, "{are_distinct}")
+    }
 }
 
-fn texts(alloc: Global, lines: &[&str]) -> Result<Vec<Text>, AllocError> {
+/// Shows the kind of each name.
+fn show_each(
+    names: &[&str],
+    kinds: &[Option<PartKind>],
+    shown: &mut String,
+) -> Result<(), AllocError> {
+    for (name, kind) in names.iter().zip(kinds.iter()) {
+        match kind {
+            Some(kind) => writeln!(shown, "{name} -> {kind:?}")?,
+            None => show_answer(shown, name, "none")?,
+        }
+    }
+    Ok(())
+}
+
+/// Shows the kind of partition columns of the type that a word names.
+pub fn show_kind_of(word: &str, shown: &mut String) -> Result<(), AllocError> {
+    match kind_of_type(word) {
+        Some(kind) => writeln!(shown, "{kind:?}"),
+        None => writeln!(shown, "none"),
+    }
+}
+
+fn kind_of_type(word: &str) -> Option<PartKind> {
+    part_kind(&type_of(word)?)
+}
+
+/// The lines as texts.
+pub fn texts(alloc: Global, lines: &[&str]) -> Result<Vec<Text>, AllocError> {
     let mut texts = Vec::new(alloc);
     for line in lines {
         texts.push(Text::from_str(alloc, line)?)?;
@@ -93,15 +110,22 @@ fn type_of(word: &str) -> Option<ColumnType> {
 fn schema_of(alloc: Global, lines: &[&str]) -> Result<Schema, AllocError> {
     let mut columns = Vec::new(alloc);
     for line in lines {
-        let (name, word) = line.split_once(' ').unwrap_or((line, ""));
-        if let Some(kind) = type_of(word) {
-            let name = Text::from_str(alloc, name)?;
-            columns.push(Column {
-                name,
-                kind,
-                nullable: true,
-            })?;
+        if let Some(column) = column_of(alloc, line)? {
+            columns.push(column)?;
         }
     }
     Ok(Schema::new(columns))
+}
+
+fn column_of(alloc: Global, line: &str) -> Result<Option<Column>, AllocError> {
+    let (name, word) = line.split_once(' ').unwrap_or((line, ""));
+    let name = Text::from_str(alloc, name)?;
+    Ok(match type_of(word) {
+        Some(kind) => Some(Column {
+            name,
+            kind,
+            nullable: true,
+        }),
+        None => None,
+    })
 }

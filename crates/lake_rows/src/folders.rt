@@ -1,8 +1,10 @@
 //! Steps on the folders that carry partition values.
+use crate::columns::texts;
 use crate::part_values::value_of;
-use crate::shown::show_answer;
+use crate::schemas;
 use lake_basics::Text;
 use partition_map::{FolderStyle, last_components, path_carries, unescape, value_part};
+use rows::{Step, show_answer};
 use std::alloc::{AllocError, Global};
 use table_history::PartValue;
 
@@ -24,35 +26,14 @@ impl Folders {
         }
     }
 
-    /// Does the step of these words, if it is one on folders.
-    pub fn step(
-        &mut self,
-        words: &[&str],
-        lines: &[&str],
-        shown: &mut String,
-    ) -> Result<bool, AllocError> {
-        let alloc = self.alloc;
-        match words {
-            ["partition", "columns"] => self.set_columns(lines)?,
-            ["carried", "values"] => self.set_values(lines)?,
-            ["carried", "by"] => self.show_carried(lines, shown)?,
-            ["last", count, "components"] => show_components(alloc, count, lines, shown)?,
-            ["parts", "of", column, style] => show_parts(alloc, column, style, lines, shown)?,
-            ["unescaped", style] => show_unescaped(alloc, style, lines, shown)?,
-            _ => return Ok(false),
-        }
-        Ok(true)
-    }
-
-    fn set_columns(&mut self, lines: &[&str]) -> Result<(), AllocError> {
-        self.columns = Vec::new(self.alloc);
-        for line in lines {
-            self.columns.push(Text::from_str(self.alloc, line)?)?;
-        }
+    /// Sets the partition columns.
+    pub fn set_columns(&mut self, lines: &[&str]) -> Result<(), AllocError> {
+        self.columns = texts(self.alloc, lines)?;
         Ok(())
     }
 
-    fn set_values(&mut self, lines: &[&str]) -> Result<(), AllocError> {
+    /// Sets the values that paths are to carry.
+    pub fn set_values(&mut self, lines: &[&str]) -> Result<(), AllocError> {
         self.values = Vec::new(self.alloc);
         for line in lines {
             if let Some((_, value)) = value_of(self.alloc, line)? {
@@ -62,12 +43,24 @@ impl Folders {
         Ok(())
     }
 
-    fn show_carried(&self, lines: &[&str], shown: &mut String) -> Result<(), AllocError> {
+    /// Shows whether each path carries the values.
+    pub fn show_carried(&self, lines: &[&str], shown: &mut String) -> Result<(), AllocError> {
         for line in lines {
             let carries = path_carries(self.alloc, line, &self.columns, &self.values)?;
             show_answer(shown, line, if carries { "yes" } else { "no" })?;
         }
         Ok(())
+    }
+}
+
+/// Does a step on parts of paths, or else one on schemas.
+pub fn step(alloc: Global, step: &Step<'_>, shown: &mut String) -> Result<(), AllocError> {
+    let lines = step.lines();
+    match step.each_word() {
+        ["last", count, "components"] => show_components(alloc, count, lines, shown),
+        ["parts", "of", column, style] => show_parts(alloc, column, style, lines, shown),
+        ["unescaped", style] => show_unescaped(alloc, style, lines, shown),
+        _ => schemas::step(alloc, step, shown),
     }
 }
 
@@ -79,15 +72,22 @@ fn show_components(
 ) -> Result<(), AllocError> {
     let count = count.parse::<usize>().unwrap_or(0);
     for line in lines {
-        match last_components(alloc, line, count)? {
-            Some(components) => {
-                let components = components.as_slice();
-                writeln!(shown, "{line} -> {components:?}")?;
-            }
-            None => show_answer(shown, line, "none")?,
-        }
+        show_last(alloc, count, line, shown)?;
     }
     Ok(())
+}
+
+/// Shows so many components at the end of a path.
+fn show_last(
+    alloc: Global,
+    count: usize,
+    path: &str,
+    shown: &mut String,
+) -> Result<(), AllocError> {
+    match last_components(alloc, path, count)? {
+        Some(components) => writeln!(shown, "{path} -> {:?}", components.as_slice()),
+        None => show_answer(shown, path, "none"),
+    }
 }
 
 const PLAIN: FolderStyle = FolderStyle {
@@ -111,10 +111,8 @@ fn show_parts(
     shown: &mut String,
 ) -> Result<(), AllocError> {
     for line in lines {
-        match value_part(alloc, style_of(style), column, line)? {
-            Some(part) => show_answer(shown, line, part)?,
-            None => show_answer(shown, line, "none")?,
-        }
+        let part = value_part(alloc, style_of(style), column, line)?;
+        show_answer(shown, line, part.unwrap_or("none"))?;
     }
     Ok(())
 }
@@ -126,10 +124,20 @@ fn show_unescaped(
     shown: &mut String,
 ) -> Result<(), AllocError> {
     for line in lines {
-        match unescape(alloc, style_of(style), line)? {
-            Some(text) => show_answer(shown, line, text.as_str())?,
-            None => show_answer(shown, line, "none")?,
-        }
+        show_plain(alloc, style_of(style), line, shown)?;
     }
     Ok(())
+}
+
+/// Shows a part of a path without its escapes.
+fn show_plain(
+    alloc: Global,
+    style: FolderStyle,
+    part: &str,
+    shown: &mut String,
+) -> Result<(), AllocError> {
+    match unescape(alloc, style, part)? {
+        Some(text) => show_answer(shown, part, text.as_str()),
+        None => show_answer(shown, part, "none"),
+    }
 }

@@ -75,35 +75,24 @@ impl Owners {
         }
     }
 
-    /// Does the step of these words, if it is one on held rows.
-    pub fn step(
-        &mut self,
-        words: &[&str],
-        lines: &[&str],
-        shown: &mut String,
-    ) -> Result<bool, AllocError> {
+    /// Does what the words say, and tells what came, if they are words on held rows.
+    pub fn act(&mut self, words: &[&str]) -> Result<Option<&'static str>, AllocError> {
         match words {
-            ["where", path] => self.show_place(path, shown)?,
-            ["run"] => self.run(lines, shown)?,
-            _ => match self.act(words)? {
-                Some(outcome) => writeln!(shown, "{outcome}")?,
-                None => return Ok(false),
-            },
+            ["reserve", owners, rows] => Ok(Some(self.reserve(owners, rows))),
+            ["drop", "owner", "of", path] => Ok(Some(self.drop_owner(path))),
+            ["rows", paths @ ..] => Ok(Some(self.are_in_order(paths))),
+            _ => self.act_on_row(words),
         }
-        Ok(true)
     }
 
-    /// Does what the words say, and tells what came, if they are words on held rows.
-    fn act(&mut self, words: &[&str]) -> Result<Option<&'static str>, AllocError> {
-        Ok(Some(match words {
-            ["reserve", owners, rows] => self.reserve(owners, rows),
+    fn act_on_row(&mut self, words: &[&str]) -> Result<Option<&'static str>, AllocError> {
+        let outcome = match words {
             ["insert", path] => self.insert_alone(path)?,
             ["insert", path, "behind", sibling] => self.insert_behind(path, sibling)?,
             ["unlink", path] => self.unlink(path)?,
-            ["drop", "owner", "of", path] => self.drop_owner(path),
-            ["rows", paths @ ..] => self.are_in_order(paths),
             _ => return Ok(None),
-        }))
+        };
+        Ok(Some(outcome))
     }
 
     fn reserve(&mut self, owners: &str, rows: &str) -> &'static str {
@@ -144,12 +133,8 @@ impl Owners {
         if is_last {
             self.links.drop_owner(place.owner);
         }
-        Ok(match (row == held(self.alloc, path)?, is_gone, is_last) {
-            (true, true, true) => "unlinked as it came, and its owner is gone",
-            (true, true, false) => "unlinked as it came",
-            (false, _, _) => "unlinked as another row",
-            (_, false, _) => "unlinked and still held",
-        })
+        let is_same = row == held(self.alloc, path)?;
+        Ok(outcome_of(is_same, is_gone, is_last))
     }
 
     fn drop_owner(&mut self, path: &str) -> &'static str {
@@ -166,17 +151,11 @@ impl Owners {
     fn are_in_order(&self, paths: &[&str]) -> &'static str {
         let mut last: Option<Place> = None;
         for path in paths {
-            let Some(place) = place_of(&self.links, path) else {
-                return "not held";
-            };
-            let wanted = match last {
-                None => place.first,
-                Some(before) => before.next,
-            };
-            if wanted != Some(place.slot) {
-                return "in another order";
+            match place_of(&self.links, path) {
+                None => return "not held",
+                Some(place) if !is_behind(place, last) => return "in another order",
+                place => last = place,
             }
-            last = Some(place);
         }
         match last {
             Some(place) if place.next.is_none() => "all in this order",
@@ -185,7 +164,7 @@ impl Owners {
     }
 
     /// Shows where the row of a path stands.
-    fn show_place(&self, path: &str, shown: &mut String) -> Result<(), AllocError> {
+    pub fn show_place(&self, path: &str, shown: &mut String) -> Result<(), AllocError> {
         match place_of(&self.links, path) {
             Some(Place { slot, owner, .. }) => {
                 let born = self.links.get(slot).born;
@@ -196,17 +175,50 @@ impl Owners {
     }
 
     /// Does what each line says, and shows how often each answer came.
-    fn run(&mut self, lines: &[&str], shown: &mut String) -> Result<(), AllocError> {
-        let mut counts: BTreeMap<&str, u32> = BTreeMap::new(self.alloc);
+    pub fn run(&mut self, lines: &[&str], shown: &mut String) -> Result<(), AllocError> {
+        let mut counts: BTreeMap<&'static str, u32> = BTreeMap::new(self.alloc);
         for line in lines {
-            let words: Vec<&str> = line.split(' ').collect(self.alloc)?;
-            let outcome = self.act(words.as_slice())?.unwrap_or("no step");
-            let count = counts.entry(outcome)?.or_insert(0);
-            *count = count.saturating_add(1);
+            let outcome = self.act_on_line(line)?;
+            add(&mut counts, outcome)?;
         }
-        for (outcome, count) in &counts {
-            writeln!(shown, "{count} times: {outcome}")?;
-        }
-        Ok(())
+        show_counts(&counts, shown)
     }
+
+    fn act_on_line(&mut self, line: &str) -> Result<&'static str, AllocError> {
+        let words: Vec<&str> = line.split(' ').collect(self.alloc)?;
+        Ok(self.act(words.as_slice())?.unwrap_or("no step"))
+    }
+}
+
+/// Whether a row is the first of its owner, or the next one behind the last that was looked at.
+fn is_behind(place: Place, last: Option<Place>) -> bool {
+    let wanted = match last {
+        None => place.first,
+        Some(before) => before.next,
+    };
+    wanted == Some(place.slot)
+}
+
+/// What came of a row that was unlinked.
+fn outcome_of(is_same: bool, is_gone: bool, is_last: bool) -> &'static str {
+    match (is_same, is_gone, is_last) {
+        (true, true, true) => "unlinked as it came, and its owner is gone",
+        (true, true, false) => "unlinked as it came",
+        (false, _, _) => "unlinked as another row",
+        (_, false, _) => "unlinked and still held",
+    }
+}
+
+/// Counts an outcome once more.
+fn add(counts: &mut BTreeMap<&'static str, u32>, outcome: &'static str) -> Result<(), AllocError> {
+    let count = counts.entry(outcome)?.or_insert(0);
+    *count = count.saturating_add(1);
+    Ok(())
+}
+
+fn show_counts(counts: &BTreeMap<&'static str, u32>, shown: &mut String) -> Result<(), AllocError> {
+    for (outcome, count) in counts {
+        writeln!(shown, "{count} times: {outcome}")?;
+    }
+    Ok(())
 }

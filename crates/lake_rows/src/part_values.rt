@@ -1,41 +1,44 @@
 //! Steps on partition values: as Delta's texts, as components of folders, and as Avro values.
-use crate::shown::show_answer;
+use crate::columns::show_kind_of;
+use crate::folders;
 use avro_schema::Schema;
-use avro_value::decode;
+use avro_value::{Value, decode};
 use lake_basics::Text;
 use partition_map::{
     PartError, PartKind, decode_uri_path, encode_uri_path, from_avro_value, from_delta_text,
     from_hive, to_avro_value, to_delta_text,
 };
-use rows::bytes_of_hex;
+use rows::{Step, bytes_given, show_answer, show_error, show_refused};
 use std::alloc::{AllocError, Global};
 use table_history::PartValue;
 
-/// Does the step of these words, if it is one on partition values or paths as URIs.
-pub fn step(
-    alloc: Global,
-    words: &[&str],
-    lines: &[&str],
-    shown: &mut String,
-) -> Result<bool, AllocError> {
-    match words {
-        ["values", kind] => show_values(alloc, kind, lines, shown)?,
-        ["missing", "values"] => show_missing(alloc, lines, shown)?,
-        ["avro", "value", hex, "of", schema, "as", kind] => {
-            show_avro(alloc, kind, schema, hex, shown)?
-        }
-        ["copies"] => show_copies(alloc, lines, shown)?,
-        ["delta", "texts", "of"] => show_texts(alloc, lines, shown)?,
-        ["avro", "fields", "of"] => show_fields(alloc, lines, shown)?,
-        ["paths", "of", "uris"] => show_paths(alloc, lines, shown)?,
-        ["uris", "of", "paths"] => show_uris(alloc, lines, shown)?,
-        _ => return Ok(false),
+/// Does a step on partition values or on paths as URIs, or else one on kinds or folders.
+pub fn step(alloc: Global, step: &Step<'_>, shown: &mut String) -> Result<(), AllocError> {
+    let lines = step.lines();
+    match step.words() {
+        "missing values" => show_missing(alloc, lines, shown),
+        "copies" => show_copies(alloc, lines, shown),
+        "delta texts of" => show_texts(alloc, lines, shown),
+        "avro fields of" => show_fields(alloc, lines, shown),
+        "paths of uris" => show_paths(alloc, lines, shown),
+        "uris of paths" => show_uris(alloc, lines, shown),
+        _ => step_on_kinds(alloc, step, shown),
     }
-    Ok(true)
+}
+
+fn step_on_kinds(alloc: Global, step: &Step<'_>, shown: &mut String) -> Result<(), AllocError> {
+    match step.each_word() {
+        ["kind", "of", word] => show_kind_of(word, shown),
+        ["values", kind] => show_values(alloc, kind, step.lines(), shown),
+        ["avro", "value", hex, "of", schema, "as", kind] => {
+            show_avro(alloc, kind, schema, hex, shown)
+        }
+        _ => folders::step(alloc, step, shown),
+    }
 }
 
 /// The kind that a word names.
-pub fn kind_of(word: &str) -> Option<PartKind> {
+fn kind_of(word: &str) -> Option<PartKind> {
     match word {
         "boolean" => Some(PartKind::Boolean),
         "int" => Some(PartKind::Int),
@@ -50,26 +53,33 @@ pub fn kind_of(word: &str) -> Option<PartKind> {
 /// value, the number of days of a date, or any text.
 pub fn value_of(alloc: Global, line: &str) -> Result<Option<(PartKind, PartValue)>, AllocError> {
     let (word, rest) = line.split_once(' ').unwrap_or((line, ""));
-    let Some(kind) = kind_of(word) else {
-        return Ok(None);
-    };
-    let value = match kind {
-        PartKind::Text => PartValue::Text(Text::from_str(alloc, rest)?),
-        PartKind::Boolean if rest != "null" => PartValue::Boolean(rest == "true"),
-        _ => number_of(kind, rest.parse::<i64>().ok()),
-    };
-    Ok(Some((kind, value)))
+    match kind_of(word) {
+        Some(kind) => Ok(Some((kind, value_of_kind(alloc, kind, rest)?))),
+        None => Ok(None),
+    }
+}
+
+fn value_of_kind(alloc: Global, kind: PartKind, text: &str) -> Result<PartValue, AllocError> {
+    match kind {
+        PartKind::Text => Ok(PartValue::Text(Text::from_str(alloc, text)?)),
+        PartKind::Boolean if text != "null" => Ok(PartValue::Boolean(text == "true")),
+        _ => Ok(number_of(kind, text.parse::<i64>().ok())),
+    }
 }
 
 /// The value of a kind that a number gives, or null.
 fn number_of(kind: PartKind, number: Option<i64>) -> PartValue {
-    let Some(number) = number else {
-        return PartValue::Null;
-    };
-    match (kind, i32::try_from(number)) {
-        (PartKind::Long, _) => PartValue::Long(number),
-        (PartKind::Int, Ok(number)) => PartValue::Int(number),
-        (PartKind::Date, Ok(number)) => PartValue::Date(number),
+    match (kind, number) {
+        (PartKind::Long, Some(number)) => PartValue::Long(number),
+        (_, Some(number)) => small_number_of(kind, i32::try_from(number).ok()),
+        _ => PartValue::Null,
+    }
+}
+
+fn small_number_of(kind: PartKind, number: Option<i32>) -> PartValue {
+    match (kind, number) {
+        (PartKind::Int, Some(number)) => PartValue::Int(number),
+        (PartKind::Date, Some(number)) => PartValue::Date(number),
         _ => PartValue::Null,
     }
 }
@@ -79,11 +89,15 @@ fn spelled(alloc: Global, value: &PartValue) -> Result<String, AllocError> {
     match value {
         PartValue::Null => String::from_str(alloc, "null"),
         PartValue::Boolean(truth) => format!(in alloc; "boolean {truth}"),
-        PartValue::Int(number) => format!(in alloc; "int {number}"),
-        PartValue::Long(number) => format!(in alloc; "long {number}"),
         PartValue::Text(text) => format!(in alloc; "text {}", text.as_str()),
-        PartValue::Date(days) => format!(in alloc; "date {days}"),
+        PartValue::Int(number) => spelled_number(alloc, "int", i64::from(*number)),
+        PartValue::Long(number) => spelled_number(alloc, "long", *number),
+        PartValue::Date(days) => spelled_number(alloc, "date", i64::from(*days)),
     }
+}
+
+fn spelled_number(alloc: Global, kind: &str, number: i64) -> Result<String, AllocError> {
+    format!(in alloc; "{kind} {number}")
 }
 
 fn told(alloc: Global, read: &Result<PartValue, PartError>) -> Result<String, AllocError> {
@@ -104,25 +118,42 @@ fn show_values(
         return writeln!(shown, "not asked: no kind");
     };
     for line in lines {
-        let of_delta = told(alloc, &from_delta_text(alloc, kind, Some(*line)))?;
-        let of_hive = told(alloc, &from_hive(alloc, kind, line))?;
-        let answer = format!(in alloc; "{of_delta} in Delta, {of_hive} in a folder")?;
-        show_answer(shown, line, answer.as_str())?;
+        show_value(alloc, kind, line, shown)?;
     }
     Ok(())
+}
+
+fn show_value(
+    alloc: Global,
+    kind: PartKind,
+    text: &str,
+    shown: &mut String,
+) -> Result<(), AllocError> {
+    let of_delta = told(alloc, &from_delta_text(alloc, kind, Some(text)))?;
+    let of_hive = told(alloc, &from_hive(alloc, kind, text))?;
+    let answer = format!(in alloc; "{of_delta} in Delta, {of_hive} in a folder")?;
+    show_answer(shown, text, answer.as_str())
 }
 
 /// Shows the value that a missing text stands for, and Avro's null, for each kind.
 fn show_missing(alloc: Global, lines: &[&str], shown: &mut String) -> Result<(), AllocError> {
     for line in lines {
         if let Some(kind) = kind_of(line) {
-            let of_delta = told(alloc, &from_delta_text(alloc, kind, None))?;
-            let null = avro_value::Value::Null;
-            let of_avro = told(alloc, &from_avro_value(alloc, kind, &null))?;
-            writeln!(shown, "{line} -> {of_delta} in Delta, {of_avro} in Avro")?;
+            show_none(alloc, line, kind, shown)?;
         }
     }
     Ok(())
+}
+
+fn show_none(
+    alloc: Global,
+    word: &str,
+    kind: PartKind,
+    shown: &mut String,
+) -> Result<(), AllocError> {
+    let of_delta = told(alloc, &from_delta_text(alloc, kind, None))?;
+    let of_avro = told(alloc, &from_avro_value(alloc, kind, &Value::Null))?;
+    writeln!(shown, "{word} -> {of_delta} in Delta, {of_avro} in Avro")
 }
 
 /// Shows the value that the bytes of an Avro value stand for.
@@ -133,12 +164,21 @@ fn show_avro(
     hex: &str,
     shown: &mut String,
 ) -> Result<(), AllocError> {
-    let bytes = bytes_of_hex(alloc, hex)?.unwrap_or(Vec::new(alloc));
-    let (Some(kind), Ok(schema)) = (kind_of(kind), Schema::from_json(alloc, schema.as_bytes()))
-    else {
-        return writeln!(shown, "not asked: no kind or no schema");
-    };
-    match decode(alloc, &schema, &bytes, 0) {
+    let bytes = bytes_given(alloc, hex)?;
+    match (kind_of(kind), Schema::from_json(alloc, schema.as_bytes())) {
+        (Some(kind), Ok(schema)) => show_decoded(alloc, kind, &schema, &bytes, shown),
+        _ => writeln!(shown, "not asked: no kind or no schema"),
+    }
+}
+
+fn show_decoded(
+    alloc: Global,
+    kind: PartKind,
+    schema: &Schema,
+    bytes: &[u8],
+    shown: &mut String,
+) -> Result<(), AllocError> {
+    match decode(alloc, schema, bytes, 0) {
         Ok((value, _)) => {
             let answer = told(alloc, &from_avro_value(alloc, kind, &value))?;
             writeln!(shown, "{}", answer.as_str())
@@ -151,66 +191,95 @@ fn show_avro(
 fn show_copies(alloc: Global, lines: &[&str], shown: &mut String) -> Result<(), AllocError> {
     for line in lines {
         if let Some((_, value)) = value_of(alloc, line)? {
-            let copy = value.copy(alloc)?;
-            let is_same = copy == value;
-            let copy = spelled(alloc, &copy)?;
-            writeln!(shown, "{line} -> {copy}, the same: {is_same}")?;
+            show_copy(alloc, line, &value, shown)?;
         }
     }
     Ok(())
 }
 
+fn show_copy(
+    alloc: Global,
+    line: &str,
+    value: &PartValue,
+    shown: &mut String,
+) -> Result<(), AllocError> {
+    let copy = value.copy(alloc)?;
+    let is_same = copy == *value;
+    let copy = spelled(alloc, &copy)?;
+    writeln!(shown, "{line} -> {copy}, the same: {is_same}")
+}
+
 fn show_texts(alloc: Global, lines: &[&str], shown: &mut String) -> Result<(), AllocError> {
     for line in lines {
         if let Some((_, value)) = value_of(alloc, line)? {
-            match to_delta_text(alloc, &value) {
-                Ok(Some(text)) => show_answer(shown, line, text.as_str())?,
-                Ok(None) => show_answer(shown, line, "no text")?,
-                Err(error) => writeln!(shown, "{line} -> Err {error:?}")?,
-            }
+            show_text(alloc, line, &value, shown)?;
         }
     }
     Ok(())
+}
+
+/// Shows the text of a value in Delta.
+fn show_text(
+    alloc: Global,
+    line: &str,
+    value: &PartValue,
+    shown: &mut String,
+) -> Result<(), AllocError> {
+    match to_delta_text(alloc, value) {
+        Ok(Some(text)) => show_answer(shown, line, text.as_str()),
+        Ok(None) => show_answer(shown, line, "no text"),
+        Err(error) => show_refused(shown, line, &error),
+    }
 }
 
 /// Shows the Avro value of each partition value, and what is read of it.
 fn show_fields(alloc: Global, lines: &[&str], shown: &mut String) -> Result<(), AllocError> {
     for line in lines {
         if let Some((kind, value)) = value_of(alloc, line)? {
-            match to_avro_value(alloc, &value) {
-                Ok(written) => {
-                    let again = told(alloc, &from_avro_value(alloc, kind, &written))?;
-                    writeln!(shown, "{line} -> {written:?}, read as {again}")?;
-                }
-                Err(error) => writeln!(shown, "{line} -> Err {error:?}")?,
-            }
+            show_field(alloc, line, kind, &value, shown)?;
         }
     }
     Ok(())
 }
 
+fn show_field(
+    alloc: Global,
+    line: &str,
+    kind: PartKind,
+    value: &PartValue,
+    shown: &mut String,
+) -> Result<(), AllocError> {
+    match to_avro_value(alloc, value) {
+        Ok(written) => {
+            let again = told(alloc, &from_avro_value(alloc, kind, &written))?;
+            writeln!(shown, "{line} -> {written:?}, read as {again}")
+        }
+        Err(error) => show_refused(shown, line, &error),
+    }
+}
+
 fn show_path(
     shown: &mut String,
     input: &str,
-    path: Result<Text, PartError>,
+    path: &Result<Text, PartError>,
 ) -> Result<(), AllocError> {
     match path {
         Ok(path) => show_answer(shown, input, path.as_str()),
-        Err(error) if input.is_empty() => writeln!(shown, "(empty) -> Err {error:?}"),
-        Err(error) => writeln!(shown, "{input} -> Err {error:?}"),
+        Err(error) if input.is_empty() => show_refused(shown, "(empty)", error),
+        Err(error) => show_refused(shown, input, error),
     }
 }
 
 fn show_paths(alloc: Global, lines: &[&str], shown: &mut String) -> Result<(), AllocError> {
     for line in lines {
-        show_path(shown, line, decode_uri_path(alloc, line))?;
+        show_path(shown, line, &decode_uri_path(alloc, line))?;
     }
     Ok(())
 }
 
 fn show_uris(alloc: Global, lines: &[&str], shown: &mut String) -> Result<(), AllocError> {
     for line in lines {
-        show_path(shown, line, encode_uri_path(alloc, line))?;
+        show_path(shown, line, &encode_uri_path(alloc, line))?;
     }
     Ok(())
 }

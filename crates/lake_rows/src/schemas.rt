@@ -2,6 +2,7 @@
 use iceberg_field_ids::{KnownIds, to_iceberg};
 use json_reading::{json_text, read_json};
 use lake_basics::{Items, ReadError, Text};
+use rows::{Step, show_no_step};
 use schema_avro::{from_avro, read_avro, to_avro};
 use schema_delta::{from_delta, to_delta};
 use schema_iceberg::{from_iceberg, iceberg_json, name_mapping};
@@ -21,28 +22,38 @@ enum Form {
     Mapped,
 }
 
-/// Does the step of these words, if it is one on schemas.
-pub fn step(
-    alloc: Global,
-    words: &[&str],
-    lines: &[&str],
-    shown: &mut String,
-) -> Result<bool, AllocError> {
+/// The form that the words of a step name.
+fn form_of(words: &str) -> Option<Form> {
     match words {
-        ["read", "delta"] => show_forms(alloc, Form::DeltaRead, lines, shown)?,
-        ["read", "avro"] => show_forms(alloc, Form::AvroRead, lines, shown)?,
-        ["read", "iceberg"] => show_forms(alloc, Form::IcebergRead, lines, shown)?,
-        ["iceberg", "again"] => show_forms(alloc, Form::IcebergAgain, lines, shown)?,
-        ["write", "avro"] => show_forms(alloc, Form::AvroWritten, lines, shown)?,
-        ["write", "iceberg"] => show_forms(alloc, Form::IcebergWritten, lines, shown)?,
-        ["name", "mapping"] => show_forms(alloc, Form::Mapped, lines, shown)?,
-        ["limit", "of", "avro"] => show_limits(alloc, lines, shown)?,
-        ["many", "columns", count] => show_many(alloc, count, shown)?,
-        ["ids", "behind", last, ids @ ..] => show_ids(alloc, last, ids, lines, shown)?,
-        ["compare"] => show_compared(alloc, lines, shown)?,
-        _ => return Ok(false),
+        "read delta" => Some(Form::DeltaRead),
+        "read avro" => Some(Form::AvroRead),
+        "read iceberg" => Some(Form::IcebergRead),
+        "iceberg again" => Some(Form::IcebergAgain),
+        "write avro" => Some(Form::AvroWritten),
+        "write iceberg" => Some(Form::IcebergWritten),
+        "name mapping" => Some(Form::Mapped),
+        _ => None,
     }
-    Ok(true)
+}
+
+/// Does a step on schemas.
+pub fn step(alloc: Global, step: &Step<'_>, shown: &mut String) -> Result<(), AllocError> {
+    match form_of(step.words()) {
+        Some(form) => show_forms(alloc, form, step.lines(), shown),
+        None => other_step(alloc, step, shown),
+    }
+}
+
+/// Does a step on schemas that doesn't take each line alone.
+fn other_step(alloc: Global, step: &Step<'_>, shown: &mut String) -> Result<(), AllocError> {
+    let lines = step.lines();
+    match step.each_word() {
+        ["limit", "of", "avro"] => show_limits(alloc, lines, shown),
+        ["many", "columns", count] => show_many(alloc, count, shown),
+        ["ids", "behind", last, ids @ ..] => show_ids(alloc, last, ids, lines, shown),
+        ["compare"] => show_compared(alloc, lines, shown),
+        _ => show_no_step(shown, step),
+    }
 }
 
 /// The schema and the ids of Iceberg's JSON.
@@ -70,19 +81,20 @@ fn given(alloc: Global, form: Form, text: &[u8]) -> Result<Text, MapError> {
         Form::AvroRead => to_delta(alloc, &from_avro(alloc, text)?),
         Form::AvroWritten => to_avro(alloc, &from_delta(alloc, text)?),
         Form::IcebergRead => to_delta(alloc, &read_iceberg(alloc, text)?.0),
-        Form::IcebergAgain => {
-            let (schema, ids) = read_iceberg(alloc, text)?;
-            Ok(json_text(alloc, &iceberg_json(alloc, &schema, &ids, 0)?)?)
-        }
-        Form::IcebergWritten => {
-            let (image, ids) = image_of(alloc, text)?;
-            Ok(json_text(alloc, &iceberg_json(alloc, &image, &ids, 0)?)?)
-        }
-        Form::Mapped => {
-            let (image, ids) = image_of(alloc, text)?;
-            name_mapping(alloc, &image, &ids)
-        }
+        Form::IcebergAgain => iceberg_text(alloc, read_iceberg(alloc, text)?),
+        Form::IcebergWritten => iceberg_text(alloc, image_of(alloc, text)?),
+        Form::Mapped => mapped(alloc, text),
     }
+}
+
+/// Iceberg's text of a schema with ids.
+fn iceberg_text(alloc: Global, (schema, ids): (Schema, Ids)) -> Result<Text, MapError> {
+    Ok(json_text(alloc, &iceberg_json(alloc, &schema, &ids, 0)?)?)
+}
+
+fn mapped(alloc: Global, text: &[u8]) -> Result<Text, MapError> {
+    let (image, ids) = image_of(alloc, text)?;
+    name_mapping(alloc, &image, &ids)
 }
 
 /// Shows why a schema was not read or written, with its column or its limit.
@@ -103,29 +115,33 @@ fn show_forms(
     shown: &mut String,
 ) -> Result<(), AllocError> {
     for line in lines {
-        match given(alloc, form, line.as_bytes()) {
-            Ok(text) => writeln!(shown, "{}", text.as_str())?,
-            Err(error) => show_refusal(shown, &error)?,
-        }
+        show_given(&given(alloc, form, line.as_bytes()), shown)?;
     }
     Ok(())
 }
 
-/// Shows the limit that a schema passes, or its number of columns.
-fn show_limit(shown: &mut String, schema: &Schema) -> Result<(), AllocError> {
-    match schema_limit(schema) {
-        Some(limit) => writeln!(shown, "passes {}", limit.word()),
-        None => writeln!(shown, "columns {}", schema.columns().len()),
+fn show_given(given: &Result<Text, MapError>, shown: &mut String) -> Result<(), AllocError> {
+    match given {
+        Ok(text) => writeln!(shown, "{}", text.as_str()),
+        Err(error) => show_refusal(shown, error),
+    }
+}
+
+/// Shows the limit that a schema which was read passes, or its number of columns.
+fn show_limit(shown: &mut String, read: &Result<Schema, MapError>) -> Result<(), AllocError> {
+    match read {
+        Ok(schema) => match schema_limit(schema) {
+            Some(limit) => writeln!(shown, "passes {}", limit.word()),
+            None => writeln!(shown, "columns {}", schema.columns().len()),
+        },
+        Err(error) => show_refusal(shown, error),
     }
 }
 
 /// Shows the limits that schemas pass which are read without their limits.
 fn show_limits(alloc: Global, lines: &[&str], shown: &mut String) -> Result<(), AllocError> {
     for line in lines {
-        match read_avro(alloc, line.as_bytes()) {
-            Ok(schema) => show_limit(shown, &schema)?,
-            Err(error) => show_refusal(shown, &error)?,
-        }
+        show_limit(shown, &read_avro(alloc, line.as_bytes()))?;
     }
     Ok(())
 }
@@ -147,10 +163,7 @@ fn columns_and_one(alloc: Global, count: u16) -> Result<String, AllocError> {
 fn show_many(alloc: Global, count: &str, shown: &mut String) -> Result<(), AllocError> {
     let count = count.parse::<u16>().unwrap_or(0);
     let text = columns_and_one(alloc, count.saturating_sub(1))?;
-    match from_delta(alloc, text.as_bytes()) {
-        Ok(schema) => show_limit(shown, &schema),
-        Err(error) => show_refusal(shown, &error),
-    }
+    show_limit(shown, &from_delta(alloc, text.as_bytes()))
 }
 
 /// The ids of the column paths of a Delta schema, in their order, with the last id that was given.
@@ -176,10 +189,7 @@ fn show_ids(
     };
     let last = last.parse::<i32>().unwrap_or(0);
     match ids_of(alloc, older, newer, last, ids) {
-        Ok(ids) => {
-            let ids = ids.as_slice();
-            writeln!(shown, "{ids:?}")
-        }
+        Ok(ids) => writeln!(shown, "{:?}", ids.as_slice()),
         Err(error) => show_refusal(shown, &error),
     }
 }
@@ -200,27 +210,42 @@ fn ids_of(
 
 /// Shows whether a copy of the first Delta schema is the same as each of them, and has its types.
 fn show_compared(alloc: Global, lines: &[&str], shown: &mut String) -> Result<(), AllocError> {
-    let Some((first, _)) = lines.split_first() else {
+    let Some(first) = lines.first() else {
         return Ok(());
     };
-    let Ok(first) = from_delta(alloc, first.as_bytes()) else {
-        return writeln!(shown, "not asked: no schema");
-    };
-    let first = first.copy(alloc)?;
+    match from_delta(alloc, first.as_bytes()) {
+        Ok(schema) => show_each_compared(alloc, &schema.copy(alloc)?, lines, shown),
+        Err(_) => writeln!(shown, "not asked: no schema"),
+    }
+}
+
+fn show_each_compared(
+    alloc: Global,
+    first: &Schema,
+    lines: &[&str],
+    shown: &mut String,
+) -> Result<(), AllocError> {
     for line in lines {
         match from_delta(alloc, line.as_bytes()) {
-            Ok(other) => {
-                let same_schema = first == other;
-                let same_types = have_same_types(alloc, &first, &other)?;
-                writeln!(
-                    shown,
-                    "same schema: {same_schema}, same types: {same_types}"
-                )?;
-            }
+            Ok(other) => show_same(alloc, first, &other, shown)?,
             Err(error) => show_refusal(shown, &error)?,
         }
     }
     Ok(())
+}
+
+fn show_same(
+    alloc: Global,
+    first: &Schema,
+    other: &Schema,
+    shown: &mut String,
+) -> Result<(), AllocError> {
+    let same_schema = first == other;
+    let same_types = have_same_types(alloc, first, other)?;
+    writeln!(
+        shown,
+        "same schema: {same_schema}, same types: {same_types}"
+    )
 }
 
 /// Whether the columns have the same types in their order, as far as both schemas have them.

@@ -3,7 +3,8 @@ use lake_basics::{Items, Text};
 use lake_store::MemorySink;
 use schema_delta::from_delta;
 use std::alloc::{AllocError, Global};
-use table_history::{Change, FileRow, Kind, PartValue, Schema, Table};
+use std::str::from_utf8;
+use table_history::{Change, FileRow, FileRows, Kind, PartValue, Schema, Table};
 use table_lines::{put_lines, rows_in_order};
 
 /// The table of a row, if it has one.
@@ -19,31 +20,20 @@ impl Tables {
         Tables { alloc, table: None }
     }
 
-    /// Does the step of these words, if it is one on tables.
-    pub fn step(
-        &mut self,
-        words: &[&str],
-        lines: &[&str],
-        shown: &mut String,
-    ) -> Result<bool, AllocError> {
-        match words {
-            ["table"] => self.table = Some(table_of(self.alloc, lines)?),
-            ["lead", "to"] => self.lead_to_rows(lines, shown)?,
-            ["lead", "to", "schema"] => self.lead_to_schema(lines, shown)?,
-            ["lines", kind, position] => self.show_lines(kind, position, shown)?,
-            ["copy", "of", "the", "table"] => self.show_copy(shown)?,
-            _ => return Ok(false),
-        }
-        Ok(true)
+    /// Sets the table to that of the rows on these lines.
+    pub fn set(&mut self, lines: &[&str]) -> Result<(), AllocError> {
+        self.table = Some(table_of(self.alloc, lines)?);
+        Ok(())
     }
 
-    fn lead_to_rows(&mut self, lines: &[&str], shown: &mut String) -> Result<(), AllocError> {
+    /// Leads to the table of the rows on these lines.
+    pub fn lead_to_rows(&mut self, lines: &[&str], shown: &mut String) -> Result<(), AllocError> {
         let after = table_of(self.alloc, lines)?;
         self.lead(&after, shown)
     }
 
     /// Leads to the table of no rows that has this schema.
-    fn lead_to_schema(&mut self, lines: &[&str], shown: &mut String) -> Result<(), AllocError> {
+    pub fn lead_to_schema(&mut self, lines: &[&str], shown: &mut String) -> Result<(), AllocError> {
         let mut after = Table::empty(self.alloc, &[])?;
         if let Some(schema) = first_schema(self.alloc, lines) {
             after.schema = schema;
@@ -56,52 +46,92 @@ impl Tables {
         let Some(table) = &mut self.table else {
             return writeln!(shown, "not asked: no table");
         };
-        let change = led(self.alloc, table, after)?;
-        show_change(shown, &change)?;
+        show_change(shown, &led(self.alloc, table, after)?)?;
         let columns = table.schema.columns().len();
         let is_same = table.schema == after.schema;
         writeln!(shown, "schema of {columns} columns, as there: {is_same}")
     }
 
     /// Shows the lines that tell of the table at a position.
-    fn show_lines(&self, kind: &str, position: &str, shown: &mut String) -> Result<(), AllocError> {
-        let (Some(kind), Some(table)) = (Kind::from_word(kind), &self.table) else {
-            return writeln!(shown, "not asked: no kind or no table");
-        };
-        let position = Text::from_str(self.alloc, position)?;
-        let mut sink = MemorySink::new(self.alloc, Vec::new(self.alloc));
-        let rows = rows_in_order(self.alloc, &table.rows)?;
-        if put_lines(self.alloc, &mut sink, kind, &position, table, &rows).is_err() {
-            return Err(AllocError);
-        }
-        match Text::from_bytes(self.alloc, sink.bytes()) {
-            Ok(text) => shown.push_str(text.as_str()),
-            Err(_) => writeln!(shown, "lines that aren't UTF-8"),
+    pub fn show_lines(
+        &self,
+        kind: &str,
+        position: &str,
+        shown: &mut String,
+    ) -> Result<(), AllocError> {
+        match (Kind::from_word(kind), &self.table) {
+            (Some(kind), Some(table)) => show_lines(self.alloc, kind, position, table, shown),
+            _ => writeln!(shown, "not asked: no kind or no table"),
         }
     }
 
     /// Shows a copy of the table beside it.
-    fn show_copy(&self, shown: &mut String) -> Result<(), AllocError> {
-        let Some(table) = &self.table else {
-            return writeln!(shown, "not asked: no table");
-        };
-        let copy = table.copy(self.alloc)?;
-        let partitions = copy.partition.len();
-        let same_schema = copy.schema == table.schema;
-        writeln!(
-            shown,
-            "partition columns {partitions}, same schema: {same_schema}"
-        )?;
-        let rows = copy.rows.copy(self.alloc)?;
-        let (count, is_empty) = (rows.len(), rows.is_empty());
-        writeln!(shown, "rows {count}, empty: {is_empty}")?;
-        for place in 0..=count {
-            let is_there = rows.at(place).is_some();
-            let is_same = rows.at(place) == table.rows.at(place);
-            writeln!(shown, "at {place}: a row: {is_there}, the same: {is_same}")?;
+    pub fn show_copy(&self, shown: &mut String) -> Result<(), AllocError> {
+        match &self.table {
+            Some(table) => show_copy(table, &table.copy(self.alloc)?, self.alloc, shown),
+            None => writeln!(shown, "not asked: no table"),
         }
-        Ok(())
     }
+}
+
+fn show_lines(
+    alloc: Global,
+    kind: Kind,
+    position: &str,
+    table: &Table,
+    shown: &mut String,
+) -> Result<(), AllocError> {
+    let position = Text::from_str(alloc, position)?;
+    let mut sink = MemorySink::new(alloc, Vec::new(alloc));
+    let rows = rows_in_order(alloc, &table.rows)?;
+    match put_lines(alloc, &mut sink, kind, &position, table, &rows) {
+        Ok(()) => show_bytes(sink.bytes(), shown),
+        Err(_) => Err(AllocError),
+    }
+}
+
+fn show_bytes(bytes: &[u8], shown: &mut String) -> Result<(), AllocError> {
+    match from_utf8(bytes) {
+        Ok(text) => shown.push_str(text),
+        Err(_) => writeln!(shown, "lines that aren't UTF-8"),
+    }
+}
+
+/// Shows a copy of a table, and a copy of its rows.
+fn show_copy(
+    table: &Table,
+    copy: &Table,
+    alloc: Global,
+    shown: &mut String,
+) -> Result<(), AllocError> {
+    let partitions = copy.partition.len();
+    let same_schema = copy.schema == table.schema;
+    writeln!(
+        shown,
+        "partition columns {partitions}, same schema: {same_schema}"
+    )?;
+    show_rows(&table.rows, &copy.rows.copy(alloc)?, shown)
+}
+
+/// Shows whether the rows of a copy are those that were copied.
+fn show_rows(rows: &FileRows, copy: &FileRows, shown: &mut String) -> Result<(), AllocError> {
+    let (count, is_empty) = (copy.len(), copy.is_empty());
+    writeln!(shown, "rows {count}, empty: {is_empty}")?;
+    for place in 0..=count {
+        show_row(place, rows.at(place), copy.at(place), shown)?;
+    }
+    Ok(())
+}
+
+fn show_row(
+    place: usize,
+    row: Option<&FileRow>,
+    copy: Option<&FileRow>,
+    shown: &mut String,
+) -> Result<(), AllocError> {
+    let is_there = copy.is_some();
+    let is_same = copy == row;
+    writeln!(shown, "at {place}: a row: {is_there}, the same: {is_same}")
 }
 
 /// Leads the table to another one, by the change that is given.
@@ -113,12 +143,20 @@ fn led(alloc: Global, table: &mut Table, after: &Table) -> Result<Change, AllocE
 
 /// Shows the paths that a change takes out and the rows that it puts in.
 fn show_change(shown: &mut String, change: &Change) -> Result<(), AllocError> {
-    for path in change.removed.as_slice() {
+    show_removed(shown, change.removed.as_slice())?;
+    show_added(shown, change.added.as_slice())
+}
+
+fn show_removed(shown: &mut String, paths: &[Text]) -> Result<(), AllocError> {
+    for path in paths {
         writeln!(shown, "- {}", path.as_str())?;
     }
-    for row in change.added.as_slice() {
-        let size = row.size;
-        writeln!(shown, "+ {} of {size} bytes", row.path.as_str())?;
+    Ok(())
+}
+
+fn show_added(shown: &mut String, rows: &[FileRow]) -> Result<(), AllocError> {
+    for row in rows {
+        writeln!(shown, "+ {} of {} bytes", row.path.as_str(), row.size)?;
     }
     Ok(())
 }

@@ -19,6 +19,11 @@ pub fn bytes_of_hex(alloc: Global, text: &str) -> Result<Option<Vec<u8>>, AllocE
     }
 }
 
+/// The bytes that hexadecimal digits give, and none where they give none.
+pub fn bytes_given(alloc: Global, text: &str) -> Result<Vec<u8>, AllocError> {
+    Ok(bytes_of_hex(alloc, text)?.unwrap_or(Vec::new(alloc)))
+}
+
 /// The bytes as hexadecimal digits in lower case.
 pub fn hex_of(alloc: Global, bytes: &[u8]) -> Result<String, AllocError>
     ensures { IfOk result (λ text. string_bytes text ≡ encode_lower bytes.now) }

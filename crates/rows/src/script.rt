@@ -5,13 +5,46 @@ use std::alloc::{AllocError, Global};
 #[derive(Drop)]
 pub struct Step<'a> {
     words: &'a str,
+    each_word: Vec<&'a str>,
     lines: Vec<&'a str>,
 }
 
 impl<'a> Step<'a> {
+    /// A step with no lines.
+    fn new(alloc: Global, words: &'a str) -> Result<Step<'a>, AllocError> {
+        Ok(Step {
+            words,
+            each_word: words.split(' ').collect(alloc)?,
+            lines: Vec::new(alloc),
+        })
+    }
+
     /// The words that say what the step does.
     pub fn words(&self) -> &'a str {
         self.words
+    }
+
+    /// The words one by one.
+    pub fn each_word(&self) -> &[&'a str] {
+        self.each_word.as_slice()
+    }
+
+    /// The word at a place, which is empty where there is none.
+    pub fn word_at(&self, place: usize) -> &'a str {
+        match self.each_word.get(place) {
+            Some(word) => *word,
+            None => "",
+        }
+    }
+
+    /// The words from a place on.
+    pub fn words_from(&self, place: usize) -> &[&'a str] {
+        let words = self.each_word.as_slice();
+        if place < words.len() {
+            &words[place..]
+        } else {
+            &[]
+        }
     }
 
     /// The lines below the words, where those of named texts stand in place of their names.
@@ -28,6 +61,11 @@ impl<'a> Step<'a> {
         }
         Ok(text)
     }
+}
+
+/// A text of lines without its last newline.
+pub fn unended(text: &str) -> &str {
+    text.strip_suffix('\n').unwrap_or(text)
 }
 
 /// What a line of a script is.
@@ -89,8 +127,7 @@ impl<'a> Reading<'a> {
             }
             Line::Words(words) => {
                 self.end_step()?;
-                let lines = Vec::new(alloc);
-                self.step = Some(Step { words, lines });
+                self.step = Some(Step::new(alloc, words)?);
                 Ok(())
             }
         }
@@ -99,8 +136,7 @@ impl<'a> Reading<'a> {
     /// Adds a line to the step that is being read. One that stands below no step is a step that does nothing.
     fn add_line(&mut self, alloc: Global, line: &'a str) -> Result<(), AllocError> {
         let Some(step) = &mut self.step else {
-            let lines = Vec::new(alloc);
-            self.parts.push(Part::Step(Step { words: line, lines }))?;
+            self.parts.push(Part::Step(Step::new(alloc, line)?))?;
             return Ok(());
         };
         match lines_named(&self.texts, line) {
@@ -114,12 +150,15 @@ impl<'a> Reading<'a> {
 
     /// Ends the step that is being read: a named text is kept for the steps behind it.
     fn end_step(&mut self) -> Result<(), AllocError> {
-        let Some(Step { words, lines }) = self.step.take() else {
+        let Some(step) = self.step.take() else {
             return Ok(());
         };
-        match words.strip_prefix("text ") {
-            Some(name) => self.texts.push(Named { name, lines })?,
-            None => self.parts.push(Part::Step(Step { words, lines }))?,
+        match step.words.strip_prefix("text ") {
+            Some(name) => {
+                let lines = step.lines;
+                self.texts.push(Named { name, lines })?;
+            }
+            None => self.parts.push(Part::Step(step))?,
         }
         Ok(())
     }

@@ -20,18 +20,14 @@ pub(crate) struct Parts<'a> {
 impl<'a> Parts<'a> {
     /// Whether the line is one that may stand there.
     fn read(&mut self, line: &'a str) -> Result<bool, AllocError> {
-        if let Some(schema) = line.strip_prefix("schema ") {
-            self.schema = Some(schema);
-        } else if let Some(names) = line.strip_prefix("partition") {
-            self.partition = names;
-        } else if let Some(path) = line.strip_prefix("remove ") {
-            self.removed.push(path)?;
-        } else if let Some(row) = line.strip_prefix("add ") {
-            self.rows.push(row)?;
-        } else if line.starts_with('[') {
-            self.rows.push(line)?;
-        } else {
-            return Ok(false);
+        let (word, rest) = line.split_once(' ').unwrap_or((line, ""));
+        match word {
+            "schema" => self.schema = Some(rest),
+            "partition" => self.partition = rest,
+            "remove" => self.removed.push(rest)?,
+            "add" => self.rows.push(rest)?,
+            _ if line.starts_with('[') => self.rows.push(line)?,
+            _ => return Ok(false),
         }
         Ok(true)
     }
@@ -56,15 +52,20 @@ pub(crate) fn parts_of<'a>(
     Ok(Some(parts))
 }
 
-fn schema_of(alloc: Global, text: &str) -> Result<Option<Schema>, AllocError> {
-    match from_delta(alloc, text.as_bytes()) {
-        Ok(schema) => Ok(Some(schema)),
-        Err(MapError::Memory) => Err(AllocError),
-        Err(_) => Ok(None),
+/// The schema that a text spells, where one is stated and it spells one.
+fn schema_of(alloc: Global, stated: Option<&str>) -> Result<Option<Schema>, AllocError> {
+    match stated {
+        Some(text) => match from_delta(alloc, text.as_bytes()) {
+            Ok(schema) => Ok(Some(schema)),
+            Err(MapError::Memory) => Err(AllocError),
+            Err(_) => Ok(None),
+        },
+        None => Ok(None),
     }
 }
 
-fn texts_of(alloc: Global, words: &[&str]) -> Result<Items<Text>, AllocError> {
+/// The words as texts.
+pub fn texts_of(alloc: Global, words: &[&str]) -> Result<Items<Text>, AllocError> {
     let mut texts = Items::new(alloc);
     for word in words {
         texts.push(Text::from_str(alloc, word)?)?;
@@ -113,16 +114,14 @@ fn values_of(
     Ok(Some(list))
 }
 
-/// The file that a JSON array says by its path, its number of records, its size and its partition values.
+/// The file that the parts of a JSON array say: its path, its number of records, its size and its partition
+/// values.
 fn row_of(
     alloc: Global,
     kinds: &[Option<PartKind>],
-    line: &str,
+    parts: &[Value],
 ) -> Result<Option<FileRow>, AllocError> {
-    let Ok(json) = Value::from_str(alloc, line) else {
-        return Ok(None);
-    };
-    let Some([path, count, size, values]) = json.as_array().map(|list| list.as_slice()) else {
+    let [path, count, size, values] = parts else {
         return Ok(None);
     };
     let (Some(path), Some(count), Some(size), Some(values)) = (
@@ -133,87 +132,154 @@ fn row_of(
     ) else {
         return Ok(None);
     };
-    let Some(values) = values_of(alloc, kinds, values)? else {
-        return Ok(None);
-    };
     let path = Text::from_str(alloc, path)?;
-    Ok(Some(FileRow {
-        path,
-        values,
-        count,
-        size,
-    }))
+    match values_of(alloc, kinds, values)? {
+        Some(values) => Ok(Some(FileRow {
+            path,
+            values,
+            count,
+            size,
+        })),
+        None => Ok(None),
+    }
 }
 
-fn rows_of(
+fn add_row(
     alloc: Global,
-    schema: &Schema,
+    kinds: &[Option<PartKind>],
+    parts: &[Value],
+    rows: &mut Items<FileRow>,
+) -> Result<bool, AllocError> {
+    match row_of(alloc, kinds, parts)? {
+        Some(row) => {
+            rows.push(row)?;
+            Ok(true)
+        }
+        None => Ok(false),
+    }
+}
+
+/// Adds the file that a line says as a JSON array. Answers whether it says one.
+fn add_line(
+    alloc: Global,
+    kinds: &[Option<PartKind>],
+    line: &str,
+    rows: &mut Items<FileRow>,
+) -> Result<bool, AllocError> {
+    match Value::from_str(alloc, line) {
+        Ok(Value::Array(parts)) => add_row(alloc, kinds, parts.as_slice(), rows),
+        _ => Ok(false),
+    }
+}
+
+/// The kinds of the partition columns in the schema, if there is one.
+fn kinds_of(
+    alloc: Global,
+    schema: Option<&Schema>,
+    partition: &[Text],
+) -> Result<Vec<Option<PartKind>>, AllocError> {
+    match schema {
+        Some(schema) => column_kinds(alloc, schema, partition),
+        None => Ok(Vec::new(alloc)),
+    }
+}
+
+/// Adds the files that lines say to the change. Answers whether each of them says one.
+fn add_rows(
+    alloc: Global,
     partition: &[Text],
     lines: &[&str],
-) -> Result<Option<Items<FileRow>>, AllocError> {
-    let kinds = column_kinds(alloc, schema, partition)?;
-    let mut rows = Items::new(alloc);
+    change: &mut Change,
+) -> Result<bool, AllocError> {
+    let kinds = kinds_of(alloc, change.schema.as_ref(), partition)?;
     for line in lines {
-        match row_of(alloc, kinds.as_slice(), line)? {
-            Some(row) => rows.push(row)?,
-            None => return Ok(None),
+        if !add_line(alloc, kinds.as_slice(), line, &mut change.added)? {
+            return Ok(false);
         }
     }
-    Ok(Some(rows))
+    Ok(true)
 }
 
 // ---- changes
 
-/// The change that lines say for a table with this schema and these partition columns: `schema` before
-/// Delta's text of the schema that it states, `remove` before each path, and `add` before each file as a JSON
-/// array of path, number of records, size and partition values. Nothing where a line says something else.
-pub fn change_of_lines(
+/// The change that lines say for a table of these partition columns: `schema` before Delta's text of the
+/// schema that it states, `remove` before each path, and `add` before each file as a JSON array of path,
+/// number of records, size and partition values. Nothing where a line says something else.
+fn change_of_lines(
     alloc: Global,
-    schema: &Schema,
     partition: &[Text],
     lines: &[&str],
 ) -> Result<Option<Change>, AllocError> {
-    let Some(parts) = parts_of(alloc, lines)? else {
-        return Ok(None);
-    };
-    let stated = match parts.schema {
-        Some(text) => schema_of(alloc, text)?,
-        None => None,
-    };
-    let columns = stated.as_ref().unwrap_or(schema);
-    let Some(added) = rows_of(alloc, columns, partition, parts.rows.as_slice())? else {
-        return Ok(None);
-    };
-    Ok(Some(Change {
-        removed: texts_of(alloc, parts.removed.as_slice())?,
-        schema: stated,
-        added,
-    }))
+    match parts_of(alloc, lines)? {
+        Some(parts) => change_of(alloc, partition, &parts),
+        None => Ok(None),
+    }
 }
 
-/// The commits that lines say for a table with these partition columns: each has the position behind
-/// `commit`, and its change in the lines below. Nothing where a line says something else.
-pub fn commits_of_lines(
+fn change_of(
+    alloc: Global,
+    partition: &[Text],
+    parts: &Parts<'_>,
+) -> Result<Option<Change>, AllocError> {
+    let mut change = Change {
+        removed: texts_of(alloc, parts.removed.as_slice())?,
+        schema: schema_of(alloc, parts.schema)?,
+        added: Items::new(alloc),
+    };
+    let is_said = add_rows(alloc, partition, parts.rows.as_slice(), &mut change)?;
+    Ok(if is_said { Some(change) } else { None })
+}
+
+/// Adds the commits that lines say for a table with these partition columns, so many times over: each has
+/// the position behind `commit`, and its change in the lines below. Answers whether each of these says
+/// something.
+pub(crate) fn add_commits(
+    alloc: Global,
+    partition: &[Text],
+    times: u32,
+    lines: &[&str],
+    commits: &mut Vec<Commit>,
+) -> Result<bool, AllocError> {
+    for _ in 0..times {
+        if !add_commits_once(alloc, partition, lines, commits)? {
+            return Ok(false);
+        }
+    }
+    Ok(true)
+}
+
+fn add_commits_once(
     alloc: Global,
     partition: &[Text],
     lines: &[&str],
-) -> Result<Option<Vec<Commit>>, AllocError> {
-    let none = Schema::new(Vec::new(alloc));
-    let mut commits = Vec::new(alloc);
+    commits: &mut Vec<Commit>,
+) -> Result<bool, AllocError> {
     for (place, line) in lines.iter().enumerate() {
-        let Some(position) = line.strip_prefix("commit ") else {
-            continue;
-        };
-        let below = lines_below(&lines[place + 1..]);
-        match change_of_lines(alloc, &none, partition, below)? {
-            Some(change) => commits.push(Commit {
-                position: Text::from_str(alloc, position)?,
-                change,
-            })?,
-            None => return Ok(None),
+        if let Some(position) = line.strip_prefix("commit ") {
+            let below = lines_below(&lines[place + 1..]);
+            if !add_commit(alloc, partition, position, below, commits)? {
+                return Ok(false);
+            }
         }
     }
-    Ok(Some(commits))
+    Ok(true)
+}
+
+fn add_commit(
+    alloc: Global,
+    partition: &[Text],
+    position: &str,
+    below: &[&str],
+    commits: &mut Vec<Commit>,
+) -> Result<bool, AllocError> {
+    let position = Text::from_str(alloc, position)?;
+    match change_of_lines(alloc, partition, below)? {
+        Some(change) => {
+            commits.push(Commit { position, change })?;
+            Ok(true)
+        }
+        None => Ok(false),
+    }
 }
 
 /// The lines before the next commit's.

@@ -3,11 +3,11 @@ ghost use Rattle.std.specs.Prelude.{IfOk, IfSome};
 ghost use Rattle.target_core.specs.Conditions.{IsPublishable};
 
 use crate::lines::{Parts, parts_of};
+use crate::sources::table_at_head;
 use json_reading::text_value;
 use lake_store::MemoryStore;
 use partition_map::encode_uri_path;
 use serde_json::Value;
-use source_core::Source;
 use source_delta::DeltaSource;
 use std::alloc::{AllocError, Global};
 use table_history::Table;
@@ -37,39 +37,66 @@ fn members(alloc: Global, names: &[&str], values: &[Value]) -> Result<String, Al
         if place > 0 {
             text.push(',')?;
         }
-        text.push_str(quoted(alloc, name)?.as_str())?;
-        text.push(':')?;
-        match values.get(place) {
-            Some(value) => text.push_str(value_text(alloc, value)?.as_str())?,
-            None => text.push_str("null")?,
-        }
+        push_member(alloc, name, values.get(place), &mut text)?;
     }
     Ok(text)
 }
 
-/// The line of a Delta commit that adds the file of a JSON array of its path, its number of records, its size
-/// and its partition values.
-fn add_line(alloc: Global, names: &[&str], line: &str) -> Result<Option<String>, AllocError> {
-    let Ok(json) = Value::from_str(alloc, line) else {
-        return Ok(None);
+fn push_member(
+    alloc: Global,
+    name: &str,
+    value: Option<&Value>,
+    text: &mut String,
+) -> Result<(), AllocError> {
+    text.push_str(quoted(alloc, name)?.as_str())?;
+    text.push(':')?;
+    match value {
+        Some(value) => text.push_str(value_text(alloc, value)?.as_str()),
+        None => text.push_str("null"),
+    }
+}
+
+/// Adds the line of a Delta commit that adds the file of the parts of a JSON array: its path, its number of
+/// records, its size and its partition values. Answers whether they say a file.
+fn add_file(
+    alloc: Global,
+    names: &[&str],
+    parts: &[Value],
+    text: &mut String,
+) -> Result<bool, AllocError> {
+    let [Value::String(path), count, size, Value::Array(values)] = parts else {
+        return Ok(false);
     };
-    let Some([Value::String(path), count, size, Value::Array(values)]) = json
-        .as_array()
-        .map(|list| list.as_slice())
-    else {
-        return Ok(None);
-    };
-    let Ok(uri) = encode_uri_path(alloc, path.as_str()) else {
-        return Err(AllocError);
-    };
-    let path = quoted(alloc, uri.as_str())?;
+    let path = uri_of(alloc, path.as_str())?;
     let values = members(alloc, names, values.as_slice())?;
     let count = count.to_string(alloc)?;
     let size = size.to_string(alloc)?;
-    let line = format!(in alloc;
+    writeln!(
+        text,
         r#"{{"add":{{"path":{path},"partitionValues":{{{values}}},"size":{size},"stats":"{{\"numRecords\":{count}}}"}}}}"#
     )?;
-    Ok(Some(line))
+    Ok(true)
+}
+
+/// Adds the line of a Delta commit that adds the file of a JSON array. Answers whether the line is one.
+fn add_line(
+    alloc: Global,
+    names: &[&str],
+    line: &str,
+    text: &mut String,
+) -> Result<bool, AllocError> {
+    match Value::from_str(alloc, line) {
+        Ok(Value::Array(parts)) => add_file(alloc, names, parts.as_slice(), text),
+        _ => Ok(false),
+    }
+}
+
+/// The URI of a path, as a JSON string.
+fn uri_of(alloc: Global, path: &str) -> Result<String, AllocError> {
+    match encode_uri_path(alloc, path) {
+        Ok(uri) => quoted(alloc, uri.as_str()),
+        Err(_) => Err(AllocError),
+    }
 }
 
 fn name_list(alloc: Global, names: &[&str]) -> Result<String, AllocError> {
@@ -86,21 +113,24 @@ fn name_list(alloc: Global, names: &[&str]) -> Result<String, AllocError> {
 /// The first version of a Delta log of this table.
 fn version_text(alloc: Global, parts: &Parts<'_>) -> Result<Option<String>, AllocError> {
     let names: Vec<&str> = parts.partition.split_whitespace().collect(alloc)?;
-    let schema = quoted(alloc, parts.schema.unwrap_or_default())?;
-    let columns = name_list(alloc, names.as_slice())?;
-    let mut text = format!(in alloc;
+    let mut text = head_text(alloc, parts.schema.unwrap_or_default(), names.as_slice())?;
+    for row in parts.rows.iter() {
+        if !add_line(alloc, names.as_slice(), row, &mut text)? {
+            return Ok(None);
+        }
+    }
+    Ok(Some(text))
+}
+
+/// The lines of the version that add no file.
+fn head_text(alloc: Global, schema: &str, names: &[&str]) -> Result<String, AllocError> {
+    let schema = quoted(alloc, schema)?;
+    let columns = name_list(alloc, names)?;
+    format!(in alloc;
         r#"{PROTOCOL}
 {{"metaData":{{"id":"t","format":{{"provider":"parquet"}},"schemaString":{schema},"partitionColumns":[{columns}]}}}}
 "#
-    )?;
-    for row in parts.rows.iter() {
-        let Some(line) = add_line(alloc, names.as_slice(), row)? else {
-            return Ok(None);
-        };
-        text.push_str(line.as_str())?;
-        text.push('\n')?;
-    }
-    Ok(Some(text))
+    )
 }
 
 /// The table of a log of this one version.
@@ -109,13 +139,18 @@ fn table_of_version(alloc: Global, text: &str) -> Result<Option<Table>, AllocErr
 {
     let mut store = MemoryStore::new(alloc);
     store.put(VERSION_0, text.as_bytes())?;
-    let source = DeltaSource::new();
-    let Ok(head) = source.head(alloc, &mut store) else {
-        return Ok(None);
-    };
-    match source.whole(alloc, &mut store, &head) {
+    match table_at_head(alloc, &DeltaSource::new(), &mut store) {
         Ok(table) => Ok(Some(table)),
         Err(_) => Ok(None),
+    }
+}
+
+fn table_of_parts(alloc: Global, parts: &Parts<'_>) -> Result<Option<Table>, AllocError>
+    ensures { IfOk result (λ table. IfSome table IsPublishable) }
+{
+    match version_text(alloc, parts)? {
+        Some(text) => table_of_version(alloc, text.as_str()),
+        None => Ok(None),
     }
 }
 
@@ -125,11 +160,8 @@ fn table_of_version(alloc: Global, text: &str) -> Result<Option<Table>, AllocErr
 pub fn table_of_lines(alloc: Global, lines: &[&str]) -> Result<Option<Table>, AllocError>
     ensures { IfOk result (λ table. IfSome table IsPublishable) }
 {
-    let Some(parts) = parts_of(alloc, lines)? else {
-        return Ok(None);
-    };
-    match version_text(alloc, &parts)? {
-        Some(text) => table_of_version(alloc, text.as_str()),
+    match parts_of(alloc, lines)? {
+        Some(parts) => table_of_parts(alloc, &parts),
         None => Ok(None),
     }
 }

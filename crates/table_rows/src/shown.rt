@@ -17,13 +17,21 @@ pub fn show_line(shown: &mut String, line: &str) -> Result<(), AllocError> {
 /// file, in the order of their paths.
 pub fn show_table(alloc: Global, table: &Table, shown: &mut String) -> Result<(), AllocError> {
     show_schema(alloc, &table.schema, shown)?;
-    shown.push_str("partition")?;
-    for name in table.partition.as_slice() {
-        shown.push_str(" ")?;
-        shown.push_str(name.as_str())?;
+    show_names("partition", table.partition.as_slice(), shown)?;
+    show_rows(alloc, rows_in_order(alloc, &table.rows)?.as_slice(), shown)
+}
+
+/// Adds a line of these names behind a word.
+pub fn show_names(word: &str, names: &[Text], shown: &mut String) -> Result<(), AllocError> {
+    shown.push_str(word)?;
+    for name in names {
+        write!(shown, " {}", name.as_str())?;
     }
-    shown.push('\n')?;
-    for row in rows_in_order(alloc, &table.rows)?.iter() {
+    shown.push('\n')
+}
+
+fn show_rows(alloc: Global, rows: &[&FileRow], shown: &mut String) -> Result<(), AllocError> {
+    for row in rows {
         show_row(alloc, "", row, shown)?;
     }
     Ok(())
@@ -69,20 +77,23 @@ pub fn show_change(alloc: Global, change: &Change, shown: &mut String) -> Result
 }
 
 /// Adds commits: for each its position behind `at`, and its change.
-pub fn show_commits(
+pub(crate) fn show_commits(
     alloc: Global,
     commits: &[Commit],
     shown: &mut String,
 ) -> Result<(), AllocError> {
+    if commits.is_empty() {
+        return show_line(shown, "no commit");
+    }
     for commit in commits {
-        shown.push_str("at ")?;
-        show_line(shown, commit.position.as_str())?;
+        writeln!(shown, "at {}", commit.position.as_str())?;
         show_change(alloc, &commit.change, shown)?;
     }
     Ok(())
 }
 
-fn or_none(text: Option<&Text>) -> &str {
+/// The text, or `none`.
+pub fn or_none(text: Option<&Text>) -> &str {
     match text {
         Some(text) => text.as_str(),
         None => "none",
@@ -90,46 +101,41 @@ fn or_none(text: Option<&Text>) -> &str {
 }
 
 /// Adds a source's head: the id of its table, its position, and the first commit that is pending behind it.
-pub fn show_head(alloc: Global, head: &Head, shown: &mut String) -> Result<(), AllocError> {
-    let line = format!(in alloc;
-        "{} at {}, pending {}",
-        or_none(head.table.as_ref()),
-        head.position.as_str(),
-        or_none(head.pending.as_ref())
-    )?;
-    show_line(shown, line.as_str())
+pub(crate) fn show_head(head: &Head, shown: &mut String) -> Result<(), AllocError> {
+    let table = or_none(head.table.as_ref());
+    let pending = or_none(head.pending.as_ref());
+    writeln!(
+        shown,
+        "{table} at {}, pending {pending}",
+        head.position.as_str()
+    )
 }
 
 /// Adds why a source wasn't read, with the path at fault.
-pub fn show_source_error(
-    alloc: Global,
-    error: &SourceError,
-    shown: &mut String,
-) -> Result<(), AllocError> {
-    let line = match error {
-        SourceError::Malformed { path } => format!(in alloc; "malformed {}", path.as_str())?,
+pub fn show_source_error(error: &SourceError, shown: &mut String) -> Result<(), AllocError> {
+    match error {
+        SourceError::Malformed { path } => writeln!(shown, "malformed {}", path.as_str()),
         SourceError::Unsupported { feature, path } => {
-            format!(in alloc; "{} {}", feature.word(), path.as_str())?
+            writeln!(shown, "{} {}", feature.word(), path.as_str())
         }
-        error => format!(in alloc; "{error}")?,
-    };
-    show_line(shown, line.as_str())
+        error => writeln!(shown, "{error}"),
+    }
 }
 
 /// Adds why a target refused a call, with the path, the column or the number at fault.
-pub fn show_target_error(
-    alloc: Global,
-    error: &TargetError,
-    shown: &mut String,
-) -> Result<(), AllocError> {
-    let line = match error {
-        TargetError::Memory => format!(in alloc; "out of memory")?,
-        TargetError::StoreFault => format!(in alloc; "the store failed")?,
-        TargetError::Contested => format!(in alloc; "another writer published first")?,
-        TargetError::Limit { which, number } => format!(in alloc; "{} {number}", which.word())?,
-        TargetError::Unsupported { feature, path } => {
-            format!(in alloc; "{} {}", feature.word(), path.as_str())?
-        }
-    };
-    show_line(shown, line.as_str().trim_end())
+pub(crate) fn show_target_error(error: &TargetError, shown: &mut String) -> Result<(), AllocError> {
+    match error {
+        TargetError::Limit { which, number } => writeln!(shown, "{} {number}", which.word()),
+        TargetError::Unsupported { feature, path } => show_unsupported(feature.word(), path, shown),
+        error => writeln!(shown, "{error}"),
+    }
+}
+
+/// Adds what isn't supported, and the path at fault, if there is one.
+fn show_unsupported(feature: &str, path: &Text, shown: &mut String) -> Result<(), AllocError> {
+    shown.push_str(feature)?;
+    if !path.as_str().is_empty() {
+        write!(shown, " {}", path.as_str())?;
+    }
+    shown.push('\n')
 }

@@ -21,32 +21,29 @@ pub fn tell_seen<T: Target>(
 ) -> Result<(), AllocError> {
     match target.inspect(alloc, store, source) {
         Ok(Seen::Absent) => shown.push_str("absent\n"),
-        Ok(Seen::Ours(kept)) => {
-            show_mark(alloc, target.mark(&kept), target.commits(&kept), shown)?;
-            show_table(alloc, target.table(&kept), shown)
-        }
-        Ok(Seen::Foreign(path)) => {
-            shown.push_str(format!(in alloc; "foreign {}\n", path.as_str())?.as_str())
-        }
-        Err(error) => show_target_error(alloc, &error, shown),
+        Ok(Seen::Ours(kept)) => show_kept(alloc, target, &kept, shown),
+        Ok(Seen::Foreign(path)) => writeln!(shown, "foreign {}", path.as_str()),
+        Err(error) => show_target_error(&error, shown),
     }
 }
 
-fn show_mark(
+/// Adds what is kept of a target: how many commits it has, the newest one's mark, and the table.
+fn show_kept<T: Target>(
     alloc: Global,
-    mark: Option<&Mark>,
-    commits: u64,
+    target: &T,
+    kept: &T::Kept,
     shown: &mut String,
 ) -> Result<(), AllocError> {
-    let line = match mark {
-        Some(mark) => format!(in alloc;
-            "ours: {commits} commits, at {} to {}\n",
-            mark.at.as_str(),
-            mark.to.as_str()
-        )?,
-        None => format!(in alloc; "ours: {commits} commits, no mark\n")?,
-    };
-    shown.push_str(line.as_str())
+    write!(shown, "ours: {} commits, ", target.commits(kept))?;
+    show_mark(target.mark(kept), shown)?;
+    show_table(alloc, target.table(kept), shown)
+}
+
+fn show_mark(mark: Option<&Mark>, shown: &mut String) -> Result<(), AllocError> {
+    match mark {
+        Some(mark) => writeln!(shown, "at {} to {}", mark.at.as_str(), mark.to.as_str()),
+        None => shown.push_str("no mark\n"),
+    }
 }
 
 /// Adds whether the commits of a source with these partition columns fit a target that has none yet.
@@ -59,7 +56,7 @@ pub fn tell_fit<T: Target>(
 ) -> Result<(), AllocError> {
     match fit_fresh(alloc, target, partition, commits) {
         Ok(()) => shown.push_str("fits\n"),
-        Err(error) => show_target_error(alloc, &error, shown),
+        Err(error) => show_target_error(&error, shown),
     }
 }
 
@@ -157,6 +154,6 @@ pub fn tell_publication<T: Target>(
     match publish(alloc, target, store, table, origin) {
         Ok(true) => shown.push_str("published\n"),
         Ok(false) => shown.push_str("foreign\n"),
-        Err(error) => show_target_error(alloc, &error, shown),
+        Err(error) => show_target_error(&error, shown),
     }
 }

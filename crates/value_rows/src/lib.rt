@@ -37,16 +37,6 @@ impl Steps for Values {
     }
 
     fn step(&mut self, step: &Step<'_>, shown: &mut String) -> Result<(), AllocError> {
-        let words: Vec<&str> = step.words().split(' ').collect(self.alloc)?;
-        let words = words.as_slice();
-        let is_known = basics::step(self.alloc, words, step.lines(), shown)?
-            || json::step(self.alloc, words, step, shown)?
-            || words::step(self.alloc, words, step.lines(), shown)?
-            || marks::step(self.alloc, words, step.lines(), shown)?
-            || self.stores.step(words, step.lines(), shown)?;
-        if !is_known {
-            writeln!(shown, "no step: {}", step.words())?;
-        }
-        Ok(())
+        self.stores.step(step, shown)
     }
 }

@@ -1,10 +1,12 @@
 //! Steps on stores, sinks, clocks and lists of names.
-use crate::shown::{readable, show_answer};
+use crate::basics;
+use crate::shown::readable;
 use lake_basics::{Blob, Text};
 use lake_store::{
     Clock, FixedClock, FuseStore, MemorySink, MemoryStore, Names, Script, Sink, Store, StoreError,
     stage_and_publish,
 };
+use rows::{Step, show_answer, show_error, show_refused};
 use std::alloc::{AllocError, Global};
 use std::collections::{BTreeMap, HashMap};
 
@@ -38,7 +40,7 @@ fn scripted(alloc: Global, failing: Vec<u64>, contested: Vec<u64>) -> FuseStore 
 fn show_done(shown: &mut String, done: Result<(), StoreError>) -> Result<(), AllocError> {
     match done {
         Ok(()) => writeln!(shown, "Ok"),
-        Err(error) => writeln!(shown, "Err {error:?}"),
+        Err(error) => show_error(shown, &error),
     }
 }
 
@@ -48,13 +50,15 @@ fn show_read(
     read: Result<Option<Blob>, StoreError>,
 ) -> Result<(), AllocError> {
     match read {
-        Ok(Some(bytes)) => {
-            let text = readable(alloc, bytes.as_slice())?;
-            writeln!(shown, "\"{}\"", text.as_str())
-        }
+        Ok(Some(bytes)) => show_file(alloc, bytes.as_slice(), shown),
         Ok(None) => writeln!(shown, "no file"),
-        Err(error) => writeln!(shown, "Err {error:?}"),
+        Err(error) => show_error(shown, &error),
     }
+}
+
+fn show_file(alloc: Global, bytes: &[u8], shown: &mut String) -> Result<(), AllocError> {
+    let text = readable(alloc, bytes)?;
+    writeln!(shown, "\"{text}\"")
 }
 
 impl Stores {
@@ -64,59 +68,82 @@ impl Stores {
         Stores { alloc, store }
     }
 
-    /// Does the step of these words, if it is one on stores, sinks, clocks or names.
-    pub fn step(
-        &mut self,
-        words: &[&str],
-        lines: &[&str],
-        shown: &mut String,
-    ) -> Result<bool, AllocError> {
-        match words {
-            ["write", path] => show_done(shown, self.store.write(path, b""))?,
-            ["write", path, text] => show_done(shown, self.store.write(path, text.as_bytes()))?,
-            ["read", path] => show_read(self.alloc, shown, self.store.read(self.alloc, path))?,
-            ["read", "part", path, from, len] => self.show_part(path, from, len, shown)?,
-            ["list", "of", "the", "top"] => self.show_names("", shown)?,
-            ["list", "of", folder] => self.show_names(folder, shown)?,
-            ["sync"] => show_done(shown, self.store.sync())?,
-            ["remove", path] => show_done(shown, self.store.remove(path))?,
-            ["publish", text, "at", path, "by", staged] => {
-                self.show_published(staged, path, text, shown)?
-            }
-            _ => return self.other_step(words, lines, shown),
+    /// Does a step on stores or lists of names, or else one on texts.
+    pub fn step(&mut self, step: &Step<'_>, shown: &mut String) -> Result<(), AllocError> {
+        match step.words() {
+            "list of the top" => self.show_names("", shown),
+            "sync" => show_done(shown, self.store.sync()),
+            "stop no more" => self.set_stop(None),
+            "names" => show_sorted(self.alloc, step.lines(), shown),
+            "lists of names" => show_lists(self.alloc, step.lines(), shown),
+            _ => self.step_on_files(step, shown),
         }
-        Ok(true)
     }
 
-    /// Does the step of these words, if it is one on what happens to a store, or on sinks, clocks or names.
-    fn other_step(
-        &mut self,
-        words: &[&str],
-        lines: &[&str],
-        shown: &mut String,
-    ) -> Result<bool, AllocError> {
-        let alloc = self.alloc;
-        match words {
-            ["store", "failing", "at", calls @ ..] => {
-                self.store = scripted(alloc, numbers(alloc, calls)?, Vec::new(alloc));
-            }
-            ["store", "contested", "at", calls @ ..] => {
-                self.store = scripted(alloc, Vec::new(alloc), numbers(alloc, calls)?);
-            }
-            ["put", path, text] => self.store.inner().put(path, text.as_bytes())?,
-            ["stop", "at", call] => self.store.set_stop(call.parse::<u64>().ok()),
-            ["stop", "no", "more"] => self.store.set_stop(None),
-            ["crash", choices @ ..] => {
-                let choices = numbers(alloc, choices)?;
-                self.store.inner().crash(alloc, &choices)?;
-            }
-            ["sink", "failing", "at", calls @ ..] => show_sink(alloc, calls, lines, shown)?,
-            ["clock", ms] => show_clock(ms, shown)?,
-            ["names"] => show_sorted(alloc, lines, shown)?,
-            ["lists", "of", "names"] => show_lists(alloc, lines, shown)?,
-            _ => return Ok(false),
+    /// Does a step on one file of a store.
+    fn step_on_files(&mut self, step: &Step<'_>, shown: &mut String) -> Result<(), AllocError> {
+        match step.each_word() {
+            ["write", path] => show_done(shown, self.store.write(path, b"")),
+            ["write", path, text] => show_done(shown, self.store.write(path, text.as_bytes())),
+            ["read", path] => show_read(self.alloc, shown, self.store.read(self.alloc, path)),
+            ["remove", path] => show_done(shown, self.store.remove(path)),
+            _ => self.step_on_parts(step, shown),
         }
-        Ok(true)
+    }
+
+    /// Does a step on parts of files, folders or publications.
+    fn step_on_parts(&mut self, step: &Step<'_>, shown: &mut String) -> Result<(), AllocError> {
+        match step.each_word() {
+            ["read", "part", path, from, len] => self.show_part(path, from, len, shown),
+            ["list", "of", folder] => self.show_names(folder, shown),
+            ["publish", text, "at", path, "by", staged] => {
+                self.show_published(staged, path, text, shown)
+            }
+            _ => self.step_on_trouble(step, shown),
+        }
+    }
+
+    /// Does a step on what happens to a store.
+    fn step_on_trouble(&mut self, step: &Step<'_>, shown: &mut String) -> Result<(), AllocError> {
+        match step.each_word() {
+            ["store", "failing", "at", calls @ ..] => self.set_failing(calls),
+            ["store", "contested", "at", calls @ ..] => self.set_contested(calls),
+            ["stop", "at", call] => self.set_stop(call.parse::<u64>().ok()),
+            ["crash", choices @ ..] => self.crash(choices),
+            _ => self.other_step(step, shown),
+        }
+    }
+
+    fn other_step(&mut self, step: &Step<'_>, shown: &mut String) -> Result<(), AllocError> {
+        let alloc = self.alloc;
+        match step.each_word() {
+            ["put", path, text] => self.store.inner().put(path, text.as_bytes()),
+            ["sink", "failing", "at", calls @ ..] => show_sink(alloc, calls, step.lines(), shown),
+            ["clock", ms] => show_clock(ms, shown),
+            _ => basics::step(alloc, step, shown),
+        }
+    }
+
+    fn set_failing(&mut self, calls: &[&str]) -> Result<(), AllocError> {
+        let alloc = self.alloc;
+        self.store = scripted(alloc, numbers(alloc, calls)?, Vec::new(alloc));
+        Ok(())
+    }
+
+    fn set_contested(&mut self, calls: &[&str]) -> Result<(), AllocError> {
+        let alloc = self.alloc;
+        self.store = scripted(alloc, Vec::new(alloc), numbers(alloc, calls)?);
+        Ok(())
+    }
+
+    fn set_stop(&mut self, call: Option<u64>) -> Result<(), AllocError> {
+        self.store.set_stop(call);
+        Ok(())
+    }
+
+    fn crash(&mut self, choices: &[&str]) -> Result<(), AllocError> {
+        let choices = numbers(self.alloc, choices)?;
+        self.store.inner().crash(self.alloc, &choices)
     }
 
     fn show_part(
@@ -137,11 +164,8 @@ impl Stores {
 
     fn show_names(&mut self, folder: &str, shown: &mut String) -> Result<(), AllocError> {
         match self.store.list(self.alloc, folder) {
-            Ok(names) => {
-                let names = joined(self.alloc, &names)?;
-                show_answer(shown, folder, names.as_str())
-            }
-            Err(error) => writeln!(shown, "Err {error:?}"),
+            Ok(names) => show_joined(self.alloc, folder, &names, shown),
+            Err(error) => show_error(shown, &error),
         }
     }
 
@@ -158,11 +182,11 @@ impl Stores {
         }
         match self.store.read(self.alloc, path) {
             Ok(Some(_)) => writeln!(shown, "not asked: there is a file"),
-            Ok(None) => {
-                let done = stage_and_publish(&mut self.store, staged, path, text.as_bytes());
-                show_done(shown, done)
-            }
-            Err(error) => writeln!(shown, "Err {error:?}"),
+            Ok(None) => show_done(
+                shown,
+                stage_and_publish(&mut self.store, staged, path, text.as_bytes()),
+            ),
+            Err(error) => show_error(shown, &error),
         }
     }
 }
@@ -182,6 +206,16 @@ fn joined(alloc: Global, names: &Names) -> Result<String, AllocError> {
     Ok(line)
 }
 
+/// Shows the names that came of an input.
+fn show_joined(
+    alloc: Global,
+    input: &str,
+    names: &Names,
+    shown: &mut String,
+) -> Result<(), AllocError> {
+    show_answer(shown, input, joined(alloc, names)?.as_str())
+}
+
 /// Puts each line out to a sink whose puts of these numbers fail, and shows what it has then.
 fn show_sink(
     alloc: Global,
@@ -190,14 +224,27 @@ fn show_sink(
     shown: &mut String,
 ) -> Result<(), AllocError> {
     let mut sink = MemorySink::new(alloc, numbers(alloc, calls)?);
+    show_puts(alloc, &mut sink, lines, shown)
+}
+
+fn show_puts(
+    alloc: Global,
+    sink: &mut MemorySink,
+    lines: &[&str],
+    shown: &mut String,
+) -> Result<(), AllocError> {
     for line in lines {
-        match sink.put(line.as_bytes()) {
-            Ok(()) => show_answer(shown, line, "Ok")?,
-            Err(error) => writeln!(shown, "{line} -> Err {error:?}")?,
-        }
+        show_put(sink, line, shown)?;
     }
     let text = readable(alloc, sink.bytes())?;
     writeln!(shown, "it has {}", text.as_str())
+}
+
+fn show_put(sink: &mut MemorySink, line: &str, shown: &mut String) -> Result<(), AllocError> {
+    match sink.put(line.as_bytes()) {
+        Ok(()) => show_answer(shown, line, "Ok"),
+        Err(error) => show_refused(shown, line, &error),
+    }
 }
 
 fn show_clock(ms: &str, shown: &mut String) -> Result<(), AllocError> {
@@ -226,14 +273,18 @@ fn names_on(alloc: Global, line: &str) -> Result<Names, AllocError> {
 fn show_sorted(alloc: Global, lines: &[&str], shown: &mut String) -> Result<(), AllocError> {
     for line in lines {
         let names = names_on(alloc, line)?;
-        let answer = joined(alloc, &names)?;
-        show_answer(shown, line, answer.as_str())?;
-        let length = names.len();
-        if let Some(last) = names.get(length.saturating_sub(1)) {
-            writeln!(shown, "{length} names, the last is {}", last.as_str())?;
-        }
+        show_joined(alloc, line, &names, shown)?;
+        show_last(&names, shown)?;
     }
     Ok(())
+}
+
+fn show_last(names: &Names, shown: &mut String) -> Result<(), AllocError> {
+    let length = names.len();
+    match names.get(length.saturating_sub(1)) {
+        Some(last) => writeln!(shown, "{length} names, the last is {}", last.as_str()),
+        None => Ok(()),
+    }
 }
 
 /// Shows the lists of the lines in order, each once, with its line and how often it came.
@@ -242,10 +293,25 @@ fn show_lists(alloc: Global, lines: &[&str], shown: &mut String) -> Result<(), A
     let mut counts: HashMap<Names, u32> = HashMap::new(alloc);
     for (place, line) in lines.iter().enumerate() {
         places.insert(names_on(alloc, line)?, place)?;
-        let count = counts.entry(names_on(alloc, line)?)?.or_insert(0);
-        *count = count.saturating_add(1);
+        add(alloc, line, &mut counts)?;
     }
-    for (names, place) in &places {
+    show_counted(alloc, &places, &counts, shown)
+}
+
+/// Counts the list on a line once more.
+fn add(alloc: Global, line: &str, counts: &mut HashMap<Names, u32>) -> Result<(), AllocError> {
+    let count = counts.entry(names_on(alloc, line)?)?.or_insert(0);
+    *count = count.saturating_add(1);
+    Ok(())
+}
+
+fn show_counted(
+    alloc: Global,
+    places: &BTreeMap<Names, usize>,
+    counts: &HashMap<Names, u32>,
+    shown: &mut String,
+) -> Result<(), AllocError> {
+    for (names, place) in places {
         let count = counts.get(names).copied().unwrap_or(0);
         let list = joined(alloc, names)?;
         writeln!(

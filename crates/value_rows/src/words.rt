@@ -1,44 +1,51 @@
 //! Steps on the words and numbers that are printed, paths, positions and lines.
-use crate::shown::{bytes_of, readable, show_answer};
+use crate::marks;
+use crate::shown::readable;
+use rows::{Step, bytes_given, show_answer};
 use source_core::position_of;
 use std::alloc::{AllocError, Global};
 use table_history::{Feature, Kind, LimitKind, path_form, path_form_of_any_length};
 use table_lines::line_of_text;
 use target_core::metadata_folder;
 
-/// Does the step of these words, if it is one on words, numbers, paths or lines.
-pub fn step(
-    alloc: Global,
-    words: &[&str],
-    lines: &[&str],
-    shown: &mut String,
-) -> Result<bool, AllocError> {
-    match words {
-        ["kinds"] => show_kinds(lines, shown)?,
-        ["features"] => show_features(shown)?,
-        ["limits"] => show_limits(shown)?,
-        ["paths"] => show_paths(lines, shown)?,
-        ["path", "of", "bytes", hex] => show_path(alloc, hex, shown)?,
-        ["position", kind, number] => show_position(alloc, kind, number, shown)?,
-        ["lines"] => show_lines(alloc, lines, shown)?,
-        ["line", "of", "bytes", hex] => show_line_of(alloc, hex, shown)?,
-        _ => return Ok(false),
+/// Does a step on words, numbers, paths or lines, or else one on marks.
+pub fn step(alloc: Global, step: &Step<'_>, shown: &mut String) -> Result<(), AllocError> {
+    match step.words() {
+        "kinds" => show_kinds(step.lines(), shown),
+        "features" => show_features(shown),
+        "limits" => show_limits(shown),
+        "paths" => show_paths(step.lines(), shown),
+        "lines" => show_lines(alloc, step.lines(), shown),
+        _ => step_on_one(alloc, step, shown),
     }
-    Ok(true)
+}
+
+/// Does a step on one path, position or line.
+fn step_on_one(alloc: Global, step: &Step<'_>, shown: &mut String) -> Result<(), AllocError> {
+    match step.each_word() {
+        ["path", "of", "bytes", hex] => show_path(alloc, hex, shown),
+        ["position", kind, number] => show_position(alloc, kind, number, shown),
+        ["line", "of", "bytes", hex] => show_line_of(alloc, hex, shown),
+        _ => marks::step(alloc, step, shown),
+    }
 }
 
 /// Shows what kind each word names, with the folder of its metadata.
 fn show_kinds(lines: &[&str], shown: &mut String) -> Result<(), AllocError> {
     for line in lines {
-        match Kind::from_word(line) {
-            Some(kind) => {
-                let (word, folder) = (kind.word(), metadata_folder(kind));
-                writeln!(shown, "{line} -> {word} in {folder}")?;
-            }
-            None => show_answer(shown, line, "no kind")?,
-        }
+        show_kind(line, shown)?;
     }
     Ok(())
+}
+
+fn show_kind(word: &str, shown: &mut String) -> Result<(), AllocError> {
+    match Kind::from_word(word) {
+        Some(kind) => {
+            let folder = metadata_folder(kind);
+            writeln!(shown, "{word} -> {} in {folder}", kind.word())
+        }
+        None => show_answer(shown, word, "no kind"),
+    }
 }
 
 const FEATURES: &[Feature] = &[
@@ -106,14 +113,18 @@ const LIMITS: &[LimitKind] = &[
 /// Shows each limit's word, and its number in each format.
 fn show_limits(shown: &mut String) -> Result<(), AllocError> {
     for limit in LIMITS {
+        let limit = *limit;
         write!(shown, "{}:", limit.word())?;
-        for kind in [Kind::Delta, Kind::Iceberg, Kind::Hudi] {
-            let number = limit.number(kind);
-            write!(shown, " {} {number}", kind.word())?;
-        }
+        show_number(limit, Kind::Delta, shown)?;
+        show_number(limit, Kind::Iceberg, shown)?;
+        show_number(limit, Kind::Hudi, shown)?;
         shown.push('\n')?;
     }
     Ok(())
+}
+
+fn show_number(limit: LimitKind, kind: Kind, shown: &mut String) -> Result<(), AllocError> {
+    write!(shown, " {} {}", kind.word(), limit.number(kind))
 }
 
 /// What form the bytes have.
@@ -134,7 +145,7 @@ fn show_paths(lines: &[&str], shown: &mut String) -> Result<(), AllocError> {
 }
 
 fn show_path(alloc: Global, hex: &str, shown: &mut String) -> Result<(), AllocError> {
-    let bytes = bytes_of(alloc, hex)?;
+    let bytes = bytes_given(alloc, hex)?;
     writeln!(shown, "{}", form_of(&bytes))
 }
 
@@ -155,14 +166,18 @@ fn show_position(
 
 fn show_lines(alloc: Global, lines: &[&str], shown: &mut String) -> Result<(), AllocError> {
     for line in lines {
-        let printed = line_of_text(alloc, line)?;
-        shown.push_str(readable(alloc, &printed)?.as_str())?;
+        show_line(alloc, line, shown)?;
     }
     Ok(())
 }
 
+fn show_line(alloc: Global, line: &str, shown: &mut String) -> Result<(), AllocError> {
+    let printed = line_of_text(alloc, line)?;
+    shown.push_str(readable(alloc, &printed)?.as_str())
+}
+
 fn show_line_of(alloc: Global, hex: &str, shown: &mut String) -> Result<(), AllocError> {
-    let bytes = bytes_of(alloc, hex)?;
+    let bytes = bytes_given(alloc, hex)?;
     let text = readable(alloc, &bytes)?;
-    show_lines(alloc, &[text.as_str()], shown)
+    show_line(alloc, text.as_str(), shown)
 }

@@ -1,5 +1,7 @@
 //! Samples and events, shown.
+use crate::commands::first_of;
 use conformance::{Event, events, vector};
+use lake_basics::Items;
 use rows::hex_of;
 use std::alloc::{AllocError, Global};
 
@@ -44,18 +46,27 @@ fn show_choices(choices: &[u64], shown: &mut String) -> Result<(), AllocError> {
     writeln!(shown)
 }
 
-/// Shows the event at this place of the drill of this number, counted from 0.
-pub(crate) fn show_event(
-    alloc: Global,
-    number: &str,
-    stops: bool,
-    place: &str,
-    shown: &mut String,
-) -> Result<(), AllocError> {
-    let (Ok(number), Ok(place)) = (number.parse::<u64>(), place.parse::<usize>()) else {
+/// The events of the drill of a number, or with `stopped` behind it of the drill with stops.
+pub(crate) fn events_of(alloc: Global, drill: &str) -> Result<Option<Items<Event>>, AllocError> {
+    let (number, word) = first_of(drill);
+    match number.parse::<u64>() {
+        Ok(number) => Ok(Some(events(alloc, number, word == "stopped")?)),
+        Err(_) => Ok(None),
+    }
+}
+
+/// Shows the event at this place of a drill, counted from 0.
+pub(crate) fn show_event(alloc: Global, words: &str, shown: &mut String) -> Result<(), AllocError> {
+    let Some((place, drill)) = words.split_once(" of ") else {
         return writeln!(shown, "no number");
     };
-    let list = events(alloc, number, stops)?;
+    match (place.parse::<usize>(), events_of(alloc, drill)?) {
+        (Ok(place), Some(list)) => show_at(list.as_slice(), place, shown),
+        _ => writeln!(shown, "no number"),
+    }
+}
+
+fn show_at(list: &[Event], place: usize, shown: &mut String) -> Result<(), AllocError> {
     match list.get(place) {
         Some(event) => show(event, shown),
         None => writeln!(shown, "none"),

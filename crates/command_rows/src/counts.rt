@@ -1,5 +1,6 @@
 //! How many events of each kind there are.
-use conformance::{Event, events};
+use crate::samples::events_of;
+use conformance::Event;
 use std::alloc::{AllocError, Global};
 
 /// How many events there are of each kind.
@@ -25,16 +26,7 @@ fn counted(counts: Counts, event: &Event) -> Counts {
     more
 }
 
-/// Shows how many events of each kind the drill of this number has.
-pub(crate) fn show_counts(
-    alloc: Global,
-    number: &str,
-    stops: bool,
-    shown: &mut String,
-) -> Result<(), AllocError> {
-    let Ok(number) = number.parse::<u64>() else {
-        return writeln!(shown, "no number");
-    };
+fn counts_of(events: &[Event]) -> Counts {
     let mut counts = Counts {
         extend: 0,
         sync: 0,
@@ -42,13 +34,23 @@ pub(crate) fn show_counts(
         crash: 0,
         others: 0,
     };
-    let list = events(alloc, number, stops)?;
-    for event in list.as_slice() {
+    for event in events {
         counts = counted(counts, event);
     }
-    writeln!(
-        shown,
-        "extend {}, sync {}, stop {}, crash {}, others {}",
-        counts.extend, counts.sync, counts.stop, counts.crash, counts.others
-    )
+    counts
+}
+
+/// Shows how many events of each kind a drill has.
+pub(crate) fn show_counts(
+    alloc: Global,
+    drill: &str,
+    shown: &mut String,
+) -> Result<(), AllocError> {
+    let Some(list) = events_of(alloc, drill)? else {
+        return writeln!(shown, "no number");
+    };
+    let counts = counts_of(list.as_slice());
+    write!(shown, "extend {}, sync {}, ", counts.extend, counts.sync)?;
+    write!(shown, "stop {}, crash {}, ", counts.stop, counts.crash)?;
+    writeln!(shown, "others {}", counts.others)
 }

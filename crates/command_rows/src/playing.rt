@@ -1,8 +1,11 @@
 //! Lists of events, played over a store without files, and drills.
+use crate::commands::first_of;
+use crate::files::no_trouble;
+use crate::setting::numbers_of;
 use conformance::Event;
 use lake_basics::{Blob, Items};
 use lake_play::{drill, play};
-use lake_store::{FuseStore, MemorySink, MemoryStore, Script};
+use lake_store::{FuseStore, MemorySink, MemoryStore};
 use rows::Step;
 use std::alloc::{AllocError, Global};
 use table_history::{FileRows, Kind};
@@ -43,33 +46,28 @@ fn with_argument(word: &str, argument: &str) -> Option<Event> {
     of_target(word, Kind::from_word(argument)?)
 }
 
-fn crash_of(alloc: Global, choices: &[&str]) -> Result<Option<Event>, AllocError> {
-    let mut numbers = Vec::new(alloc);
-    for choice in choices {
-        let Ok(number) = choice.parse::<u64>() else {
-            return Ok(None);
-        };
-        numbers.push(number)?;
+fn crash_of(alloc: Global, choices: &str) -> Result<Option<Event>, AllocError> {
+    match numbers_of(alloc, choices)? {
+        Some(numbers) => Ok(Some(Event::Crash {
+            choices: Items::from_vec(numbers),
+        })),
+        None => Ok(None),
     }
-    Ok(Some(Event::Crash {
-        choices: Items::from_vec(numbers),
-    }))
+}
+
+fn extend_by(alloc: Global, step: &Step<'_>) -> Result<Option<Event>, AllocError> {
+    let text = step.text(alloc)?;
+    let bytes = Blob::from_slice(alloc, text.as_bytes())?;
+    Ok(Some(Event::Extend { bytes }))
 }
 
 /// The event that a step says, if it says one.
 pub(crate) fn event_of(alloc: Global, step: &Step<'_>) -> Result<Option<Event>, AllocError> {
-    let words: Vec<&str> = step.words().split(' ').collect(alloc)?;
-    match words.as_slice() {
-        ["extend"] => {
-            let text = step.text(alloc)?;
-            Ok(Some(Event::Extend {
-                bytes: Blob::from_slice(alloc, text.as_bytes())?,
-            }))
-        }
-        ["crash"] => crash_of(alloc, &[]),
-        ["crash", choices @ ..] => crash_of(alloc, choices),
-        [word, argument] => Ok(with_argument(word, argument)),
-        _ => Ok(None),
+    let (verb, rest) = first_of(step.words());
+    match verb {
+        "extend" => extend_by(alloc, step),
+        "crash" => crash_of(alloc, rest),
+        _ => Ok(with_argument(verb, rest)),
     }
 }
 
@@ -96,15 +94,6 @@ fn show_status(status: &Status, shown: &mut String) -> Result<(), AllocError> {
         } => writeln!(shown, "status {number}: {} {most}", which.word()),
         _ => writeln!(shown, "status {number}"),
     }
-}
-
-fn empty_store(alloc: Global) -> FuseStore {
-    let script = Script {
-        failing: Vec::new(alloc),
-        stop: None,
-        contested: Vec::new(alloc),
-    };
-    FuseStore::new(alloc, MemoryStore::new(alloc), script)
 }
 
 fn show_rows(alloc: Global, rows: &FileRows, shown: &mut String) -> Result<(), AllocError> {
@@ -156,7 +145,7 @@ pub(crate) fn show_play(
     events: &[Event],
     shown: &mut String,
 ) -> Result<(), AllocError> {
-    let mut store = empty_store(alloc);
+    let mut store = FuseStore::new(alloc, MemoryStore::new(alloc), no_trouble(alloc));
     let answers = play(alloc, events, &mut store, TIME)?;
     for answer in answers.as_slice() {
         show_status(answer, shown)?;

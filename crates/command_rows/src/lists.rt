@@ -1,0 +1,54 @@
+//! The steps of rows of events.
+use crate::commands::{first_of, show_no_step};
+use crate::counts::show_counts;
+use crate::playing::{event_of, show_drill, show_play};
+use crate::samples::{show_event, show_vector};
+use conformance::Event;
+use rows::{Step, Steps};
+use std::alloc::{AllocError, Global};
+
+/// The events of a row so far.
+#[derive(Drop)]
+pub(crate) struct Lists {
+    alloc: Global,
+    events: Vec<Event>,
+}
+
+impl Lists {
+    pub(crate) fn new(alloc: Global) -> Lists {
+        Lists {
+            alloc,
+            events: Vec::new(alloc),
+        }
+    }
+
+    /// Does a step that adds an event.
+    fn add(&mut self, step: &Step<'_>, shown: &mut String) -> Result<(), AllocError> {
+        match event_of(self.alloc, step)? {
+            Some(event) => {
+                self.events.push(event)?;
+                Ok(())
+            }
+            None => show_no_step(step, shown),
+        }
+    }
+}
+
+impl Steps for Lists {
+    fn begin(&mut self) -> Result<(), AllocError> {
+        self.events = Vec::new(self.alloc);
+        Ok(())
+    }
+
+    fn step(&mut self, step: &Step<'_>, shown: &mut String) -> Result<(), AllocError> {
+        let (verb, rest) = first_of(step.words());
+        match verb {
+            "vector" => show_vector(self.alloc, rest, shown),
+            "events" => show_counts(self.alloc, rest, shown),
+            "event" => show_event(self.alloc, rest, shown),
+            "play" => show_play(self.alloc, self.events.as_slice(), shown),
+            "drill" => show_drill(self.alloc, rest, shown),
+            _ => self.add(step, shown),
+        }
+    }
+}
