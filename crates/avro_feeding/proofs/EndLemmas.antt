@@ -22,9 +22,17 @@ use Rattle.avro_container.proofs.ContainerLoops.{some_blocks}
 use Rattle.avro_container.proofs.Headers.{header_takes}
 use Rattle.avro_container.proofs.WholeBlocks.{block_faulty}
 use Rattle.avro_feeding.specs.Feeding.{Behind, in_blocks, Fed, nothing_read, is_short, further, opened, behind_block, with_block, after_block, read_on, after_header, joined, ended, fed}
-use Rattle.avro_feeding.specs.Laws.{answer, all_values}
 use Rattle.avro_feeding.proofs.BlockStays.{block_waits}
 use Rattle.avro_feeding.proofs.PieceLemmas.{block_in, shorter, opened_waits, flag, header_flag, with_header, with_schema, with_codec, opened_is}
+
+-- the values that reading an input of that length gives, or its refusal
+abbrev pub answer : ℕ → Step (Pairs × SchemaTree × List ValueTree) → Result (List ValueTree) ContainerError
+answer len (Ok c) = Ok c.2
+answer len (Err f) = Err (error_of len f)
+
+-- all values, where the bytes may end here
+abbrev pub all_values : Fed → Result (List ValueTree) ContainerError
+all_values r = ended r.0 >>= λ _. Ok (joined r.1)
 
 pub short_is : (what : Flaw) → is_short what ≡ true → what ≡ flaw.Short
 short_is flaw.Short e = refl

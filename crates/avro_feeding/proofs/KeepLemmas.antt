@@ -1,4 +1,6 @@
 -- What is kept behind a header, and behind which blocks another one is refused.
+use Rattle.std.specs.List.{concat}
+use Rattle.std.specs.Prelude.{IfOk, IfErr}
 use Rattle.std.proofs.Common.{◌≡◌, ◌⊎◌, ℕ, zero, suc, ◌+◌, ◌-◌, ◌^◌, ◌<◌, Bool, true, false, List, [], ◌∷◌, ◌++◌, length, Option, Some, None, Result, Ok, Err, refl, sym, ap, subst, ◌∙◌, append_assoc, arith, inl, inr}
 use Rattle.std.proofs.lemmas.List.{length-append, append-nil}
 use Rattle.std.proofs.lemmas.List.Concat.{flat_map-cons}
@@ -15,19 +17,19 @@ use Rattle.avro_container.specs.declared.error.ContainerError.{ContainerError}
 use Rattle.avro_container.specs.declared.fault.Flaw.{Flaw}
 use Rattle.avro_container.specs.declared.fault.Flaw.TheVariants as flaw
 use Rattle.avro_container.specs.declared.fault.ContainerFault.{ContainerFault}
-use Rattle.avro_container.specs.Faults.{FaultsInHeader, IsFirstFlaw}
+use Rattle.avro_container.specs.Faults.{FaultsInHeader}
 use Rattle.avro_container.specs.Format.{Pairs, Header, HasSchema, IsPlain, Blocks, first_named, schema_name}
-use Rattle.avro_container.specs.Laws.{flaw_error, error_of}
+use Rattle.avro_container.specs.Laws.{flaw_error}
 use Rattle.avro_container.specs.Reading.{Step, step_of, header_at, schema_in, codec_in, blocks_at, container_at}
 use Rattle.avro_container.proofs.Containers.{container_takes, container_faulty}
 use Rattle.avro_container.proofs.Headers.{placed_ok, placed_err, header_takes, header_again, header_faulty}
 use Rattle.avro_container.proofs.WholeBlocks.{block_takes, block_faulty}
-use Rattle.avro_feeding.specs.Feeding.{Behind, Place, in_header, in_blocks, Refusal, State, Fed, is_short, further, refusal, waits_or_refused, stopped, opened, schema_at, behind_block, after_block, read_on, after_header, joined}
-use Rattle.avro_feeding.specs.Laws.{StandsBehind, FaultsNext, KeepsBehind, KeepsHeader, RefusesNext, is_header_flaw}
+use Rattle.avro_feeding.specs.Feeding.{Behind, Place, in_header, in_blocks, Refusal, State, Fed, nothing_read, is_short, further, refusal, waits_or_refused, stopped, opened, schema_at, behind_block, after_block, read_on, after_header, fed, fed_all, joined}
+use Rattle.avro_feeding.specs.Laws.{StandsBehind, FaultsNext, KeepsBehind, KeepsHeader, Keeps, RefusesNext, is_header_flaw}
 use Rattle.avro_feeding.proofs.BlockStays.{not_short}
 use Rattle.avro_feeding.proofs.EndLemmas.{short_is, place_is}
 use Rattle.avro_feeding.proofs.HeaderLemmas.{codec_flaw}
-use Rattle.avro_feeding.proofs.PieceLemmas.{block_in, shorter, with_codec, with_schema, with_header, opened_is}
+use Rattle.avro_feeding.proofs.PieceLemmas.{block_in, shorter, with_codec, with_schema, with_header, opened_is, any_cut}
 
 -- ---- blocks
 
@@ -187,10 +189,10 @@ never_blocks : (b : Behind) (bytes : List ℕ) (schema : Option SchemaTree) (o :
 never_blocks b bytes schema None is = let place : ◌≡◌ {A = Option Behind} (Some b) None = ap place_in (ok_is (in_blocks b) (in_header bytes) is) in cc
 never_blocks b bytes schema (Some e) is = cc
 
-pub keeps_behind : KeepsBehind
+keeps_behind : (bytes : List ℕ) (b : Behind) (values : List (List ValueTree)) → length bytes < 2 ^ 64 - 1 → fed nothing_read bytes ≡ (Ok (in_blocks b), values) → KeepsBehind bytes values b
 keeps_behind bytes b values small is = go (opened bytes) refl is
   where
-    go : (r : Step Behind) → opened bytes ≡ r → after_header bytes r ≡ (Ok (in_blocks b), values) → StandsBehind bytes values b × ((f : ContainerFault) × FaultsNext b f × (f.flaw ≡ flaw.Short))
+    go : (r : Step Behind) → opened bytes ≡ r → after_header bytes r ≡ (Ok (in_blocks b), values) → KeepsBehind bytes values b
     go (Ok b0) opening e =
         let o = opens bytes b0 (omega arith) opening in
         let before = o.offset in
@@ -242,10 +244,10 @@ header_waits_at bytes kept f true short is =
     (sym (ap kept_in (ok_is (in_header bytes) (in_header kept) same)), short_is f.flaw short)
 header_waits_at bytes kept f false long is = absurd (let no : ◌≡◌ {A = State} (Err (record { error = flaw_error f.flaw (further 0 (length bytes - f.left)); schema = schema_at bytes })) (Ok (in_header kept)) = rw long at is in cc)
 
-pub keeps_header : KeepsHeader
+keeps_header : (bytes kept : List ℕ) (values : List (List ValueTree)) → length bytes < 2 ^ 64 - 1 → fed nothing_read bytes ≡ (Ok (in_header kept), values) → KeepsHeader bytes values kept
 keeps_header bytes kept values small is = go (opened bytes) refl is
   where
-    go : (r : Step Behind) → opened bytes ≡ r → after_header bytes r ≡ (Ok (in_header kept), values) → (kept ≡ bytes) × (values ≡ []) × ((f : ContainerFault) × FaultsInHeader MAX_VALUES bytes f × (f.flaw ≡ flaw.Short))
+    go : (r : Step Behind) → opened bytes ≡ r → after_header bytes r ≡ (Ok (in_header kept), values) → KeepsHeader bytes values kept
     go (Ok b0) opening e =
         let o = opens bytes b0 (omega arith) opening in
         let before = o.offset in
@@ -289,12 +291,10 @@ refused_at place schema offset rest f r false long is =
     let same : record { error = flaw_error f.flaw (further offset (length rest - f.left)); schema = schema } ≡ r = cc in
     (long, ap (λ (q : Refusal). q.error) (sym same), ap (λ (q : Refusal). q.schema) (sym same))
 
-pub refuses_next : RefusesNext
+refuses_next : (bytes : List ℕ) (r : Refusal) (values : List (List ValueTree)) → length bytes < 2 ^ 64 - 1 → fed nothing_read bytes ≡ (Err r, values) → RefusesNext bytes values r
 refuses_next bytes r values small is = go (opened bytes) refl is
   where
-    go : (q : Step Behind) → opened bytes ≡ q → after_header bytes q ≡ (Err r, values)
-        → ((values ≡ []) × ((f : ContainerFault) × IsFirstFlaw MAX_VALUES bytes f × (is_header_flaw f.flaw ≡ true) × (r.error ≡ error_of (length bytes) f)))
-        ⊎ ((b : Behind) × StandsBehind bytes values b × (r.schema ≡ Some b.schema) × ((f : ContainerFault) × FaultsNext b f × (f.flaw ≡ flaw.Short → ⊥) × (r.error ≡ error_of (length bytes) f)))
+    go : (q : Step Behind) → opened bytes ≡ q → after_header bytes q ≡ (Err r, values) → RefusesNext bytes values r
     go (Ok b0) opening e =
         let o = opens bytes b0 (omega arith) opening in
         let before = o.offset in
@@ -310,3 +310,22 @@ refuses_next bytes r values small is = go (opened bytes) refl is
         let no = refused_at (in_header bytes) (schema_at bytes) 0 bytes f r (is_short f.flaw) refl (ap (λ (q : Fed). q.0) e) in
         let place : further 0 (length bytes - f.left) ≡ length bytes - f.left = omega arith in
         inl (sym (ap (λ (q : Fed). q.1) e), (f, (container_faulty MAX_VALUES bytes f (not_opened bytes f opening)).fault, header_flaw bytes f no.0 (opened_faulty bytes f opening), no.1 ∙ ap (flaw_error f.flaw) place))
+
+-- ---- any cut
+
+kept_of : (bytes : List ℕ) (r : Fed) → length bytes < 2 ^ 64 - 1 → fed nothing_read bytes ≡ r → IfOk r.0 (Keeps bytes r.1)
+kept_of bytes (Ok (in_header kept), values) small is = keeps_header bytes kept values small is
+kept_of bytes (Ok (in_blocks b), values) small is = keeps_behind bytes b values small is
+kept_of bytes (Err e, values) small is = tt
+
+refused_of : (bytes : List ℕ) (r : Fed) → length bytes < 2 ^ 64 - 1 → fed nothing_read bytes ≡ r → IfErr r.0 (RefusesNext bytes r.1)
+refused_of bytes (Ok place, values) small is = tt
+refused_of bytes (Err e, values) small is = refuses_next bytes e values small is
+
+pub pieces_kept : (pieces : List (List ℕ)) (state : State) → state ≡ (fed_all pieces).0 → length (concat pieces) < 2 ^ 64 - 1 → IfOk state (Keeps (concat pieces) (fed_all pieces).1)
+pieces_kept pieces state read small =
+    subst (λ (s : State). IfOk s (Keeps (concat pieces) (fed_all pieces).1)) (sym read) (kept_of (concat pieces) (fed_all pieces) small (sym (any_cut pieces)))
+
+pub pieces_refused : (pieces : List (List ℕ)) (state : State) → state ≡ (fed_all pieces).0 → length (concat pieces) < 2 ^ 64 - 1 → IfErr state (RefusesNext (concat pieces) (fed_all pieces).1)
+pieces_refused pieces state read small =
+    subst (λ (s : State). IfErr s (RefusesNext (concat pieces) (fed_all pieces).1)) (sym read) (refused_of (concat pieces) (fed_all pieces) small (sym (any_cut pieces)))

@@ -1,6 +1,7 @@
 -- Two pieces make of what has been read what they make as one.
-use Rattle.std.proofs.Common.{◌≡◌, ℕ, zero, suc, ◌+◌, ◌-◌, ◌<◌, Bool, true, false, List, ◌++◌, length, Result, Ok, Err, refl, sym, ap, ◌∙◌, append_assoc, arith, inl, inr}
-use Rattle.std.proofs.lemmas.List.{length-append}
+use Rattle.std.proofs.Common.{◌≡◌, ℕ, zero, suc, ◌+◌, ◌-◌, ◌<◌, Bool, true, false, List, [], ◌∷◌, ◌++◌, length, Result, Ok, Err, refl, sym, ap, ◌∙◌, append_assoc, arith, inl, inr}
+use Rattle.std.proofs.lemmas.List.{length-append, append-nil}
+use Rattle.std.specs.List.{concat, fold}
 use Rattle.lake_basics.specs.Outcome.{◌>>=◌}
 use Rattle.avro_schema.specs.Tree.{SchemaTree}
 use Rattle.avro_value.specs.declared.api.TheConstants.{MAX_VALUES}
@@ -9,12 +10,14 @@ use Rattle.avro_value.specs.ValueTree.{ValueTree}
 use Rattle.avro_value.proofs.NumberLaws.{bind_ok, ok_is}
 use Rattle.avro_value.proofs.FaultLaws.{bind_err}
 use Rattle.avro_container.specs.declared.fault.ContainerFault.{ContainerFault}
+use Rattle.avro_container.specs.declared.fault.Flaw.TheVariants as flaw
 use Rattle.avro_container.specs.Format.{Pairs}
-use Rattle.avro_container.specs.Reading.{Step, step_of, header_at, schema_in, codec_in, block_at}
-use Rattle.avro_container.proofs.Headers.{placed_ok, placed_err}
+use Rattle.avro_container.specs.Reading.{Step, flaw_at, step_of, header_at, schema_in, codec_in, block_at}
+use Rattle.avro_container.proofs.Headers.{placed_ok, placed_err, header_refused}
 use Rattle.avro_container.proofs.Objects.{fault_is}
 use Rattle.avro_container.proofs.WholeBlocks.{block_takes, block_length}
-use Rattle.avro_feeding.specs.Feeding.{Behind, in_header, in_blocks, State, is_short, further, opened, schema_at, behind_block, with_block, after_block, read_on, read_blocks, after_header, read_header, fed, and_fed}
+use Rattle.avro_feeding.specs.Feeding.{Behind, in_header, in_blocks, State, Fed, nothing_read, is_short, further, opened, schema_at, behind_block, with_block, after_block, read_on, read_blocks, after_header, read_header, fed, and_fed}
+use Rattle.avro_feeding.specs.Laws.{AnyCut}
 use Rattle.avro_feeding.proofs.BlockStays.{shifted, header_more, header_fails, header_waits, marker_length, block_more, block_fails}
 
 -- ---- blocks
@@ -165,3 +168,18 @@ pub pieces_join : (state : State) (p q : List ℕ) → fed state (p ++ q) ≡ an
 pieces_join (Ok (in_header kept)) p q = ap read_header (sym (append_assoc kept p q)) ∙ header_pieces (kept ++ p) q
 pieces_join (Ok (in_blocks b)) p q = ap (λ (r : List ℕ). read_blocks (record b { rest = r })) (sym (append_assoc b.rest p q)) ∙ read_more (added b p) q
 pieces_join (Err e) p q = refl
+
+-- ---- any number of pieces
+
+nothing_more : fed nothing_read [] ≡ (nothing_read, [])
+nothing_more =
+    let short = header_refused MAX_VALUES [] (flaw_at flaw.Short 0) (inl (omega arith, (refl, refl))) in
+    ap (after_header []) (opened_is [] ∙ ap (λ (h : Step (Pairs × List ℕ × List ℕ)). h >>= with_header []) short)
+
+pieces_behind : (state : State) (front : List ℕ) (pieces : List (List ℕ)) → fold and_fed (fed state front) pieces ≡ fed state (front ++ concat pieces)
+pieces_behind state front [] = ap (fed state) (sym (append-nil front))
+pieces_behind state front (p ∷ pieces) =
+    ap (λ (r : Fed). fold and_fed r pieces) (sym (pieces_join state front p)) ∙ pieces_behind state (front ++ p) pieces ∙ ap (fed state) (append_assoc front p (concat pieces))
+
+pub any_cut : AnyCut
+any_cut pieces = ap (λ (r : Fed). fold and_fed r pieces) (sym nothing_more) ∙ pieces_behind nothing_read [] pieces

@@ -1,4 +1,5 @@
 -- What the end of the bytes gives is what reading the whole container gives.
+use Rattle.std.specs.List.{concat}
 use Rattle.std.proofs.Common.{◌≡◌, ℕ, ◌+◌, ◌-◌, ◌^◌, ◌<◌, List, length, Some, Result, Ok, Err, refl, sym, ap, subst, ◌∙◌}
 use Rattle.lake_basics.specs.Outcome.{◌>>=◌}
 use Rattle.avro_schema.specs.Tree.{SchemaTree}
@@ -12,10 +13,11 @@ use Rattle.avro_container.specs.Laws.{error_of}
 use Rattle.avro_container.specs.Reading.{Step, step_of, header_at, schema_in, codec_in, blocks_at, container_at}
 use Rattle.avro_container.proofs.Containers.{container_takes, container_again, container_faulty, container_refused}
 use Rattle.avro_container.proofs.Headers.{placed_ok}
-use Rattle.avro_feeding.specs.Feeding.{State, nothing_read, fed, joined, ended, schema_at}
-use Rattle.avro_feeding.specs.Laws.{IsWholeReading, answer}
-use Rattle.avro_feeding.proofs.EndLemmas.{end_is_whole}
+use Rattle.avro_feeding.specs.Feeding.{State, Fed, nothing_read, fed, fed_all, joined, ended, schema_at, schema_of_state}
+use Rattle.avro_feeding.specs.Laws.{IsWholeReading}
+use Rattle.avro_feeding.proofs.EndLemmas.{answer, all_values, end_is_whole}
 use Rattle.avro_feeding.proofs.HeaderLemmas.{schema_of_read}
+use Rattle.avro_feeding.proofs.PieceLemmas.{any_cut}
 
 abbrev Contents : Type 0
 Contents = Pairs × SchemaTree × List ValueTree
@@ -44,18 +46,18 @@ container_schema bytes c e =
     let same = ok_is (h.0.0, t.0, vs.0) c vs.2 in
     rw (h.1, placed_ok (length bytes) (schema_in h.0.0) t.0 t.1) (ap (λ (d : Contents). Some d.1) same)
 
-by_reading : (bytes : List ℕ) (values : List ValueTree) (result : Result (Unit {0}) ContainerError) (q : Step Contents) → container_at MAX_VALUES bytes ≡ q → (result >>= λ _. Ok values) ≡ answer (length bytes) q → IsWholeReading bytes values result
-by_reading bytes values (Ok tt) (Ok c) is e =
-    let same : values ≡ c.2 = ok_is values c.2 e in
+by_reading : (bytes : List ℕ) (r : Fed) (result : Result (Unit {0}) ContainerError) (q : Step Contents) → schema_of_state r.0 ≡ schema_at bytes → container_at MAX_VALUES bytes ≡ q → (result >>= λ _. Ok (joined r.1)) ≡ answer (length bytes) q → IsWholeReading bytes r result
+by_reading bytes r (Ok tt) (Ok c) known is e =
+    let same : joined r.1 ≡ c.2 = ok_is (joined r.1) c.2 e in
     record {
-      found = (c.0, c.1, schema_of_read bytes ∙ container_schema bytes c is, subst (λ (vs : List ValueTree). IsWithin MAX_VALUES bytes c.0 c.1 vs) (sym same) (container_takes MAX_VALUES bytes c is));
+      found = (c.0, c.1, known ∙ container_schema bytes c is, subst (λ (vs : List ValueTree). IsWithin MAX_VALUES bytes c.0 c.1 vs) (sym same) (container_takes MAX_VALUES bytes c is));
       only = λ meta t vs w. (let both = ok_is c (meta, t, vs) (sym is ∙ container_again MAX_VALUES bytes meta t vs w) in (refl, same ∙ ap (λ (d : Contents). d.2) both));
       fault = tt;
       first = λ d h. absurd (let both : ◌≡◌ {A = Step Contents} (Ok c) (Err h.fault) = sym is ∙ container_refused MAX_VALUES bytes h.fault h.first in cc);
     }
-by_reading bytes values (Ok tt) (Err f) is e = absurd (cc)
-by_reading bytes values (Err d) (Ok c) is e = absurd (cc)
-by_reading bytes values (Err d) (Err f) is e =
+by_reading bytes r (Ok tt) (Err f) known is e = absurd (cc)
+by_reading bytes r (Err d) (Ok c) known is e = absurd (cc)
+by_reading bytes r (Err d) (Err f) known is e =
     let h = container_faulty MAX_VALUES bytes f is in
     let same : d ≡ error_of (length bytes) f = cc in
     record {
@@ -65,7 +67,13 @@ by_reading bytes values (Err d) (Err f) is e =
       first = λ b g. (let both : ◌≡◌ {A = Step Contents} (Err f) (Err g.fault) = sym is ∙ container_refused MAX_VALUES bytes g.fault g.first in let one : f ≡ g.fault = cc in ap Err (same ∙ ap (error_of (length bytes)) one ∙ sym g.is));
     }
 
-pub whole_reading : (bytes : List ℕ) (state : State) (result : Result (Unit {0}) ContainerError) → result ≡ ended state → state ≡ (fed nothing_read bytes).0 → length bytes < 2 ^ 64 - 1 → IsWholeReading bytes (joined (fed nothing_read bytes).1) result
-whole_reading bytes state result is read small =
-    by_reading bytes (joined (fed nothing_read bytes).1) result (container_at MAX_VALUES bytes) refl
-    (ap (λ (r : Result (Unit {0}) ContainerError). r >>= λ _. Ok (joined (fed nothing_read bytes).1)) (is ∙ ap ended read) ∙ end_is_whole bytes small)
+read_whole : (bytes : List ℕ) (r : Fed) → fed nothing_read bytes ≡ r → length bytes < 2 ^ 64 - 1 → IsWholeReading bytes r (ended r.0)
+read_whole bytes r is small =
+    by_reading bytes r (ended r.0) (container_at MAX_VALUES bytes)
+    (ap (λ (s : Fed). schema_of_state s.0) (sym is) ∙ schema_of_read bytes)
+    refl
+    (ap all_values (sym is) ∙ end_is_whole bytes small)
+
+pub whole_reading : (pieces : List (List ℕ)) (state : State) (result : Result (Unit {0}) ContainerError) → result ≡ ended state → state ≡ (fed_all pieces).0 → length (concat pieces) < 2 ^ 64 - 1 → IsWholeReading (concat pieces) (fed_all pieces) result
+whole_reading pieces state result is read small =
+    subst (λ (e : Result (Unit {0}) ContainerError). IsWholeReading (concat pieces) (fed_all pieces) e) (sym (is ∙ ap ended read)) (read_whole (concat pieces) (fed_all pieces) (sym (any_cut pieces)) small)

@@ -1,5 +1,5 @@
 -- A container that comes in pieces: what has been read of it, and what a piece more makes of that.
-use Rattle.std.specs.Prelude.{ℕ, zero, suc, ◌+◌, ◌-◌, ◌^◌, min, Bool, true, false, List, [], ◌∷◌, ◌++◌, length, flat_map, Option, Some, None, Result, Ok, Err, if◌then◌else◌}
+use Rattle.std.specs.Prelude.{ℕ, zero, suc, ◌+◌, ◌-◌, ◌^◌, min, Bool, true, false, List, [], ◌∷◌, ◌++◌, length, flat_map, fold, Option, Some, None, Result, Ok, Err, if◌then◌else◌}
 use Rattle.lake_basics.specs.Outcome.{◌>>=◌}
 use Rattle.avro_schema.specs.Tree.{SchemaTree}
 use Rattle.avro_value.specs.declared.api.TheConstants.{MAX_VALUES}
@@ -133,6 +133,10 @@ fed (Err refused) piece = (Err refused, [])
 -- one piece more
 abbrev pub and_fed : Fed → List ℕ → Fed
 and_fed r piece = ((fed r.0 piece).0, r.1 ++ (fed r.0 piece).1)
+
+-- what pieces make of nothing, one after the other
+abbrev pub fed_all : List (List ℕ) → Fed
+fed_all pieces = fold and_fed (nothing_read, []) pieces
 
 -- the values of these blocks, one behind the other
 abbrev pub joined : List (List ValueTree) → List ValueTree

@@ -1,6 +1,6 @@
 -- What pieces come to, however the bytes of a container are cut.
-use Rattle.std.specs.Prelude.{◌≡◌, ◌⊎◌, ℕ, ◌+◌, ◌-◌, ◌^◌, ◌<◌, Bool, true, false, List, [], ◌++◌, length, IfOk, IfErr, Some, Result, Ok, Err}
-use Rattle.lake_basics.specs.Outcome.{◌>>=◌}
+use Rattle.std.specs.Prelude.{◌≡◌, ◌⊎◌, ℕ, ◌+◌, Bool, true, false, List, [], ◌++◌, length, IfOk, IfErr, Some, Result, Ok, Err}
+use Rattle.std.specs.List.{concat}
 use Rattle.avro_schema.specs.Tree.{SchemaTree}
 use Rattle.avro_value.specs.declared.api.TheConstants.{MAX_VALUES}
 use Rattle.avro_value.specs.Layout.{layout_of}
@@ -12,30 +12,16 @@ use Rattle.avro_container.specs.declared.fault.Flaw.TheVariants as flaw
 use Rattle.avro_container.specs.Faults.{FaultsInBlock, FaultsInHeader, IsFirstFlaw}
 use Rattle.avro_container.specs.Format.{Pairs, Header, HasSchema, IsPlain, Blocks, IsWithin}
 use Rattle.avro_container.specs.Laws.{IsRefused, error_of}
-use Rattle.avro_container.specs.Reading.{Step, container_at}
-use Rattle.avro_feeding.specs.Feeding.{Behind, in_header, in_blocks, Refusal, State, Fed, nothing_read, fed, and_fed, joined, ended, schema_of_state}
+use Rattle.avro_feeding.specs.Feeding.{Behind, Place, in_header, in_blocks, Refusal, Fed, nothing_read, fed, fed_all, joined, schema_of_state}
 
--- Two pieces make of it what they make as one.
-abbrev pub PiecesJoin : Type 0
-PiecesJoin = (state : State) (p q : List ℕ) → fed state (p ++ q) ≡ and_fed (fed state p) q
+-- However bytes are cut into pieces, these make of nothing what all of the bytes make of it as one.
+abbrev pub AnyCut : Type 0
+AnyCut = (pieces : List (List ℕ)) → fed_all pieces ≡ fed nothing_read (concat pieces)
 
--- the values that reading an input of that length gives, or its refusal
-abbrev pub answer : ℕ → Step (Pairs × SchemaTree × List ValueTree) → Result (List ValueTree) ContainerError
-answer len (Ok c) = Ok c.2
-answer len (Err f) = Err (error_of len f)
-
--- all values, where the bytes may end here
-abbrev pub all_values : Fed → Result (List ValueTree) ContainerError
-all_values r = ended r.0 >>= λ _. Ok (joined r.1)
-
--- The end of the bytes gives what reading all of them gives.
-abbrev pub EndIsWhole : Type 0
-EndIsWhole = (bytes : List ℕ) → length bytes < 2 ^ 64 - 1 → all_values (fed nothing_read bytes) ≡ answer (length bytes) (container_at MAX_VALUES bytes)
-
--- What `read_container` answers for the bytes, where these are the values and this is what the end is answered.
-pub record IsWholeReading (bytes : List ℕ) (values : List ValueTree) (result : Result (Unit {0}) ContainerError) : Type 0 where
-  pub found : IfOk result (λ _. (meta : Pairs) × (t : SchemaTree) × (schema_of_state (fed nothing_read bytes).0 ≡ Some t) × IsWithin MAX_VALUES bytes meta t values)
-  pub only : (meta : Pairs) (t : SchemaTree) (vs : List ValueTree) → IsWithin MAX_VALUES bytes meta t vs → (result ≡ Ok tt) × (values ≡ vs)
+-- What `read_container` answers for the bytes, where their pieces come to this, and this is what the end is answered.
+pub record IsWholeReading (bytes : List ℕ) (r : Fed) (result : Result (Unit {0}) ContainerError) : Type 0 where
+  pub found : IfOk result (λ _. (meta : Pairs) × (t : SchemaTree) × (schema_of_state r.0 ≡ Some t) × IsWithin MAX_VALUES bytes meta t (joined r.1))
+  pub only : (meta : Pairs) (t : SchemaTree) (vs : List ValueTree) → IsWithin MAX_VALUES bytes meta t vs → (result ≡ Ok tt) × (joined r.1 ≡ vs)
   pub fault : IfErr result (λ e. IsRefused MAX_VALUES bytes e)
   pub first : (e : ContainerError) → IsRefused MAX_VALUES bytes e → result ≡ Err e
 
@@ -58,15 +44,18 @@ pub record StandsBehind (bytes : List ℕ) (values : List (List ValueTree)) (b :
 abbrev pub FaultsNext : Behind → ContainerFault → Type 0
 FaultsNext b f = FaultsInBlock (layout_of b.schema) b.marker b.rest b.budget f
 
--- Once the header is whole, just the bytes behind the last whole block are kept, or those behind the header.
-abbrev pub KeepsBehind : Type 0
-KeepsBehind = (bytes : List ℕ) (b : Behind) (values : List (List ValueTree)) → length bytes < 2 ^ 64 - 1 → fed nothing_read bytes ≡ (Ok (in_blocks b), values)
-    → StandsBehind bytes values b × ((f : ContainerFault) × FaultsNext b f × (f.flaw ≡ flaw.Short))
+-- The header is whole: just the bytes behind the last whole block are kept, or those behind the header.
+abbrev pub KeepsBehind : List ℕ → List (List ValueTree) → Behind → Type 0
+KeepsBehind bytes values b = StandsBehind bytes values b × ((f : ContainerFault) × FaultsNext b f × (f.flaw ≡ flaw.Short))
 
--- All bytes are kept where they end inside the header, and only there.
-abbrev pub KeepsHeader : Type 0
-KeepsHeader = (bytes kept : List ℕ) (values : List (List ValueTree)) → length bytes < 2 ^ 64 - 1 → fed nothing_read bytes ≡ (Ok (in_header kept), values)
-    → (kept ≡ bytes) × (values ≡ []) × ((f : ContainerFault) × FaultsInHeader MAX_VALUES bytes f × (f.flaw ≡ flaw.Short))
+-- The bytes end inside the header: all of them are kept.
+abbrev pub KeepsHeader : List ℕ → List (List ValueTree) → List ℕ → Type 0
+KeepsHeader bytes values kept = (kept ≡ bytes) × (values ≡ []) × ((f : ContainerFault) × FaultsInHeader MAX_VALUES bytes f × (f.flaw ≡ flaw.Short))
+
+-- what is kept of the bytes, whose whole blocks had these values
+abbrev pub Keeps : List ℕ → List (List ValueTree) → Place → Type 0
+Keeps bytes values (in_header kept) = KeepsHeader bytes values kept
+Keeps bytes values (in_blocks b) = KeepsBehind bytes values b
 
 -- It is a flaw of the header, or of the schema or the codec that it names.
 abbrev pub is_header_flaw : Flaw → Bool
@@ -77,7 +66,7 @@ is_header_flaw flaw.Codec = true
 is_header_flaw _ = false
 
 -- What is refused is a header, behind which no values were given, or a block behind just those whose values were given.
-abbrev pub RefusesNext : Type 0
-RefusesNext = (bytes : List ℕ) (r : Refusal) (values : List (List ValueTree)) → length bytes < 2 ^ 64 - 1 → fed nothing_read bytes ≡ (Err r, values)
-    → ((values ≡ []) × ((f : ContainerFault) × IsFirstFlaw MAX_VALUES bytes f × (is_header_flaw f.flaw ≡ true) × (r.error ≡ error_of (length bytes) f)))
+abbrev pub RefusesNext : List ℕ → List (List ValueTree) → Refusal → Type 0
+RefusesNext bytes values r =
+    ((values ≡ []) × ((f : ContainerFault) × IsFirstFlaw MAX_VALUES bytes f × (is_header_flaw f.flaw ≡ true) × (r.error ≡ error_of (length bytes) f)))
     ⊎ ((b : Behind) × StandsBehind bytes values b × (r.schema ≡ Some b.schema) × ((f : ContainerFault) × FaultsNext b f × (f.flaw ≡ flaw.Short → ⊥) × (r.error ≡ error_of (length bytes) f)))

@@ -1,9 +1,10 @@
 //! A container that is read as its bytes come.
 
-ghost use Rattle.std.specs.Prelude.{◌≡◌, ℕ, ◌-◌, ◌^◌, ◌<◌, List, length, Err, IfErr, option_map};
+ghost use Rattle.std.specs.Prelude.{◌≡◌, ℕ, ◌-◌, ◌^◌, ◌<◌, List, length, Err, IfErr, IfOk, option_map};
+ghost use Rattle.std.specs.List.{concat};
 ghost use Rattle.avro_schema.specs.Tree.{tree_of};
-ghost use Rattle.avro_feeding.specs.Feeding.{answer_by, ended, fed, joined, nothing_read, schema_of_state};
-ghost use Rattle.avro_feeding.specs.Laws.{IsWholeReading};
+ghost use Rattle.avro_feeding.specs.Feeding.{answer_by, ended, fed_all, nothing_read, schema_of_state};
+ghost use Rattle.avro_feeding.specs.Laws.{AnyCut, IsWholeReading, Keeps, RefusesNext};
 ghost use Rattle.avro_feeding.specs.Calls.{IsFed, has_read, state_of, trees_told};
 ghost use Rattle.avro_feeding.specs.Views.{IsFedBy, summed, trees_found};
 
@@ -84,6 +85,19 @@ impl Feeder {
         // What has been read and what is answered are what the piece makes of it, unless memory runs
         // out.
         ensures fed { IsFed (has_read self.old) piece.now (has_read self.new) (trees_told result) }
+        // However bytes are cut into pieces, feeding these leaves and gives what feeding all of them
+        // as one piece does.
+        ensures any_cut { AnyCut }
+        // Where these pieces have been read, just their bytes behind the last whole block are kept, or
+        // behind the header. Where it isn't whole, they all are.
+        ensures kept { (pieces : List (List ℕ)) → has_read self.new ≡ (fed_all pieces).0
+            → length (concat pieces) < 2 ^ 64 - 1
+            → IfOk (has_read self.new) (Keeps (concat pieces) (fed_all pieces).1) }
+        // Where these pieces are refused, it is for the header, or for the block behind just those
+        // whose values were given.
+        ensures next { (pieces : List (List ℕ)) → has_read self.new ≡ (fed_all pieces).0
+            → length (concat pieces) < 2 ^ 64 - 1
+            → IfErr (has_read self.new) (RefusesNext (concat pieces) (fed_all pieces).1) }
         // A refusal stays as it is, and is answered again.
         ensures refused { IfErr (has_read self.old) (λ e. has_read self.new ≡ Err e) }
         ensures again { IfErr (has_read self.old) (λ e. result ≡ Err e.error) }
@@ -116,11 +130,11 @@ impl Feeder {
     pub fn finish(self) -> Result<(), ContainerError>
         // What is answered is what the end makes of what has been read.
         ensures ended { result ≡ ended (has_read self) }
-        // Where these bytes have been read, the values that were given and this answer are what
-        // `read_container` gives for them whole.
-        ensures whole { (bytes : List ℕ) → has_read self ≡ (fed nothing_read bytes).0
-            → length bytes < 2 ^ 64 - 1
-            → IsWholeReading bytes (joined (fed nothing_read bytes).1) result }
+        // Where these pieces have been read, one after the other, the values that were given and this
+        // answer are what `read_container` gives for all of their bytes.
+        ensures whole { (pieces : List (List ℕ)) → has_read self ≡ (fed_all pieces).0
+            → length (concat pieces) < 2 ^ 64 - 1
+            → IsWholeReading (concat pieces) (fed_all pieces) result }
     {
         let Feeder { state, .. } = self;
         ended_by(state)

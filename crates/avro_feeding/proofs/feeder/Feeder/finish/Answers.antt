@@ -3,4 +3,4 @@ use Rattle.avro_feeding.proofs.WholeLemmas.{whole_reading}
 use Rattle.avro_feeding.proofs.feeder.Feeder.finish.Goals as goal
 
 pub returns-clause-whole : goal.returns-clause-whole
-returns-clause-whole c bytes read small = whole_reading bytes (has_read c.args.self) c.ended_by.result c.ended_by.ensures read small
+returns-clause-whole c pieces read small = whole_reading pieces (has_read c.args.self) c.ended_by.result c.ended_by.ensures read small
