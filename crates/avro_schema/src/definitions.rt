@@ -1,5 +1,5 @@
 //! What a schema text has defined so far.
-ghost use Rattle.std.specs.Prelude.{◌≡◌, option_map, OnOk};
+ghost use Rattle.std.specs.Prelude.{◌≡◌, ◌++◌, [], ◌∷◌, option_map, OnOk};
 ghost use Rattle.lake_basics.specs.Outcome.{Gives};
 ghost use Rattle.avro_schema.specs.Tree.{tree_of};
 ghost use Rattle.avro_schema.specs.Names.{definition_of};
@@ -74,6 +74,15 @@ pub fn is_new(names: &Definitions, name: &Text) -> bool
     ensures { result ≡ is_new_in name.now (state_of names.now) }
 {
     !is_open(names, name) && definition(names, name).is_none()
+}
+
+/// Says that the type of this name is being defined, inside those that are.
+pub fn open_name(alloc: Global, names: &mut Definitions, name: &Text) -> Result<(), AllocError>
+    ensures { OnOk result (state_of names.new
+        ≡ record (state_of names.old) { open_names = names.old.open_names.items ++ name.now ∷ [] }) }
+{
+    names.open_names.push(name.copy(alloc)?)?;
+    Ok(())
 }
 
 /// Keeps a type under its name.

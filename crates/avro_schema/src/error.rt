@@ -26,7 +26,7 @@ impl From<AllocError> for SchemaError {
 }
 
 /// The faults that a schema text may have.
-#[derive(Clone, Copy, Debug, Drop, PartialEq, Eq)]
+#[derive(Clone, Copy, Drop)]
 pub(crate) enum SchemaFault {
     BadSchema,
     Recursive,

@@ -2,14 +2,14 @@
 //! Declaration").
 ghost use Rattle.std.specs.Prelude.{◌≡◌, ◌+◌, ◌<◌, ◌≤◌, map, None, IfOk, option_map};
 ghost use Rattle.serde_json.specs.View.{view, items_view};
-ghost use Rattle.lake_basics.specs.Outcome.{Gives};
-ghost use Rattle.avro_schema.specs.Tree.{tree_of, shape_of, field_of};
-ghost use Rattle.avro_schema.specs.Names.{primitive_of};
+ghost use Rattle.lake_basics.specs.Outcome.{Gives, ◌>>=◌ as and_then};
+ghost use Rattle.avro_schema.specs.Tree.{ShapeTree, tree_of, shape_of, field_of};
+ghost use Rattle.avro_schema.specs.Names.{full_name as full_name_of, primitive_of};
 ghost use Rattle.json_reading.specs.Json.{items};
-ghost use Rattle.avro_schema.specs.Reading.{type_at, single_type as single_type_of, array_type as array_type_of, map_type as map_type_of, union_type as union_type_of, in_turn, used_name as used_name_of, text_type as text_type_of, annotated as annotated_of, object_type as object_type_of, fixed_type as fixed_type_of, enum_type as enum_type_of, record_type as record_type_of, field_type as field_type_of, new_name as new_name_of, symbols_in, record_with, other_type as other_type_of};
+ghost use Rattle.avro_schema.specs.Reading.{counted as counted_by, defined as defined_by, type_at, single_type as single_type_of, array_type as array_type_of, map_type as map_type_of, union_type as union_type_of, in_turn, used_name as used_name_of, one_type as one_type_of, text_type as text_type_of, annotated as annotated_of, object_type as object_type_of, fixed_type as fixed_type_of, enum_type as enum_type_of, record_type as record_type_of, field_type as field_type_of, new_name as new_name_of, symbols_in, record_with, other_type as other_type_of};
 ghost use Rattle.avro_schema.specs.State.{state_of};
 
-use crate::definitions::{Definitions, counted, define, definition, is_new, is_open};
+use crate::definitions::{Definitions, counted, define, definition, is_new, is_open, open_name};
 use crate::distinct::{fields_are_distinct, texts_are_distinct};
 use crate::error::SchemaFault;
 use crate::member::{id_of, size_of};
@@ -83,6 +83,30 @@ fn used_name(alloc: Global, left: u32, name: &Text, names: &mut Definitions) -> 
     Ok(schema)
 }
 
+/// The type of that name in a namespace, with so many levels left.
+fn named_type(
+    alloc: Global,
+    left: u32,
+    space: &str,
+    name: &str,
+    names: &mut Definitions,
+) -> Reading<Schema>
+    ensures { Gives (λ s. (tree_of s, state_of names.new)) result
+        (used_name_of left (full_name_of space.now name.now) (state_of names.old)) }
+{
+    let name = full_name(alloc, space, name)?;
+    used_name(alloc, left, &name, names)
+}
+
+/// The type, which is counted as one.
+fn one_type(schema: Schema, names: &mut Definitions) -> Reading<Schema>
+    ensures { Gives (λ s. (tree_of s, state_of names.new)) result
+        (one_type_of (tree_of schema) (state_of names.old)) }
+{
+    counted(names)?;
+    Ok(schema)
+}
+
 /// The type of a text.
 fn text_type(
     alloc: Global,
@@ -95,11 +119,8 @@ fn text_type(
         (text_type_of left space.now name.now (state_of names.old)) }
 {
     match primitive(name) {
-        Some(shape) => {
-            counted(names)?;
-            Ok(plain(shape))
-        }
-        None => used_name(alloc, left, &full_name(alloc, space, name)?, names),
+        Some(shape) => one_type(plain(shape), names),
+        None => named_type(alloc, left, space, name, names),
     }
 }
 
@@ -135,10 +156,63 @@ fn symbols(alloc: Global, value: &Value) -> Reading<Vec<Text>>
     Ok(symbols)
 }
 
+/// The type of that name, with what its object says beside it, which is defined now.
+fn defined(
+    alloc: Global,
+    value: &Value,
+    name: &Text,
+    shape: Shape,
+    names: &mut Definitions,
+) -> Result<Schema, AllocError>
+    ensures { IfOk result (λ s. (tree_of s, state_of names.new)
+        ≡ defined_by name.now (annotated_of (view value.now) (shape_of shape))
+        (state_of names.old)) }
+{
+    let schema = annotated(alloc, value, shape)?;
+    define(alloc, names, name, &schema)?;
+    Ok(schema)
+}
+
+/// An array of these items, with what its object says beside it.
+fn array_of(
+    alloc: Global,
+    value: &Value,
+    items: Schema,
+    element_id: Option<i32>,
+) -> Result<Schema, AllocError>
+    ensures { IfOk result (λ s. tree_of s ≡ annotated_of (view value.now)
+        (ShapeTree.array_of (tree_of items) element_id)) }
+{
+    let items = Box::new(alloc, items)?;
+    annotated(alloc, value, Shape::Array { items, element_id })
+}
+
+/// A map of these values, with what its object says beside it.
+fn map_of(
+    alloc: Global,
+    value: &Value,
+    values: Schema,
+    key_id: Option<i32>,
+    value_id: Option<i32>,
+) -> Result<Schema, AllocError>
+    ensures { IfOk result (λ s. tree_of s ≡ annotated_of (view value.now)
+        (ShapeTree.map_of (tree_of values) key_id value_id)) }
+{
+    let values = Box::new(alloc, values)?;
+    let shape = Shape::Map {
+        values,
+        key_id,
+        value_id,
+    };
+    annotated(alloc, value, shape)
+}
+
 fn fixed_type(alloc: Global, space: &str, value: &Value, names: &mut Definitions) -> Reading<Schema>
     ensures { Gives (λ s. (tree_of s, state_of names.new)) result
-        (fixed_type_of space.now (view value.now) (state_of names.old)) }
+        (and_then (counted_by (state_of names.old))
+        (fixed_type_of space.now (view value.now))) }
 {
+    counted(names)?;
     let name = new_name(alloc, space, value, names)?;
     let Some(size) = size_of(value, "size") else {
         return Err(bad());
@@ -147,24 +221,22 @@ fn fixed_type(alloc: Global, space: &str, value: &Value, names: &mut Definitions
         name: name.copy(alloc)?,
         size,
     };
-    let schema = annotated(alloc, value, shape)?;
-    define(alloc, names, &name, &schema)?;
-    Ok(schema)
+    Ok(defined(alloc, value, &name, shape, names)?)
 }
 
 fn enum_type(alloc: Global, space: &str, value: &Value, names: &mut Definitions) -> Reading<Schema>
     ensures { Gives (λ s. (tree_of s, state_of names.new)) result
-        (enum_type_of space.now (view value.now) (state_of names.old)) }
+        (and_then (counted_by (state_of names.old))
+        (enum_type_of space.now (view value.now))) }
 {
+    counted(names)?;
     let name = new_name(alloc, space, value, names)?;
     let symbols = symbols(alloc, value)?;
     let shape = Shape::Enum {
         name: name.copy(alloc)?,
         symbols,
     };
-    let schema = annotated(alloc, value, shape)?;
-    define(alloc, names, &name, &schema)?;
-    Ok(schema)
+    Ok(defined(alloc, value, &name, shape, names)?)
 }
 
 /// The type that a value is, with so many levels from its own on.
@@ -270,26 +342,11 @@ fn object_type(
         (state_of names.old)) }
 {
     match word {
-        "record" => {
-            counted(names)?;
-            record_type(alloc, below, space, value, names)
-        }
-        "enum" => {
-            counted(names)?;
-            enum_type(alloc, space, value, names)
-        }
-        "fixed" => {
-            counted(names)?;
-            fixed_type(alloc, space, value, names)
-        }
-        "array" => {
-            counted(names)?;
-            array_type(alloc, below, space, value, names)
-        }
-        "map" => {
-            counted(names)?;
-            map_type(alloc, below, space, value, names)
-        }
+        "record" => record_type(alloc, below, space, value, names),
+        "enum" => enum_type(alloc, space, value, names),
+        "fixed" => fixed_type(alloc, space, value, names),
+        "array" => array_type(alloc, below, space, value, names),
+        "map" => map_type(alloc, below, space, value, names),
         _ => other_type(alloc, below + 1, space, value, word, names),
     }
 }
@@ -308,11 +365,8 @@ fn other_type(
         (state_of names.old)) }
 {
     match primitive(word) {
-        Some(shape) => {
-            counted(names)?;
-            Ok(annotated(alloc, value, shape)?)
-        }
-        None => used_name(alloc, left, &full_name(alloc, space, word)?, names),
+        Some(shape) => one_type(annotated(alloc, value, shape)?, names),
+        None => named_type(alloc, left, space, word, names),
     }
 }
 
@@ -326,15 +380,16 @@ fn array_type(
 ) -> Reading<Schema>
     requires { below < 64 }
     ensures { Gives (λ s. (tree_of s, state_of names.new)) result
-        (array_type_of (type_at below) space.now (view value.now) (state_of names.old)) }
+        (and_then (counted_by (state_of names.old))
+        (array_type_of (type_at below) space.now (view value.now))) }
 {
+    counted(names)?;
     let Some(items) = value.get("items") else {
         return Err(bad());
     };
     let inner = any_type(alloc, below, space, items, names)?;
     let element_id = id_of(value, "element-id")?;
-    let items = Box::new(alloc, inner)?;
-    Ok(annotated(alloc, value, Shape::Array { items, element_id })?)
+    Ok(array_of(alloc, value, inner, element_id)?)
 }
 
 #[cycle(types)]
@@ -347,21 +402,17 @@ fn map_type(
 ) -> Reading<Schema>
     requires { below < 64 }
     ensures { Gives (λ s. (tree_of s, state_of names.new)) result
-        (map_type_of (type_at below) space.now (view value.now) (state_of names.old)) }
+        (and_then (counted_by (state_of names.old))
+        (map_type_of (type_at below) space.now (view value.now))) }
 {
+    counted(names)?;
     let Some(values) = value.get("values") else {
         return Err(bad());
     };
     let inner = any_type(alloc, below, space, values, names)?;
     let key_id = id_of(value, "key-id")?;
     let value_id = id_of(value, "value-id")?;
-    let values = Box::new(alloc, inner)?;
-    let shape = Shape::Map {
-        values,
-        key_id,
-        value_id,
-    };
-    Ok(annotated(alloc, value, shape)?)
+    Ok(map_of(alloc, value, inner, key_id, value_id)?)
 }
 
 #[cycle(types)]
@@ -374,14 +425,16 @@ fn record_type(
 ) -> Reading<Schema>
     requires { below < 64 }
     ensures { Gives (λ s. (tree_of s, state_of names.new)) result
-        (record_type_of (type_at below) space.now (view value.now) (state_of names.old)) }
+        (and_then (counted_by (state_of names.old))
+        (record_type_of (type_at below) space.now (view value.now))) }
 {
+    counted(names)?;
     let name = new_name(alloc, space, value, names)?;
     let Some(list) = list_of(value, "fields") else {
         return Err(bad());
     };
     let depth = names.open_names.len();
-    names.open_names.push(name.copy(alloc)?)?;
+    open_name(alloc, names, &name)?;
     let fields = field_list(alloc, below, namespace_of(name.as_str()), list, names)?;
     names.open_names.truncate(depth);
     named_record(alloc, value, name, fields, names)
@@ -405,9 +458,7 @@ fn named_record(
         name: name.copy(alloc)?,
         fields,
     };
-    let schema = annotated(alloc, value, shape)?;
-    define(alloc, names, &name, &schema)?;
-    Ok(schema)
+    Ok(defined(alloc, value, &name, shape, names)?)
 }
 
 /// A record's fields.
@@ -449,9 +500,9 @@ fn field_type(
     let Some(inner) = value.get("type") else {
         return Err(bad());
     };
+    let name = Text::from_str(alloc, name)?;
     let schema = any_type(alloc, below, space, inner, names)?;
     let field_id = id_of(value, "field-id")?;
-    let name = Text::from_str(alloc, name)?;
     Ok(Field {
         name,
         schema,

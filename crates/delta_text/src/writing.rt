@@ -1,11 +1,11 @@
 //! Writing a commit.
 
-ghost use Rattle.std.specs.Prelude.{◌≡◌, ◌≤◌, ◌++◌, IfOk, IfErr, OnOk, IfSome, Ok, false, option_to_list, flat_map, map, FitsSigned};
+ghost use Rattle.std.specs.Prelude.{◌≡◌, ◌≤◌, ◌++◌, IfOk, IfErr, codes, OnOk, IfSome, Ok, false, option_to_list, flat_map, map, FitsSigned};
 ghost use Rattle.std.specs.Int.{w64};
 ghost use Rattle.table_history.specs.Path.{IsPath};
 ghost use Rattle.partition_map.specs.UriPath.{inside_table, uri_path};
 ghost use Rattle.std.specs.List.{AllByRecursion};
-ghost use Rattle.serde_json.specs.Data.{depth};
+ghost use Rattle.serde_json.specs.Data.{depth, member, no_members, object, put, string};
 ghost use Rattle.serde_json.specs.Read.{max_depth};
 ghost use Rattle.serde_json.specs.View.{view, members_view};
 ghost use Rattle.serde_json.specs.Written.{compact_text, has_float};
@@ -19,10 +19,12 @@ ghost use Rattle.delta_text.specs.Writing.{only_member, put_texts, protocol_data
 ghost use Rattle.delta_text.specs.Again.{HasReadableStats, HasReadableUri, IsProtocolAgain, IsFileAgain, HasReadableParts};
 
 use delta_log::{DeltaCommit, DeltaError, FileAction, MetaData, Protocol};
-use json_reading::{json_text, nullable_texts_object, texts_array, texts_object};
+use json_reading::{
+    json_text, nullable_texts_object, texts_array, texts_object, with_member, with_text,
+};
 use lake_basics::{Blob, Items, Text};
 use partition_map::encode_uri_path;
-use serde_json::{Map, Value, json};
+use serde_json::{Map, Value};
 use std::alloc::{AllocError, Global};
 
 // ---- the JSON of each line
@@ -30,9 +32,7 @@ use std::alloc::{AllocError, Global};
 fn only_member(alloc: Global, name: &str, value: Value) -> Result<Value, AllocError>
     ensures { IfOk result (λ v. view v ≡ only_member name.now (view value)) }
 {
-    let mut map = Map::new(alloc);
-    serde_json::put(&mut map, alloc, name, value)?;
-    Ok(Value::Object(map))
+    Ok(Value::Object(with_member(alloc, Map::new(alloc), name, value)?))
 }
 
 fn put_texts(
@@ -76,24 +76,33 @@ fn protocol_value(alloc: Global, protocol: &Protocol) -> Result<Value, AllocErro
     only_member(alloc, "protocol", Value::Object(map))
 }
 
+fn format_value(alloc: Global) -> Result<Value, AllocError>
+    ensures { IfOk result (λ v. view v ≡ object (member (codes "options") (object no_members)
+        (member (codes "provider") (string (codes "parquet")) no_members))) }
+{
+    let options = Value::Object(Map::new(alloc));
+    let members = with_member(alloc, Map::new(alloc), "options", options)?;
+    let members = with_text(alloc, members, "provider", "parquet")?;
+    Ok(Value::Object(members))
+}
+
 fn meta_data_value(alloc: Global, meta: &MetaData) -> Result<Value, AllocError>
     ensures { IfOk result (λ v. view v ≡ meta_data_data meta.now) }
 {
     let configuration = texts_object(alloc, meta.configuration.as_slice())?;
+    let members = with_member(alloc, Map::new(alloc), "configuration", configuration)?;
     let columns = texts_array(alloc, meta.partition.as_slice())?;
-    json!(in alloc; {"metaData": {
-        "configuration": configuration,
-        "format": {"options": {}, "provider": "parquet"},
-        "id": meta.id.as_str(),
-        "partitionColumns": columns,
-        "schemaString": meta.schema.as_str(),
-    }})
+    let members = with_member(alloc, members, "partitionColumns", columns)?;
+    let members = with_member(alloc, members, "format", format_value(alloc)?)?;
+    let members = with_text(alloc, members, "id", meta.id.as_str())?;
+    let members = with_text(alloc, members, "schemaString", meta.schema.as_str())?;
+    only_member(alloc, "metaData", Value::Object(members))
 }
 
 fn stats_value(alloc: Global, count: u64) -> Result<Value, AllocError>
     ensures { IfOk result (λ v. view v ≡ stats_data count) }
 {
-    json!(in alloc; {"numRecords": count})
+    only_member(alloc, "numRecords", Value::from(count))
 }
 
 /// The statistics of a file with this many records.
@@ -127,24 +136,22 @@ fn add_value(
     ensures { IfOk result (λ v. view v
         ≡ add_data now_ms uri.now (view values) size stats.now) }
 {
-    json!(in alloc; {"add": {
-        "dataChange": true,
-        "modificationTime": now_ms,
-        "partitionValues": values,
-        "path": uri,
-        "size": size,
-        "stats": stats,
-    }})
+    let members = with_member(alloc, Map::new(alloc), "partitionValues", values)?;
+    let members = with_member(alloc, members, "dataChange", Value::Bool(true))?;
+    let members = with_member(alloc, members, "modificationTime", Value::from(now_ms))?;
+    let members = with_text(alloc, members, "path", uri)?;
+    let members = with_member(alloc, members, "size", Value::from(size))?;
+    let members = with_text(alloc, members, "stats", stats)?;
+    only_member(alloc, "add", Value::Object(members))
 }
 
 fn remove_value(alloc: Global, uri: &str, now_ms: u64) -> Result<Value, AllocError>
     ensures { IfOk result (λ v. view v ≡ remove_data now_ms uri.now) }
 {
-    json!(in alloc; {"remove": {
-        "dataChange": true,
-        "deletionTimestamp": now_ms,
-        "path": uri,
-    }})
+    let members = with_member(alloc, Map::new(alloc), "dataChange", Value::Bool(true))?;
+    let members = with_member(alloc, members, "deletionTimestamp", Value::from(now_ms))?;
+    let members = with_text(alloc, members, "path", uri)?;
+    only_member(alloc, "remove", Value::Object(members))
 }
 
 fn file_value(alloc: Global, file: &FileAction, now_ms: u64) -> Result<Value, AllocError>

@@ -1,6 +1,6 @@
 //! Completed instants.
 
-ghost use Rattle.std.specs.Prelude.{◌≡◌, ◌++◌, [], Ok, Some, IfOk, IsErrOf, codes, option_map, option_to_list};
+ghost use Rattle.std.specs.Prelude.{◌≡◌, ◌++◌, ◌∷◌, [], Ok, Some, IfOk, IsErrOf, codes, option_map, option_to_list};
 ghost use Rattle.serde_json.specs.Find.{get};
 ghost use Rattle.json_outline.specs.View.{view, items_view, members_view, sorted_view};
 ghost use Rattle.json_reading.specs.Json.{items, pairs, present, text, json};
@@ -10,7 +10,7 @@ ghost use Rattle.serde_json.specs.Data.{Data};
 ghost use Rattle.hudi_instant.specs.InstantGrammar.{StatesInstant, mark_in};
 ghost use Rattle.hudi_instant.specs.InstantText.{IsSound};
 ghost use Rattle.hudi_instant.specs.declared.instant.Instant.{Instant};
-ghost use Rattle.hudi_instant.specs.Instants.{size_number, text_member, data_path, within_actions, size, stat, with_stats, with_partitions, with_ids, with_replaced, replaced, extra_text, instant, json_instant};
+ghost use Rattle.hudi_instant.specs.Instants.{size_number, text_member, data_path, within_actions, size, stat, stat_at, with_stats, with_partitions, with_ids, with_replaced, replaced, extra_text, instant, json_instant};
 
 use hudi_names::{HudiError, MALFORMED};
 use json::Scratch;
@@ -19,7 +19,7 @@ use json_outline::{
 };
 use lake_basics::limits::MAX_ACTIONS;
 use lake_basics::{Items, ReadError, Text};
-use std::alloc::Global;
+use std::alloc::{AllocError, Global};
 use table_history::{LimitKind, path_form_of_any_length};
 
 /// A file that an instant wrote.
@@ -41,25 +41,29 @@ pub struct Instant {
     pub mark: Option<Text>,
 }
 
+fn str_in<'a>(value: &'a Node<'_>) -> Result<&'a str, HudiError>
+    ensures { GivesBy (λ s. s.now) result (text malformed (view value.now)) }
+{
+    value.as_str().ok_or(MALFORMED)
+}
+
 fn text_in(alloc: Global, value: &Node<'_>) -> Result<Text, HudiError>
     ensures { Gives result (text malformed (view value.now)) }
 {
-    let text = value.as_str().ok_or(MALFORMED)?;
-    Ok(Text::from_str(alloc, text)?)
+    Ok(Text::from_str(alloc, str_in(value)?)?)
 }
 
-fn required_text(alloc: Global, value: &Node<'_>, name: &str) -> Result<Text, HudiError>
-    ensures { Gives result (text_member name.now (view value.now)) }
+fn required_str<'a>(value: &'a Node<'_>, name: &str) -> Result<&'a str, HudiError>
+    ensures { GivesBy (λ s. s.now) result (text_member name.now (view value.now)) }
 {
-    let member = value.get(name).ok_or(MALFORMED)?;
-    text_in(alloc, member)
+    str_in(value.get(name).ok_or(MALFORMED)?)
 }
 
 /// The path of a data file, which may yet be too long.
-fn data_path(alloc: Global, value: &Node<'_>) -> Result<Text, HudiError>
-    ensures { Gives result (data_path (view value.now)) }
+fn data_path<'a>(value: &'a Node<'_>) -> Result<&'a str, HudiError>
+    ensures { GivesBy (λ s. s.now) result (data_path (view value.now)) }
 {
-    let path = text_in(alloc, value)?;
+    let path = str_in(value)?;
     if path_form_of_any_length(path.as_bytes()) {
         Ok(path)
     } else {
@@ -84,6 +88,31 @@ fn size_of_stat(value: &Node<'_>) -> Result<u64, HudiError>
     }
 }
 
+fn stat_with(
+    alloc: Global,
+    file_id: &str,
+    partition_path: &str,
+    path: &str,
+    writes: u64,
+    size: u64,
+) -> Result<Stat, AllocError>
+    ensures { IfOk result (λ s. s ≡ record {
+      file_id = file_id.now;
+      partition_path = partition_path.now;
+      path = path.now;
+      writes = writes;
+      size = size;
+    }) }
+{
+    Ok(Stat {
+        file_id: Text::from_str(alloc, file_id)?,
+        partition_path: Text::from_str(alloc, partition_path)?,
+        path: Text::from_str(alloc, path)?,
+        writes,
+        size,
+    })
+}
+
 /// The write stat, or None where it names no file.
 #[tactic(auto, unfolding(crate::specs::Instants::stat))]
 fn stat_of(alloc: Global, value: &Node<'_>) -> Result<Option<Stat>, HudiError>
@@ -92,22 +121,24 @@ fn stat_of(alloc: Global, value: &Node<'_>) -> Result<Option<Stat>, HudiError>
     if !value.is_object() {
         return Err(MALFORMED);
     }
-    let Some(path) = present_of(value, "path") else {
-        return Ok(None);
-    };
-    let path = data_path(alloc, path)?;
-    let file_id = required_text(alloc, value, "fileId")?;
-    let partition_path = required_text(alloc, value, "partitionPath")?;
+    match present_of(value, "path") {
+        None => Ok(None),
+        Some(path) => stat_at(alloc, value, path),
+    }
+}
+
+/// The write stat of the file at this path.
+fn stat_at(alloc: Global, value: &Node<'_>, path: &Node<'_>) -> Result<Option<Stat>, HudiError>
+    ensures { Gives result (stat_at (view value.now) (Some (view path.now))) }
+{
+    let path = data_path(path)?;
+    let file_id = required_str(value, "fileId")?;
+    let partition_path = required_str(value, "partitionPath")?;
     let writes = value.get("numWrites").ok_or(MALFORMED)?;
     let writes = size_in(writes).ok_or(MALFORMED)?;
     let size = size_of_stat(value)?;
-    Ok(Some(Stat {
-        file_id,
-        partition_path,
-        path,
-        writes,
-        size,
-    }))
+    let stat = stat_with(alloc, file_id, partition_path, path, writes, size)?;
+    Ok(Some(stat))
 }
 
 fn push_if_any(stats: Items<Stat>, stat: Option<Stat>) -> Result<Items<Stat>, HudiError>
@@ -152,6 +183,20 @@ fn stats_of(alloc: Global, members: &Members<'_>) -> Result<Items<Stat>, HudiErr
     stats_in(alloc, &sorted_members(alloc, members)?)
 }
 
+fn with_id(
+    alloc: Global,
+    replaced: Items<(Text, Text)>,
+    partition: &str,
+    id: Text,
+) -> Result<Items<(Text, Text)>, AllocError>
+    ensures { IfOk result (λ found. found ≡ replaced ++ (partition.now, id) ∷ []) }
+{
+    let mut found = replaced;
+    let partition = Text::from_str(alloc, partition)?;
+    found.push((partition, id))?;
+    Ok(found)
+}
+
 fn with_ids(
     alloc: Global,
     replaced: Items<(Text, Text)>,
@@ -163,8 +208,7 @@ fn with_ids(
     let mut found = replaced;
     for value in list {
         let id = text_in(alloc, value)?;
-        let partition = Text::from_str(alloc, partition)?;
-        found.push((partition, id))?;
+        found = with_id(alloc, found, partition, id)?;
     }
     Ok(found)
 }

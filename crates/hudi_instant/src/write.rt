@@ -3,7 +3,7 @@
 ghost use Rattle.std.specs.Prelude.{◌≡◌, ◌<◌, ◌≤◌, ◌∷◌, List, ℕ, length, map, false, Ok, IfOk, IfErr, OnOk};
 ghost use Rattle.std.specs.List.{prefix_len};
 ghost use Rattle.std.specs.Str.{bytes_eq};
-ghost use Rattle.serde_json.specs.Data.{Data, array, object, no_members, depth};
+ghost use Rattle.serde_json.specs.Data.{Data, array, number, unsigned, object, no_members, put, depth};
 ghost use Rattle.serde_json.specs.Read.{max_depth};
 ghost use Rattle.serde_json.specs.View.{view, items_of, members_view};
 ghost use Rattle.serde_json.specs.Written.{compact_text, has_float};
@@ -13,10 +13,23 @@ ghost use Rattle.hudi_instant.specs.InstantText.{stat_data, id_data, runs_by, ar
 
 use crate::instant::{Instant, Stat};
 use hudi_names::HudiError;
-use json_reading::text_value;
+use json_reading::{text_value, with_member, with_text};
 use lake_basics::{Blob, Text};
-use serde_json::{Map, Value, json};
+use serde_json::{Map, Value};
 use std::alloc::{AllocError, Global};
+
+/// The members with a whole number.
+fn with_number(
+    alloc: Global,
+    members: Map<String, Value>,
+    name: &str,
+    count: u64,
+) -> Result<Map<String, Value>, AllocError>
+    ensures { IfOk result (λ m. members_view m.entries
+        ≡ put name.now (number (unsigned count)) (members_view members.entries)) }
+{
+    with_member(alloc, members, name, Value::from(count))
+}
 
 /// What stands in an array under the name of its partition.
 trait InPartition {
@@ -41,19 +54,24 @@ impl InPartition for Stat {
     }
 
     fn value(&self, alloc: Global) -> Result<Value, AllocError> {
-        json!(in alloc; {
-            "fileId": self.file_id.as_str(),
-            "fileSizeInBytes": self.size,
-            "numDeletes": 0,
-            "numInserts": self.writes,
-            "numUpdateWrites": 0,
-            "numWrites": self.writes,
-            "partitionPath": self.partition_path.as_str(),
-            "path": self.path.as_str(),
-            "prevCommit": "null",
-            "totalWriteBytes": self.size,
-            "totalWriteErrors": 0,
-        })
+        let members = Map::new(alloc);
+        let members = with_text(alloc, members, "fileId", self.file_id.as_str())?;
+        let members = with_number(alloc, members, "fileSizeInBytes", self.size)?;
+        let members = with_number(alloc, members, "numDeletes", 0)?;
+        let members = with_number(alloc, members, "numInserts", self.writes)?;
+        let members = with_number(alloc, members, "numUpdateWrites", 0)?;
+        let members = with_number(alloc, members, "numWrites", self.writes)?;
+        let members = with_text(
+            alloc,
+            members,
+            "partitionPath",
+            self.partition_path.as_str(),
+        )?;
+        let members = with_text(alloc, members, "path", self.path.as_str())?;
+        let members = with_text(alloc, members, "prevCommit", "null")?;
+        let members = with_number(alloc, members, "totalWriteBytes", self.size)?;
+        let members = with_number(alloc, members, "totalWriteErrors", 0)?;
+        Ok(Value::Object(members))
     }
 }
 
@@ -170,13 +188,12 @@ fn whole_value(
 ) -> Result<Value, AllocError>
     ensures { IfOk result (λ v. view v ≡ whole_data (view extra) (view replaced) (view stats)) }
 {
-    json!(in alloc; {
-        "compacted": false,
-        "extraMetadata": extra,
-        "operationType": "INSERT_OVERWRITE",
-        "partitionToReplaceFileIds": replaced,
-        "partitionToWriteStats": stats,
-    })
+    let members = with_member(alloc, Map::new(alloc), "extraMetadata", extra)?;
+    let members = with_member(alloc, members, "partitionToReplaceFileIds", replaced)?;
+    let members = with_member(alloc, members, "partitionToWriteStats", stats)?;
+    let members = with_member(alloc, members, "compacted", Value::Bool(false))?;
+    let members = with_text(alloc, members, "operationType", "INSERT_OVERWRITE")?;
+    Ok(Value::Object(members))
 }
 
 fn json_bytes(alloc: Global, value: &Value) -> Result<Vec<u8>, AllocError>

@@ -13,4 +13,5 @@ pub use member::{
 pub use reading::{read_json, read_json_text, text_from, text_member, texts_from};
 pub use writing::{
     json_text, nullable_texts_object, text_or_null, text_value, texts_array, texts_object,
+    with_member, with_text,
 };

@@ -1,7 +1,7 @@
 //! Texts and pairs as JSON values, and the compact text of a value.
 
 ghost use Rattle.std.specs.Prelude.{◌≡◌, ◌≤◌, IfOk, false};
-ghost use Rattle.serde_json.specs.Data.{string, array, object, no_members, depth};
+ghost use Rattle.serde_json.specs.Data.{string, array, object, no_members, put, depth};
 ghost use Rattle.serde_json.specs.Read.{max_depth};
 ghost use Rattle.serde_json.specs.View.{view, items_view, members_view};
 ghost use Rattle.serde_json.specs.Written.{compact_text, has_float};
@@ -43,6 +43,35 @@ pub fn texts_array(alloc: Global, texts: &[Text]) -> Result<Value, AllocError>
     ensures { IfOk result (λ v. view v ≡ array (texts_data texts.now)) }
 {
     Ok(Value::Array(texts_list(alloc, texts)?))
+}
+
+/// The members with this one. Of two with one name the later stands.
+pub fn with_member(
+    alloc: Global,
+    members: Map<String, Value>,
+    name: &str,
+    value: Value,
+) -> Result<Map<String, Value>, AllocError>
+    ensures { IfOk result (λ m. members_view m.entries
+        ≡ put name.now (view value) (members_view members.entries)) }
+{
+    let mut members = members;
+    serde_json::put(&mut members, alloc, name, value)?;
+    Ok(members)
+}
+
+/// The members with a text. Of two with one name the later stands.
+pub fn with_text(
+    alloc: Global,
+    members: Map<String, Value>,
+    name: &str,
+    text: &str,
+) -> Result<Map<String, Value>, AllocError>
+    ensures { IfOk result (λ m. members_view m.entries
+        ≡ put name.now (string text.now) (members_view members.entries)) }
+{
+    let value = text_value(alloc, text)?;
+    with_member(alloc, members, name, value)
 }
 
 fn texts_map(alloc: Global, pairs: &[(Text, Text)]) -> Result<Map<String, Value>, AllocError>

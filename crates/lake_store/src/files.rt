@@ -22,7 +22,7 @@ use std::marker::Model;
 use std::ops::Bound;
 
 /// The bytes of files, by their paths.
-#[derive(Debug, Drop)]
+#[derive(Drop)]
 pub struct FileMap {
     files: BTreeMap<String, Blob>,
 }
@@ -252,7 +252,7 @@ fn is_name(text: &str) -> bool
 }
 
 /// A set of paths.
-#[derive(Debug, Drop)]
+#[derive(Drop)]
 pub struct PathSet {
     paths: BTreeSet<String>,
 }

@@ -1,10 +1,10 @@
 //! A store in memory. It keeps what each call replaced, so that what a crash might have left at a
 //! past moment is known.
-ghost use Rattle.std.specs.Prelude.{◌≡◌, drop, take, IfOk, OnErr, OnOk};
+ghost use Rattle.std.specs.Prelude.{◌≡◌, List, ℕ, drop, take, IfOk, IsSome, None, OnErr, OnOk, Some};
 ghost use Rattle.std.specs.FinMap as map;
 ghost use Rattle.std.specs.FinSet as set;
 ghost use Rattle.lake_store.specs.Crash.{IsCrashed};
-ghost use Rattle.lake_store.specs.Disk.{MayLeave, stored};
+ghost use Rattle.lake_store.specs.Disk.{MayLeave, moved, stored, written};
 ghost use Rattle.lake_store.specs.Memory.{changed, empty_memory};
 
 use crate::files::{FileMap, PathSet};
@@ -18,7 +18,7 @@ use std::marker::Model;
 use std::mem;
 
 /// What a call replaced.
-#[derive(Debug, Drop)]
+#[derive(Drop)]
 pub enum Change {
     /// The file at a path, and whether the path was dirty.
     At {
@@ -104,6 +104,46 @@ impl MemoryStore {
         Ok(())
     }
 
+    // Sets the bytes of a file, which a crash may then damage.
+    fn write_over(&mut self, path: &str, bytes: &[u8]) -> Result<(), AllocError>
+        ensures ok { OnOk result
+            (self.new ≡ changed self.old (written self.old.disk path.now bytes.now)) }
+        ensures err { OnErr result (self.new ≡ self.old) }
+    {
+        let bytes = Blob::from_slice(self.alloc, bytes)?;
+        let changed = Text::from_str(self.alloc, path)?;
+        self.past.reserve(1)?;
+        let (bytes, dirty) = write_file(self.alloc, &mut self.files, &mut self.dirty, path, bytes)?;
+        self.past.push_front_reserved(Change::At {
+            path: changed,
+            bytes,
+            dirty,
+        });
+        Ok(())
+    }
+
+    // Moves a file to a path where there is none, durably.
+    fn rename(&mut self, from: &str, to: &str) -> Result<(), AllocError>
+        requires there { IsSome (map.get self.old.disk.files from.now) }
+        requires free { map.get self.old.disk.files to.now ≡ None }
+        ensures ok { OnOk result ((bytes : List ℕ)
+            × (map.get self.old.disk.files from.now ≡ Some bytes)
+            × (self.new ≡ changed self.old (moved self.old.disk from.now to.now bytes))) }
+        ensures err { OnErr result (self.new ≡ self.old) }
+    {
+        let moved_from = Text::from_str(self.alloc, from)?;
+        let moved_to = Text::from_str(self.alloc, to)?;
+        self.past.reserve(1)?;
+        self.files.rename(self.alloc, from, to)?;
+        let dirty = self.dirty.remove(to);
+        self.past.push_front_reserved(Change::Moved {
+            from: moved_from,
+            to: moved_to,
+            dirty,
+        });
+        Ok(())
+    }
+
     /// Becomes an image that a crash may leave: each dirty path, in byte order, follows its choice.
     pub fn crash(&mut self, alloc: Global, choices: &[u64]) -> Result<(), AllocError>
         ensures ok { OnOk result (IsCrashed self.old.disk choices.now self.new.disk) }
@@ -181,16 +221,7 @@ impl Store for MemoryStore {
     }
 
     fn write(&mut self, path: &str, bytes: &[u8]) -> Result<(), StoreError> {
-        let bytes = Blob::from_slice(self.alloc, bytes)?;
-        let changed = Text::from_str(self.alloc, path)?;
-        self.past.reserve(1)?;
-        let (bytes, dirty) = write_file(self.alloc, &mut self.files, &mut self.dirty, path, bytes)?;
-        self.past.push_front_reserved(Change::At {
-            path: changed,
-            bytes,
-            dirty,
-        });
-        Ok(())
+        Ok(self.write_over(path, bytes)?)
     }
 
     fn sync(&mut self) -> Result<(), StoreError> {
@@ -201,17 +232,7 @@ impl Store for MemoryStore {
     }
 
     fn publish(&mut self, from: &str, to: &str) -> Result<(), StoreError> {
-        let moved_from = Text::from_str(self.alloc, from)?;
-        let moved_to = Text::from_str(self.alloc, to)?;
-        self.past.reserve(1)?;
-        self.files.rename(self.alloc, from, to)?;
-        let dirty = self.dirty.remove(to);
-        self.past.push_front_reserved(Change::Moved {
-            from: moved_from,
-            to: moved_to,
-            dirty,
-        });
-        Ok(())
+        Ok(self.rename(from, to)?)
     }
 
     fn remove(&mut self, path: &str) -> Result<(), StoreError> {

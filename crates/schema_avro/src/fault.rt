@@ -3,7 +3,7 @@
 use lake_basics::ReadError;
 
 /// What is wrong with an Avro type: it is none of a column.
-#[derive(Clone, Copy, Debug, PartialEq, Eq)]
+#[derive(Clone, Copy)]
 pub(crate) enum TypeFault {
     NoRow,
 }

@@ -22,40 +22,45 @@ ghost use Rattle.schema_avro.specs.AvroWriting.{avro_data, avro_fields};
 ghost use Rattle.schema_avro.specs.AvroWriting.{avro_text, avro_schema_text, named_record_data};
 
 use crate::names::avro_columns;
-use json_reading::{json_text, text_value};
+use json_reading::{json_text, text_value, with_member, with_text};
 use lake_basics::Text;
 use schema_map::MapError;
-use serde_json::{Value, json};
+use serde_json::{Map, Value, json};
 use std::alloc::{AllocError, Global};
 use table_history::{Column, ColumnType, Schema};
 
 fn logical_json(alloc: Global, logical: &str, word: &str) -> Result<Value, AllocError>
     ensures { IfOk result (λ v. view v ≡ logical_data logical.now word.now) }
 {
-    json!(in alloc; {"logicalType": logical, "type": word})
+    let members = with_text(alloc, Map::new(alloc), "logicalType", logical)?;
+    let members = with_text(alloc, members, "type", word)?;
+    Ok(Value::Object(members))
 }
 
 fn decimal_json(alloc: Global, precision: u8, scale: u8) -> Result<Value, AllocError>
     ensures { IfOk result (λ v. view v ≡ decimal_data precision scale) }
 {
-    json!(in alloc; {
-        "logicalType": "decimal",
-        "precision": precision,
-        "scale": scale,
-        "type": "bytes",
-    })
+    let members = with_text(alloc, Map::new(alloc), "logicalType", "decimal")?;
+    let members = with_member(alloc, members, "precision", Value::from(precision))?;
+    let members = with_member(alloc, members, "scale", Value::from(scale))?;
+    let members = with_text(alloc, members, "type", "bytes")?;
+    Ok(Value::Object(members))
 }
 
 fn array_json(alloc: Global, items: Value) -> Result<Value, AllocError>
     ensures { IfOk result (λ v. view v ≡ items_data (view items)) }
 {
-    json!(in alloc; {"items": items, "type": "array"})
+    let members = with_member(alloc, Map::new(alloc), "items", items)?;
+    let members = with_text(alloc, members, "type", "array")?;
+    Ok(Value::Object(members))
 }
 
 fn map_json(alloc: Global, values: Value) -> Result<Value, AllocError>
     ensures { IfOk result (λ v. view v ≡ values_data (view values)) }
 {
-    json!(in alloc; {"type": "map", "values": values})
+    let members = with_member(alloc, Map::new(alloc), "values", values)?;
+    let members = with_text(alloc, members, "type", "map")?;
+    Ok(Value::Object(members))
 }
 
 fn record_name(alloc: Global, number: u64) -> Result<String, AllocError>
@@ -67,7 +72,10 @@ fn record_name(alloc: Global, number: u64) -> Result<String, AllocError>
 fn named_record_json(alloc: Global, name: &str, fields: Value) -> Result<Value, AllocError>
     ensures { IfOk result (λ v. view v ≡ named_record_data name.now (view fields)) }
 {
-    json!(in alloc; {"fields": fields, "name": name, "type": "record"})
+    let members = with_member(alloc, Map::new(alloc), "fields", fields)?;
+    let members = with_text(alloc, members, "name", name)?;
+    let members = with_text(alloc, members, "type", "record")?;
+    Ok(Value::Object(members))
 }
 
 fn record_json(alloc: Global, number: u64, fields: Value) -> Result<Value, AllocError>
@@ -97,13 +105,19 @@ fn nullable_json(alloc: Global, nullable: bool, kind: Value) -> Result<Value, Al
 fn optional_field_json(alloc: Global, name: &str, kind: Value) -> Result<Value, AllocError>
     ensures { IfOk result (λ v. view v ≡ avro_field_data true name.now (view kind)) }
 {
-    json!(in alloc; {"default": null, "name": name, "type": ["null", kind]})
+    let kind = optional_json(alloc, kind)?;
+    let members = with_member(alloc, Map::new(alloc), "type", kind)?;
+    let members = with_member(alloc, members, "default", Value::Null)?;
+    let members = with_text(alloc, members, "name", name)?;
+    Ok(Value::Object(members))
 }
 
 fn required_field_json(alloc: Global, name: &str, kind: Value) -> Result<Value, AllocError>
     ensures { IfOk result (λ v. view v ≡ avro_field_data false name.now (view kind)) }
 {
-    json!(in alloc; {"name": name, "type": kind})
+    let members = with_member(alloc, Map::new(alloc), "type", kind)?;
+    let members = with_text(alloc, members, "name", name)?;
+    Ok(Value::Object(members))
 }
 
 fn field_json(alloc: Global, nullable: bool, name: &str, kind: Value) -> Result<Value, AllocError>

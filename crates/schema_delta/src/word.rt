@@ -14,32 +14,20 @@ use table_history::ColumnType;
 fn delta_word_type(word: &str) -> Result<ColumnType, ReadError<Fault>>
     ensures { Gives type_view result (delta_word word.now) }
 {
-    if word == "boolean" {
-        Ok(ColumnType::Boolean)
-    } else if word == "byte" {
-        Ok(ColumnType::Byte)
-    } else if word == "short" {
-        Ok(ColumnType::Short)
-    } else if word == "integer" {
-        Ok(ColumnType::Int)
-    } else if word == "long" {
-        Ok(ColumnType::Long)
-    } else if word == "float" {
-        Ok(ColumnType::Float)
-    } else if word == "double" {
-        Ok(ColumnType::Double)
-    } else if word == "string" {
-        Ok(ColumnType::Text)
-    } else if word == "binary" {
-        Ok(ColumnType::Binary)
-    } else if word == "date" {
-        Ok(ColumnType::Date)
-    } else if word == "timestamp" {
-        Ok(ColumnType::Timestamp)
-    } else if word == "timestamp_ntz" {
-        Ok(ColumnType::TimestampNtz)
-    } else {
-        Err(SCHEMA_TYPE)
+    match word {
+        "boolean" => Ok(ColumnType::Boolean),
+        "byte" => Ok(ColumnType::Byte),
+        "short" => Ok(ColumnType::Short),
+        "integer" => Ok(ColumnType::Int),
+        "long" => Ok(ColumnType::Long),
+        "float" => Ok(ColumnType::Float),
+        "double" => Ok(ColumnType::Double),
+        "string" => Ok(ColumnType::Text),
+        "binary" => Ok(ColumnType::Binary),
+        "date" => Ok(ColumnType::Date),
+        "timestamp" => Ok(ColumnType::Timestamp),
+        "timestamp_ntz" => Ok(ColumnType::TimestampNtz),
+        _ => Err(SCHEMA_TYPE),
     }
 }
 

@@ -17,10 +17,10 @@ ghost use Rattle.schema_map.specs.Image.{image};
 ghost use Rattle.schema_map.specs.Errors.{is_memory};
 ghost use Rattle.lake_basics.specs.Outcome.{GivesUnlessMemory};
 
-use json_reading::{json_text, text_value};
+use json_reading::{json_text, text_value, with_member, with_text};
 use lake_basics::Text;
 use schema_map::{MapError, struct_json};
-use serde_json::{Value, json};
+use serde_json::{Map, Value};
 use std::alloc::{AllocError, Global};
 use table_history::{Column, ColumnType, Schema};
 
@@ -39,24 +39,30 @@ fn decimal_json(alloc: Global, precision: u8, scale: u8) -> Result<Value, AllocE
 fn list_json(alloc: Global, element: Value, nullable: bool) -> Result<Value, AllocError>
     ensures { IfOk result (λ v. view v ≡ list_data (view element) (boolean nullable)) }
 {
-    json!(in alloc; {"containsNull": nullable, "elementType": element, "type": "array"})
+    let members = with_member(alloc, Map::new(alloc), "elementType", element)?;
+    let members = with_member(alloc, members, "containsNull", Value::Bool(nullable))?;
+    let members = with_text(alloc, members, "type", "array")?;
+    Ok(Value::Object(members))
 }
 
 fn map_json(alloc: Global, key: Value, value: Value, nullable: bool) -> Result<Value, AllocError>
     ensures { IfOk result (λ v. view v ≡ map_data (view key) (view value) (boolean nullable)) }
 {
-    json!(in alloc; {
-        "keyType": key,
-        "type": "map",
-        "valueContainsNull": nullable,
-        "valueType": value,
-    })
+    let members = with_member(alloc, Map::new(alloc), "keyType", key)?;
+    let members = with_member(alloc, members, "valueType", value)?;
+    let members = with_member(alloc, members, "valueContainsNull", Value::Bool(nullable))?;
+    let members = with_text(alloc, members, "type", "map")?;
+    Ok(Value::Object(members))
 }
 
 fn column_json(alloc: Global, name: &str, kind: Value, nullable: bool) -> Result<Value, AllocError>
     ensures { IfOk result (λ v. view v ≡ column_data name.now (view kind) (boolean nullable)) }
 {
-    json!(in alloc; {"metadata": {}, "name": name, "nullable": nullable, "type": kind})
+    let members = with_member(alloc, Map::new(alloc), "type", kind)?;
+    let members = with_member(alloc, members, "metadata", Value::Object(Map::new(alloc)))?;
+    let members = with_text(alloc, members, "name", name)?;
+    let members = with_member(alloc, members, "nullable", Value::Bool(nullable))?;
+    Ok(Value::Object(members))
 }
 
 #[cycle(write)]

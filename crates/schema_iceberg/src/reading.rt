@@ -34,28 +34,18 @@ use table_history::{Column, ColumnType, Schema};
 fn word_type(word: &str) -> Result<ColumnType, ReadError<Fault>>
     ensures { Gives type_view result (iceberg_word word.now) }
 {
-    if word == "boolean" {
-        Ok(ColumnType::Boolean)
-    } else if word == "int" {
-        Ok(ColumnType::Int)
-    } else if word == "long" {
-        Ok(ColumnType::Long)
-    } else if word == "float" {
-        Ok(ColumnType::Float)
-    } else if word == "double" {
-        Ok(ColumnType::Double)
-    } else if word == "string" {
-        Ok(ColumnType::Text)
-    } else if word == "binary" {
-        Ok(ColumnType::Binary)
-    } else if word == "date" {
-        Ok(ColumnType::Date)
-    } else if word == "timestamptz" {
-        Ok(ColumnType::Timestamp)
-    } else if word == "timestamp" {
-        Ok(ColumnType::TimestampNtz)
-    } else {
-        Err(SCHEMA_TYPE)
+    match word {
+        "boolean" => Ok(ColumnType::Boolean),
+        "int" => Ok(ColumnType::Int),
+        "long" => Ok(ColumnType::Long),
+        "float" => Ok(ColumnType::Float),
+        "double" => Ok(ColumnType::Double),
+        "string" => Ok(ColumnType::Text),
+        "binary" => Ok(ColumnType::Binary),
+        "date" => Ok(ColumnType::Date),
+        "timestamptz" => Ok(ColumnType::Timestamp),
+        "timestamp" => Ok(ColumnType::TimestampNtz),
+        _ => Err(SCHEMA_TYPE),
     }
 }
 

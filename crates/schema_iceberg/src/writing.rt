@@ -18,9 +18,9 @@ ghost use Rattle.schema_iceberg.specs.IcebergWriting.{iceberg_list_data, iceberg
 ghost use Rattle.schema_iceberg.specs.IcebergWriting.{iceberg_field_data, iceberg_schema_data};
 ghost use Rattle.schema_iceberg.specs.IcebergWriting.{iceberg_data, iceberg_fields, iceberg_value};
 
-use json_reading::text_value;
+use json_reading::{text_value, with_member, with_text};
 use schema_map::{Ids, MapError, struct_json};
-use serde_json::{Value, json};
+use serde_json::{Map, Value};
 use std::alloc::{AllocError, Global};
 use table_history::{Column, ColumnType, Schema};
 
@@ -50,12 +50,11 @@ fn decimal_json(alloc: Global, precision: u8, scale: u8) -> Result<Value, AllocE
 fn list_json(alloc: Global, id: i32, element: Value, is_required: bool) -> Result<Value, AllocError>
     ensures { IfOk result (λ v. view v ≡ iceberg_list_data id (view element) is_required) }
 {
-    json!(in alloc; {
-        "element": element,
-        "element-id": id,
-        "element-required": is_required,
-        "type": "list",
-    })
+    let members = with_member(alloc, Map::new(alloc), "element", element)?;
+    let members = with_member(alloc, members, "element-id", Value::from(id))?;
+    let members = with_member(alloc, members, "element-required", Value::Bool(is_required))?;
+    let members = with_text(alloc, members, "type", "list")?;
+    Ok(Value::Object(members))
 }
 
 fn map_json(
@@ -69,14 +68,13 @@ fn map_json(
     ensures { IfOk result (λ v. view v
         ≡ iceberg_map_data key_id (view key) value_id (view value) is_required) }
 {
-    json!(in alloc; {
-        "key": key,
-        "key-id": key_id,
-        "type": "map",
-        "value": value,
-        "value-id": value_id,
-        "value-required": is_required,
-    })
+    let members = with_member(alloc, Map::new(alloc), "key", key)?;
+    let members = with_member(alloc, members, "value", value)?;
+    let members = with_member(alloc, members, "key-id", Value::from(key_id))?;
+    let members = with_member(alloc, members, "value-id", Value::from(value_id))?;
+    let members = with_member(alloc, members, "value-required", Value::Bool(is_required))?;
+    let members = with_text(alloc, members, "type", "map")?;
+    Ok(Value::Object(members))
 }
 
 fn field_json(
@@ -88,13 +86,20 @@ fn field_json(
 ) -> Result<Value, AllocError>
     ensures { IfOk result (λ v. view v ≡ iceberg_field_data id name.now (view kind) is_required) }
 {
-    json!(in alloc; {"id": id, "name": name, "required": is_required, "type": kind})
+    let members = with_member(alloc, Map::new(alloc), "type", kind)?;
+    let members = with_member(alloc, members, "id", Value::from(id))?;
+    let members = with_text(alloc, members, "name", name)?;
+    let members = with_member(alloc, members, "required", Value::Bool(is_required))?;
+    Ok(Value::Object(members))
 }
 
 fn schema_json(alloc: Global, fields: Value, schema_id: i32) -> Result<Value, AllocError>
     ensures { IfOk result (λ v. view v ≡ iceberg_schema_data (view fields) schema_id) }
 {
-    json!(in alloc; {"fields": fields, "schema-id": schema_id, "type": "struct"})
+    let members = with_member(alloc, Map::new(alloc), "fields", fields)?;
+    let members = with_member(alloc, members, "schema-id", Value::from(schema_id))?;
+    let members = with_text(alloc, members, "type", "struct")?;
+    Ok(Value::Object(members))
 }
 
 /// The word of a type without parts.
