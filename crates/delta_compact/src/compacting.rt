@@ -19,7 +19,7 @@ use std::alloc::Global;
 
 /// What was done: the newest version, how many log compactions were written and how many were kept,
 /// and the number of the table's live files at the newest version.
-#[derive(Clone, Copy, Debug, PartialEq, Eq)]
+#[derive(Clone, Copy)]
 pub struct Compacted {
     pub head: u64,
     pub written: u64,
@@ -28,7 +28,7 @@ pub struct Compacted {
 }
 
 /// How many log compactions were written, and how many were kept.
-#[derive(Clone, Copy, Debug)]
+#[derive(Clone, Copy)]
 struct Counts {
     written: u64,
     kept: u64,

@@ -12,7 +12,7 @@ use table_history::{Feature, LimitKind};
 use thiserror::Error;
 
 /// Why a Delta log wasn't compacted: the first cause in the order of the work.
-#[derive(Debug, Drop, PartialEq, Eq, Error)]
+#[derive(Debug, Drop, Error)]
 pub enum CompactFault {
     #[error("out of memory")]
     Memory,

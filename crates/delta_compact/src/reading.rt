@@ -23,7 +23,7 @@ use std::alloc::Global;
 use table_history::LimitKind;
 
 /// What the whole log says: its newest version, and the number of the table's live files there.
-#[derive(Clone, Copy, Debug)]
+#[derive(Clone, Copy)]
 pub(crate) struct WholeLog {
     pub(crate) newest: u64,
     pub(crate) files: u64,
@@ -60,16 +60,15 @@ pub(crate) fn read_whole<S: Store>(alloc: Global, store: &mut S) -> Result<Whole
         Ok(head) => head,
         Err(error) => return Err(source_fault(error)),
     };
-    let table = match source.whole(alloc, store, &head) {
-        Ok(table) => table,
-        Err(error) => return Err(source_fault(error)),
+    let Some(newest) = version_at(head.position.as_str()) else {
+        return Err(CompactFault::Absent);
     };
-    match version_at(head.position.as_str()) {
-        Some(newest) => Ok(WholeLog {
+    match source.whole(alloc, store, &head) {
+        Ok(table) => Ok(WholeLog {
             newest,
             files: table.rows.len() as u64,
         }),
-        None => Err(CompactFault::Absent),
+        Err(error) => Err(source_fault(error)),
     }
 }
 

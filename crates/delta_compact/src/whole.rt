@@ -1,13 +1,16 @@
 //! Reading a log with log compactions in place of the commits of their blocks.
 
 ghost use Rattle.std.specs.Bool.{Decides};
-ghost use Rattle.std.specs.Prelude.{◌≡◌, ◌≢◌, ◌<◌, ◌≤◌, ◌+◌, ◌*◌, ℕ, IfErr, IfOk, IfSome, IsErrOf, IsSome, MatchOption, None, Some};
+ghost use Rattle.std.specs.Prelude.{◌≡◌, ◌≢◌, ◌⊎◌, ◌<◌, ◌≤◌, ◌+◌, ◌*◌, ℕ, IfErr, IfOk, IfSome, IsErrOf, IsSome, MatchOption, None, Some};
 ghost use Rattle.std.specs.FinMap as map;
 ghost use Rattle.lake_basics.specs.declared.limits.TheConstants.{MAX_DELTA_VERSION};
 ghost use Rattle.lake_store.specs.Runs.{FailsBy, IsUncontestedBy, OnlyReads};
+ghost use Rattle.table_history.specs.Tables.{CanApply, IsAfter};
 ghost use Rattle.table_history.specs.Words.{limit_number};
 ghost use Rattle.table_history.specs.declared.kind.Kind.TheVariants.{Delta};
 ghost use Rattle.delta_change.specs.Change.{IsChangeRefusal, IsTableOfLog};
+ghost use Rattle.delta_change.specs.TableBehind.{table_before};
+ghost use Rattle.delta_log.specs.Readable.{IsReadableCommit, IsRefusal};
 ghost use Rattle.delta_log.specs.Sound.{IsSound};
 ghost use Rattle.delta_table.specs.Log.{IsTaken};
 ghost use Rattle.delta_table.specs.Versions.{HasVersion};
@@ -28,7 +31,7 @@ use lake_basics::limits::MAX_DELTA_VERSION;
 use lake_basics::{Blob, Text};
 use lake_store::{Store, StoreError};
 use std::alloc::{AllocError, Global};
-use table_history::{Feature, Kind, LimitKind, Table};
+use table_history::{Change, Feature, Kind, LimitKind, Table};
 
 /// What is told of a log that passes a number.
 fn limit(which: LimitKind) -> CompactFault
@@ -146,53 +149,81 @@ fn bytes_at<S: Store>(
     }
 }
 
-/// The table that the first commit makes.
-fn first_table(alloc: Global, commit: DeltaCommit) -> Result<Table, DeltaError>
-    requires { IsSound commit }
-    ensures taken { IfOk result (IsTaken commit None) }
-    ensures sound { IfOk result IsTableOfLog }
-    ensures refused { IfErr result (IsChangeRefusal commit None) }
+/// The table before the first commit: it has the commit's partition columns, and no row.
+fn table_before_first(alloc: Global, commit: &DeltaCommit) -> Result<Table, AllocError>
+    ensures { IfOk result (λ t. t ≡ table_before commit.now None) }
 {
-    let change = change_of(alloc, &commit, None)?;
-    let DeltaCommit { meta, .. } = commit;
-    let Some(meta) = meta else {
-        unreachable!();
+    let partition = match &commit.meta {
+        Some(meta) => meta.partition.as_slice(),
+        None => &[],
     };
-    let mut table = Table::empty(alloc, meta.partition.as_slice())?;
-    table.apply(alloc, &change)?;
+    Table::empty(alloc, partition)
+}
+
+/// The table after a change.
+fn table_after(alloc: Global, table: Table, change: &Change) -> Result<Table, DeltaError>
+    requires { CanApply table change.now }
+    ensures after { IfOk result (IsAfter table change.now) }
+    ensures memory { IfErr result (λ e. e ≡ DeltaError.Memory) }
+{
+    let mut table = table;
+    table.apply(alloc, change)?;
     Ok(table)
 }
 
-/// The table that a commit makes of the one before it.
-fn next_table(alloc: Global, table: Table, commit: DeltaCommit) -> Result<Table, DeltaError>
-    requires commit { IsSound commit }
-    requires table { IsTableOfLog table }
-    ensures taken { IfOk result (IsTaken commit (Some table)) }
+/// The table that the first commit makes.
+fn first_table(alloc: Global, commit: &DeltaCommit) -> Result<Table, DeltaError>
+    requires { IsSound commit.now }
+    ensures taken { IfOk result (IsTaken commit.now None) }
     ensures sound { IfOk result IsTableOfLog }
-    ensures refused { IfErr result (IsChangeRefusal commit (Some table)) }
+    ensures refused { IfErr result (IsChangeRefusal commit.now None) }
 {
-    let change = change_of(alloc, &commit, Some(&table))?;
-    let mut table = table;
-    table.apply(alloc, &change)?;
-    Ok(table)
+    let table = table_before_first(alloc, commit)?;
+    let change = change_of(alloc, commit, None)?;
+    table_after(alloc, table, &change)
+}
+
+/// The table that a commit makes of the one before it.
+fn next_table(alloc: Global, table: Table, commit: &DeltaCommit) -> Result<Table, DeltaError>
+    requires commit { IsSound commit.now }
+    requires table { IsTableOfLog table }
+    ensures taken { IfOk result (IsTaken commit.now (Some table)) }
+    ensures sound { IfOk result IsTableOfLog }
+    ensures refused { IfErr result (IsChangeRefusal commit.now (Some table)) }
+{
+    let change = change_of(alloc, commit, Some(&table))?;
+    table_after(alloc, table, &change)
 }
 
 /// The table that a commit makes of the one before it, if there is one.
 fn table_behind(
     alloc: Global,
     base: Option<Table>,
-    commit: DeltaCommit,
+    commit: &DeltaCommit,
 ) -> Result<Table, DeltaError>
-    requires commit { IsSound commit }
+    requires commit { IsSound commit.now }
     requires base { IfSome base IsTableOfLog }
-    ensures taken { IfOk result (IsTaken commit base) }
+    ensures taken { IfOk result (IsTaken commit.now base) }
     ensures sound { IfOk result IsTableOfLog }
-    ensures refused { IfErr result (IsChangeRefusal commit base) }
+    ensures refused { IfErr result (IsChangeRefusal commit.now base) }
 {
     match base {
         None => first_table(alloc, commit),
         Some(table) => next_table(alloc, table, commit),
     }
+}
+
+/// The table that the commit of these bytes makes of the one before it.
+fn table_behind_bytes(alloc: Global, base: Option<Table>, bytes: &[u8]) -> Result<Table, DeltaError>
+    requires { IfSome base IsTableOfLog }
+    ensures taken { IfOk result (λ next. (c : DeltaCommit) × IsReadableCommit bytes.now c
+        × IsTaken c base next) }
+    ensures sound { IfOk result IsTableOfLog }
+    ensures refused { IfErr result (λ e. IsRefusal bytes.now e ⊎ ((c : DeltaCommit)
+        × IsReadableCommit bytes.now c × IsChangeRefusal c base e)) }
+{
+    let commit = read_commit(alloc, bytes)?;
+    table_behind(alloc, base, &commit)
 }
 
 /// The table that the file at a path, which is there, makes of the one before it.
@@ -217,11 +248,7 @@ fn table_behind_file<S: Store>(
     let Some(bytes) = bytes_at(alloc, store, &path)? else {
         return Err(CompactFault::Malformed { path });
     };
-    let commit = match read_commit(alloc, bytes.as_slice()) {
-        Ok(commit) => commit,
-        Err(error) => return Err(file_fault(path, error)),
-    };
-    match table_behind(alloc, base, commit) {
+    match table_behind_bytes(alloc, base, bytes.as_slice()) {
         Ok(table) => Ok(table),
         Err(error) => Err(file_fault(path, error)),
     }

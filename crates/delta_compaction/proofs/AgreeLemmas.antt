@@ -1,5 +1,5 @@
 -- What a text that agrees with commits says, and when it agrees.
-use Rattle.std.proofs.Common.{◌≡◌, ℕ, ◌≤◌, List, length, Option, Some, None, Bool, true, false, Ok, Contains, refl, sym, ap, subst, ◌∙◌, arith}
+use Rattle.std.proofs.Common.{◌≡◌, ℕ, ◌≤◌, List, length, Option, Some, None, Bool, true, false, Result, Ok, Err, IfOk, Contains, refl, sym, ap, subst, ◌∙◌, arith}
 use Rattle.std.specs.Prelude.{IsTrue, option_to_list}
 use Rattle.std.specs.Bool.{Decides}
 use Rattle.std.specs.List.{list_any}
@@ -24,7 +24,7 @@ use Rattle.delta_log.specs.Judging.{commit_of, is_memory}
 use Rattle.delta_log.specs.Readable.{IsReadableCommit, IsRefusal, files}
 use Rattle.delta_log.proofs.ReadableLemmas.{fault_excluded, is_read}
 use Rattle.delta_compaction.specs.declared.key.LineKey.{LineKey}
-use Rattle.delta_compaction.specs.Agreeing.{Agrees, SaysSame, SaysThese}
+use Rattle.delta_compaction.specs.Agreeing.{Agrees, SaySame, SaysSame, SaysThese}
 use Rattle.delta_compaction.specs.Law.{StandsFor}
 use Rattle.delta_compaction.specs.Reconciled.{AreNewest, IsReconciled, text_of}
 use Rattle.delta_compaction.specs.Taken.{AreTaken}
@@ -103,11 +103,6 @@ module _ (commits : List (List ℕ)) (said : List DeltaCommit) (taken : AreTaken
       let few = a.readable.readable.few in
       omega (arith, le, one, other, len, few)
 
-  pub not_readable : (text : List ℕ) → text ≡ text_of entries → ((c : DeltaCommit) → IsReadableCommit text c → ⊥) → (compacted : List ℕ) → Agrees compacted commits → ⊥
-  not_readable text is none compacted a =
-      let read = (told_of commits said taken entries newest).text (few_told compacted a) in
-      none read.commit (subst (λ t. IsReadableCommit t read.commit) (sym is) read.readable)
-
   same_says : (joined stated : DeltaCommit) → SaysThese (told_of commits said taken entries newest).told joined → SaysSame joined stated → SaysThese (told_of commits said taken entries newest).told stated
   same_says joined stated says same = record {
     protocol = ap option_to_list (sym same.protocol) ∙ says.protocol;
@@ -122,7 +117,7 @@ module _ (commits : List (List ℕ)) (said : List DeltaCommit) (taken : AreTaken
     files = λ f. ((λ there. (other.files f).1 ((one.files f).0 there)), (λ there. (one.files f).1 ((other.files f).0 there)));
   }
 
-  pub agrees_by : (text compacted : List ℕ) (joined stated : DeltaCommit) → text ≡ text_of entries → IsReadableCommit text joined → IsReadableCommit compacted stated → (r : Bool) → Decides r (SaysSame joined stated) → Decides r (Agrees compacted commits)
+  agrees_by : (text compacted : List ℕ) (joined stated : DeltaCommit) → text ≡ text_of entries → IsReadableCommit text joined → IsReadableCommit compacted stated → (r : Bool) → Decides r (SaysSame joined stated) → Decides r (Agrees compacted commits)
   agrees_by text compacted joined stated is read readable r decides =
       let h = told_of commits said taken entries newest in
       let mine = h.says joined (subst (λ t. IsReadableCommit t joined) is read) in (
@@ -138,6 +133,21 @@ module _ (commits : List (List ℕ)) (said : List DeltaCommit) (taken : AreTaken
         (λ a. decides.1 (says_same joined stated mine (subst (SaysThese h.told) (commit_once compacted a.commit stated a.readable readable) (agreed compacted a)))),
       )
 
+  pub agrees_as : (text compacted : List ℕ) → text ≡ text_of entries → (r : Bool) → Decides r (SaySame text compacted) → Decides r (Agrees compacted commits)
+  agrees_as text compacted is r decides = (
+    (λ e. let s = decides.0 e in (agrees_by text compacted s.commit s.stated is s.read s.readable r ((λ again. s.same), (λ same. decides.1 s))).0 e),
+    (λ a.
+        let h = told_of commits said taken entries newest in
+        let read = h.text (few_told compacted a) in
+        decides.1 (record {
+          commit = read.commit;
+          read = subst (λ t. IsReadableCommit t read.commit) (sym is) read.readable;
+          stated = a.commit;
+          readable = a.readable;
+          same = says_same read.commit a.commit (h.says read.commit read.readable) (agreed compacted a);
+        })),
+  )
+
 -- what agrees stands for the commits
 pub agreeing_stands : (commits : List (List ℕ)) (compacted : List ℕ) → Agrees compacted commits → (said : List DeltaCommit) (c : DeltaCommit) → AreTaken commits said → IsReadableCommit compacted c → StandsFor said c
 agreeing_stands commits compacted a said c taken readable =
@@ -147,17 +157,33 @@ agreeing_stands commits compacted a said c taken readable =
 
 -- ---- the answer
 
-pub never_agrees : (commits : List (List ℕ)) (compacted : List ℕ) → (Agrees compacted commits → ⊥) → (IsTrue false → Agrees compacted commits) × (Agrees compacted commits → IsTrue false)
-never_agrees commits compacted none = ((λ same. absurd (false≢true same)), (λ a. absurd (none a)))
-
 abbrev HasSaid : List (List ℕ) → Type 0
 HasSaid commits = (said : List DeltaCommit) × AreTaken commits said
 
-pub never_read : (commits : List (List ℕ)) (text shown compacted : List ℕ) → (said : List DeltaCommit) × AreTaken commits said → IsReconciled commits text → shown ≡ text → ((c : DeltaCommit) → IsReadableCommit shown c → ⊥) → (IsTrue false → Agrees compacted commits) × (Agrees compacted commits → IsTrue false)
-never_read commits text shown compacted taken joined is none =
-    never_agrees commits compacted (λ a. not_readable commits taken.0 taken.1 joined.0 joined.1 shown (is ∙ joined.2) none compacted a)
+pub says_so : (commits : List (List ℕ)) (text shown compacted : List ℕ) → HasSaid commits → IsReconciled commits text → shown ≡ text → (r : Bool)
+    → (IsTrue r → SaySame shown compacted) × (SaySame shown compacted → IsTrue r) → (IsTrue r → Agrees compacted commits) × (Agrees compacted commits → IsTrue r)
+says_so commits text shown compacted taken joined is r decides = agrees_as commits taken.0 taken.1 joined.0 joined.1 shown compacted (is ∙ joined.2) r decides
 
-pub says_so : (commits : List (List ℕ)) (text shown compacted : List ℕ) → (said : List DeltaCommit) × AreTaken commits said → IsReconciled commits text → shown ≡ text → (one other : DeltaCommit) → IsReadableCommit shown one → IsReadableCommit compacted other → (r : Bool)
-    → (IsTrue r → SaysSame one other) × (SaysSame one other → IsTrue r) → (IsTrue r → Agrees compacted commits) × (Agrees compacted commits → IsTrue r)
-says_so commits text shown compacted taken joined is one other read readable r decides =
-    agrees_by commits taken.0 taken.1 joined.0 joined.1 shown compacted one other (is ∙ joined.2) read readable r decides
+-- ---- two texts
+
+abbrev IsSaidBy : List ℕ → DeltaCommit → Type 0
+IsSaidBy bytes c = (other : DeltaCommit) × IsReadableCommit bytes other × SaysSame c other
+
+pub said_by : (bytes : List ℕ) (c other : DeltaCommit) → IsReadableCommit bytes other → {E : Type 0} (result : Result Bool E) → IfOk result (λ r. (IsTrue r → SaysSame c other) × (SaysSame c other → IsTrue r))
+    → IfOk result (λ r. (IsTrue r → IsSaidBy bytes c) × (IsSaidBy bytes c → IsTrue r))
+said_by bytes c other readable (Ok r) decides = ((λ e. (other, readable, decides.0 e)), (λ h. decides.1 (subst (SaysSame c) (commit_once bytes h.0 other h.1 readable) h.2)))
+said_by bytes c other readable (Err e) decides = tt
+
+pub unsaid : (bytes : List ℕ) (c : DeltaCommit) → ((other : DeltaCommit) → IsReadableCommit bytes other → ⊥) → (IsTrue false → IsSaidBy bytes c) × (IsSaidBy bytes c → IsTrue false)
+unsaid bytes c none = ((λ same. absurd (false≢true same)), (λ h. absurd (none h.0 h.1)))
+
+pub both_say : (one other : List ℕ) (c : DeltaCommit) → IsReadableCommit one c → {E : Type 0} (result : Result Bool E) → IfOk result (λ r. (IsTrue r → IsSaidBy other c) × (IsSaidBy other c → IsTrue r))
+    → IfOk result (λ r. (IsTrue r → SaySame one other) × (SaySame one other → IsTrue r))
+both_say one other c read (Ok r) decides = (
+  (λ e. let h = decides.0 e in record { commit = c; read = read; stated = h.0; readable = h.1; same = h.2 }),
+  (λ s. decides.1 (s.stated, s.readable, subst (λ x. SaysSame x s.stated) (commit_once one s.commit c s.read read) s.same)),
+)
+both_say one other c read (Err e) decides = tt
+
+pub unread : (one other : List ℕ) → ((c : DeltaCommit) → IsReadableCommit one c → ⊥) → (IsTrue false → SaySame one other) × (SaySame one other → IsTrue false)
+unread one other none = ((λ same. absurd (false≢true same)), (λ s. absurd (none s.commit s.read)))

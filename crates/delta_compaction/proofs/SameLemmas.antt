@@ -1,6 +1,6 @@
 -- That two commits say the same.
 use Rattle.std.proofs.Common.{◌≡◌, ◌↔◌, ℕ, ℤ, List, [], Option, Some, None, Bool, true, false, Contains, refl, sym, ap, subst, ◌∙◌, ◌+◌, ◌<◌, length, get_or, Ordering, Less, Equal, Greater, is_eq, is_lt, nat_cmp, arith}
-use Rattle.std.specs.Prelude.{◌&&◌, IsTrue}
+use Rattle.std.specs.Prelude.{◌&&◌}
 use Rattle.std.specs.Ordering.{ordering_reverse}
 use Rattle.std.specs.Bool.{Decides}
 use Rattle.std.specs.Cmp.{IsStrictWeakOrder}
@@ -149,15 +149,15 @@ same_files xs ys a b r of_a of_b up_x up_y is =
       (λ h. decides.1 (same_rising file_path nat_list_cmp_total xs ys up_x up_y (λ f. ((λ there. (of_b f).1 ((h f).0 ((of_a f).0 there))), (λ there. (of_a f).1 ((h f).1 ((of_b f).0 there))))))),
     )
 
-pub says_same : (a b : DeltaCommit) (r : Bool) → protocol_eq a.protocol b.protocol ≡ true → meta_eq a.meta b.meta ≡ true → Decides r ((f : FileAction) → Contains a.files f ↔ Contains b.files f) → Decides r (SaysSame a b)
-says_same a b r p m decides =
-    ((λ e. record { protocol = (protocols_decide a.protocol b.protocol).0 p; meta = (metas_decide a.meta b.meta).0 m; files = decides.0 e }), (λ h. decides.1 h.files))
+same_parts : (a b : DeltaCommit) (table files : Bool) → table ≡ (protocol_eq a.protocol b.protocol && meta_eq a.meta b.meta) → Decides files ((f : FileAction) → Contains a.files f ↔ Contains b.files f) → Decides (table && files) (SaysSame a b)
+same_parts a b table files is decides =
+    let beside : Decides table ((a.protocol ≡ b.protocol) × (a.meta ≡ b.meta)) = subst (λ t. Decides t ((a.protocol ≡ b.protocol) × (a.meta ≡ b.meta))) (sym is) (Decides-and _ _ (protocols_decide a.protocol b.protocol) (metas_decide a.meta b.meta)) in
+    Decides-like (table && files) (λ (h : ((a.protocol ≡ b.protocol) × (a.meta ≡ b.meta)) × ((f : FileAction) → Contains a.files f ↔ Contains b.files f)). record { protocol = h.0.0; meta = h.0.1; files = h.1 })
+    (λ (h : SaysSame a b). ((h.protocol, h.meta), h.files)) (Decides-and table files beside decides)
 
-pub other_protocol : (a b : DeltaCommit) → protocol_eq a.protocol b.protocol ≡ false → SaysSame a b → ⊥
-other_protocol a b fails h = let holds = (protocols_decide a.protocol b.protocol).1 h.protocol in absurd (cc)
-
-pub other_meta : (a b : DeltaCommit) → meta_eq a.meta b.meta ≡ false → SaysSame a b → ⊥
-other_meta a b fails h = let holds = (metas_decide a.meta b.meta).1 h.meta in absurd (cc)
-
-pub never_same : (a b : DeltaCommit) → (SaysSame a b → ⊥) → (IsTrue false → SaysSame a b) × (SaysSame a b → IsTrue false)
-never_same a b none = ((λ same. absurd (false≢true same)), (λ h. absurd (none h)))
+-- the same of their file actions, given beside them
+pub says_same : (a b : DeltaCommit) (xs ys : List FileAction) → xs ≡ a.files → ys ≡ b.files → (table files : Bool) → table ≡ (protocol_eq a.protocol b.protocol && meta_eq a.meta b.meta) → Decides files ((f : FileAction) → Contains xs f ↔ Contains ys f)
+    → Decides (table && files) (SaysSame a b)
+says_same a b xs ys is_a is_b table files is decides =
+    same_parts a b table files is
+    (subst (λ (l : List FileAction). Decides files ((f : FileAction) → Contains a.files f ↔ Contains l f)) is_b (subst (λ (l : List FileAction). Decides files ((f : FileAction) → Contains l f ↔ Contains ys f)) is_a decides))

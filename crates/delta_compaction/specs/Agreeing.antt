@@ -31,3 +31,11 @@ pub record SaysSame (c d : DeltaCommit) : Type 0 where
   pub protocol : c.protocol ≡ d.protocol
   pub meta : c.meta ≡ d.meta
   pub files : (f : FileAction) → Contains c.files f ↔ Contains d.files f
+
+-- Both can be read, and say the same.
+pub record SaySame (one other : List ℕ) : Type 0 where
+  pub commit : DeltaCommit
+  pub read : IsReadableCommit one commit
+  pub stated : DeltaCommit
+  pub readable : IsReadableCommit other stated
+  pub same : SaysSame commit stated

@@ -9,7 +9,7 @@ use thiserror::Error;
 
 /// Why commits weren't joined: the first of them at fault, counted from 0, with its first line at
 /// fault, counted from 1.
-#[derive(Clone, Copy, Debug, PartialEq, Eq, Error)]
+#[derive(Clone, Copy, Debug, Error)]
 pub enum CompactError {
     #[error("out of memory")]
     Memory,

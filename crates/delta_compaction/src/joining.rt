@@ -5,7 +5,7 @@ ghost use Rattle.delta_log.specs.Judging.{is_memory};
 ghost use Rattle.delta_log.specs.Readable.{IsReadableCommit};
 ghost use Rattle.delta_log.specs.Sound.{IsSound};
 ghost use Rattle.delta_log.specs.declared.commit.DeltaCommit.{DeltaCommit};
-ghost use Rattle.delta_compaction.specs.Agreeing.{Agrees};
+ghost use Rattle.delta_compaction.specs.Agreeing.{Agrees, SaySame, SaysSame};
 ghost use Rattle.delta_compaction.specs.Law.{StandsFor};
 ghost use Rattle.delta_compaction.specs.Reconciled.{IsReconciled};
 ghost use Rattle.delta_compaction.specs.Taken.{AreTaken, IsJoinRefusal};
@@ -59,6 +59,28 @@ fn readable_commit(alloc: Global, bytes: &[u8]) -> Result<Option<DeltaCommit>, A
     }
 }
 
+/// Whether both can be read as commits, and say the same.
+fn say_same(alloc: Global, one: &[u8], other: &[u8]) -> Result<bool, AllocError>
+    ensures { IfOk result (λ same. IsTrue same ↔ SaySame one.now other.now) }
+{
+    match readable_commit(alloc, one)? {
+        Some(commit) => is_said_by(alloc, commit, other),
+        None => Ok(false),
+    }
+}
+
+/// Whether the bytes can be read as a commit, and say the same as this one.
+fn is_said_by(alloc: Global, commit: DeltaCommit, bytes: &[u8]) -> Result<bool, AllocError>
+    requires { IsSound commit }
+    ensures { IfOk result (λ same. IsTrue same
+        ↔ ((other : DeltaCommit) × IsReadableCommit bytes.now other × SaysSame commit other)) }
+{
+    match readable_commit(alloc, bytes)? {
+        Some(other) => is_same_commit(commit, other),
+        None => Ok(false),
+    }
+}
+
 /// Whether the text of a log compaction can be read as a commit, and says what the newest lines of
 /// these commits say (Delta protocol, "Log Compaction Files"): their protocol, their metadata, and
 /// their file actions in whatever order. Refused are commits that can't be joined.
@@ -71,11 +93,5 @@ pub fn agrees(alloc: Global, compacted: &[u8], commits: &[Blob]) -> Result<bool,
         → AreTaken commits.now said → IsReadableCommit compacted.now c → StandsFor said c) }
 {
     let text = reconcile(alloc, commits)?;
-    let Some(joined) = readable_commit(alloc, text.as_slice())? else {
-        return Ok(false);
-    };
-    let Some(stated) = readable_commit(alloc, compacted)? else {
-        return Ok(false);
-    };
-    Ok(is_same_commit(joined, stated)?)
+    Ok(say_same(alloc, text.as_slice(), compacted)?)
 }

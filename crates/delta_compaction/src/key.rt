@@ -4,7 +4,7 @@ use lake_basics::Text;
 
 /// What a line of a commit is about (Delta protocol, "Action Reconciliation"). Of the lines that are
 /// about the same the newest counts.
-#[derive(Debug, Drop, PartialEq, Eq, PartialOrd, Ord)]
+#[derive(Drop, PartialEq, Eq, PartialOrd, Ord)]
 pub enum LineKey {
     /// The protocol.
     Protocol,

@@ -15,7 +15,7 @@ use serde_json::{Map, Value};
 use std::alloc::{AllocError, Global};
 
 /// What becomes of a line.
-#[derive(Debug, Drop)]
+#[derive(Drop)]
 pub(crate) enum LineKind {
     /// It is about this, and stays until a newer line is.
     Kept(LineKey),
@@ -36,14 +36,10 @@ impl LineKind {
 fn is_known(name: &str) -> bool
     ensures { result ≡ is_known name.now }
 {
-    name == "protocol"
-        || name == "metaData"
-        || name == "add"
-        || name == "remove"
-        || name == "txn"
-        || name == "domainMetadata"
-        || name == "commitInfo"
-        || name == "cdc"
+    matches!(
+        name,
+        "protocol" | "metaData" | "add" | "remove" | "txn" | "domainMetadata" | "commitInfo" | "cdc"
+    )
 }
 
 /// Whether there are two members other than null, or one whose name isn't known.

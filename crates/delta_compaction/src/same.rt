@@ -1,6 +1,6 @@
 //! Whether two commits say the same.
 
-ghost use Rattle.std.specs.Prelude.{◌≡◌, ◌↔◌, IsTrue, IfOk, Contains};
+ghost use Rattle.std.specs.Prelude.{◌≡◌, ◌↔◌, ◌&&◌, IsTrue, IfOk, Contains};
 ghost use Rattle.std.specs.Cmp.Lexicographic.{slice_cmp};
 ghost use Rattle.std.specs.List.{IsDistinct};
 ghost use Rattle.std.specs.List.Sorted.{IsStrictlySortedBy};
@@ -112,6 +112,33 @@ fn sorted_files(files: Items<FileAction>) -> Result<Vec<FileAction>, AllocError>
     Ok(sorted)
 }
 
+/// Whether they are the same file actions in whatever order.
+fn have_same_files(a: Items<FileAction>, b: Items<FileAction>) -> Result<bool, AllocError>
+    requires a { IsDistinct bytes_eq (file_paths a) }
+    requires b { IsDistinct bytes_eq (file_paths b) }
+    ensures { IfOk result (λ same. IsTrue same
+        ↔ ((f : FileAction) → Contains a f ↔ Contains b f)) }
+{
+    let a = sorted_files(a)?;
+    let b = sorted_files(b)?;
+    Ok(are_same_files(a.as_slice(), b.as_slice()))
+}
+
+/// Whether the two have the same protocol and the same metadata.
+fn is_same_table(a: &DeltaCommit, b: &DeltaCommit) -> bool
+    ensures { result ≡ (protocol_eq a.now.protocol b.now.protocol
+        && meta_eq a.now.meta b.now.meta) }
+{
+    is_same_protocol(&a.protocol, &b.protocol) && is_same_meta(&a.meta, &b.meta)
+}
+
+/// The file actions of a commit.
+fn files_of(commit: DeltaCommit) -> Items<FileAction>
+    ensures { result ≡ commit.files }
+{
+    commit.files
+}
+
 /// Whether the two have the same protocol, the same metadata, and the same file actions in whatever
 /// order.
 pub(crate) fn is_same_commit(a: DeltaCommit, b: DeltaCommit) -> Result<bool, AllocError>
@@ -119,10 +146,7 @@ pub(crate) fn is_same_commit(a: DeltaCommit, b: DeltaCommit) -> Result<bool, All
     requires b { IsSound b }
     ensures { IfOk result (λ same. IsTrue same ↔ SaysSame a b) }
 {
-    if !is_same_protocol(&a.protocol, &b.protocol) || !is_same_meta(&a.meta, &b.meta) {
-        return Ok(false);
-    }
-    let a_files = sorted_files(a.files)?;
-    let b_files = sorted_files(b.files)?;
-    Ok(are_same_files(a_files.as_slice(), b_files.as_slice()))
+    let is_same_table = is_same_table(&a, &b);
+    let have_same_files = have_same_files(files_of(a), files_of(b))?;
+    Ok(is_same_table && have_same_files)
 }

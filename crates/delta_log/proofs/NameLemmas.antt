@@ -1,5 +1,5 @@
 -- The names of a JSON object's members are distinct.
-use Rattle.std.proofs.Common.{◌≡◌, ℕ, List, [], ◌∷◌, map, String, Less, false, Result, Ok, Err, refl, sym, ap, subst, ◌∙◌, is_eq, Global}
+use Rattle.std.proofs.Common.{◌≡◌, ℕ, List, [], ◌∷◌, ◌++◌, map, String, Less, false, Result, Ok, Err, refl, sym, ap, subst, ◌∙◌, is_eq, Global}
 use Rattle.std.proofs.lemmas.Map.Keys.{sorted_head, sorted_tail, IsDistinct-cons}
 use Rattle.std.proofs.lemmas.Map.Text.{is_eq-slice_cmp}
 use Rattle.std.specs.Prelude.{string_bytes, IfOk}
@@ -8,10 +8,11 @@ use Rattle.std.specs.List.Sorted.{IsStrictlySortedBy}
 use Rattle.std.specs.Str.{bytes_eq}
 use Rattle.std.specs.String.{string_cmp}
 use Rattle.serde_json.specs.Data.{Data}
-use Rattle.serde_json.specs.View.{members_view}
+use Rattle.serde_json.specs.View.{view, members_view}
 use Rattle.serde_json.specs.declared.value.Value.{Value}
 use Rattle.lake_basics.specs.declared.outcome.ReadError.{ReadError}
-use Rattle.lake_basics.specs.Outcome.{◌>>=◌, each, Gives}
+use Rattle.lake_basics.specs.Outcome.{◌>>=◌, each, with_front, Gives}
+use Rattle.lake_basics.proofs.Each.{with_front-push}
 use Rattle.json_reading.specs.Json.{pairs}
 use Rattle.delta_log.specs.declared.error.LineFault.{LineFault}
 use Rattle.delta_log.specs.Grammar.{keyed}
@@ -63,3 +64,12 @@ names_by g es (Err e) sorted is = tt
 pub none_distinct : {A : Type 0} (ps : List (List ℕ × A)) → ps ≡ [] → HaveDistinctNames ps
 unfolding IsDistinct
 none_distinct ps is = subst (λ l. HaveDistinctNames l) (sym is) tt
+
+-- ---- one member more
+
+-- what is read so far at a step of a loop over a map's members
+pub member_pushed : {A : Type 0} (g : Data → Result A LineFault) (left rest : List Entry) (e : Entry) (vs more : List (List ℕ × A)) (v : List ℕ × A) (all : Result (List (List ℕ × A)) LineFault) → left ≡ e ∷ rest → more ≡ vs ++ v ∷ [] → keyed g (string_bytes e.0, view e.1) ≡ Ok v
+    → with_front vs (each (keyed g) (pairs (members_view left))) ≡ all → with_front more (each (keyed g) (pairs (members_view rest))) ≡ all
+member_pushed g left rest e vs more v all next pushed read before =
+    let at_next : with_front vs (each (keyed g) (pairs (members_view (e ∷ rest)))) ≡ all = subst (λ (l : List Entry). with_front vs (each (keyed g) (pairs (members_view l))) ≡ all) next before in
+    rw pushed (with_front-push (keyed g) vs (string_bytes e.0, view e.1) (pairs (members_view rest)) v read ∙ at_next)

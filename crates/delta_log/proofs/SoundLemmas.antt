@@ -1,5 +1,5 @@
 -- Commits stay sound as they grow.
-use Rattle.std.proofs.Common.{◌≡◌, ◌<◌, List, [], ◌∷◌, length, None, false, Result, Ok, Err, sym, subst, length-append, nat_le, arith, IfOk}
+use Rattle.std.proofs.Common.{◌≡◌, ◌<◌, List, [], ◌∷◌, length, None, false, sym, subst, length-append, nat_le, arith}
 use Rattle.std.proofs.lemmas.Cmp.{nat_list_eq_equiv}
 use Rattle.std.proofs.lemmas.Grind.{common_steps}
 use Rattle.std.proofs.lemmas.List.{map-append}
@@ -8,11 +8,11 @@ use Rattle.std.proofs.lemmas.Map.Keys.{IsDistinct-push}
 use Rattle.std.specs.List.{IsDistinct}
 use Rattle.std.specs.Str.{bytes_eq}
 use Rattle.lake_basics.specs.declared.limits.TheConstants.{MAX_ACTIONS}
-use Rattle.lake_basics.specs.declared.outcome.ReadError.{ReadError}
-use Rattle.lake_basics.specs.Outcome.{Gives}
 use Rattle.delta_log.specs.declared.commit.DeltaCommit.{DeltaCommit}
 use Rattle.delta_log.specs.declared.commit.FileAction.{FileAction}
-use Rattle.delta_log.specs.declared.error.Fault.{Fault}
+use Rattle.delta_log.specs.declared.judging.Addition.{Addition}
+use Rattle.delta_log.specs.declared.judging.Addition.TheVariants as addition
+use Rattle.delta_log.specs.Adding.{IsSoundAddition, with_addition}
 use Rattle.delta_log.specs.Commit.{file_path, file_paths}
 use Rattle.delta_log.specs.Judging.{acts_on, with_new_file, no_lines}
 use Rattle.delta_log.specs.Sound.{IsSoundFile, IsWritable}
@@ -40,6 +40,10 @@ sound_more c f fits sound room new =
       few = rw length-append (omega arith);
     }
 
-pub sound_by : (r : Result DeltaCommit (ReadError Fault)) (d : DeltaCommit) → Gives (λ c. c) r (Ok d) → IsWritable d → IfOk r IsWritable
-sound_by (Ok c) d gives sound = let same : d ≡ c = cc in subst IsWritable same sound
-sound_by (Err e) d gives sound = tt
+pub sound_addition : (c : DeltaCommit) (a : Addition) → IsWritable c → IsSoundAddition c a → IsWritable (with_addition c a)
+sound_addition c addition.Nothing fits sound = fits
+sound_addition c (addition.Protocol p) fits sound =
+    record { sound = record { files = fits.sound.files; distinct = fits.sound.distinct; configuration = fits.sound.configuration }; protocol = sound; few = fits.few }
+sound_addition c (addition.MetaData m) fits sound =
+    record { sound = record { files = fits.sound.files; distinct = fits.sound.distinct; configuration = sound }; protocol = fits.protocol; few = fits.few }
+sound_addition c (addition.File f) fits sound = sound_more c f fits sound.0 sound.1.0 sound.1.1

@@ -4,7 +4,7 @@ use crate::commit::{MetaData, Protocol};
 use lake_basics::{Items, Text};
 
 /// The one action of a line as it is spelled, its path still a URI.
-#[derive(Debug, Drop)]
+#[derive(Drop)]
 pub enum LineAction {
     /// A blank line, or one whose members are all skipped.
     NoAction,

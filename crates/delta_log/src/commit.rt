@@ -7,7 +7,7 @@ use lake_basics::{Items, Text};
 
 /// The least versions of the protocol that a reader and a writer must follow, and the features that
 /// they must know, where lists of these are there.
-#[derive(Debug, Drop)]
+#[derive(Drop)]
 pub struct Protocol {
     pub reader: i64,
     pub writer: i64,
@@ -16,7 +16,7 @@ pub struct Protocol {
 }
 
 /// The table's id, the text of its schema, its partition columns in their order, and its settings.
-#[derive(Debug, Drop)]
+#[derive(Drop)]
 pub struct MetaData {
     pub id: Text,
     pub schema: Text,
@@ -26,7 +26,7 @@ pub struct MetaData {
 
 /// A file that comes to the table or leaves it. Its path is unescaped, its size is in bytes, and its
 /// count is that of its records.
-#[derive(Debug, Drop)]
+#[derive(Drop)]
 pub enum FileAction {
     Add {
         path: Text,
@@ -40,7 +40,7 @@ pub enum FileAction {
 }
 
 /// What one commit says, with its file actions in their order.
-#[derive(Debug, Drop)]
+#[derive(Drop)]
 pub struct DeltaCommit {
     pub protocol: Option<Protocol>,
     pub meta: Option<MetaData>,

@@ -9,14 +9,14 @@ use table_history::{Feature, LimitKind};
 use thiserror::Error;
 
 /// What is wrong with a line by itself.
-#[derive(Clone, Copy, Debug, PartialEq, Eq)]
+#[derive(Clone, Copy)]
 pub enum LineFault {
     /// It isn't in the grammar.
     Malformed,
 }
 
 /// What is wrong with a line behind other lines.
-#[derive(Clone, Copy, Debug, PartialEq, Eq)]
+#[derive(Clone, Copy)]
 pub enum Fault {
     Malformed,
     Unsupported(Feature),

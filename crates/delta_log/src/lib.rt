@@ -4,6 +4,7 @@
 mod action;
 mod commit;
 mod error;
+mod judging;
 mod line;
 mod name;
 mod place;

@@ -1,11 +1,11 @@
 //! Reading one line of a commit.
 
-ghost use Rattle.std.specs.Prelude.{◌≡◌, codes, true, option_map, IfOk, IfSome, IsSome};
+ghost use Rattle.std.specs.Prelude.{◌≡◌, codes, true, option_map, Ok, IfOk, IfSome, IsSome};
 ghost use Rattle.std.specs.List.{list_all};
 ghost use Rattle.serde_json.specs.Find.{get};
-ghost use Rattle.serde_json.specs.View.{view, members_view};
-ghost use Rattle.lake_basics.specs.Outcome.{Gives, each, required};
-ghost use Rattle.json_reading.specs.Json.{present, text_member, pairs};
+ghost use Rattle.serde_json.specs.View.{view, items_view, members_view};
+ghost use Rattle.lake_basics.specs.Outcome.{Gives, each, required, ◌>>=◌ as and_then};
+ghost use Rattle.json_reading.specs.Json.{count_member, items, present, text, text_member, pairs};
 ghost use Rattle.delta_log.specs.declared.error.LineFault.TheVariants.{Malformed};
 ghost use Rattle.delta_log.specs.Grammar.{text_or_null, setting, settings, partition_value, features, lists_features, needed_features, stated_count, record_count, is_space, line_action, object_action};
 ghost use Rattle.delta_log.specs.Grammar as grammar;
@@ -25,11 +25,10 @@ use std::alloc::Global;
 
 const MALFORMED: ReadError<LineFault> = ReadError::Fault(LineFault::Malformed);
 
-fn required_text(alloc: Global, value: &Value, name: &str) -> Result<Text, ReadError<LineFault>>
-    ensures { Gives (λ t. t) result (required Malformed (text_member name.now (view value.now))) }
+fn required_str<'a>(value: &'a Value, name: &str) -> Result<&'a str, ReadError<LineFault>>
+    ensures { Gives (λ s. s.now) result (required Malformed (text_member name.now (view value.now))) }
 {
-    let text = text_of(value, name).ok_or(MALFORMED)?;
-    Ok(Text::from_str(alloc, text)?)
+    text_of(value, name).ok_or(MALFORMED)
 }
 
 // ---- pairs
@@ -44,6 +43,17 @@ fn text_or_null_in(alloc: Global, value: &Value) -> Result<Option<Text>, ReadErr
     }
 }
 
+fn value_pair(
+    alloc: Global,
+    name: &str,
+    value: &Value,
+) -> Result<(Text, Option<Text>), ReadError<LineFault>>
+    ensures { Gives (λ p. p) result (partition_value (name.now, view value.now)) }
+{
+    let text = text_or_null_in(alloc, value)?;
+    Ok((Text::from_str(alloc, name)?, text))
+}
+
 fn values_in(
     alloc: Global,
     room: usize,
@@ -54,8 +64,7 @@ fn values_in(
 {
     let mut values = Items::from_vec(Vec::with_capacity(alloc, room)?);
     for (name, value) in members {
-        let name = Text::from_str(alloc, name.as_str())?;
-        values.push((name, text_or_null_in(alloc, value)?))?;
+        values.push(value_pair(alloc, name.as_str(), value)?)?;
     }
     Ok(values)
 }
@@ -71,6 +80,17 @@ fn values_of(
     values_in(alloc, members.len(), members)
 }
 
+fn setting_pair(
+    alloc: Global,
+    name: &str,
+    value: &Value,
+) -> Result<(Text, Text), ReadError<LineFault>>
+    ensures { Gives (λ p. p) result (setting (name.now, view value.now)) }
+{
+    let text = text_from(alloc, value, LineFault::Malformed)?;
+    Ok((Text::from_str(alloc, name)?, text))
+}
+
 fn settings_in(
     alloc: Global,
     members: &Map<String, Value>,
@@ -80,8 +100,7 @@ fn settings_in(
 {
     let mut values = Items::new(alloc);
     for (name, value) in members {
-        let name = Text::from_str(alloc, name.as_str())?;
-        values.push((name, text_from(alloc, value, LineFault::Malformed)?))?;
+        values.push(setting_pair(alloc, name.as_str(), value)?)?;
     }
     Ok(values)
 }
@@ -164,25 +183,49 @@ fn configuration_of(
     }
 }
 
+/// The metadata with this id and the text of this schema, and the value's lists.
+fn meta_data_with(
+    alloc: Global,
+    value: &Value,
+    id: &str,
+    schema: &str,
+    columns: &Vec<Value>,
+) -> Result<MetaData, ReadError<LineFault>>
+    ensures read { Gives (λ m. m) result
+        (and_then (each (text Malformed) (items (items_view columns.now.items))) (λ partition.
+        and_then (settings (get (codes "configuration") (view value.now))) (λ configuration.
+        Ok (record {
+          id = id.now;
+          schema = schema.now;
+          partition = partition;
+          configuration = configuration;
+        })))) }
+    ensures names { IfOk result (λ m. HaveDistinctNames m.configuration) }
+{
+    let id = Text::from_str(alloc, id)?;
+    let schema = Text::from_str(alloc, schema)?;
+    let partition = texts_from(alloc, columns, LineFault::Malformed)?;
+    let configuration = configuration_of(alloc, value)?;
+    Ok(MetaData {
+        id,
+        schema,
+        partition,
+        configuration,
+    })
+}
+
 #[tactic(auto, unfolding(crate::specs::Grammar::meta_data))]
 fn meta_data_of(alloc: Global, value: &Value) -> Result<LineAction, ReadError<LineFault>>
     ensures read { Gives (λ a. a) result (grammar.meta_data (view value.now)) }
     ensures sound { IfOk result IsSoundAction }
 {
-    let id = required_text(alloc, value, "id")?;
+    let id = required_str(value, "id")?;
     let format = value.get("format").ok_or(MALFORMED)?;
-    let provider = text_of(format, "provider").ok_or(MALFORMED)?;
-    let is_parquet = provider == "parquet";
-    let schema = required_text(alloc, value, "schemaString")?;
+    let provider = required_str(format, "provider")?;
+    let schema = required_str(value, "schemaString")?;
     let columns = list_of(value, "partitionColumns").ok_or(MALFORMED)?;
-    let partition = texts_from(alloc, columns, LineFault::Malformed)?;
-    let configuration = configuration_of(alloc, value)?;
-    let meta = MetaData {
-        id,
-        schema,
-        partition,
-        configuration,
-    };
+    let meta = meta_data_with(alloc, value, id, schema, columns)?;
+    let is_parquet = provider == "parquet";
     Ok(LineAction::MetaData { meta, is_parquet })
 }
 
@@ -215,16 +258,27 @@ fn record_count_of(alloc: Global, value: &Value) -> Result<Option<u64>, ReadErro
     }
 }
 
+/// The size in bytes, and the record count.
+fn counts_of(alloc: Global, value: &Value) -> Result<(u64, Option<u64>), ReadError<LineFault>>
+    ensures read { Gives (λ n. n) result
+        (and_then (required Malformed (count_member (codes "size") (view value.now))) (λ size.
+        and_then (record_count (view value.now)) (λ count. Ok (size, count)))) }
+    ensures small { IfOk result (λ n. IsCount n.0 × IfSome n.1 IsCount) }
+{
+    let size = count_of(value, "size").ok_or(MALFORMED)?;
+    Ok((size, record_count_of(alloc, value)?))
+}
+
 #[tactic(auto, unfolding(crate::specs::Grammar::add))]
 fn add_of(alloc: Global, value: &Value) -> Result<LineAction, ReadError<LineFault>>
     ensures read { Gives (λ a. a) result (grammar.add (view value.now)) }
     ensures sound { IfOk result IsSoundAction }
 {
-    let uri = required_text(alloc, value, "path")?;
+    let uri = required_str(value, "path")?;
     let members = object_of(value, "partitionValues").ok_or(MALFORMED)?;
     let values = values_of(alloc, members)?;
-    let size = count_of(value, "size").ok_or(MALFORMED)?;
-    let count = record_count_of(alloc, value)?;
+    let (size, count) = counts_of(alloc, value)?;
+    let uri = Text::from_str(alloc, uri)?;
     let has_deletion_vector = present_of(value, "deletionVector").is_some();
     Ok(LineAction::Add {
         uri,
@@ -240,7 +294,7 @@ fn remove_of(alloc: Global, value: &Value) -> Result<LineAction, ReadError<LineF
     ensures read { Gives (λ a. a) result (grammar.remove (view value.now)) }
     ensures sound { IfOk result IsSoundAction }
 {
-    let uri = required_text(alloc, value, "path")?;
+    let uri = Text::from_str(alloc, required_str(value, "path")?)?;
     let has_deletion_vector = present_of(value, "deletionVector").is_some();
     Ok(LineAction::Remove {
         uri,

@@ -1,29 +1,27 @@
 //! A commit that is read line by line.
 
-ghost use Rattle.std.specs.Prelude.{◌≡◌, ◌<◌, ◌∷◌, List, length, nat_le, false, option_map, IfSome, IfOk, IfErr, Ok};
+ghost use Rattle.std.specs.Prelude.{◌≡◌, ◌<◌, ◌∷◌, ◌++◌, [], ℕ, List, length, is_some, nat_le, option_map, IfSome, IfOk, IfErr, Ok, OnOk, true, if◌then◌else◌};
+ghost use Rattle.std.specs.HashSet.{contains_text};
 ghost use Rattle.std.specs.List.{position};
-ghost use Rattle.lake_basics.specs.Outcome.{Gives, with_fault};
-ghost use Rattle.delta_log.specs.Grammar.{line_action};
+ghost use Rattle.std.specs.Str.{bytes_eq};
+ghost use Rattle.lake_basics.specs.Outcome.{Gives};
 ghost use Rattle.lake_basics.specs.declared.limits.TheConstants.{MAX_ACTIONS};
+ghost use Rattle.delta_log.specs.Adding.{with_addition};
 ghost use Rattle.delta_log.specs.Commit.{file_path};
-ghost use Rattle.delta_log.specs.Judging.{acts_on, no_lines, path_within, with_new_file, with_file, with_add, with_remove, with_action, judged, with_line, is_newline, lines_of, lines_in, commit_of, IsSoundPlace, IsErrorAt, Answers};
-ghost use Rattle.delta_log.specs.Sound.{HaveDistinctNames, HasNeededFeatures, IsCount, IsSoundFile, IsSoundAction, IsWritable};
-ghost use Rattle.table_history.specs.Path.{IsPath};
+ghost use Rattle.delta_log.specs.Judging.{acts_on, no_lines, with_new_file, with_line, is_newline, lines_of, lines_in, commit_of, IsErrorAt, Answers};
+ghost use Rattle.delta_log.specs.Sound.{IsWritable};
 ghost use Rattle.delta_log.specs.Readable.{AreLinesInGrammar, IsReadableCommit, IsRefusal, IsGrammarError};
 ghost use Rattle.delta_log.specs.declared.action.LineAction.{LineAction};
 ghost use Rattle.delta_log.specs.declared.commit.DeltaCommit.{DeltaCommit};
 
-use crate::action::LineAction;
 use crate::commit::{DeltaCommit, FileAction, MetaData, Protocol};
-use crate::error::{DeltaError, Fault, LineFault, MALFORMED};
-use crate::line::line_action_of;
-use crate::place::{Place, place_of};
+use crate::error::{DeltaError, Fault};
+use crate::judging::{Addition, judged_line};
 use lake_basics::limits::MAX_ACTIONS;
-use lake_basics::{Items, ReadError, Text};
-use std::alloc::Global;
+use lake_basics::{Items, ReadError};
+use std::alloc::{AllocError, Global};
 use std::collections::HashSet;
 use std::marker::Model;
-use table_history::{Feature, LimitKind};
 
 /// A commit so far, read line by line (Delta protocol, "Actions"). Contracts see that commit. The set
 /// holds the paths of its file actions.
@@ -44,30 +42,6 @@ impl Model for Reading {
     ghost view = { λ r. r.commit };
 
     ghost invariant = { λ r. (q : List ℕ) → contains_text r.paths q ≡ acts_on q r.commit.files };
-}
-
-fn unsupported(feature: Feature) -> ReadError<Fault>
-    ensures { result ≡ ReadError.Fault (Fault.Unsupported feature) }
-{
-    ReadError::Fault(Fault::Unsupported(feature))
-}
-
-fn limit(which: LimitKind) -> ReadError<Fault>
-    ensures { result ≡ ReadError.Fault (Fault.Limit which) }
-{
-    ReadError::Fault(Fault::Limit(which))
-}
-
-fn path_within(place: Place) -> Result<Text, ReadError<Fault>>
-    requires { IsSoundPlace place }
-    ensures path { Gives (λ p. p) result (path_within place) }
-    ensures sound { IfOk result IsPath }
-{
-    match place {
-        Place::Inside(path) => Ok(path),
-        Place::TooLong => Err(limit(LimitKind::Path)),
-        Place::Outside => Err(unsupported(Feature::OutsideTable)),
-    }
 }
 
 impl Reading {
@@ -93,186 +67,95 @@ impl Reading {
         self.commit
     }
 
-    fn with_protocol(self, protocol: Protocol) -> Result<Reading, ReadError<Fault>>
-        requires writable { IsWritable self }
-        requires needed { HasNeededFeatures protocol }
-        ensures read { Gives (λ r. r) result (with_action self (LineAction.Protocol protocol)) }
-        ensures sound { IfOk result IsWritable }
+    pub(crate) fn has_protocol(&self) -> bool
+        ensures { result ≡ is_some self.now.protocol }
     {
-        let Reading { mut commit, paths } = self;
-        if commit.protocol.is_some() {
-            return Err(MALFORMED);
-        }
-        commit.protocol = Some(protocol);
-        Ok(Reading { commit, paths })
+        self.commit.protocol.is_some()
     }
 
-    fn with_meta_data(self, meta: MetaData, is_parquet: bool) -> Result<Reading, ReadError<Fault>>
-        requires writable { IsWritable self }
-        requires names { HaveDistinctNames meta.configuration }
-        ensures read { Gives (λ r. r) result
-            (with_action self (LineAction.MetaData meta is_parquet)) }
-        ensures sound { IfOk result IsWritable }
+    pub(crate) fn has_meta_data(&self) -> bool
+        ensures { result ≡ is_some self.now.meta }
     {
-        let Reading { mut commit, paths } = self;
-        if commit.meta.is_some() {
-            return Err(MALFORMED);
-        }
-        if !is_parquet {
-            return Err(unsupported(Feature::FileFormat));
-        }
-        commit.meta = Some(meta);
-        Ok(Reading { commit, paths })
+        self.commit.meta.is_some()
     }
 
-    fn has_path(&self, path: &str) -> bool
+    pub(crate) fn has_path(&self, path: &str) -> bool
         ensures { result ≡ acts_on path.now self.now.files }
     {
         self.paths.contains(path)
     }
 
-    fn is_full(&self) -> bool
+    pub(crate) fn is_full(&self) -> bool
         ensures { result ≡ nat_le MAX_ACTIONS (length self.now.files) }
     {
         self.commit.files.len() as u64 >= MAX_ACTIONS
     }
 
-    /// An action on a path that has none yet.
-    fn push_file(self, alloc: Global, file: FileAction) -> Result<Reading, ReadError<Fault>>
-        requires { acts_on (file_path file) self.files ≡ false }
-        ensures { Gives (λ r. r) result (Ok (with_new_file self file)) }
+    fn with_protocol(self, protocol: Protocol) -> Reading
+        ensures { result ≡ with_addition self (Addition.Protocol protocol) }
+    {
+        let Reading { mut commit, paths } = self;
+        commit.protocol = Some(protocol);
+        Reading { commit, paths }
+    }
+
+    fn with_meta_data(self, meta: MetaData) -> Reading
+        ensures { result ≡ with_addition self (Addition.MetaData meta) }
+    {
+        let Reading { mut commit, paths } = self;
+        commit.meta = Some(meta);
+        Reading { commit, paths }
+    }
+
+    fn with_file(self, alloc: Global, file: FileAction) -> Result<Reading, AllocError>
+        ensures { IfOk result (λ r. r ≡ with_new_file self file) }
     {
         let Reading {
             mut commit,
             mut paths,
         } = self;
-        paths.insert(String::from_str(alloc, file.path().as_str())?)?;
-        commit.files.push(file)?;
+        put_file(alloc, &mut commit.files, &mut paths, file)?;
         Ok(Reading { commit, paths })
     }
 
-    fn with_file(self, alloc: Global, file: FileAction) -> Result<Reading, ReadError<Fault>>
-        requires writable { IsWritable self }
-        requires sound { IsSoundFile file }
-        ensures read { Gives (λ r. r) result (with_file self file) }
-        ensures sound { IfOk result IsWritable }
+    fn with_addition(self, alloc: Global, addition: Addition) -> Result<Reading, AllocError>
+        ensures { IfOk result (λ r. r ≡ with_addition self addition) }
     {
-        if self.is_full() {
-            return Err(limit(LimitKind::Actions));
-        }
-        if self.has_path(file.path().as_str()) {
-            return Err(ReadError::Fault(Fault::DoublePath));
-        }
-        self.push_file(alloc, file)
-    }
-
-    fn with_add(
-        self,
-        alloc: Global,
-        place: Place,
-        values: Items<(Text, Option<Text>)>,
-        size: u64,
-        count: Option<u64>,
-        has_deletion_vector: bool,
-    ) -> Result<Reading, ReadError<Fault>>
-        requires writable { IsWritable self }
-        requires place { IsSoundPlace place }
-        requires names { HaveDistinctNames values }
-        requires size { IsCount size }
-        requires count { IfSome count IsCount }
-        ensures read { Gives (λ r. r) result
-            (with_add self place values size count has_deletion_vector) }
-        ensures sound { IfOk result IsWritable }
-    {
-        if has_deletion_vector {
-            return Err(unsupported(Feature::DeletionVector));
-        }
-        if matches!(place, Place::Outside) {
-            return Err(unsupported(Feature::OutsideTable));
-        }
-        let Some(count) = count else {
-            return Err(unsupported(Feature::NoRecordCount));
-        };
-        let path = path_within(place)?;
-        let file = FileAction::Add {
-            path,
-            values,
-            size,
-            count,
-        };
-        self.with_file(alloc, file)
-    }
-
-    fn with_remove(
-        self,
-        alloc: Global,
-        place: Place,
-        has_deletion_vector: bool,
-    ) -> Result<Reading, ReadError<Fault>>
-        requires writable { IsWritable self }
-        requires place { IsSoundPlace place }
-        ensures read { Gives (λ r. r) result (with_remove self place has_deletion_vector) }
-        ensures sound { IfOk result IsWritable }
-    {
-        if has_deletion_vector {
-            return Err(unsupported(Feature::DeletionVector));
-        }
-        let path = path_within(place)?;
-        self.with_file(alloc, FileAction::Remove { path })
-    }
-
-    fn with_action(self, alloc: Global, action: LineAction) -> Result<Reading, ReadError<Fault>>
-        requires writable { IsWritable self }
-        requires sound { IsSoundAction action }
-        ensures read { Gives (λ r. r) result (with_action self action) }
-        ensures sound { IfOk result IsWritable }
-    {
-        match action {
-            LineAction::NoAction => Ok(self),
-            LineAction::Protocol(protocol) => self.with_protocol(protocol),
-            LineAction::MetaData { meta, is_parquet } => self.with_meta_data(meta, is_parquet),
-            LineAction::Add {
-                uri,
-                values,
-                size,
-                count,
-                has_deletion_vector,
-            } => {
-                let place = place_of(alloc, uri.as_str())?;
-                self.with_add(alloc, place, values, size, count, has_deletion_vector)
-            }
-            LineAction::Remove {
-                uri,
-                has_deletion_vector,
-            } => {
-                let place = place_of(alloc, uri.as_str())?;
-                self.with_remove(alloc, place, has_deletion_vector)
-            }
+        match addition {
+            Addition::Nothing => Ok(self),
+            Addition::Protocol(protocol) => Ok(self.with_protocol(protocol)),
+            Addition::MetaData(meta) => Ok(self.with_meta_data(meta)),
+            Addition::File(file) => self.with_file(alloc, file),
         }
     }
 
     /// The commit with what one more line says, or what is wrong with that line behind the others: by
     /// itself, a feature that it shows, a number that it passes, or a second action on a path.
-    #[tactic(auto, unfolding(crate::specs::Judging::with_line))]
     pub fn with_line(self, alloc: Global, line: &[u8]) -> Result<Reading, ReadError<Fault>>
         requires { IsWritable self }
         ensures read { Gives (λ r. r) result (with_line self line.now) }
         ensures sound { IfOk result IsWritable }
     {
-        let action = judged_action(alloc, line)?;
-        self.with_action(alloc, action)
+        let addition = judged_line(alloc, &self, line)?;
+        Ok(self.with_addition(alloc, addition)?)
     }
 }
 
-fn judged_action(alloc: Global, line: &[u8]) -> Result<LineAction, ReadError<Fault>>
-    ensures read { Gives (λ a. a) result (with_fault judged (line_action line.now)) }
-    ensures sound { IfOk result IsSoundAction }
+/// Puts an action on a file behind the others, and its path among theirs.
+fn put_file(
+    alloc: Global,
+    files: &mut Items<FileAction>,
+    paths: &mut HashSet<String>,
+    file: FileAction,
+) -> Result<(), AllocError>
+    ensures files { OnOk result (files.new ≡ files.old ++ file ∷ []) }
+    ensures paths { OnOk result ((q : List ℕ) → contains_text paths.new q
+        ≡ (if bytes_eq (file_path file) q then true else contains_text paths.old q)) }
 {
-    match line_action_of(alloc, line) {
-        Ok(action) => Ok(action),
-        Err(ReadError::Memory) => Err(ReadError::Memory),
-        Err(ReadError::Fault(LineFault::Malformed)) => Err(MALFORMED),
-    }
+    let path = String::from_str(alloc, file.path().as_str())?;
+    paths.insert(path)?;
+    files.push(file)?;
+    Ok(())
 }
 
 /// Why a commit isn't read whose line of this number, counted from 1, has this fault.

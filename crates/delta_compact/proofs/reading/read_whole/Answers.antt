@@ -18,8 +18,8 @@ returns-in-Err-clause-refused g c told =
     let e = c.in-Err.error in
     subst (HasCause (IsUnread files)) (sym c.source_fault.ensures) (cause_of (IsUnread files) (of_source e) (e, inl (c.in-Err.ensures.head told), refl))
 
-pub returns-in-Err-whole-clause-refused : goal.returns-in-Err-whole-clause-refused
-returns-in-Err-whole-clause-refused g c told =
+pub returns-clause-refused : goal.returns-clause-refused
+returns-clause-refused g c told =
     let files = (g.S.Store.disk c.args.store.now).files in
     let e = c.in-Err-whole.error in
     let refused = subst (λ (d : Disk). IsReadRefusal (ShowsFromScratch d.files) e) (c.in-Ok.ensures.only_reads told).disk (c.in-Err-whole.ensures.refused told) in
@@ -28,8 +28,8 @@ returns-in-Err-whole-clause-refused g c told =
 some_same : (a b : ℕ) → Some a ≡ Some b → a ≡ b
 some_same a b e = cc
 
-pub returns-in-Some-clause-whole : goal.returns-in-Some-clause-whole
-returns-in-Some-clause-whole g c told =
+pub returns-in-Ok-whole-clause-whole : goal.returns-in-Ok-whole-clause-whole
+returns-in-Ok-whole-clause-whole g c told =
     let files = (g.S.Store.disk c.args.store.now).files in
     let head = (c.in-Ok.ensures.head told).1 in
     let known = c.version_at.ensures.known head.newest (version_within files head.newest head.is.there) (c.as_str.ensures.value ∙ head.position) in
@@ -37,19 +37,16 @@ returns-in-Some-clause-whole g c told =
     let table = subst (λ (d : Disk). IsTableAtHead d.files c.in-Ok-whole.table) (c.in-Ok.ensures.only_reads told).disk (c.in-Ok-whole.ensures.table told) in
     (c.in-Ok-whole.table, record { few = head.few; is = subst (λ n. IsNewest files n) newest head.is; head = table }, c.len.ensures.len)
 
-pub returns-clause-refused : goal.returns-clause-refused
-returns-clause-refused g c told =
+pub returns-in_default-clause-refused : goal.returns-in_default-clause-refused
+returns-in_default-clause-refused g c told =
     let files = (g.S.Store.disk c.args.store.now).files in
     let head = (c.in-Ok.ensures.head told).1 in
     let known = c.version_at.ensures.known head.newest (version_within files head.newest head.is.there) (c.as_str.ensures.value ∙ head.position) in
-    let none : None ≡ Some head.newest = sym c.in-None.is ∙ known in
+    let none : None ≡ Some head.newest = sym c.in_default.is ∙ known in
     absurd (cc)
 
-pub returns-in-Err-whole-clause-only_reads : goal.returns-in-Err-whole-clause-only_reads
-returns-in-Err-whole-clause-only_reads g c = reading_further g.S.Store c.args.store.now c.head.new.store c.whole.new.store c.in-Ok.ensures.only_reads c.in-Err-whole.ensures.only_reads
-
-pub returns-in-Some-clause-only_reads : goal.returns-in-Some-clause-only_reads
-returns-in-Some-clause-only_reads g c = reading_further g.S.Store c.args.store.now c.head.new.store c.whole.new.store c.in-Ok.ensures.only_reads c.in-Ok-whole.ensures.only_reads
-
 pub returns-clause-only_reads : goal.returns-clause-only_reads
-returns-clause-only_reads g c = reading_further g.S.Store c.args.store.now c.head.new.store c.whole.new.store c.in-Ok.ensures.only_reads c.in-Ok-whole.ensures.only_reads
+returns-clause-only_reads g c = reading_further g.S.Store c.args.store.now c.head.new.store c.whole.new.store c.in-Ok.ensures.only_reads c.in-Err-whole.ensures.only_reads
+
+pub returns-in-Ok-whole-clause-only_reads : goal.returns-in-Ok-whole-clause-only_reads
+returns-in-Ok-whole-clause-only_reads g c = reading_further g.S.Store c.args.store.now c.head.new.store c.whole.new.store c.in-Ok.ensures.only_reads c.in-Ok-whole.ensures.only_reads

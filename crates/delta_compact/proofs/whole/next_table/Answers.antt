@@ -1,10 +1,27 @@
-use Rattle.std.proofs.Common.{Some, subst}
-use Rattle.delta_change.specs.Change.{IsTableOfLog}
+use Rattle.std.proofs.Common.{◌≡◌, Some, sym, subst}
+use Rattle.std.proofs.lemmas.Result.{IfErr-weaker, IfOk-weaker}
+use Rattle.table_history.specs.Tables.{IsAfter}
+use Rattle.delta_change.specs.Change.{IsChangeRefusal, IsTableOfLog}
+use Rattle.delta_log.specs.declared.error.DeltaError.{DeltaError}
+use Rattle.delta_log.specs.declared.error.DeltaError.TheVariants.{Memory}
+use Rattle.delta_table.specs.Log.{IsTaken}
 use Rattle.delta_table.proofs.LogLaws.{some_once, step_made}
 use Rattle.delta_compact.proofs.whole.next_table.Goals as goal
 
 pub returns-clause-taken : goal.returns-clause-taken
-returns-clause-taken c = (step_made c.args.commit (Some c.args.table) c.in_ok-change.change _ c.in_ok-change.ensures.grammar c.in_ok-change.ensures.supported c.in_ok-change.ensures.found c.in_ok-apply.ensures.ok, c.in_ok-change.ensures.follows)
+returns-clause-taken c =
+    let commit = c.args.commit.now in
+    let change = c.in_ok-change.change in
+    let read = c.in_ok-change.ensures in
+    IfOk-weaker c.table_after.result (IsAfter c.args.table change) (IsTaken commit (Some c.args.table))
+    (λ t after. (step_made commit (Some c.args.table) change t read.grammar read.supported read.found after, read.follows)) c.table_after.ensures.after
 
 pub returns-clause-sound : goal.returns-clause-sound
-returns-clause-sound c = c.in_ok-change.ensures.goes_on.leaves (λ before is. subst IsTableOfLog (some_once c.args.table before is) c.requires.table) _ c.in_ok-apply.ensures.ok
+returns-clause-sound c =
+    IfOk-weaker c.table_after.result (IsAfter c.args.table c.in_ok-change.change) IsTableOfLog
+    (λ t after. c.in_ok-change.ensures.goes_on.leaves (λ before is. subst IsTableOfLog (some_once c.args.table before is) c.requires.table) t after) c.table_after.ensures.after
+
+pub returns-clause-refused : goal.returns-clause-refused
+returns-clause-refused c =
+    let base = Some c.args.table in
+    IfErr-weaker c.table_after.result (λ (e : DeltaError). e ≡ Memory) (IsChangeRefusal c.args.commit.now base) (λ e is. subst (IsChangeRefusal c.args.commit.now base) (sym is) tt) c.table_after.ensures.memory

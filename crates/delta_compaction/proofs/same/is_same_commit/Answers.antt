@@ -1,21 +1,16 @@
-use Rattle.std.proofs.Common.{sym, ap, ◌∙◌}
-use Rattle.delta_compaction.specs.Same.{files_eq}
-use Rattle.delta_compaction.proofs.SameLemmas.{never_same, other_meta, other_protocol, same_files, says_same}
-use Rattle.delta_compaction.proofs.same.is_same_commit.Goals.{then-not-is_same_protocol-via-then-not-is_same_protocol, then-not-is_same_protocol-via-else-not-is_same_protocol+then-not-is_same_meta}
+use Rattle.std.proofs.Common.{Bool, sym, subst, ◌∙◌}
+use Rattle.std.specs.Prelude.{IsTrue}
+use Rattle.delta_compaction.specs.Agreeing.{SaysSame}
+use Rattle.delta_compaction.proofs.SameLemmas.{says_same}
 use Rattle.delta_compaction.proofs.same.is_same_commit.Goals as goal
 
-pub returns-then-not-is_same_protocol : goal.returns-then-not-is_same_protocol
-returns-then-not-is_same_protocol c =
-    elim c.then-not-is_same_protocol.branch [
-      | then-not-is_same_protocol-via-then-not-is_same_protocol w ↦ never_same c.args.a c.args.b (other_protocol c.args.a c.args.b (sym c.is_same_protocol.ensures ∙ w.if-not-is_same_protocol.true))
-      | then-not-is_same_protocol-via-else-not-is_same_protocol+then-not-is_same_meta w ↦ never_same c.args.a c.args.b (other_meta c.args.a c.args.b (sym w.is_same_meta.ensures ∙ w.if-not-is_same_meta.true))
-    ]
+pub returns-then-is_same_table : goal.returns-then-is_same_table
+returns-then-is_same_table c =
+    let files = c.in_ok-have_same_files in
+    says_same c.args.a c.args.b _ _ c.files_of.ensures c.files_of-2.ensures _ files.have_same_files (sym c.if-is_same_table.true ∙ c.is_same_table-is_same_table.ensures) files.ensures
 
-pub returns : goal.returns
-returns c =
-    let a = c.in_ok-a_files.ensures in
-    let b = c.in_ok-b_files.ensures in
-    let is = c.are_same_files.ensures ∙ ap (λ l. files_eq l c.as_slice-2.result.now) c.as_slice.ensures.value ∙ ap (files_eq c.in_ok-a_files.a_files.items) c.as_slice-2.ensures.value in
-    says_same c.args.a c.args.b c.are_same_files.result
-    (sym c.is_same_protocol.ensures ∙ c.if-not-is_same_protocol.false) (sym c.is_same_meta.ensures ∙ c.if-not-is_same_meta.false)
-    (same_files c.in_ok-a_files.a_files.items c.in_ok-b_files.b_files.items c.args.a.files c.args.b.files c.are_same_files.result a.files b.files a.order b.order is)
+pub returns-else-is_same_table : goal.returns-else-is_same_table
+returns-else-is_same_table c =
+    let files = c.in_ok-have_same_files in
+    subst (λ (r : Bool). (IsTrue r → SaysSame c.args.a c.args.b) × (SaysSame c.args.a c.args.b → IsTrue r)) (sym c.if-is_same_table.false)
+    (says_same c.args.a c.args.b _ _ c.files_of.ensures c.files_of-2.ensures _ files.have_same_files (sym c.if-is_same_table.false ∙ c.is_same_table-is_same_table.ensures) files.ensures)
