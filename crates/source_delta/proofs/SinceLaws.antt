@@ -15,6 +15,7 @@ use Rattle.table_history.specs.declared.table.Commit.{Commit}
 use Rattle.table_history.specs.declared.table.Table.{Table}
 use Rattle.table_history.proofs.Laws.{same_rows_after}
 use Rattle.delta_change.specs.Change.{IsTableOfLog}
+use Rattle.delta_log.specs.declared.commit.DeltaCommit.{DeltaCommit}
 use Rattle.delta_table.specs.Log.{SaysCommit}
 use Rattle.delta_table.specs.Versions.{AreVersions, HasVersion, log_folder}
 use Rattle.delta_table.specs.declared.versions.Versions.{Versions}
@@ -27,7 +28,7 @@ use Rattle.source_core.specs.declared.error.SourceError.TheVariants as source
 use Rattle.source_delta.specs.Heads.{IsNewest}
 use Rattle.source_delta.specs.Later.{GoesOnBy, IsOneMore}
 use Rattle.source_delta.specs.Reading.{HasManyNames}
-use Rattle.source_delta.specs.Since.{AreCommits, HaveActions, IsCommitOf, IsReached, IsRefusedBehind, IsSince, Reaches, ShowsFromPosition}
+use Rattle.source_delta.specs.Since.{AreCommits, HaveActions, IsCommitOf, IsReached, IsRefusedBehind, IsRefusedOver, IsSince, Reaches, ShowsFromPosition}
 use Rattle.source_delta.specs.SinceLemmas.{one_newest, version_within}
 use Rattle.source_delta.specs.declared.since.Later.{Later}
 use Rattle.source_delta.proofs.Publishable.{log_of_publishable, publishable_of_log}
@@ -183,6 +184,12 @@ none_since files position version newest base commits reached same none =
 
 not_both : (n m : ℕ) → n ≤ m → m < n → ⊥
 not_both n m few many = omega (arith, few, many)
+
+-- what can't be taken over the table before it is refused behind that
+pub over_behind : (files : Files) (version : ℕ) (says : DeltaCommit) (before : Table) (actions : ℕ) → SaysCommit files version says → actions + length says.files ≤ MAX_ACTIONS
+    → (e : SourceError) → IsReadRefusal (IsRefusedOver version says before) e → IsReadRefusal (IsRefusedBehind files version before actions) e
+over_behind files version says before actions reads few e refused =
+    weaker (IsRefusedOver version says before) (IsRefusedBehind files version before actions) (λ d of. inr (says, reads, inr (few, of))) e refused
 
 -- names that aren't too many can be listed
 pub names_refused : (files : Files) (position : List ℕ) (base : Table) → length (names_in files log_folder) ≤ MAX_NAMES → (e : SourceError) → IsReadRefusal (HasManyNames files) e

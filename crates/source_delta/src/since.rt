@@ -1,8 +1,8 @@
 //! The commits of a log after a version.
 
-ghost use Rattle.std.specs.Prelude.{◌≡◌, ◌≢◌, ◌<◌, ◌≤◌, ◌+◌, ℕ, List, [], length, IfErr, IfOk, IsErrOf, MatchOption, Some};
+ghost use Rattle.std.specs.Prelude.{◌≡◌, ◌≢◌, ◌<◌, ◌≤◌, ◌+◌, ℕ, List, [], length, IfErr, IfOk, IsErrOf, MatchOption, OnOk, Some};
 ghost use Rattle.lake_basics.specs.declared.limits.TheConstants.{MAX_ACTIONS, MAX_COMMITS, MAX_DELTA_VERSION, MAX_NAMES};
-ghost use Rattle.lake_store.specs.Disk.{names_in};
+ghost use Rattle.lake_store.specs.Disk.{Files, names_in};
 ghost use Rattle.table_history.specs.declared.limit.LimitKind.TheVariants.{Commits};
 ghost use Rattle.table_history.specs.declared.table.Table.{Table};
 ghost use Rattle.lake_store.specs.Runs.{FailsBy, IsUncontestedBy, OnlyReads};
@@ -154,38 +154,47 @@ impl Later {
         })
     }
 
-    /// The same with one version more.
-    fn with_version<S: Store>(
-        self,
+    /// Takes one version more, which says this.
+    fn take(&mut self, alloc: Global, version: u64, says: &DeltaCommit) -> Result<(), SourceError>
+        requires version { version ≤ MAX_DELTA_VERSION }
+        requires sound { IsSound says.now }
+        requires few { self.old.actions + length says.now.files ≤ MAX_ACTIONS }
+        ensures next { (files : Files) → SaysCommit files version says.now
+            → OnOk result (IsOneMore files version self.old self.new) }
+        ensures few { OnOk result (self.new.actions ≤ MAX_ACTIONS) }
+        ensures sound { OnOk result (GoesOnBy self.old self.new) }
+        ensures refused { IfErr result
+            (IsReadRefusal (IsRefusedOver version says.now self.old.table)) }
+        ensures fault { IfErr result (λ e. e ≢ StoreFault) }
+    {
+        let commit = commit_of(alloc, version, says, &self.table)?;
+        self.table.apply(alloc, &commit.change)?;
+        self.commits.push(commit)?;
+        self.actions += says.files.len() as u64;
+        Ok(())
+    }
+
+    /// Takes one version more.
+    fn take_version<S: Store>(
+        &mut self,
         alloc: Global,
         store: &mut S,
         version: u64,
-    ) -> Result<Later, SourceError>
+    ) -> Result<(), SourceError>
         requires version { version ≤ MAX_DELTA_VERSION }
-        requires actions { self.actions ≤ MAX_ACTIONS }
-        ensures next { S.tells → IfOk result (IsOneMore (S.disk store.old).files version self) }
-        ensures few { IfOk result (λ later. later.actions ≤ MAX_ACTIONS) }
-        ensures sound { IfOk result (GoesOnBy self) }
+        requires actions { self.old.actions ≤ MAX_ACTIONS }
+        ensures next { S.tells
+            → OnOk result (IsOneMore (S.disk store.old).files version self.old self.new) }
+        ensures few { OnOk result (self.new.actions ≤ MAX_ACTIONS) }
+        ensures sound { OnOk result (GoesOnBy self.old self.new) }
         ensures refused { S.tells → IfErr result (IsReadRefusal
-            (IsRefusedBehind (S.disk store.old).files version self.table self.actions)) }
+            (IsRefusedBehind (S.disk store.old).files version self.old.table self.old.actions)) }
         ensures only_reads { S.tells → OnlyReads ⟦<S as Store>⟧ store.old store.new }
         ensures cause { FailsBy ⟦<S as Store>⟧ store.old store.new (IsErrOf result StoreFault) }
         ensures contest { IsUncontestedBy ⟦<S as Store>⟧ store.old store.new ⊥ }
     {
         let says = version_behind(alloc, store, version, self.actions)?;
-        let commit = commit_of(alloc, version, &says, &self.table)?;
-        let Later {
-            mut commits,
-            mut table,
-            actions,
-        } = self;
-        table.apply(alloc, &commit.change)?;
-        commits.push(commit)?;
-        Ok(Later {
-            commits,
-            table,
-            actions: actions + says.files.len() as u64,
-        })
+        self.take(alloc, version, &says)
     }
 }
 
@@ -216,7 +225,7 @@ fn read_later<S: Store>(
 {
     let mut later = Later::new(alloc, base)?;
     for next in version + 1..newest + 1 {
-        later = later.with_version(alloc, store, next)?;
+        later.take_version(alloc, store, next)?;
     }
     Ok(later.commits)
 }

@@ -22,7 +22,7 @@ use Rattle.source_core.specs.declared.error.SourceError.TheVariants as source
 use Rattle.source_core.proofs.Answers.{weaker}
 use Rattle.source_hudi.specs.Instants.{feature_of}
 use Rattle.source_hudi.specs.Reading.{HasManyNames, HasNoProperties, Tells}
-use Rattle.source_hudi.specs.Since.{AreAllReadAfter, HasBadInstant, HasManyActions, HasRefusedAfter, HasUnfit, IsFirstUnreadAfter, ShowsAtInstant, ShowsInLater, ShowsOver, ShowsReached, ShowsSince, actions_of, later_in}
+use Rattle.source_hudi.specs.Since.{AreAllReadAfter, HasBadInstant, HasManyActions, HasRefusedAfter, HasUnfit, IsFirstUnreadAfter, ShowsAtInstant, ShowsInLater, ShowsOfInstant, ShowsOver, ShowsReached, ShowsSince, actions_of, later_in}
 
 -- ---- one instant
 
@@ -33,15 +33,18 @@ pub change_unfit : (table : HudiTable) (c : CompletedInstant) (i : Instant) (bef
     → IsReadRefusal (HasUnfit table c i before) e
 change_unfit table c i before cause e h told = weaker (Tells cause) (HasUnfit table c i before) (λ d t. (cause, h, t)) e told
 
-module _ (files : Files) (table : HudiTable) (c : CompletedInstant) (before : Table) (n : ℕ) where
-  pub bad_at : (e : SourceError) → IsReadRefusal (HasBadInstant files c) e → IsReadRefusal (ShowsAtInstant files table c before n) e
-  bad_at e h = weaker (HasBadInstant files c) (ShowsAtInstant files table c before n) (λ d t. inl t) e h
+module _ (table : HudiTable) (c : CompletedInstant) (i : Instant) (before : Table) (n : ℕ) where
+  pub many_of : (e : SourceError) → HasManyActions n i e → IsReadRefusal (ShowsOfInstant table c i before n) e
+  many_of e h = subst (IsReadRefusal (ShowsOfInstant table c i before n)) (sym h.1) (inl (h.0, refl))
 
-  pub many_at : (i : Instant) (e : SourceError) → SaysInstant files c i → HasManyActions n i e → IsReadRefusal (ShowsAtInstant files table c before n) e
-  many_at i e says h = subst (IsReadRefusal (ShowsAtInstant files table c before n)) (sym h.1) (inr (i, says, inl (h.0, refl)))
+  pub unfit_of : n + actions_of i ≤ MAX_ACTIONS → (e : SourceError) → IsReadRefusal (HasUnfit table c i before) e → IsReadRefusal (ShowsOfInstant table c i before n) e
+  unfit_of few e h = weaker (HasUnfit table c i before) (ShowsOfInstant table c i before n) (λ d t. inr (few, t)) e h
 
-  pub unfit_at : (i : Instant) (e : SourceError) → SaysInstant files c i → n + actions_of i ≤ MAX_ACTIONS → IsReadRefusal (HasUnfit table c i before) e → IsReadRefusal (ShowsAtInstant files table c before n) e
-  unfit_at i e says few h = weaker (HasUnfit table c i before) (ShowsAtInstant files table c before n) (λ d t. inr (i, says, inr (few, t))) e h
+  pub shown_at : (files : Files) → SaysInstant files c i → (e : SourceError) → IsReadRefusal (ShowsOfInstant table c i before n) e → IsReadRefusal (ShowsAtInstant files table c before n) e
+  shown_at files says e h = weaker (ShowsOfInstant table c i before n) (ShowsAtInstant files table c before n) (λ d t. inr (i, says, t)) e h
+
+pub bad_at : (files : Files) (table : HudiTable) (c : CompletedInstant) (before : Table) (n : ℕ) (e : SourceError) → IsReadRefusal (HasBadInstant files c) e → IsReadRefusal (ShowsAtInstant files table c before n) e
+bad_at files table c before n e h = weaker (HasBadInstant files c) (ShowsAtInstant files table c before n) (λ d t. inl t) e h
 
 -- ---- all of them
 

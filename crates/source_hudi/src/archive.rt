@@ -4,7 +4,7 @@ ghost use Rattle.std.specs.Prelude.{◌≡◌, IfErr, IfOk, IsErrOf, OnOk};
 ghost use Rattle.lake_store.specs.Disk.{names_in};
 ghost use Rattle.lake_store.specs.Runs.{FailsBy, IsUncontestedBy, OnlyReads};
 ghost use Rattle.source_core.specs.Answers.{IsReadRefusal};
-ghost use Rattle.source_core.specs.declared.error.SourceError.TheVariants.{StoreFault};
+ghost use Rattle.source_core.specs.declared.error.SourceError.TheVariants.{Memory, StoreFault};
 ghost use Rattle.source_hudi.specs.Instants.{archive_folder, first_archived};
 ghost use Rattle.source_hudi.specs.Reading.{HasFewNames, HasManyNames};
 
@@ -12,7 +12,7 @@ use crate::told::limit;
 use lake_basics::Text;
 use lake_store::{Store, StoreError};
 use source_core::SourceError;
-use std::alloc::{AllocError, Global};
+use std::alloc::Global;
 use table_history::LimitKind;
 
 /// The folder of the instants that have left the timeline (Hudi technical specification, "Archived
@@ -20,8 +20,9 @@ use table_history::LimitKind;
 const ARCHIVE_FOLDER: &str = ".hoodie/archived";
 
 /// The path of the first of the archive's files, which have these names.
-fn first_path(alloc: Global, names: &[Text]) -> Result<Option<Text>, AllocError>
-    ensures { IfOk result (λ path. path ≡ first_archived names.now) }
+fn first_path(alloc: Global, names: &[Text]) -> Result<Option<Text>, SourceError>
+    ensures path { IfOk result (λ path. path ≡ first_archived names.now) }
+    ensures memory { IfErr result (λ e. e ≡ Memory) }
 {
     match names {
         [name, ..] => {
@@ -47,7 +48,7 @@ pub(crate) fn first_archived<S: Store>(
     ensures contest { IsUncontestedBy ⟦<S as Store>⟧ store.old store.new ⊥ }
 {
     match store.list(alloc, ARCHIVE_FOLDER) {
-        Ok(names) => Ok(first_path(alloc, names.as_slice())?),
+        Ok(names) => first_path(alloc, names.as_slice()),
         Err(StoreError::Failed) => Err(SourceError::StoreFault),
         Err(StoreError::TooLong { .. }) => Err(limit(LimitKind::Names)),
         Err(_) => Err(SourceError::Memory),

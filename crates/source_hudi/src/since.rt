@@ -5,7 +5,7 @@ ghost use Rattle.std.specs.Bool.{Decides};
 ghost use Rattle.std.specs.List.{list_any, prefix_len};
 ghost use Rattle.std.specs.Str.{bytes_eq};
 ghost use Rattle.lake_basics.specs.declared.limits.TheConstants.{MAX_ACTIONS};
-ghost use Rattle.lake_store.specs.Disk.{names_in};
+ghost use Rattle.lake_store.specs.Disk.{Files, names_in};
 ghost use Rattle.lake_store.specs.Runs.{FailsBy, IsUncontestedBy, OnlyReads};
 ghost use Rattle.table_history.specs.Tables.{CanApply, IsAfter};
 ghost use Rattle.table_history.specs.declared.table.Table.{Table};
@@ -20,7 +20,7 @@ ghost use Rattle.source_core.specs.Answers.{IsReadRefusal};
 ghost use Rattle.source_core.specs.Since.{CanApplyAll, CanApplySince, FitAll, FitSince, IsSinceAnswer};
 ghost use Rattle.source_core.specs.declared.error.SourceError.TheVariants.{StoreFault};
 ghost use Rattle.source_hudi.specs.Instants.{is_up_to};
-ghost use Rattle.source_hudi.specs.Since.{AreCommitsOf, AreCommitsUpTo, AreTaken, GoesFurther, HasBadInstant, HasManyActions, HasRefusedAfter, HasUnfit, IsSince, IsTakenFurther, ShowsAtInstant, ShowsInLater, ShowsOver, ShowsReached, ShowsSince, actions_of};
+ghost use Rattle.source_hudi.specs.Since.{AreCommitsOf, AreCommitsUpTo, AreTaken, HasBadInstant, HasManyActions, HasRefusedAfter, HasUnfit, IsCommitOf, IsSince, ShowsAtInstant, ShowsInLater, ShowsOfInstant, ShowsOver, ShowsReached, ShowsSince, actions_of};
 
 use crate::instants::{count_up_to, first_unread_after, unread};
 use crate::told::{limit, partition_change, source_error};
@@ -35,7 +35,7 @@ use lake_basics::{Items, Text};
 use lake_store::Store;
 use source_core::{Since, SourceError};
 use std::alloc::{AllocError, Global};
-use table_history::{Change, Commit, LimitKind, Table};
+use table_history::{Commit, LimitKind, Table};
 
 /// The commits of some instants, the table after them, and the number of their actions.
 #[derive(Drop)]
@@ -78,44 +78,44 @@ fn count_actions(actions: u64, said: &Instant) -> Result<u64, SourceError>
     Ok(actions + more as u64)
 }
 
-/// The change that an instant, which says this, makes of the table before it.
-fn change_over(
+/// The commit of an instant, which says this, with the change that it makes of the table before it.
+fn commit_over(
     alloc: Global,
     said: &Instant,
     instant: &CompletedInstant,
     table: &HudiTable,
     before: &GroupedTable,
-) -> Result<Change, SourceError>
-    ensures found { IfOk result (IsChangeOf (completed Base said.now) table.now (Some before.now)) }
-    ensures goes_on { IfOk result (GoesOn table.now (Some before.now)) }
+) -> Result<Commit, SourceError>
+    ensures position { IfOk result (λ commit. commit.position ≡ instant.now.time) }
+    ensures found { IfOk result (λ commit.
+        IsChangeOf (completed Base said.now) table.now (Some before.now) commit.change) }
+    ensures goes_on { IfOk result (λ commit. GoesOn table.now (Some before.now) commit.change) }
     ensures refused { IfErr result
         (IsReadRefusal (HasUnfit table.now instant.now said.now before.now)) }
     ensures fault { IsErrOf result StoreFault → ⊥ }
 {
+    let position = instant.time.copy(alloc)?;
     match instant_change(alloc, said, instant, Naming::Base, table, Some(before)) {
-        Ok(change) => Ok(change),
+        Ok(change) => Ok(Commit { position, change }),
         Err(error) => Err(source_error(error)),
     }
 }
 
-/// With the commit of one instant more, which makes this change.
-fn with_change(
+/// With this commit more, and so many actions.
+fn with_commit(
     alloc: Global,
     taken: Taken,
-    instant: &CompletedInstant,
-    change: Change,
+    commit: Commit,
     actions: u64,
 ) -> Result<Taken, AllocError>
-    requires { CanApply taken.last change }
-    ensures commits { IfOk result (λ next. next.commits
-        ≡ taken.commits ++ (record { position = instant.now.time; change = change }) ∷ []) }
-    ensures last { IfOk result (λ next. IsAfter taken.last change next.last) }
+    requires { CanApply taken.last commit.change }
+    ensures commits { IfOk result (λ next. next.commits ≡ taken.commits ++ commit ∷ []) }
+    ensures last { IfOk result (λ next. IsAfter taken.last commit.change next.last) }
     ensures actions { IfOk result (λ next. next.actions ≡ actions) }
 {
-    let last = taken.last.with_change(alloc, &change)?;
+    let last = taken.last.with_change(alloc, &commit.change)?;
     let mut commits = taken.commits;
-    let position = instant.time.copy(alloc)?;
-    commits.push(Commit { position, change })?;
+    commits.push(commit)?;
     Ok(Taken {
         commits,
         last,
@@ -123,33 +123,55 @@ fn with_change(
     })
 }
 
-/// With the commit of one instant more. Its file is read, then its actions are counted, and then its
-/// change is made.
-fn with_instant<S: Store>(
+/// The commit of the instant that comes next, which says this, and how many actions there are with
+/// its own. They are counted before its change is made.
+fn counted_commit(
+    alloc: Global,
+    said: &Instant,
+    instant: &CompletedInstant,
+    table: &HudiTable,
+    taken: &Taken,
+) -> Result<(Commit, u64), SourceError>
+    requires { taken.now.actions ≤ MAX_ACTIONS }
+    ensures next { (files : Files) → SaysInstant files instant.now said.now
+        → IfOk result (λ next. (is : IsCommitOf files table.now taken.now.last instant.now next.0)
+        × (next.1 ≡ taken.now.actions + actions_of is.instant)) }
+    ensures few { IfOk result (λ next. next.1 ≤ MAX_ACTIONS) }
+    ensures goes_on { IfOk result
+        (λ next. GoesOn table.now (Some taken.now.last) (next.0).change) }
+    ensures refused { IfErr result (IsReadRefusal
+        (ShowsOfInstant table.now instant.now said.now taken.now.last taken.now.actions)) }
+    ensures fault { IsErrOf result StoreFault → ⊥ }
+{
+    let actions = count_actions(taken.actions, said)?;
+    let commit = commit_over(alloc, said, instant, table, &taken.last)?;
+    Ok((commit, actions))
+}
+
+/// The same of the instant's file, which is read.
+fn next_commit<S: Store>(
     alloc: Global,
     store: &mut S,
     table: &HudiTable,
     instant: &CompletedInstant,
-    taken: Taken,
-) -> Result<Taken, SourceError>
-    requires { taken.actions ≤ MAX_ACTIONS }
-    ensures taken { S.tells → IfOk result (λ next. IsTakenFurther (S.disk store.old).files table.now
-        instant.now taken.commits taken.last taken.actions next.commits next.last
-        next.actions) }
-    ensures few { IfOk result (λ next. next.actions ≤ MAX_ACTIONS) }
-    ensures sound { IfOk result (λ next.
-        GoesFurther table.now taken.commits taken.last next.commits next.last) }
+    taken: &Taken,
+) -> Result<(Commit, u64), SourceError>
+    requires { taken.now.actions ≤ MAX_ACTIONS }
+    ensures next { S.tells → IfOk result (λ next.
+        (is : IsCommitOf (S.disk store.old).files table.now taken.now.last instant.now next.0)
+        × (next.1 ≡ taken.now.actions + actions_of is.instant)) }
+    ensures few { IfOk result (λ next. next.1 ≤ MAX_ACTIONS) }
+    ensures goes_on { IfOk result
+        (λ next. GoesOn table.now (Some taken.now.last) (next.0).change) }
     ensures refused { S.tells → IfErr result (IsReadRefusal
-        (ShowsAtInstant (S.disk store.old).files table.now instant.now taken.last
-        taken.actions)) }
+        (ShowsAtInstant (S.disk store.old).files table.now instant.now taken.now.last
+        taken.now.actions)) }
     ensures only_reads { S.tells → OnlyReads ⟦<S as Store>⟧ store.old store.new }
     ensures cause { FailsBy ⟦<S as Store>⟧ store.old store.new (IsErrOf result StoreFault) }
     ensures contest { IsUncontestedBy ⟦<S as Store>⟧ store.old store.new ⊥ }
 {
     let said = read_said(alloc, store, instant)?;
-    let actions = count_actions(taken.actions, &said)?;
-    let change = change_over(alloc, &said, instant, table, &taken.last)?;
-    Ok(with_change(alloc, taken, instant, change, actions)?)
+    counted_commit(alloc, &said, instant, table, taken)
 }
 
 /// The commits of the instants, of which the oldest comes first, each over the table that those
@@ -178,7 +200,8 @@ fn take_each<S: Store>(
         actions: 0,
     };
     for instant in instants {
-        taken = with_instant(alloc, store, table, instant, taken)?;
+        let (commit, actions) = next_commit(alloc, store, table, instant, &taken)?;
+        taken = with_commit(alloc, taken, commit, actions)?;
     }
     Ok(taken.commits)
 }

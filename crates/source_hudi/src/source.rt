@@ -25,12 +25,24 @@ use hudi_table::{
 use lake_basics::Text;
 use lake_store::Store;
 use source_core::{Head, Since, Source, SourceError};
-use std::alloc::{AllocError, Global};
+use std::alloc::Global;
 use table_history::{Feature, Kind, Table};
 
 /// A Hudi table as a source.
 #[derive(Clone, Copy, Debug, PartialEq, Eq)]
 pub struct HudiSource {}
+
+/// The head of a timeline.
+fn head_time(alloc: Global, timeline: &Timeline) -> Result<Text, SourceError>
+    ensures found { IfOk result (λ time. head_of timeline.now ≡ Some time) }
+    ensures refused { IfErr result
+        (λ e. (e ≡ Memory) ⊎ ((e ≡ Absent) × (head_of timeline.now ≡ None))) }
+{
+    match timeline.head() {
+        Some(time) => Ok(time.copy(alloc)?),
+        None => Err(SourceError::Absent),
+    }
+}
 
 /// The head of a timeline and what is pending behind it, without the table's name.
 fn head_in(alloc: Global, timeline: Timeline) -> Result<Head, SourceError>
@@ -39,10 +51,7 @@ fn head_in(alloc: Global, timeline: Timeline) -> Result<Head, SourceError>
     ensures refused { IfErr result
         (λ e. (e ≡ Memory) ⊎ ((e ≡ Absent) × (head_of timeline ≡ None))) }
 {
-    let position = match timeline.head() {
-        Some(time) => time.copy(alloc)?,
-        None => return Err(SourceError::Absent),
-    };
+    let position = head_time(alloc, &timeline)?;
     Ok(Head {
         position,
         pending: timeline.pending,
@@ -71,9 +80,10 @@ fn find_head<S: Store>(alloc: Global, store: &mut S) -> Result<Head, SourceError
     }
 }
 
-fn name_of(alloc: Global, properties: &Properties) -> Result<Option<Text>, AllocError>
-    ensures { IfOk result
+fn name_of(alloc: Global, properties: &Properties) -> Result<Option<Text>, SourceError>
+    ensures name { IfOk result
         (λ name. name ≡ property (codes "hoodie.table.name") properties.now.pairs) }
+    ensures memory { IfErr result (λ e. e ≡ Memory) }
 {
     match properties.name() {
         Some(name) => Ok(Some(name.copy(alloc)?)),
@@ -91,7 +101,7 @@ fn table_name<S: Store>(alloc: Global, store: &mut S) -> Result<Option<Text>, So
     ensures contest { IsUncontestedBy ⟦<S as Store>⟧ store.old store.new ⊥ }
 {
     match read_table_properties(alloc, store) {
-        Ok(properties) => Ok(name_of(alloc, &properties)?),
+        Ok(properties) => name_of(alloc, &properties),
         Err(error) => Err(source_error(error)),
     }
 }

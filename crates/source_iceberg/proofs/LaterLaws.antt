@@ -61,6 +61,16 @@ not_behind position ancestors none later behind =
 pub first_place : (snapshots : List Snapshot) (position : List ℕ) (place : ℕ) (s : Snapshot) → drop place snapshots ≡ s ∷ drop (place + 1) snapshots → HasNone (take place snapshots) position → {b : Bool} → Decides b (position ≡ signed_decimal s.id) → b ≡ true → IsFirstAt snapshots position place
 first_place snapshots position place s at others decides is = record { at = s; is = at; spelled = decides.0 is; others = others }
 
+pub ahead_placed : (snapshots ahead : List Snapshot) (position : List ℕ) (place : ℕ) → IsFirstAt snapshots position place → ahead ≡ take place snapshots → AreAhead snapshots position ahead
+ahead_placed snapshots ahead position place first is =
+    subst (AreAhead snapshots position) (sym is) (record {
+      at = first.at;
+      rest = drop (place + 1) snapshots;
+      split = sym (take-append-drop place snapshots) ∙ ap (λ (l : List Snapshot). take place snapshots ++ l) first.is;
+      spelled = first.spelled;
+      others = first.others;
+    })
+
 from_first : (snapshots from : List Snapshot) (position : List ℕ) (place : ℕ) → IsFirstAt snapshots position place → from ≡ drop place snapshots → AreFrom snapshots position from
 from_first snapshots from position place first is = record {
   ahead = take place snapshots;

@@ -1,14 +1,14 @@
 -- The commits of snapshots, one after another over a base.
-use Rattle.std.proofs.Common.{Bool, true, false, Result, Ok, Err, ◌≡◌, ◌≤◌, append_assoc, append-nil, inl, inr, ⊎_elim, ℕ, Option, Some, List, [], ◌∷◌, ◌++◌, Contains, length, refl, sym, ap, subst, ◌∙◌, arith}
+use Rattle.std.proofs.Common.{Bool, true, false, ◌≡◌, ◌==◌, ◌≤◌, append_assoc, append-nil, inl, inr, ⊎_elim, ℕ, Option, Some, List, [], ◌∷◌, ◌++◌, Contains, length, refl, sym, ap, subst, ◌∙◌, arith}
 use Rattle.std.specs.Prelude.{reverse, unwrap_or}
 use Rattle.std.specs.Bool.{Decides}
 use Rattle.std.specs.Cmp.Lexicographic.{pointwise}
 use Rattle.std.specs.Str.{bytes_eq}
 use Rattle.std.specs.List.{IsDistinct}
-use Rattle.std.specs.Prelude.{IfErr, IfOk}
 use Rattle.table_history.specs.Sound.{IsSound}
 use Rattle.table_history.specs.SchemaSize.{IsWithinLimits}
 use Rattle.std.proofs.lemmas.Bool.{cases_Bool, false≢true}
+use Rattle.std.proofs.lemmas.Bool.Decides.{nat_tests}
 use Rattle.std.proofs.lemmas.Slice.Eq.{bytes_eq-Decides, slice_eq-Decides}
 use Rattle.lake_basics.specs.declared.limits.TheConstants.{MAX_ACTIONS, MAX_COMMITS, MAX_LIVE_FILES, MAX_PARTITION_COLUMNS}
 use Rattle.lake_store.specs.Disk.{Files}
@@ -41,7 +41,7 @@ use Rattle.iceberg_metadata.specs.declared.metadata.Snapshot.{Snapshot}
 use Rattle.iceberg_table.specs.declared.manifest.Manifest.{Manifest}
 use Rattle.source_iceberg.specs.Counted.{Counts}
 use Rattle.source_iceberg.specs.Later.{GoesOnBy, IsFoundBehind, IsNotBehind, IsOneMore}
-use Rattle.source_iceberg.specs.Since.{AreCommits, AreCommitsBehind, AreCommitsOver, HasManyEntries, IsBehind, IsCommitOf, IsReached, IsRefusedBehind, NamesOtherColumns, Reaches, ShowsBehind, SnapshotChanges, StopsBehind}
+use Rattle.source_iceberg.specs.Since.{AreCommits, AreCommitsBehind, AreCommitsOver, HasManyEntries, IsBehind, IsCommitOf, IsReached, IsRefusedBehind, NamesOtherColumns, Reaches, ShowsBehind, SnapshotChanges, StopsBehind, TellsChange}
 use Rattle.iceberg_table.specs.declared.snapshot.SnapshotTable.{SnapshotTable}
 use Rattle.source_iceberg.specs.declared.since.Later.{Later}
 
@@ -215,6 +215,11 @@ pub whole_refused : (files : Files) (version : ℕ) (m : Metadata) (before : Tab
 whole_refused files version m before read s unchanged e refused =
     weaker (IsRefusedSnapshot files m version s) (IsRefusedBehind files version m before read s) (λ d of. inr (unchanged, inl of)) e refused
 
+pub change_refused : (files : Files) (version : ℕ) (m : Metadata) (before : Table) (read : List Manifest) (s : Snapshot) → (e : SourceError) → IsReadRefusal (λ d. SnapshotChanges m s before × TellsChange version d) e
+    → IsReadRefusal (IsRefusedBehind files version m before read s) e
+change_refused files version m before read s e refused =
+    weaker (λ d. SnapshotChanges m s before × TellsChange version d) (IsRefusedBehind files version m before read s) (λ d of. inl of) e refused
+
 pub stops_at : (files : Files) (version : ℕ) (m : Metadata) (base : Table) (snapshots front rest : List Snapshot) (s : Snapshot) (later : Later) → snapshots ≡ front ++ s ∷ rest → (made : Made files m base front later) → later.counted.entries ≤ MAX_ACTIONS
     → (e : SourceError) → IsReadRefusal (IsRefusedBehind files version m later.table made.0 s) e → IsReadRefusal (StopsBehind files version m base snapshots) e
 stops_at files version m base snapshots front rest s later split made few e refused =
@@ -279,17 +284,13 @@ pub entries_refused : (files : Files) (version : ℕ) (m : Metadata) (before : T
 entries_refused files version m before read s own unchanged is e many =
     weaker (HasManyEntries read own.manifests) (IsRefusedBehind files version m before read s) (λ d h. inr (unchanged, inr (own, is, h))) e many
 
-pub behind_refused : (files : Files) (version : ℕ) (m : Metadata) (base : Table) (given snapshots : List Snapshot) → given ≡ snapshots → (NamesOtherColumns m base → ⊥) → length snapshots ≤ MAX_COMMITS
-    → (r : Result (List Commit) SourceError) → IfErr r (IsReadRefusal (StopsBehind files version m base given)) → IfErr r (IsReadRefusal (ShowsBehind files version m base snapshots))
-behind_refused files version m base given snapshots same unchanged few (Ok commits) refused = tt
-behind_refused files version m base given snapshots same unchanged few (Err e) refused =
-    weaker (StopsBehind files version m base snapshots) (ShowsBehind files version m base snapshots) (λ d h. inr (unchanged, inr (few, h))) e
-    (subst (λ (ss : List Snapshot). IsReadRefusal (StopsBehind files version m base ss) e) same refused)
+pub behind_refused : (files : Files) (version : ℕ) (m : Metadata) (base : Table) (snapshots : List Snapshot) → (NamesOtherColumns m base → ⊥) → length snapshots ≤ MAX_COMMITS
+    → (e : SourceError) → IsReadRefusal (StopsBehind files version m base snapshots) e → IsReadRefusal (ShowsBehind files version m base snapshots) e
+behind_refused files version m base snapshots unchanged few e refused = weaker (StopsBehind files version m base snapshots) (ShowsBehind files version m base snapshots) (λ d h. inr (unchanged, inr (few, h))) e refused
 
-pub behind_found : (files : Files) (m : Metadata) (base : Table) (given snapshots : List Snapshot) → given ≡ snapshots → (NamesOtherColumns m base → ⊥) → length snapshots ≤ MAX_COMMITS
-    → (r : Result (List Commit) SourceError) → IfOk r (AreCommitsBehind files m base given) → IfOk r (AreCommitsOver files m base snapshots)
-behind_found files m base given snapshots same unchanged few (Ok commits) are = record { unchanged = unchanged; few = few; behind = subst (λ (ss : List Snapshot). AreCommitsBehind files m base ss commits) same are }
-behind_found files m base given snapshots same unchanged few (Err e) are = tt
+pub behind_found : (files : Files) (m : Metadata) (base : Table) (snapshots : List Snapshot) → (NamesOtherColumns m base → ⊥) → length snapshots ≤ MAX_COMMITS
+    → (commits : List Commit) → AreCommitsBehind files m base snapshots commits → AreCommitsOver files m base snapshots commits
+behind_found files m base snapshots unchanged few commits are = record { unchanged = unchanged; few = few; behind = are }
 
 -- without snapshots there is no commit
 pub none_over : (files : Files) (m : Metadata) (base : Table) (snapshots : List Snapshot) (commits : List Commit) → snapshots ≡ [] → commits ≡ [] → (NamesOtherColumns m base → ⊥) → AreCommitsOver files m base snapshots commits
@@ -297,6 +298,8 @@ none_over files m base snapshots commits none nothing unchanged =
     subst (λ (ss : List Snapshot). AreCommitsOver files m base ss commits) (sym none)
     (record { unchanged = unchanged; few = omega arith; behind = record { last = base; read = []; are = (nothing, refl, refl); few = omega arith } })
 
-pub no_snapshot : (snapshots : List Snapshot) → length snapshots ≡ 0 → snapshots ≡ []
-no_snapshot [] none = refl
-no_snapshot (s ∷ ss) none = absurd (omega (arith, none))
+pub no_snapshot : (snapshots : List Snapshot) → true ≡ (length snapshots == 0) → snapshots ≡ []
+no_snapshot [] empty = refl
+no_snapshot (s ∷ ss) empty =
+    let full : (length (s ∷ ss) == 0) ≡ false = grind (arith, nat_tests) in
+    absurd (false≢true (sym full ∙ sym empty))

@@ -1,6 +1,6 @@
 //! The entries of the manifests that are read, of which each counts once.
 
-ghost use Rattle.std.specs.Prelude.{◌≤◌, ◌++◌, ◌∷◌, [], List, IfErr, IfOk, IsErrOf};
+ghost use Rattle.std.specs.Prelude.{◌≤◌, ◌++◌, ◌∷◌, [], List, IfErr, IsErrOf, OnOk};
 ghost use Rattle.lake_basics.specs.declared.limits.TheConstants.{MAX_ACTIONS};
 ghost use Rattle.iceberg_table.specs.declared.manifest.Manifest.{Manifest};
 ghost use Rattle.source_core.specs.Answers.{IsReadRefusal};
@@ -37,48 +37,40 @@ impl Counted {
         }
     }
 
-    /// The same with one manifest more, where the entries aren't more than are read.
-    fn with_manifest(self, alloc: Global, manifest: &Manifest) -> Result<Counted, SourceError>
-        requires { self.entries ≤ MAX_ACTIONS }
-        ensures counts { (read : List Manifest) → Counts read self
-            → IfOk result (Counts (read ++ manifest.now ∷ [])) }
-        ensures few { IfOk result (λ counted. counted.entries ≤ MAX_ACTIONS) }
-        ensures many { (read : List Manifest) → Counts read self
+    /// Counts one manifest more, where the entries aren't more than are read.
+    fn count(&mut self, alloc: Global, manifest: &Manifest) -> Result<(), SourceError>
+        requires { self.old.entries ≤ MAX_ACTIONS }
+        ensures counts { (read : List Manifest) → Counts read self.old
+            → OnOk result (Counts (read ++ manifest.now ∷ []) self.new) }
+        ensures few { OnOk result (self.new.entries ≤ MAX_ACTIONS) }
+        ensures many { (read : List Manifest) → Counts read self.old
             → IfErr result (IsReadRefusal (HasManyEntries read (manifest.now ∷ []))) }
         ensures no_fault { IsErrOf result StoreFault → ⊥ }
     {
         if self.paths.contains(&manifest.file.path) {
-            return Ok(self);
+            return Ok(());
         }
-        let Counted { mut paths, entries } = self;
-        if manifest.entries > MAX_ACTIONS - entries {
+        if manifest.entries > MAX_ACTIONS - self.entries {
             return Err(limit(LimitKind::Actions));
         }
-        paths.insert(manifest.file.path.copy(alloc)?)?;
-        Ok(Counted {
-            paths,
-            entries: entries + manifest.entries,
-        })
+        self.paths.insert(manifest.file.path.copy(alloc)?)?;
+        self.entries += manifest.entries;
+        Ok(())
     }
 
-    /// The same with these manifests more, where the entries aren't more than are read.
-    pub fn with_manifests(
-        self,
-        alloc: Global,
-        manifests: &[Manifest],
-    ) -> Result<Counted, SourceError>
-        requires { self.entries ≤ MAX_ACTIONS }
-        ensures counts { (read : List Manifest) → Counts read self
-            → IfOk result (Counts (read ++ manifests.now)) }
-        ensures few { IfOk result (λ counted. counted.entries ≤ MAX_ACTIONS) }
-        ensures many { (read : List Manifest) → Counts read self
+    /// Counts these manifests, where the entries aren't more than are read.
+    pub fn count_each(&mut self, alloc: Global, manifests: &[Manifest]) -> Result<(), SourceError>
+        requires { self.old.entries ≤ MAX_ACTIONS }
+        ensures counts { (read : List Manifest) → Counts read self.old
+            → OnOk result (Counts (read ++ manifests.now) self.new) }
+        ensures few { OnOk result (self.new.entries ≤ MAX_ACTIONS) }
+        ensures many { (read : List Manifest) → Counts read self.old
             → IfErr result (IsReadRefusal (HasManyEntries read manifests.now)) }
         ensures no_fault { IsErrOf result StoreFault → ⊥ }
     {
-        let mut counted = self;
         for manifest in manifests {
-            counted = counted.with_manifest(alloc, manifest)?;
+            self.count(alloc, manifest)?;
         }
-        Ok(counted)
+        Ok(())
     }
 }

@@ -1,6 +1,6 @@
 //! The snapshots after a position, up to the head.
 
-ghost use Rattle.std.specs.Prelude.{◌≡◌, ◌≤◌, drop, length, reverse, IfErr, IfOk, MatchOption};
+ghost use Rattle.std.specs.Prelude.{◌≡◌, ◌≤◌, drop, length, reverse, take, IfErr, IfOk, MatchOption};
 ghost use Rattle.std.specs.Bool.{Decides};
 ghost use Rattle.std.specs.Fmt.{signed_decimal};
 ghost use Rattle.source_core.specs.declared.error.SourceError.TheVariants.{Memory};
@@ -78,6 +78,15 @@ pub(crate) fn ancestors_to(
     Ok(from_position(alloc, ancestors, head)?)
 }
 
+/// The snapshots before this place.
+fn up_to_place(snapshots: Snapshots, place: usize) -> Snapshots
+    ensures { result ≡ take place snapshots }
+{
+    let mut items = snapshots.into_vec();
+    items.truncate(place);
+    Items::from_vec(items)
+}
+
 /// The snapshots before the first of this position. None where there is no such snapshot.
 fn ahead_of(
     alloc: Global,
@@ -87,14 +96,10 @@ fn ahead_of(
     ensures { IfOk result (λ found. MatchOption found (HasNone snapshots position.now)
         (AreAhead snapshots position.now)) }
 {
-    let mut ahead = Items::new(alloc);
-    for snapshot in snapshots.into_vec() {
-        if is_at(alloc, &snapshot, position)? {
-            return Ok(Some(ahead));
-        }
-        ahead.push(snapshot)?;
+    match place_of(alloc, snapshots.as_slice(), position)? {
+        Some(place) => Ok(Some(up_to_place(snapshots, place))),
+        None => Ok(None),
     }
-    Ok(None)
 }
 
 /// The same in the opposite order.

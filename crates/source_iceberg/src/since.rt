@@ -1,6 +1,6 @@
 //! The commits of an Iceberg table after a snapshot.
 
-ghost use Rattle.std.specs.Prelude.{◌≡◌, ◌≤◌, List, [], None, IfErr, IfOk, IsErrOf};
+ghost use Rattle.std.specs.Prelude.{◌≡◌, ◌≤◌, List, [], None, ◌++◌, ◌∷◌, IfErr, IfOk, IsErrOf, OnOk};
 ghost use Rattle.std.specs.Fmt.{signed_decimal};
 ghost use Rattle.lake_basics.specs.declared.limits.TheConstants.{MAX_ACTIONS};
 ghost use Rattle.lake_store.specs.Runs.{FailsBy, IsUncontestedBy, OnlyReads};
@@ -13,24 +13,25 @@ ghost use Rattle.source_core.specs.declared.error.SourceError.TheVariants.{Store
 ghost use Rattle.iceberg_change.specs.Behind.{GoesOn, IsListed};
 ghost use Rattle.iceberg_change.specs.Own.{IsOwn};
 ghost use Rattle.source_iceberg.specs.Counted.{Counts};
-ghost use Rattle.source_iceberg.specs.Heads.{IsIcebergHead};
+ghost use Rattle.source_iceberg.specs.Heads.{IsIcebergHead, IsNewestMetadata};
 ghost use Rattle.iceberg_change.specs.declared.behind.Listed.{Listed};
-ghost use Rattle.source_iceberg.specs.Since.{IsRefusedBehind, IsSince, Reaches, ShowsBehind, ShowsFromPosition, SnapshotChanges, StopsBehind, AreCommitsBehind, AreCommitsOver};
+ghost use Rattle.source_iceberg.specs.Since.{HasManyEntries, IsRefusedBehind, IsSince, Reaches, ShowsBehind, ShowsFromPosition, SnapshotChanges, StopsBehind, TellsChange, AreCommitsBehind, AreCommitsOver};
 ghost use Rattle.source_iceberg.specs.Later.{GoesOnBy, IsOneMore};
 
 use crate::columns::{names_other_columns, partition_change, snapshot_changes};
 use crate::counted::Counted;
 use crate::later::{ancestors_to, later_ancestors};
-use crate::newest::newest_metadata;
+use crate::newest::{Newest, newest_metadata};
 use crate::told::{lacks_head, limit, source_error};
 use iceberg_change::{Listed, Own, read_behind};
-use iceberg_metadata::{Metadata, Snapshot, Snapshots};
+use iceberg_metadata::{Metadata, Snapshot};
+use iceberg_table::Manifest;
 use lake_basics::limits::MAX_COMMITS;
 use lake_basics::{Items, Text};
 use lake_store::Store;
 use source_core::{Head, Since, SourceError, position_of};
 use std::alloc::{AllocError, Global};
-use table_history::{Commit, Kind, LimitKind, Table};
+use table_history::{Change, Commit, Kind, LimitKind, Table};
 
 /// What the snapshots after a position have made so far: their commits, the table of the last one,
 /// how many entries their manifests have, each counted once, and what was read of the last list.
@@ -40,6 +41,25 @@ struct Later {
     table: Table,
     counted: Counted,
     listed: Listed,
+}
+
+/// Refuses a snapshot whose partition columns aren't those of the table before it.
+fn keep_partition(
+    alloc: Global,
+    metadata: &Metadata,
+    version: u32,
+    snapshot: &Snapshot,
+    before: &Table,
+) -> Result<(), SourceError>
+    ensures unchanged { OnOk result (¬ SnapshotChanges metadata.now snapshot.now before.now) }
+    ensures refused { IfErr result (IsReadRefusal (λ e.
+        SnapshotChanges metadata.now snapshot.now before.now × TellsChange version e)) }
+    ensures no_fault { IsErrOf result StoreFault → ⊥ }
+{
+    if snapshot_changes(alloc, metadata, snapshot, before)? {
+        return Err(partition_change(alloc, version));
+    }
+    Ok(())
 }
 
 /// The snapshot's own table over the one before it, whose partition columns it has. A manifest that
@@ -63,20 +83,36 @@ fn read_own<S: Store>(
     ensures cause { FailsBy ⟦<S as Store>⟧ store.old store.new (IsErrOf result StoreFault) }
     ensures contest { IsUncontestedBy ⟦<S as Store>⟧ store.old store.new ⊥ }
 {
-    if snapshot_changes(alloc, metadata, snapshot, &before)? {
-        return Err(partition_change(alloc, version));
-    }
+    keep_partition(alloc, metadata, version, snapshot, &before)?;
     match read_behind(alloc, store, metadata, version, snapshot, before, listed) {
         Ok(own) => Ok(own),
         Err(error) => Err(source_error(error)),
     }
 }
 
-/// The position of a snapshot in the table's history.
-fn position_at(alloc: Global, snapshot: &Snapshot) -> Result<Text, AllocError>
-    ensures { IfOk result (λ position. position ≡ signed_decimal snapshot.now.id) }
+/// Counts the snapshot's manifests, and puts its commit behind those before it.
+fn put_commit(
+    alloc: Global,
+    snapshot: &Snapshot,
+    change: Change,
+    manifests: &[Manifest],
+    commits: &mut Items<Commit>,
+    counted: &mut Counted,
+) -> Result<(), SourceError>
+    requires { counted.old.entries ≤ MAX_ACTIONS }
+    ensures commits { OnOk result (commits.new ≡ commits.old
+        ++ (record { position = signed_decimal snapshot.now.id; change = change }) ∷ []) }
+    ensures counts { (read : List Manifest) → Counts read counted.old
+        → OnOk result (Counts (read ++ manifests.now) counted.new) }
+    ensures few { OnOk result (counted.new.entries ≤ MAX_ACTIONS) }
+    ensures many { (read : List Manifest) → Counts read counted.old
+        → IfErr result (IsReadRefusal (HasManyEntries read manifests.now)) }
+    ensures no_fault { IsErrOf result StoreFault → ⊥ }
 {
-    position_of(alloc, Kind::Iceberg, snapshot.id)
+    counted.count_each(alloc, manifests)?;
+    let position = position_of(alloc, Kind::Iceberg, snapshot.id)?;
+    commits.push(Commit { position, change })?;
+    Ok(())
 }
 
 impl Later {
@@ -132,18 +168,24 @@ impl Later {
         let Later {
             mut commits,
             table,
-            counted: before,
+            mut counted,
             listed,
         } = self;
         let own = read_own(alloc, store, metadata, version, snapshot, table, listed)?;
-        let position = position_at(alloc, snapshot)?;
-        let counted = before.with_manifests(alloc, own.listed.manifests.as_slice())?;
         let Own {
             change,
             table,
             listed,
         } = own;
-        commits.push(Commit { position, change })?;
+        let manifests = listed.manifests.as_slice();
+        put_commit(
+            alloc,
+            snapshot,
+            change,
+            manifests,
+            &mut commits,
+            &mut counted,
+        )?;
         Ok(Later {
             commits,
             table,
@@ -187,16 +229,16 @@ fn commits_behind<S: Store>(
     store: &mut S,
     metadata: &Metadata,
     version: u32,
-    snapshots: Snapshots,
+    snapshots: &[Snapshot],
     base: &Table,
 ) -> Result<Items<Commit>, SourceError>
     requires { IsWritable metadata.now }
     ensures commits { S.tells → IfOk result
-        (AreCommitsOver (S.disk store.old).files metadata.now base.now snapshots) }
+        (AreCommitsOver (S.disk store.old).files metadata.now base.now snapshots.now) }
     ensures fits { IfOk result (FitAll base.now) }
     ensures sound { IsPublishable base.now → IfOk result (CanApplyAll base.now) }
     ensures refused { S.tells → IfErr result (IsReadRefusal
-        (ShowsBehind (S.disk store.old).files version metadata.now base.now snapshots)) }
+        (ShowsBehind (S.disk store.old).files version metadata.now base.now snapshots.now)) }
     ensures only_reads { S.tells → OnlyReads ⟦<S as Store>⟧ store.old store.new }
     ensures cause { FailsBy ⟦<S as Store>⟧ store.old store.new (IsErrOf result StoreFault) }
     ensures contest { IsUncontestedBy ⟦<S as Store>⟧ store.old store.new ⊥ }
@@ -210,11 +252,52 @@ fn commits_behind<S: Store>(
     if snapshots.is_empty() {
         return Ok(Items::new(alloc));
     }
-    read_later(alloc, store, metadata, version, snapshots.as_slice(), base)
+    read_later(alloc, store, metadata, version, snapshots, base)
 }
 
 /// The commits of the ancestors behind a position up to the head, where the position is that of an
 /// ancestor. The newest metadata may have newer snapshots by now, which aren't told.
+fn since_in<S: Store>(
+    alloc: Global,
+    store: &mut S,
+    newest: &Newest,
+    head: &Head,
+    position: &Text,
+    base: &Table,
+) -> Result<Since, SourceError>
+    requires newest { S.tells
+        → IsNewestMetadata (S.disk store.old).files newest.now.version newest.now.metadata }
+    requires writable { IsWritable newest.now.metadata }
+    requires head { S.tells → IsIcebergHead (S.disk store.old).files head.now }
+    ensures since { S.tells → IfOk result
+        (IsSinceAnswer (Reaches (S.disk store.old).files position.now)
+        (IsSince (S.disk store.old).files position.now base.now)) }
+    ensures fits { IfOk result (FitSince base.now) }
+    ensures sound { IsPublishable base.now → IfOk result (CanApplySince base.now) }
+    ensures refused { S.tells → IfErr result (IsSinceRefusal (Reaches (S.disk store.old).files position.now)
+        (ShowsFromPosition (S.disk store.old).files position.now base.now)) }
+    ensures only_reads { S.tells → OnlyReads ⟦<S as Store>⟧ store.old store.new }
+    ensures cause { FailsBy ⟦<S as Store>⟧ store.old store.new (IsErrOf result StoreFault) }
+    ensures contest { IsUncontestedBy ⟦<S as Store>⟧ store.old store.new ⊥ }
+{
+    let ancestors = ancestors_to(alloc, &newest.metadata, &head.position)?;
+    if ancestors.is_empty() {
+        return Err(lacks_head(alloc, newest.version));
+    }
+    match later_ancestors(alloc, ancestors, position)? {
+        Some(later) => Ok(Since::Commits(commits_behind(
+            alloc,
+            store,
+            &newest.metadata,
+            newest.version,
+            later.as_slice(),
+            base,
+        )?)),
+        None => Ok(Since::NotReached),
+    }
+}
+
+/// The same by the newest metadata that the store has.
 pub(crate) fn commits_since<S: Store>(
     alloc: Global,
     store: &mut S,
@@ -235,19 +318,5 @@ pub(crate) fn commits_since<S: Store>(
     ensures contest { IsUncontestedBy ⟦<S as Store>⟧ store.old store.new ⊥ }
 {
     let newest = newest_metadata(alloc, store)?;
-    let ancestors = ancestors_to(alloc, &newest.metadata, &head.position)?;
-    if ancestors.is_empty() {
-        return Err(lacks_head(alloc, newest.version));
-    }
-    match later_ancestors(alloc, ancestors, position)? {
-        Some(later) => Ok(Since::Commits(commits_behind(
-            alloc,
-            store,
-            &newest.metadata,
-            newest.version,
-            later,
-            base,
-        )?)),
-        None => Ok(Since::NotReached),
-    }
+    since_in(alloc, store, &newest, head, position, base)
 }

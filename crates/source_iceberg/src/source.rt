@@ -99,6 +99,20 @@ fn head_table<S: Store>(
     }
 }
 
+/// The current snapshot's position.
+fn current_position(alloc: Global, metadata: &Metadata) -> Result<Text, SourceError>
+    ensures position { IfOk result (λ position. (s : Snapshot)
+        × (held_at metadata.now.snapshots metadata.now.current_snapshot ≡ Some s)
+        × (position ≡ signed_decimal s.id)) }
+    ensures refused { IfErr result (λ e. (e ≡ Memory) ⊎ ((e ≡ Absent)
+        × (held_at metadata.now.snapshots metadata.now.current_snapshot ≡ None))) }
+{
+    match current_snapshot(metadata) {
+        Some(snapshot) => Ok(position_of(alloc, Kind::Iceberg, snapshot.id)?),
+        None => Err(SourceError::Absent),
+    }
+}
+
 fn uuid_of(metadata: Metadata) -> Text
     ensures { result ≡ metadata.uuid }
 {
@@ -115,14 +129,12 @@ fn head_of(alloc: Global, metadata: Metadata) -> Result<Head, SourceError>
     ensures refused { IfErr result (λ e. (e ≡ Memory)
         ⊎ ((e ≡ Absent) × (held_at metadata.snapshots metadata.current_snapshot ≡ None))) }
 {
-    let Some(snapshot) = current_snapshot(&metadata) else {
-        return Err(SourceError::Absent);
-    };
-    let position = position_of(alloc, Kind::Iceberg, snapshot.id)?;
+    let position = current_position(alloc, &metadata);
+    let table = uuid_of(metadata);
     Ok(Head {
-        position,
+        position: position?,
         pending: None,
-        table: Some(uuid_of(metadata)),
+        table: Some(table),
     })
 }
 

@@ -1,9 +1,11 @@
 //! Comparing a target with its source.
-ghost use Rattle.std.specs.Prelude.{◌≡◌, ◌⊎◌, ◌≢◌, ◌↔◌, IfErr, IfOk, IsTrue, MatchOption, Some};
+ghost use Rattle.std.specs.Prelude.{◌≡◌, ◌⊎◌, ◌≢◌, ◌↔◌, List, IfErr, IfOk, IsTrue, MatchOption, Some};
 ghost use Rattle.std.specs.Ordering.{nat_cmp};
 ghost use Rattle.std.specs.declared.cmp.Ordering.TheVariants.{Greater};
 ghost use Rattle.std.specs.Cmp.Lexicographic.{slice_cmp};
 ghost use Rattle.table_history.specs.Rows.{SameRows};
+ghost use Rattle.table_history.specs.Tables.{IsDiff, LeadsTo};
+ghost use Rattle.table_history.specs.declared.row.FileRow.{FileRow};
 ghost use Rattle.target_core.specs.SeenView.{IsSeenSound};
 ghost use Rattle.sync_driver.specs.Checked.{Checks, IsCheck, IsCompared, IsFirstDifference, IsKeptAtHead, IsMarkedAt, IsSeenRefusal, check_line, check_status};
 ghost use Rattle.sync_driver.specs.Tellings.{Tells};
@@ -18,7 +20,7 @@ use lake_store::{Sink, Store};
 use source_core::{Head, Source};
 use std::alloc::{AllocError, Global};
 use std::cmp::Ordering;
-use table_history::{Kind, Table};
+use table_history::{Change, Kind, Table};
 use target_core::{Seen, Target};
 use target_sync::{Status, inspected, may_be_same, position_of, status_of_source};
 
@@ -42,17 +44,31 @@ fn lesser<'a>(path: &'a Text, other: &'a Text) -> &'a Text
     }
 }
 
+/// The least path in byte order that the change takes out or puts in.
+fn first_path(change: &Change) -> Option<&Text>
+    ensures { (held rows : List FileRow)
+        → LeadsTo held change.now.removed change.now.added rows
+        → IsDiff held rows change.now.removed change.now.added
+        → MatchOption result (SameRows held rows)
+        (λ path. IsFirstDifference held rows path.now) }
+{
+    match (change.removed.get(0), change.added.get(0)) {
+        (None, None) => None,
+        (Some(lost), None) => Some(lost),
+        (None, Some(new)) => Some(&new.path),
+        (Some(lost), Some(new)) => Some(lesser(lost, &new.path)),
+    }
+}
+
 /// The least path in byte order at which the rows of the two tables differ.
 fn first_difference(alloc: Global, held: &Table, table: &Table) -> Result<Option<Text>, AllocError>
     ensures { IfOk result (λ path. MatchOption path (SameRows held.now.rows table.now.rows)
         (IsFirstDifference held.now.rows table.now.rows)) }
 {
     let change = held.change_to(alloc, table)?;
-    match (change.removed.get(0), change.added.get(0)) {
-        (None, None) => Ok(None),
-        (Some(lost), None) => Ok(Some(lost.copy(alloc)?)),
-        (None, Some(new)) => Ok(Some(new.path.copy(alloc)?)),
-        (Some(lost), Some(new)) => Ok(Some(lesser(lost, &new.path).copy(alloc)?)),
+    match first_path(&change) {
+        None => Ok(None),
+        Some(path) => Ok(Some(path.copy(alloc)?)),
     }
 }
 

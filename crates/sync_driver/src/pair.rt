@@ -42,12 +42,10 @@ fn first_refusal(so_far: Status, next: Status) -> Status
 fn status_behind(so_far: Status, next: Status) -> Status
     ensures { result ≡ status_behind so_far next }
 {
-    match next {
-        Status::Memory => Status::Memory,
-        Status::StoreFault => Status::StoreFault,
-        Status::SinkFault => Status::SinkFault,
-        next => first_refusal(so_far, next),
+    if ends(&next) {
+        return next;
     }
+    first_refusal(so_far, next)
 }
 
 /// Puts the line of a target out behind others, which gave this status so far.

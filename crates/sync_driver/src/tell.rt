@@ -17,10 +17,10 @@ pub fn put_line<O: Sink>(out: &mut O, line: &[u8], due: Status) -> Status
     if line.is_empty() {
         return due;
     }
-    match out.put(line) {
+    let put = out.put(line);
+    match cut_of_put(put) {
         Ok(()) => due,
-        Err(SinkError::Memory) => Status::Memory,
-        Err(SinkError::Failed) => Status::SinkFault,
+        Err(cut) => cut,
     }
 }
 

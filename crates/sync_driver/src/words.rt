@@ -14,7 +14,7 @@ use table_history::Kind;
 const MAX_LOCATION: usize = 1024;
 
 /// What a form begins with.
-#[derive(Clone, Copy, Debug, PartialEq, Eq)]
+#[derive(Clone, Copy)]
 pub(crate) enum Verb {
     Sync,
     Full,
@@ -27,7 +27,7 @@ pub(crate) enum Verb {
 
 /// What a command asks for, and of which formats: of a source and of targets, of one of the two, of a
 /// Delta log, or of a drill of this number.
-#[derive(Clone, Copy, Debug, PartialEq, Eq)]
+#[derive(Clone, Copy)]
 pub(crate) enum Form {
     Sync(Kind, Kind, Option<Kind>),
     Full(Kind, Kind, Option<Kind>),
@@ -139,11 +139,11 @@ fn triple_form(verb: Verb, source: Kind, first: Kind, second: Kind) -> Option<Fo
 pub(crate) fn form_of(words: &[String]) -> Option<Form>
     ensures { MatchOption result ((form : Form) → Spells words.now form → ⊥) (λ form. Spells words.now form) }
 {
+    let verb = verb_at(words, 1)?;
     match words.len() {
-        2 => plain_form(verb_at(words, 1)?),
-        3 => single_form(verb_at(words, 1)?, kind_at(words, 2), number_at(words, 2)),
+        2 => plain_form(verb),
+        3 => single_form(verb, kind_at(words, 2), number_at(words, 2)),
         4 => {
-            let verb = verb_at(words, 1)?;
             let source = kind_at(words, 2)?;
             let target = kind_at(words, 3)?;
             if source == target {
@@ -152,7 +152,6 @@ pub(crate) fn form_of(words: &[String]) -> Option<Form>
             pair_form(verb, source, target)
         }
         5 => {
-            let verb = verb_at(words, 1)?;
             let source = kind_at(words, 2)?;
             let first = kind_at(words, 3)?;
             let second = kind_at(words, 4)?;
@@ -189,7 +188,7 @@ pub fn location_of(place: &str) -> &str
 }
 
 /// What the words ask for, and of which table.
-#[derive(Clone, Copy, Debug)]
+#[derive(Clone, Copy)]
 pub(crate) struct Command<'a> {
     pub(crate) location: &'a str,
     pub(crate) form: Form,

@@ -1,15 +1,17 @@
 //! The mark that a target's commit carries, as compact JSON.
 
-ghost use Rattle.std.specs.Prelude.{◌≡◌, ◌↔◌, ◌≤◌, IfOk, IsTrue, false};
-ghost use Rattle.serde_json.specs.Data.{depth};
+ghost use Rattle.std.specs.Prelude.{◌≡◌, ◌↔◌, ◌≤◌, IfOk, IsTrue, codes, false};
+ghost use Rattle.serde_json.specs.Data.{depth, member, no_members, string};
 ghost use Rattle.serde_json.specs.Read.{max_depth};
-ghost use Rattle.serde_json.specs.View.{view};
+ghost use Rattle.serde_json.specs.View.{members_view, view};
 ghost use Rattle.serde_json.specs.Written.{compact_text, has_float};
+ghost use Rattle.json_reading.specs.Json.{text_member};
+ghost use Rattle.table_history.specs.Words.{kind_word};
 ghost use Rattle.target_core.specs.Mark.{IsMark, IsMarkData, IsMarkText, candidate, earlier_mark_data, mark_data};
 
-use json_reading::{json_text, text_member, text_of, text_or_null};
+use json_reading::{json_text, text_member, text_of, text_or_null, with_member, with_text};
 use lake_basics::Text;
-use serde_json::{Value, json};
+use serde_json::{Map, Value};
 use std::alloc::{AllocError, Global};
 use table_history::Kind;
 
@@ -74,15 +76,30 @@ fn candidate(alloc: Global, value: &Value) -> Result<Option<Mark>, AllocError>
     let Some(source) = Kind::from_word(word) else {
         return Ok(None);
     };
-    let table = text_member(alloc, value, "table")?;
-    let at = Text::from_str(alloc, at)?;
-    let to = Text::from_str(alloc, to)?;
-    Ok(Some(Mark {
-        at,
+    Ok(Some(mark_of(alloc, value, at, to, source)?))
+}
+
+// The mark of these texts, with the table that the value states.
+fn mark_of(
+    alloc: Global,
+    value: &Value,
+    at: &str,
+    to: &str,
+    source: Kind,
+) -> Result<Mark, AllocError>
+    ensures { IfOk result (λ mark. mark ≡ record {
+      at = at.now;
+      source = source;
+      to = to.now;
+      table = text_member (codes "table") (view value.now);
+    }) }
+{
+    Ok(Mark {
+        at: Text::from_str(alloc, at)?,
         source,
-        to,
-        table,
-    }))
+        to: Text::from_str(alloc, to)?,
+        table: text_member(alloc, value, "table")?,
+    })
 }
 
 // Whether the value is this mark in one of its two versions.
@@ -112,32 +129,35 @@ fn is_same(alloc: Global, value: &Value, other: &Value) -> Result<bool, AllocErr
     Ok(text.as_str() == other_text.as_str())
 }
 
+// The four members of a mark that are texts in both versions.
+fn text_members(alloc: Global, mark: &Mark) -> Result<Map<String, Value>, AllocError>
+    ensures { IfOk result (λ m. members_view m.entries
+        ≡ member (codes "at") (string mark.now.at)
+        (member (codes "by") (string (codes "lakebridge"))
+        (member (codes "source") (string (kind_word mark.now.source))
+        (member (codes "to") (string mark.now.to) no_members)))) }
+{
+    let members = with_text(alloc, Map::new(alloc), "at", mark.at.as_str())?;
+    let members = with_text(alloc, members, "by", "lakebridge")?;
+    let members = with_text(alloc, members, "source", mark.source.word())?;
+    with_text(alloc, members, "to", mark.to.as_str())
+}
+
 // The object of six members.
 fn mark_value(alloc: Global, mark: &Mark) -> Result<Value, AllocError>
     ensures { IfOk result (λ v. view v ≡ mark_data mark.now) }
 {
     let table = text_or_null(alloc, &mark.table)?;
-    let source = mark.source.word();
-    json!(in alloc; {
-        "at": mark.at.as_str(),
-        "by": "lakebridge",
-        "source": source,
-        "table": table,
-        "to": mark.to.as_str(),
-        "version": 2u64,
-    })
+    let members = with_member(alloc, text_members(alloc, mark)?, "table", table)?;
+    let members = with_member(alloc, members, "version", Value::from(2u64))?;
+    Ok(Value::Object(members))
 }
 
 // The object of five members, which says nothing of the table.
 fn earlier_mark_value(alloc: Global, mark: &Mark) -> Result<Value, AllocError>
     ensures { IfOk result (λ v. view v ≡ earlier_mark_data mark.now) }
 {
-    let source = mark.source.word();
-    json!(in alloc; {
-        "at": mark.at.as_str(),
-        "by": "lakebridge",
-        "source": source,
-        "to": mark.to.as_str(),
-        "version": 1u64,
-    })
+    let members = text_members(alloc, mark)?;
+    let members = with_member(alloc, members, "version", Value::from(1u64))?;
+    Ok(Value::Object(members))
 }

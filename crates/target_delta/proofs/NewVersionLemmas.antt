@@ -1,22 +1,27 @@
 -- The version that a commit is written as, from the table behind it.
 use Rattle.std.proofs.Common.{◌≡◌, inl, ⊎_elim, ℕ, suc, ◌+◌, ◌≤◌, ◌||◌, true, List, [], ◌∷◌, length, Contains, Some, refl, sym, ap, subst, ◌∙◌, arith}
-use Rattle.std.specs.Prelude.{Err, Ok, OnErr, OnOk, Result}
+use Rattle.std.specs.Prelude.{◌<◌, Err, IfOk, Ok, OnErr, OnOk, Result}
 use Rattle.std.proofs.lemmas.List.{append-nil}
 use Rattle.serde_json.specs.Written.{compact_text}
-use Rattle.lake_basics.specs.declared.limits.TheConstants.{MAX_DELTA_VERSION, MAX_LIVE_FILES}
+use Rattle.lake_basics.specs.declared.limits.TheConstants.{MAX_DELTA_VERSION, MAX_FILE_BYTES, MAX_LIVE_FILES}
 use Rattle.table_history.specs.History.{FitColumns}
 use Rattle.table_history.specs.Path.{IsPath}
 use Rattle.table_history.specs.Row.{Row}
 use Rattle.table_history.specs.Rows.{paths_of}
+use Rattle.table_history.specs.SchemaSize.{IsWithinLimits}
+use Rattle.table_history.specs.Sound.{IsSound}
 use Rattle.table_history.specs.Tables.{IsAfter}
 use Rattle.table_history.specs.TypeTree.{ColumnTrees}
 use Rattle.table_history.specs.declared.limit.LimitKind.{LimitKind}
 use Rattle.table_history.specs.declared.row.PartValue.{PartValue}
+use Rattle.table_history.specs.declared.table.Change.{Change}
 use Rattle.table_history.specs.declared.table.Commit.{Commit}
 use Rattle.table_history.specs.declared.table.Table.{Table}
 use Rattle.table_history.proofs.RowListLemmas.{Contains-paths}
 use Rattle.schema_delta.specs.Delta.{delta_schema_of}
 use Rattle.schema_delta.specs.DeltaWriting.{delta_text}
+use Rattle.delta_log.specs.Readable.{IsReadableCommit}
+use Rattle.delta_text.specs.Writing.{SameCommit, commit_text}
 use Rattle.delta_log.specs.declared.commit.DeltaCommit.{DeltaCommit}
 use Rattle.target_core.specs.Conditions.{CanPublish, Fits, IsPublishable}
 use Rattle.target_core.specs.Mark.{IsMarkText, mark_data}
@@ -27,7 +32,7 @@ use Rattle.target_core.specs.declared.target.TargetError.TheVariants as errors
 use Rattle.target_delta.specs.Fitting.{Unfit}
 use Rattle.target_core.specs.Held.{are_held}
 use Rattle.target_delta.specs.Kept.{end_of, view_of}
-use Rattle.target_delta.specs.NewVersion.{IsGoneOn, IsNewVersion, IsTextOf, IsTextRefusal, IsVersionRefusal, IsWrittenOf}
+use Rattle.target_delta.specs.NewVersion.{IsGoneOn, IsNewVersion, IsTextOf, IsTextRefusal, IsTooLongFor, IsVersionRefusal, IsWrittenOf}
 use Rattle.target_delta.specs.Reading.{mark_setting}
 use Rattle.target_delta.specs.Writing.{AreActions, CanAdd, IsWritten, LeavesAdded, LosesRemoved, Passes, end_behind, have_ntz, mark_of, protocol_due}
 use Rattle.target_delta.specs.declared.kept.DeltaKept.{DeltaKept}
@@ -35,6 +40,31 @@ use Rattle.target_delta.specs.FitLemmas.{fits_rows}
 use Rattle.target_core.proofs.HeldRows.{held_few, held_of, held_paths}
 use Rattle.target_delta.specs.KeptLemmas.{ends_by}
 use Rattle.target_delta.proofs.WritableLemmas.{fewer}
+
+-- ---- the text of what is written
+
+module _ (behind : DeltaKept) (change : Change) (mark : Mark) (now : ℕ) where
+  pub text_is : {E : Type 0} (written : DeltaCommit) (r : Result (List ℕ) E) → IsWrittenOf behind change mark written → IsMarkText (compact_text (mark_data mark)) mark
+      → (IsSound behind.table.schema → IsWithinLimits behind.table.schema → delta_schema_of (delta_text behind.table.schema) ≡ Ok behind.table.schema) → IfOk r (λ bytes. bytes ≡ commit_text now written)
+      → IfOk r (λ bytes. (again : DeltaCommit) × IsReadableCommit bytes again × SameCommit written again) → IfOk r (IsTextOf behind change mark now)
+  text_is written (Err e) is reads spells text readable = tt
+  text_is written (Ok bytes) is reads spells text readable = record {
+    written = written;
+    is = is;
+    text = text;
+    again = readable.0;
+    readable = readable.1;
+    same = readable.2;
+    reads_back = reads;
+    spells = spells;
+  }
+
+  pub too_long : (bytes : List ℕ) → IsTextOf behind change mark now bytes → MAX_FILE_BYTES < length bytes → IsTooLongFor behind change mark now
+  too_long bytes text long = record {
+    written = text.written;
+    is = text.is;
+    long = subst (λ (b : List ℕ). MAX_FILE_BYTES < length b) text.text long;
+  }
 
 -- ---- the rows behind the change
 

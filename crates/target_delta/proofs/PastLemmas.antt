@@ -1,10 +1,11 @@
 -- What a Delta log stands at of which as many versions were read as are ever read.
-use Rattle.std.proofs.Common.{◌≡◌, inl, inr, ⊎_elim, ℕ, ◌+◌, ◌≤◌, List, Bool, Some, refl, sym, subst, ◌∙◌}
+use Rattle.std.proofs.Common.{◌≡◌, ◌⊎◌, true, inl, inr, ⊎_elim, ℕ, ◌+◌, ◌≤◌, List, Bool, Some, refl, sym, subst, ◌∙◌}
 use Rattle.std.specs.Prelude.{◌↔◌, IfErr, IfOk, IsTrue, Result, Ok, Err}
 use Rattle.std.proofs.lemmas.Bool.{false≢true}
 use Rattle.lake_basics.specs.declared.limits.TheConstants.{MAX_COMMITS}
 use Rattle.lake_store.specs.Disk.{Files}
 use Rattle.table_history.specs.declared.kind.Kind.{Kind}
+use Rattle.table_history.specs.declared.limit.LimitKind.TheVariants.{Commits}
 use Rattle.delta_table.specs.Log.{IsLogOf, IsReadLog}
 use Rattle.delta_table.specs.Versions.{HasVersion, IsVersionPath}
 use Rattle.delta_table.specs.declared.log.Log.{Log}
@@ -14,11 +15,17 @@ use Rattle.target_core.specs.SeenView.{IsSeen}
 use Rattle.target_core.specs.declared.target.Seen.{Seen}
 use Rattle.target_core.specs.declared.target.Seen.TheVariants.{Absent, Ours, Foreign}
 use Rattle.target_core.specs.declared.target.TargetError.{TargetError}
+use Rattle.target_core.specs.declared.target.TargetError.TheVariants.{Memory}
 use Rattle.target_delta.specs.Inspecting.{GoesPast, IsCrowded, IsFirstFaulty, IsForeign}
-use Rattle.target_delta.specs.InspectSteps.{IsGapBehind, IsRefusalBehind}
+use Rattle.target_delta.specs.InspectSteps.{IsGapBehind, IsRefusalBehind, limit_of}
 use Rattle.target_delta.specs.Kept.{view_of}
 use Rattle.target_delta.specs.Reading.{Reads}
 use Rattle.target_delta.specs.declared.kept.DeltaKept.{DeltaKept}
+
+-- a refusal of a longer log, of which as many versions were read as are ever read
+pub refused_behind : {X : Type 0} (newest : ℕ) (longer : Bool) → MAX_COMMITS ≤ newest → (r : Result X TargetError) → IfErr r (λ e. (e ≡ Memory) ⊎ ((longer ≡ true) × (e ≡ limit_of Commits))) → IfErr r (IsRefusalBehind newest longer)
+refused_behind newest longer past (Ok seen) refused = tt
+refused_behind newest longer past (Err e) refused = ⊎_elim (λ memory. inl memory) (λ many. inr (past, many.0, many.1)) refused
 
 module _ (files : Files) (newest last count : ℕ) (log : Log) (is : IsLogOf files (last + 1) log) (ends : last + 1 ≡ count) where
   read : IsReadLog files count (Some log.table)

@@ -18,6 +18,7 @@ use Rattle.partition_map.proofs.Laws.{kind_of_type}
 use Rattle.delta_change.specs.Change.{IsTableOfLog}
 use Rattle.delta_log.specs.declared.commit.DeltaCommit.{DeltaCommit}
 use Rattle.delta_log.specs.declared.commit.MetaData.{MetaData}
+use Rattle.delta_table.specs.Versions.{IsVersionPath}
 use Rattle.delta_table.specs.Log.{HasLiveRows, IsLog, IsLogOf, IsNewestProtocol, SaysCommit}
 use Rattle.delta_table.specs.declared.log.Log.{Log}
 use Rattle.delta_table.proofs.LogLaws.{live_rows, read_is_log}
@@ -178,6 +179,18 @@ module _ (files : Files) (newest : ℕ) (log : Log) (is : IsLogOf files (newest 
   seen_whole source id (Ok seen) h = seen_here source id seen h
 
 -- what is kept of a log of a table that may be followed on
+-- a version without a mark of its own
+abbrev IsForeignVersion : ℕ → Seen DeltaKept → Type 0
+IsForeignVersion newest seen = (path : List ℕ) × (seen ≡ Foreign path) × IsVersionPath path newest
+
+pub unmarked_seen : {E : Type 0} (newest : ℕ) (log : Log) (source : Kind) (r : Result (Seen DeltaKept) E) → ((mark : Mark) → IsMarkOf log newest mark → mark.source ≢ source) → IfOk r (IsForeignVersion newest) → IfOk r (IsSeenOf log newest source)
+unmarked_seen newest log source (Ok seen) none is = subst (IsSeenOf log newest source) (sym is.1) (is.2, none)
+unmarked_seen newest log source (Err e) none is = tt
+
+pub foreign_sound : {E : Type 0} (newest : ℕ) (source : Kind) (r : Result (Seen DeltaKept) E) → IfOk r (IsForeignVersion newest) → IfOk r (IsSeenSound view_of source)
+foreign_sound newest source (Ok seen) is = subst (IsSeenSound view_of source) (sym is.1) tt
+foreign_sound newest source (Err e) is = tt
+
 pub kept_sound : (log : Log) (newest : ℕ) (source : Kind) (mark : Mark) (kept : DeltaKept) → IsTableOfLog log.table → IsKeptOf log newest mark kept → mark.source ≡ source → IsSeenSound view_of source (Ours kept)
 kept_sound log newest source mark kept table k is = (let count = k.commits in omega (arith, count), subst IsPublishable (sym k.table) (publishable log.table table), (standing_of mark, ap (λ (m : Option Mark). option_map standing_of m) k.marked, is))
 

@@ -22,11 +22,12 @@ pub(crate) fn fresh_kept(
     ensures stands { IfOk result (λ kept. (files : Files) → Reads files (absent [])
         → StandsFor id.now kept files) }
 {
+    let id = id.copy(alloc)?;
     Ok(DeltaKept {
         table: Table::empty(alloc, partition)?,
         mark: None,
         commits: 0,
-        id: id.copy(alloc)?,
+        id,
         names_ntz: false,
     })
 }

@@ -1,21 +1,23 @@
 //! What a Delta target stands at.
 
-ghost use Rattle.std.specs.Prelude.{◌≡◌, ◌≢◌, ◌↔◌, ◌<◌, ◌≤◌, ℕ, List, IfErr, IfOk, IsErrOf, IsTrue, MatchOption, find, option_map};
+ghost use Rattle.std.specs.Prelude.{◌≡◌, ◌≢◌, ◌⊎◌, ◌↔◌, ◌<◌, ◌≤◌, ℕ, List, IfErr, IfOk, IsErrOf, IsTrue, MatchOption, find, option_map, true};
 ghost use Rattle.std.specs.Char.{is_ascii_digit};
 ghost use Rattle.std.specs.Fmt.{decimal};
 ghost use Rattle.std.specs.List.{list_all, list_any};
 ghost use Rattle.std.specs.Str.{bytes_eq};
 ghost use Rattle.lake_basics.specs.declared.limits.TheConstants.{MAX_COMMITS, MAX_DELTA_VERSION};
 ghost use Rattle.lake_store.specs.Runs.{FailsBy, IsUncontestedBy, OnlyReads};
+ghost use Rattle.table_history.specs.declared.kind.Kind.{Kind};
 ghost use Rattle.table_history.specs.declared.limit.LimitKind.TheVariants.{Commits};
 ghost use Rattle.delta_change.specs.Change.{IsTableOfLog};
 ghost use Rattle.delta_log.specs.VersionName.{IsVersionName};
 ghost use Rattle.delta_table.specs.Refusals.{TellsOf};
-ghost use Rattle.delta_table.specs.Versions.{HasVersion, IsNamed};
+ghost use Rattle.delta_table.specs.Versions.{HasVersion, IsNamed, IsVersionPath};
 ghost use Rattle.target_core.specs.Refusals.{IsInspectRefusal, IsOfInspect};
 ghost use Rattle.target_core.specs.SeenView.{IsSeen, IsSeenSound};
 ghost use Rattle.target_core.specs.declared.mark.Mark.{Mark};
-ghost use Rattle.target_core.specs.declared.target.TargetError.TheVariants.{StoreFault, Contested};
+ghost use Rattle.target_core.specs.declared.target.Seen.TheVariants.{Foreign};
+ghost use Rattle.target_core.specs.declared.target.TargetError.TheVariants.{Memory, StoreFault, Contested};
 ghost use Rattle.target_delta.specs.Inspecting.{IsCrowded, IsForeign};
 ghost use Rattle.target_delta.specs.InspectSteps.{IsGapBehind, IsKeptOf, IsMarkOf, IsNewest, IsRefusalBehind, IsRefusalOf, IsSeenIn, IsSeenOf, IsToldOf, fault_in, faulty_version, is_leftover_name, is_stray_name, limit_of};
 ghost use Rattle.target_delta.specs.Kept.{StandsFor, view_of};
@@ -182,6 +184,17 @@ fn seen_in(
     if newest < MAX_COMMITS {
         return Ok(seen_of(alloc, log, newest, source)?);
     }
+    behind_last(alloc, longer)
+}
+
+/// What a log of more versions than are read stands at.
+fn behind_last(alloc: Global, longer: bool) -> Result<Seen<DeltaKept>, TargetError>
+    ensures gap { IfOk result (IsGapBehind longer) }
+    ensures sound { (source : Kind) → IfOk result (IsSeenSound view_of source) }
+    ensures refusal { IfErr result
+        (λ e. (e ≡ Memory) ⊎ ((longer ≡ true) × (e ≡ limit_of Commits))) }
+    ensures many { IsTrue longer → IsErrOf result (limit_of Commits) }
+{
     if longer {
         return Err(limit_of(LimitKind::Commits));
     }
@@ -246,8 +259,17 @@ fn seen_of(
 {
     match newest_mark(alloc, &log, newest, source)? {
         Some(mark) => Ok(Seen::Ours(kept_of(log, newest, mark))),
-        None => Ok(Seen::Foreign(version_path(alloc, newest)?)),
+        None => foreign_version(alloc, newest),
     }
+}
+
+/// The version isn't ours.
+fn foreign_version(alloc: Global, version: u64) -> Result<Seen<DeltaKept>, AllocError>
+    requires { version ≤ MAX_DELTA_VERSION }
+    ensures { IfOk result
+        (λ seen. (path : List ℕ) × (seen ≡ Foreign path) × IsVersionPath path version) }
+{
+    Ok(Seen::Foreign(version_path(alloc, version)?))
 }
 
 #[tactic(auto, using(crate::proofs::HeldLemmas::held_log))]

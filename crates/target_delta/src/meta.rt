@@ -58,6 +58,18 @@ fn schema_text(alloc: Global, schema: &Schema) -> Result<Text, AllocError>
     }
 }
 
+/// The one setting of a commit's metadata, which is the mark.
+fn configuration_of(alloc: Global, mark: &Mark) -> Result<Items<(Text, Text)>, AllocError>
+    ensures setting { IfOk result
+        (λ settings. settings ≡ (mark_setting, compact_text (mark_data mark.now)) ∷ []) }
+    ensures reads_back { OnOk result (IsMarkText (compact_text (mark_data mark.now)) mark.now) }
+{
+    let text = mark_text(alloc, mark)?;
+    let mut settings = Items::new(alloc);
+    settings.push((Text::from_str(alloc, "lakebridge.mark")?, text))?;
+    Ok(settings)
+}
+
 /// The metadata of a commit: the table's id, its schema and partition columns, and the mark as its
 /// one setting.
 pub(crate) fn meta_of(
@@ -77,14 +89,11 @@ pub(crate) fn meta_of(
     ensures spells { OnOk result (IsSound schema.now → IsWithinLimits schema.now
         → delta_schema_of (delta_text schema.now) ≡ Ok schema.now) }
 {
-    let text = mark_text(alloc, mark)?;
-    let mut configuration = Items::new(alloc);
-    configuration.push((Text::from_str(alloc, "lakebridge.mark")?, text))?;
     Ok(MetaData {
         id: id.copy(alloc)?,
         schema: schema_text(alloc, schema)?,
         partition: texts_copy(alloc, partition)?,
-        configuration,
+        configuration: configuration_of(alloc, mark)?,
     })
 }
 

@@ -1,7 +1,7 @@
 //! Which protocol a commit writes for timestamps without a time zone (Delta protocol, "Timestamp
 //! without timezone").
 
-ghost use Rattle.std.specs.Prelude.{◌≡◌, IfOk};
+ghost use Rattle.std.specs.Prelude.{◌≡◌, ◌∷◌, ◌++◌, [], IfOk, codes};
 ghost use Rattle.table_history.specs.SchemaView.{columns_view, type_view};
 ghost use Rattle.target_delta.specs.Writing.{have_ntz, has_ntz, ntz_feature, ntz_protocol, plain_protocol, protocol_due};
 
@@ -42,21 +42,30 @@ pub(crate) fn schema_has_ntz(schema: &Schema) -> bool
     have_ntz(schema.columns())
 }
 
-fn feature(alloc: Global, name: &str) -> Result<Text, AllocError>
-    ensures { IfOk result (λ t. t ≡ name.now) }
+/// The features with one more behind them.
+fn with_feature(alloc: Global, features: Items<Text>, name: &str) -> Result<Items<Text>, AllocError>
+    ensures { IfOk result (λ more. more ≡ features ++ name.now ∷ []) }
 {
-    Text::from_str(alloc, name)
+    let mut more = features;
+    more.push(Text::from_str(alloc, name)?)?;
+    Ok(more)
+}
+
+/// The features that a writer must know.
+fn writer_features(alloc: Global) -> Result<Items<Text>, AllocError>
+    ensures { IfOk result
+        (λ names. names ≡ codes "appendOnly" ∷ codes "invariants" ∷ ntz_feature ∷ []) }
+{
+    let features = with_feature(alloc, Items::new(alloc), "appendOnly")?;
+    let features = with_feature(alloc, features, "invariants")?;
+    with_feature(alloc, features, "timestampNtz")
 }
 
 fn ntz_protocol(alloc: Global) -> Result<Protocol, AllocError>
     ensures { IfOk result (λ p. p ≡ ntz_protocol) }
 {
-    let mut readers = Items::new(alloc);
-    readers.push(feature(alloc, "timestampNtz")?)?;
-    let mut writers = Items::new(alloc);
-    writers.push(feature(alloc, "appendOnly")?)?;
-    writers.push(feature(alloc, "invariants")?)?;
-    writers.push(feature(alloc, "timestampNtz")?)?;
+    let readers = with_feature(alloc, Items::new(alloc), "timestampNtz")?;
+    let writers = writer_features(alloc)?;
     Ok(Protocol {
         reader: 3,
         writer: 7,

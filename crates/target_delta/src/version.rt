@@ -58,7 +58,31 @@ fn bytes_of(alloc: Global, written: &DeltaCommit, now_ms: u64) -> Result<Blob, A
 }
 
 /// The bytes of what is written for a change with this mark, where the table of `behind` is that
-/// behind the change and all else of it stands before. `Limit` where they are too many.
+/// behind the change and all else of it stands before.
+fn whole_text(
+    alloc: Global,
+    behind: &DeltaKept,
+    change: &Change,
+    mark: &Mark,
+    now_ms: u64,
+) -> Result<Blob, AllocError>
+    requires leaves { LeavesAdded change.now.added behind.now.table.rows }
+    requires loses { LosesRemoved change.now behind.now.table.rows }
+    requires distinct { HasDistinctPaths behind.now.table.rows }
+    requires removed { IsDistinct bytes_eq change.now.removed }
+    requires added { HasDistinctPaths change.now.added }
+    requires fit { (row : Row) → Contains change.now.added row
+        → CanAdd behind.now.table.partition row }
+    requires paths { (path : List ℕ) → Contains change.now.removed path → IsPath path }
+    requires few { length change.now.removed ≤ MAX_LIVE_FILES }
+    requires partition { IsDistinct bytes_eq behind.now.table.partition }
+    ensures { IfOk result (IsTextOf behind.now change.now mark.now now_ms) }
+{
+    let written = written_of(alloc, behind, change, mark)?;
+    bytes_of(alloc, &written, now_ms)
+}
+
+/// The bytes of what is written for a change with this mark. `Limit` where they are too many.
 fn text_of(
     alloc: Global,
     behind: &DeltaKept,
@@ -80,8 +104,7 @@ fn text_of(
     ensures short { IfOk result (λ bytes. length bytes ≤ MOST_BYTES) }
     ensures refusal { IfErr result (IsTextRefusal behind.now change.now mark.now now_ms) }
 {
-    let written = written_of(alloc, behind, change, mark)?;
-    let bytes = bytes_of(alloc, &written, now_ms)?;
+    let bytes = whole_text(alloc, behind, change, mark, now_ms)?;
     if bytes.as_slice().len() as u64 > MAX_FILE_BYTES {
         return Err(TargetError::Limit {
             which: LimitKind::File,
@@ -132,12 +155,12 @@ pub(crate) fn new_version(
             number: MAX_DELTA_VERSION,
         });
     }
-    let staged = staged_path(alloc, version)?;
-    let path = version_path(alloc, version)?;
-    let mark = mark_of(alloc, version, &commit.position, source, table)?;
     kept.table.apply(alloc, &commit.change)?;
+    let mark = mark_of(alloc, version, &commit.position, source, table)?;
     let bytes = text_of(alloc, kept, &commit.change, &mark, now_ms)?;
     go_on(kept, mark);
+    let staged = staged_path(alloc, version)?;
+    let path = version_path(alloc, version)?;
     Ok(NewVersion {
         staged,
         path,

@@ -51,10 +51,10 @@ pub(crate) fn written_of(
 {
     let table = &behind.table;
     let partition = table.partition.as_slice();
+    let files = actions_of(alloc, partition, change, &table.rows)?;
     let has_ntz = schema_has_ntz(&table.schema);
     let protocol = protocol_due(alloc, behind.commits, behind.names_ntz, has_ntz)?;
     let meta = meta_of(alloc, &behind.id, &table.schema, partition, mark)?;
-    let files = actions_of(alloc, partition, change, &table.rows)?;
     Ok(DeltaCommit {
         protocol,
         meta: Some(meta),

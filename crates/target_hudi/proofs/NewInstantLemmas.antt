@@ -1,6 +1,6 @@
 -- The instant that a commit is written as, from the table behind it.
 use Rattle.std.proofs.Common.{◌≡◌, inl, inr, ⊎_elim, ℕ, ◌+◌, ◌<◌, ◌≤◌, true, List, [], ◌∷◌, length, Contains, IfSome, Option, None, Some, refl, sym, ap, subst, ◌∙◌, arith}
-use Rattle.std.specs.Prelude.{◌⊎◌, Err, Ok, OnErr, OnOk, Result, is_some, unwrap_or}
+use Rattle.std.specs.Prelude.{◌⊎◌, Err, IfErr, IfOk, Ok, OnErr, OnOk, Result, is_some, unwrap_or}
 use Rattle.std.specs.Ordering.{nat_cmp}
 use Rattle.std.specs.Cmp.Lexicographic.{slice_cmp}
 use Rattle.std.specs.List.{IsDistinct}
@@ -44,7 +44,7 @@ use Rattle.target_core.specs.declared.target.TargetError.TheVariants as errors
 use Rattle.target_core.proofs.HeldRows.{held_few, held_of, held_paths}
 use Rattle.target_hudi.specs.Fitting.{ChangesPartition, Held, IsCommitFault, Unfit, changes, fault}
 use Rattle.target_hudi.specs.Kept.{end_of, view_of}
-use Rattle.target_hudi.specs.NewInstant.{AreGiven, IsFileRefusal, IsInstantRefusal, IsNewInstant, IsTimeRefusal}
+use Rattle.target_hudi.specs.NewInstant.{AreGiven, IsFileRefusal, IsInstantRefusal, IsNewInstant, IsTextAt, IsTimeRefusal, IsTooLongAt}
 use Rattle.target_hudi.specs.Writing.{HasLargeProperties, IsNextInstant, IsReadAs, IsReadBack, IsStatedText, IsWritten, IsWrittenOver, LeavesAdded, LosesRemoved, PassesLast, TimelineEnd, held_behind, mark_of}
 use Rattle.target_hudi.specs.declared.kept.HudiKept.{HudiKept}
 
@@ -216,16 +216,54 @@ module _ (name : List ℕ) (kept : HudiKept) (commit : Commit) (origin : Origin)
       same_schema : next.table.schema ≡ held_behind commit.change.schema kept.table.schema
       same_schema = ap (λ (t : Table). t.schema) table ∙ schema ∙ held_same commit.change.schema kept.table.schema mid.schema after.schema
 
-  -- ---- a refusal
+-- ---- the text
 
-  pub text_refused : (written : Instant) → IsWrittenOver mid.schema origin time commit written → (e : TargetError) → IsFileRefusal (MAX_FILE_BYTES < length (instant_text written)) e
-      → IsInstantRefusal (PassesLast (end_of name kept) origin now (commit ∷ [])) e
-  text_refused written is errors.Memory h = tt
-  text_refused written is errors.StoreFault h = h
-  text_refused written is errors.Contested h = h
-  text_refused written is (errors.Limit which number) h =
-      subst (λ (w : LimitKind). PassesLast (end_of name kept) origin now (commit ∷ []) w number) (sym h.0) (h.1, inl (time, written, next_time, written_is written is, h.2))
-  text_refused written is (errors.Unsupported feature path) h = h
+module _ (kept next : HudiKept) (commit : Commit) (origin : Origin) (time : List ℕ) (mid : Table) (after : IsAfter kept.table commit.change mid) (written : Instant) (over : IsWrittenOver mid.schema origin time commit written) where
+  pub text_is : (r : Result (List ℕ) TargetError) → IsWritable written → IsReadBack mid.schema written.schema → IsMarkText (compact_text (mark_data (mark_of time origin commit.position))) (mark_of time origin commit.position)
+      → IfOk r (λ text. text ≡ instant_text written) → IfOk r (λ text. json_instant text ≡ Ok written) → OnOk r (next.table.schema ≡ held_behind commit.change.schema mid.schema)
+      → next.table.rows ≡ mid.rows → next.table.partition ≡ mid.partition → next.mark ≡ Some (mark_of time origin commit.position) → next.newest ≡ Some time → next.commits ≡ kept.commits + 1
+      → IfOk r (λ text. IsTextAt origin kept commit time text next)
+  text_is (Err e) writable back marked text read schema rows partition mark newest commits = tt
+  text_is (Ok bytes) writable back marked text read schema rows partition mark newest commits = record {
+    mid = mid;
+    after = after;
+    written = written;
+    over = over;
+    writable = writable;
+    read_back = back;
+    text_is = text;
+    read = read;
+    marked = marked;
+    rows = rows;
+    partition = partition;
+    schema = schema;
+    mark = mark;
+    newest = newest;
+    commits = commits;
+  }
+
+  too_long : (e : TargetError) → IsFileRefusal (MAX_FILE_BYTES < length (instant_text written)) e → IsFileRefusal (IsTooLongAt origin kept commit time) e
+  too_long errors.Memory h = tt
+  too_long errors.StoreFault h = h
+  too_long errors.Contested h = h
+  too_long (errors.Limit which number) h = (h.0, h.1, record { mid = mid; after = after; written = written; over = over; long = h.2 })
+  too_long (errors.Unsupported feature path) h = h
+
+  pub text_long : {T : Type 0} (r : Result T TargetError) → IfErr r (IsFileRefusal (MAX_FILE_BYTES < length (instant_text written))) → IfErr r (IsFileRefusal (IsTooLongAt origin kept commit time))
+  text_long (Ok x) h = tt
+  text_long (Err e) h = too_long e h
+
+pub text_refused : (name : List ℕ) (kept : HudiKept) (commit : Commit) (origin : Origin) (now : ℕ) (time : List ℕ) → IsNextInstant (end_of name kept) now time → (e : TargetError) → IsFileRefusal (IsTooLongAt origin kept commit time) e
+    → IsInstantRefusal (PassesLast (end_of name kept) origin now (commit ∷ [])) e
+text_refused name kept commit origin now time next errors.Memory h = tt
+text_refused name kept commit origin now time next errors.StoreFault h = h
+text_refused name kept commit origin now time next errors.Contested h = h
+text_refused name kept commit origin now time next (errors.Limit which number) h =
+    subst (λ (w : LimitKind). PassesLast (end_of name kept) origin now (commit ∷ []) w number) (sym h.0)
+    (h.1, inl (time, h.2.written, next, written_is name kept commit origin now time h.2.mid h.2.after next h.2.written h.2.over, h.2.long))
+text_refused name kept commit origin now time next (errors.Unsupported feature path) h = h
+
+-- ---- other refusals
 
 module _ (end : TimelineEnd) (commit : Commit) (origin : Origin) (now : ℕ) where
   pub time_refused : (e : TargetError) → IsTimeRefusal end.newest now e → IsInstantRefusal (PassesLast end origin now (commit ∷ [])) e

@@ -181,6 +181,14 @@ module _ (source : Kind) (files : Files) where
     pub unmarked : ((mark : Mark) → IsMarkOf next c mark → mark.source ≢ source) → IsFaulty source files p c latest
     unmarked none = inr (next, here, λ standing at same. none at.mark (mark_of_at standing at) (ap (λ (s : Standing). s.origin.source) at.is ∙ same))
 
+    pub unmarked_stop : (s : Stop) → IsStop (λ path. (path ≡ path_of c.name) × ((mark : Mark) → IsMarkOf next c mark → mark.source ≢ source)) (λ which number. ⊥) s → IsInstantStop source files p c latest s
+    unmarked_stop s is = stop_further
+        (λ path. (path ≡ path_of c.name) × ((mark : Mark) → IsMarkOf next c mark → mark.source ≢ source)) (λ path. (path ≡ path_of c.name) × IsFaulty source files p c latest)
+        (λ which number. ⊥) (PassesIn files p c latest)
+        (λ path (h : (path ≡ path_of c.name) × ((mark : Mark) → IsMarkOf next c mark → mark.source ≢ source)). (h.0, unmarked h.1))
+        (λ which number never. absurd never)
+        s is
+
   -- what stops at an instant behind those that are read
   pub instant_stop : (p : Properties) (c : CompletedInstant) (latest : Option Latest) → IsReadUpTo source files p c latest → (s : Stop) → IsInstantStop source files p c latest s → IsStopIn source files s
   instant_stop p c latest before s is = stop_further

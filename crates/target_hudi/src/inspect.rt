@@ -15,7 +15,7 @@ ghost use Rattle.target_core.specs.SeenView.{IsSeen, IsSeenSound};
 ghost use Rattle.target_core.specs.declared.mark.Mark.{Mark};
 ghost use Rattle.target_core.specs.declared.target.TargetError.TheVariants.{StoreFault, Contested};
 ghost use Rattle.target_hudi.specs.Inspecting.{IsCrowded, IsForeign};
-ghost use Rattle.target_hudi.specs.InspectSteps.{IsFound, IsInstantStop, IsKeptOf, IsMarkOf, IsNextOurs, IsOfStop, IsOthersStop, IsOurReading, IsOwnTimeline, IsProperties, IsSoundKept, IsSoundNewest, IsStopIn, is_missing, latest_in, stop_of};
+ghost use Rattle.target_hudi.specs.InspectSteps.{IsFound, IsInstantStop, IsKeptOf, IsMarkOf, IsNextOurs, IsOfStop, IsOthersStop, IsOurReading, IsOwnTimeline, IsProperties, IsSoundKept, IsSoundNewest, IsStop, IsStopIn, is_missing, latest_in, stop_of};
 ghost use Rattle.target_hudi.specs.Kept.{StandsFor, view_of};
 ghost use Rattle.target_hudi.specs.Reading.{Reads};
 ghost use Rattle.target_hudi.specs.declared.stop.Stop.TheVariants.{Refused};
@@ -177,12 +177,10 @@ fn read_commits<S: Store>(
     let Some(last) = completed.last() else {
         return Ok(None);
     };
+    let time = last.time.copy(alloc)?;
     match read_instants(alloc, store, completed, properties, source)? {
         None => Ok(None),
-        Some(newest) => {
-            let commits = completed.len() as u64;
-            Ok(Some(kept_of(newest, commits, last.time.copy(alloc)?)))
-        }
+        Some(newest) => Ok(Some(kept_of(newest, completed.len() as u64, time))),
     }
 }
 
@@ -260,10 +258,8 @@ fn read_instant<S: Store>(
         &properties.table,
         before,
     )?;
-    match own_mark(alloc, &latest, instant, source)? {
-        Some(mark) => Ok(Newest { latest, mark }),
-        None => Err(Stop::Foreign(timeline_path(alloc, instant.name.as_str())?)),
-    }
+    let mark = mark_in(alloc, &latest, instant, source)?;
+    Ok(Newest { latest, mark })
 }
 
 fn latest_of(newest: Option<Newest>) -> Option<Latest>
@@ -272,6 +268,28 @@ fn latest_of(newest: Option<Newest>) -> Option<Latest>
     match newest {
         None => None,
         Some(newest) => Some(newest.latest),
+    }
+}
+
+/// The mark of an instant that was read. The instant is at fault where it has none that names it and
+/// a source of this format.
+fn mark_in(
+    alloc: Global,
+    latest: &Latest,
+    instant: &CompletedInstant,
+    source: Kind,
+) -> Result<Mark, Stop>
+    ensures mark { IfOk result
+        (λ mark. IsMarkOf latest.now instant.now mark × (mark.source ≡ source)) }
+    ensures stop { IfErr result (IsStop (λ path. (path ≡ path_of instant.now.name)
+        × ((mark : Mark) → IsMarkOf latest.now instant.now mark → mark.source ≢ source))
+        (λ which number. ⊥)) }
+    ensures few { IfErr result IsOfStop }
+    ensures fault { IfErr result (λ stop. stop ≢ Refused StoreFault) }
+{
+    match own_mark(alloc, latest, instant, source)? {
+        Some(mark) => Ok(mark),
+        None => Err(Stop::Foreign(timeline_path(alloc, instant.name.as_str())?)),
     }
 }
 

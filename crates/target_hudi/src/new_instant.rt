@@ -19,7 +19,7 @@ ghost use Rattle.schema_map.specs.Image.{wide_columns};
 ghost use Rattle.target_core.specs.Conditions.{CanPublish, Fits};
 ghost use Rattle.target_hudi.specs.Fitting.{Unfit};
 ghost use Rattle.target_hudi.specs.Kept.{end_of, held_of, view_of};
-ghost use Rattle.target_hudi.specs.NewInstant.{AreGiven, IsFileRefusal, IsInstantRefusal, IsNewInstant, IsTimeRefusal};
+ghost use Rattle.target_hudi.specs.NewInstant.{AreGiven, IsFileRefusal, IsInstantRefusal, IsNewInstant, IsTextAt, IsTimeRefusal, IsTooLongAt};
 ghost use Rattle.target_hudi.specs.Rank.{time_rank};
 ghost use Rattle.target_hudi.specs.Writing.{HasLargeProperties, IsReadAs, PassesLast, held_behind};
 
@@ -190,6 +190,59 @@ fn go_on(
     kept.table.apply(alloc, &commit.change)
 }
 
+/// The text of what is written, which is read as it. Where the change states a schema, the table gets
+/// the one that the text is read as. `Limit` where the text is too long.
+fn held_text(
+    alloc: Global,
+    table: &mut Table,
+    change: &Change,
+    written: &Instant,
+) -> Result<Blob, TargetError>
+    requires writable { IsWritable written.now }
+    requires stated { (stated : ColumnTrees) → change.now.schema ≡ Some stated
+        → IsReadAs written.now.schema (wide_columns stated) }
+    ensures text { IfOk result (λ bytes. bytes ≡ instant_text written.now) }
+    ensures read { IfOk result (λ bytes. json_instant bytes ≡ Ok written.now) }
+    ensures short { IfOk result (λ bytes. length bytes ≤ MAX_FILE_BYTES) }
+    ensures refusal { IfErr result
+        (IsFileRefusal (MAX_FILE_BYTES < length (instant_text written.now))) }
+    ensures schema { OnOk result (table.new.schema ≡ held_behind change.now.schema table.old.schema) }
+    ensures rows { table.new.rows ≡ table.old.rows }
+    ensures partition { table.new.partition ≡ table.old.partition }
+{
+    let text = text_of(alloc, written)?;
+    hold_schema(alloc, table, change, &written.schema)?;
+    Ok(text)
+}
+
+/// The text of a commit at this time. `kept` goes on by it. `Limit` where it is too long.
+fn text_at(
+    alloc: Global,
+    time: &Text,
+    kept: &mut HudiKept,
+    commit: &Commit,
+    source: Kind,
+    table: Option<&Text>,
+) -> Result<Blob, TargetError>
+    requires can { CanPublish (view_of kept.old) commit.now }
+    requires fits { Fits (Unfit (held_of kept.old)) kept.old.table.partition (commit.now ∷ []) }
+    requires real { IsSomeTime time.now }
+    requires later { time_rank kept.old.newest < time_rank (Some time.now) }
+    ensures is { IfOk result (λ text. IsTextAt
+        (record { source = source; table = option_copied table.entry }) kept.old commit.now
+        time.now text kept.new) }
+    ensures short { IfOk result (λ text. length text ≤ MAX_FILE_BYTES) }
+    ensures refusal { IfErr result (IsFileRefusal (IsTooLongAt
+        (record { source = source; table = option_copied table.entry }) kept.old commit.now
+        time.now)) }
+{
+    let mark = mark_of(alloc, time, &commit.position, source, table)?;
+    go_on(alloc, kept, commit, time.copy(alloc)?, mark)?;
+    let now = &kept.table;
+    let written = written_of(alloc, time, commit, &now.schema, &now.rows, source, table)?;
+    held_text(alloc, &mut kept.table, &commit.change, &written)
+}
+
 /// The instant that a commit is written as, behind what is kept of the table of this name. `kept`
 /// goes on by it. `Limit` where its time or a text of it passes a number.
 pub(crate) fn new_instant(
@@ -215,12 +268,7 @@ pub(crate) fn new_instant(
 {
     let time = next_time(alloc, kept, now_ms)?;
     let properties = first_properties(alloc, name, kept)?;
-    let mark = mark_of(alloc, &time, &commit.position, source, table)?;
-    go_on(alloc, kept, commit, time.copy(alloc)?, mark)?;
-    let now = &kept.table;
-    let written = written_of(alloc, &time, commit, &now.schema, &now.rows, source, table)?;
-    let text = text_of(alloc, &written)?;
-    hold_schema(alloc, &mut kept.table, &commit.change, &written.schema)?;
+    let text = text_at(alloc, &time, kept, commit, source, table)?;
     Ok(NewInstant {
         time,
         properties,

@@ -1,6 +1,6 @@
 -- How the newest shapes are kept, path by path.
 use Rattle.std.proofs.Common.{◌≡◌, ◌≢◌, ⊎_elim, ℕ, ◌<◌, ◌≤◌, ◌+◌, Bool, true, false, cond, Decides, List, [], ◌∷◌, ◌++◌, length, get_or, take, drop, map, Contains, Option, Some, None, refl, sym, ap, subst, ◌∙◌, arith}
-use Rattle.std.specs.Prelude.{ℤ, int_lt, Vec}
+use Rattle.std.specs.Prelude.{ℤ, int_lt, IfOk, Result, Vec}
 use Rattle.std.specs.Cmp.Lexicographic.{pointwise}
 use Rattle.std.specs.List.{zip}
 use Rattle.std.specs.Str.{bytes_eq}
@@ -17,7 +17,7 @@ use Rattle.schema_map.specs.Paths.{Path, below, column_paths, inner_paths}
 use Rattle.table_history.specs.TypeTree.{ColumnTrees, TypeTree, column, no_columns}
 use Rattle.table_history.proofs.RowListLemmas.{Contains-cases, Contains-none}
 use Rattle.target_iceberg.specs.Fitting.{IdSchema, type_in}
-use Rattle.target_iceberg.specs.Newest.{HeldShape, is_older, later, shape_at, with_schema, with_schemas, with_type}
+use Rattle.target_iceberg.specs.Newest.{HeldShape, IsTop, is_changed, is_older, later, shape_at, with_schema, with_schemas, with_type}
 use Rattle.target_iceberg.specs.Shapes.{shape_of}
 use Rattle.target_iceberg.specs.declared.shape.Shape.{Shape}
 
@@ -180,6 +180,12 @@ one_more P xs i x within at before here y there =
 
 pub all_taken : {X : Type 0} (xs : List X) (i : ℕ) → i ≤ length xs → length xs ≤ i → take i xs ≡ xs
 all_taken xs i le ge = let end : i ≡ length xs = omega (arith, le, ge) in ap (λ n. take n xs) end ∙ take-length xs
+
+-- paths whose shapes are the same have the same first change
+pub top_alike : {E : Type 0} (before after other : Path → Option HeldShape) → ((path : Path) → after path ≡ other path) → (paths others : List Path) → paths ≡ others → (r : Result (Option (List ℕ)) E)
+    → IfOk r (IsTop (λ path. is_changed (before path) (after path)) paths) → IfOk r (IsTop (λ path. is_changed (before path) (other path)) others)
+top_alike before after other same paths others is r top =
+    subst (λ (l : List Path). IfOk r (IsTop (λ path. is_changed (before path) (other path)) l)) is (subst (λ (f : Path → Option HeldShape). IfOk r (IsTop (λ path. is_changed (before path) (f path)) paths)) (λ i path. same path i) top)
 
 -- a column path is never empty
 some_below : (name : List ℕ) (paths : List Path) (path : Path) → Contains (map (λ p. name ∷ p) paths) path → path ≢ []

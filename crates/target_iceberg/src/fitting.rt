@@ -246,6 +246,23 @@ fn first_change(
     ensures { IfOk result (IsChangeOf (state_of kept.now) commits.now) }
 {
     let mut held = HeldSchemas::of(alloc, kept)?;
+    first_passed(alloc, kept, &mut held, commits)
+}
+
+/// The top-level column of the first of the commits that changes a type, from the schemas on that the
+/// target holds.
+fn first_passed(
+    alloc: Global,
+    kept: &IcebergKept,
+    held: &mut HeldSchemas,
+    commits: &[Commit],
+) -> Result<Option<Text>, AllocError>
+    requires few { length commits.now < 2 ^ 32 }
+    requires held { AreHeldBy (shape_at held.old.newest) held.old.current held.old.count
+        (state_of kept.now) }
+    requires count { held.old.count <ℤ pos (2 ^ 61) }
+    ensures { IfOk result (IsChangeOf (state_of kept.now) commits.now) }
+{
     for (place, commit) in commits.iter().enumerate() {
         if let Some(name) = held.pass(alloc, &kept.table.schema, commit, place == 0)? {
             return Ok(Some(name));

@@ -63,6 +63,29 @@ fn link(links: &mut Links, manifest: Manifest) -> KeptManifest
     }
 }
 
+/// Puts the live rows of the manifests, which have distinct paths, under new owners, so many owners
+/// and rows at most.
+fn link_each(
+    alloc: Global,
+    links: &mut Links,
+    manifests: Items<Manifest>,
+    owners: u32,
+    rows: u32,
+) -> Result<Items<KeptManifest>, AllocError>
+    requires none { links.old.owners ≡ [] }
+    requires owners { length manifests ≤ owners }
+    requires few { length (rows_of manifests) ≤ rows }
+    requires distinct { HasDistinctPaths (rows_of manifests) }
+    ensures { IfOk result (λ kept. AreLinked manifests kept links.new) }
+{
+    links.reserve(owners, rows)?;
+    let mut kept = Items::new(alloc);
+    for manifest in manifests.into_vec() {
+        kept.push(link(links, manifest))?;
+    }
+    Ok(kept)
+}
+
 /// The manifests of a list, in its order, each with an owner of its live rows, which number so many
 /// at most and have distinct paths.
 pub(crate) fn link_all(
@@ -78,13 +101,6 @@ pub(crate) fn link_all(
         return Err(AllocError);
     };
     let mut links = Links::new(alloc);
-    links.reserve(owners, rows)?;
-    let mut kept = Items::new(alloc);
-    for manifest in manifests.into_vec() {
-        kept.push(link(&mut links, manifest))?;
-    }
-    Ok(Linked {
-        manifests: kept,
-        links,
-    })
+    let manifests = link_each(alloc, &mut links, manifests, owners, rows)?;
+    Ok(Linked { manifests, links })
 }

@@ -1,6 +1,6 @@
 //! The newest types of the column paths that held schemas have.
 
-ghost use Rattle.std.specs.Prelude.{◌≡◌, ◌≢◌, ◌∷◌, [], IfOk, MatchOption, None, OnOk, if◌then◌else◌, map, option_copied, pos};
+ghost use Rattle.std.specs.Prelude.{◌≡◌, ◌≢◌, ◌∷◌, [], Contains, IfOk, MatchOption, None, OnOk, if◌then◌else◌, map, option_copied, pos};
 ghost use Rattle.std.specs.Cmp.Lexicographic.{pointwise};
 ghost use Rattle.std.specs.Str.{bytes_eq};
 ghost use Rattle.schema_map.specs.Paths.{Path, column_paths};
@@ -9,7 +9,7 @@ ghost use Rattle.target_iceberg.specs.Newest.{IsTop, is_changed, is_older, later
 use crate::shape::{Shape, column_shapes};
 use indexmap::IndexMap;
 use lake_basics::Text;
-use schema_map::{Ids, column_paths};
+use schema_map::{ColumnPath, Ids, column_paths};
 use std::alloc::{AllocError, Global};
 use table_history::Schema;
 
@@ -118,6 +118,36 @@ fn top_name(alloc: Global, path: &[Text]) -> Result<Text, AllocError>
     }
 }
 
+/// The shapes of a schema at its column paths.
+fn shapes_of(alloc: Global, schema: &Schema) -> Result<NewestShapes, AllocError>
+    ensures { IfOk result (λ shapes. (path : Path) → shape_at shapes path
+        ≡ with_schema None (pos 0, schema.now) path) }
+{
+    let mut shapes = IndexMap::new(alloc);
+    keep_schema(alloc, &mut shapes, 0, schema)?;
+    Ok(shapes)
+}
+
+/// The top-level column of the first of the paths whose newest shape may not become the one that is
+/// stated.
+fn first_changed(
+    alloc: Global,
+    newest: &NewestShapes,
+    stated: &NewestShapes,
+    paths: &[ColumnPath],
+) -> Result<Option<Text>, AllocError>
+    requires { (path : Path) → Contains paths.now path → path ≢ [] }
+    ensures { IfOk result (IsTop (λ path. is_changed (shape_at newest.now path)
+        (shape_at stated.now path)) paths.now) }
+{
+    for path in paths {
+        if is_changed(newest, stated, path.as_slice()) {
+            return Ok(Some(top_name(alloc, path.as_slice())?));
+        }
+    }
+    Ok(None)
+}
+
 /// The top-level column of the first column path, depth first, whose type in this Image the newest
 /// one may not become.
 pub(crate) fn type_change(
@@ -127,13 +157,7 @@ pub(crate) fn type_change(
 ) -> Result<Option<Text>, AllocError>
     ensures { IfOk result (IsTop (λ path. is_changed (shape_at newest.now path) (with_schema None (pos 0, image.now) path)) (column_paths image.now)) }
 {
-    let mut stated = IndexMap::new(alloc);
-    keep_schema(alloc, &mut stated, 0, image)?;
+    let stated = shapes_of(alloc, image)?;
     let paths = column_paths(alloc, image)?;
-    for path in &paths {
-        if is_changed(newest, &stated, path.as_slice()) {
-            return Ok(Some(top_name(alloc, path.as_slice())?));
-        }
-    }
-    Ok(None)
+    first_changed(alloc, newest, &stated, paths.as_slice())
 }

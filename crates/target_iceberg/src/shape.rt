@@ -9,7 +9,7 @@ use std::alloc::{AllocError, Global};
 use table_history::{Column, ColumnType, Schema};
 
 /// A type without the parts of structs, lists and maps, which are columns of their own.
-#[derive(Clone, Copy, Debug, PartialEq, Eq)]
+#[derive(Clone, Copy, PartialEq, Eq)]
 pub(crate) enum Shape {
     Boolean,
     Byte,

@@ -16,7 +16,7 @@ use table_history::Kind;
 use target_core::{Target, TargetError, follow};
 
 /// What is told of a target that is at the source's head.
-#[derive(Debug, Drop, PartialEq, Eq)]
+#[derive(Debug, Drop)]
 pub struct Report {
     /// Whether it took one commit with the whole table.
     pub full: bool,
@@ -61,46 +61,39 @@ fn publish_plan<T: Target, S: Store>(
     alloc: Global,
     target: &T,
     store: &mut S,
-    plan: Plan<T::Kept>,
+    plan: &mut Plan<T::Kept>,
     source: Kind,
     now_ms: u64,
 ) -> Result<Report, TargetError>
     requires now { now_ms < 2 ^ 63 }
-    requires counted { S.tells → T.counted target.now plan.kept (S.disk store.old).files }
+    requires counted { S.tells → T.counted target.now plan.old.kept (S.disk store.old).files }
     requires can { CanApplyPlan (T.image target.now) source
-        (record { source = source; table = plan.table }) plan.partition plan.commits
-        (T.view target.now plan.kept) }
+        (record { source = source; table = plan.old.table }) plan.old.partition plan.old.commits
+        (T.view target.now plan.old.kept) }
     ensures { Applies ⟦<S as Store>⟧ (meaning ⟦<T as Target>⟧ target.now)
-        (T.unfit target.now plan.kept plan.partition plan.commits)
-        (T.passes target.now plan.kept (S.disk store.old).files
-        (record { source = source; table = plan.table }) now_ms)
-        (HaveWritten ⟦<T as Target>⟧ target.now plan.kept (S.disk store.old).files
-        (record { source = source; table = plan.table }) now_ms)
-        (record { source = source; table = plan.table }) (T.view target.now plan.kept)
-        plan.partition plan.commits plan.full
-        (T.stands_for target.now plan.kept (S.disk store.old).files
+        (T.unfit target.now plan.old.kept plan.old.partition plan.old.commits)
+        (T.passes target.now plan.old.kept (S.disk store.old).files
+        (record { source = source; table = plan.old.table }) now_ms)
+        (HaveWritten ⟦<T as Target>⟧ target.now plan.old.kept (S.disk store.old).files
+        (record { source = source; table = plan.old.table }) now_ms)
+        (record { source = source; table = plan.old.table }) (T.view target.now plan.old.kept)
+        plan.old.partition plan.old.commits plan.old.full
+        (T.stands_for target.now plan.old.kept (S.disk store.old).files
         × T.settled target.now (S.disk store.old)) store.old store.new result }
 {
-    let Plan {
-        mut kept,
-        partition,
-        commits,
-        full,
-        table,
-    } = plan;
-    let commits = commits.as_slice();
-    target.fits(alloc, &kept, partition.as_slice(), commits)?;
+    let commits = plan.commits.as_slice();
+    target.fits(alloc, &plan.kept, plan.partition.as_slice(), commits)?;
     let published = follow(
         alloc,
         target,
         store,
-        &mut kept,
+        &mut plan.kept,
         commits,
         source,
-        table.as_ref(),
+        plan.table.as_ref(),
         now_ms,
     )?;
-    Ok(report_of(alloc, target, &kept, full, published)?)
+    Ok(report_of(alloc, target, &plan.kept, plan.full, published)?)
 }
 
 /// Publishes what is planned, where it fits the target, and tells what the target then has.
@@ -130,7 +123,8 @@ pub fn apply_one<T: Target, S: Store>(
         (T.stands_for target.now plan.kept (S.disk store.old).files
         × T.settled target.now (S.disk store.old)) store.old store.new answer }
 {
-    match publish_plan(alloc, target, store, plan, source, now_ms) {
+    let mut plan = plan;
+    match publish_plan(alloc, target, store, &mut plan, source, now_ms) {
         Ok(report) => Ok(report),
         Err(error) => Err(status_of_target(target.kind(), error)),
     }

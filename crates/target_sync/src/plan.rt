@@ -290,6 +290,42 @@ fn table_at_head<F: Source, S: Store>(
     }
 }
 
+/// Plans one commit with this table, which is the source's at its head.
+fn plan_whole<F: Source, T: Target, S: Store>(
+    alloc: Global,
+    source: &F,
+    head: &Head,
+    target: &T,
+    store: &mut S,
+    found: Option<T::Kept>,
+    mode: Mode,
+    table: &Table,
+) -> Result<Plan<T::Kept>, SourceError>
+    requires head { S.tells → F.is_head source.now (S.disk store.old).files head.now }
+    requires ours { S.tells → IsFoundOfSource (T.view target.now) (F.kind source.now) found }
+    requires found { S.tells → IsFound (T.reads target.now) (T.stands_for target.now)
+        (S.disk store.old).files found }
+    requires in_full { S.tells → IsFoundInFull (T.view target.now)
+        (source_meaning ⟦<F as Source>⟧ source.now) mode (S.disk store.old).files found }
+    requires table { S.tells → F.is_table source.now (S.disk store.old).files table.now }
+    requires publishable { IsPublishable table.now }
+    ensures sound { IsFoundOurs (T.view target.now) (F.kind source.now) found
+        → IfOk result (IsSoundPlan (T.view target.now) (T.image target.now) (F.kind source.now)
+        mode) }
+    ensures due { S.tells → IfOk result (IsDuePlan (T.view target.now) (T.stands_for target.now)
+        (source_meaning ⟦<F as Source>⟧ source.now) mode (S.disk store.old).files head.now) }
+    ensures refused { S.tells → IfErr result
+        (IsReadRefusal (F.from_scratch source.now (S.disk store.old).files)) }
+    ensures only_reads { S.tells → OnlyReads ⟦<S as Store>⟧ store.old store.new }
+    ensures cause { FailsBy ⟦<S as Store>⟧ store.old store.new
+        (IsErrOf result SourceError.StoreFault) }
+    ensures contest { IsUncontestedBy ⟦<S as Store>⟧ store.old store.new ⊥ }
+{
+    let kept = start_of(alloc, target, found, table.partition.as_slice())?;
+    let id = id_behind(alloc, source, head, target, store, &kept, mode)?;
+    Ok(plan_over(alloc, target, kept, head, table, id)?)
+}
+
 /// Plans one commit with the source's whole table at its head. `whole` is that table where it was
 /// read before, and after.
 pub(crate) fn plan_full<F: Source, T: Target, S: Store>(
@@ -325,11 +361,9 @@ pub(crate) fn plan_full<F: Source, T: Target, S: Store>(
     ensures contest { IsUncontestedBy ⟦<S as Store>⟧ store.old store.new ⊥ }
 {
     let table = table_at_head(alloc, source, head, store, whole.take())?;
-    let kept = start_of(alloc, target, found, table.partition.as_slice())?;
-    let id = id_behind(alloc, source, head, target, store, &kept, mode)?;
-    let plan = plan_over(alloc, target, kept, head, &table, id)?;
+    let planned = plan_whole(alloc, source, head, target, store, found, mode, &table);
     *whole = Some(table);
-    Ok(plan)
+    planned
 }
 
 /// Plans the commits since the mark of what is kept of ours, or the whole table where the history

@@ -140,6 +140,55 @@ fn whole_in(mode: Mode) -> Alike
     }
 }
 
+/// Plans what is due to a target beside another one, where the source's table at its head is `whole`
+/// where it was read.
+fn plan_shared<F: Source, T: Target, U: Target, S: Store>(
+    alloc: Global,
+    source: &F,
+    head: &Head,
+    first: &T,
+    planned: &Plan<T::Kept>,
+    second: &U,
+    store: &mut S,
+    found: Option<U::Kept>,
+    mode: Mode,
+    whole: &mut Option<Table>,
+) -> Result<Plan<U::Kept>, SourceError>
+    requires head { S.tells → F.is_head source.now (S.disk store.old).files head.now }
+    requires first_sound { IsSoundPlan (T.view first.now) (T.image first.now) (F.kind source.now)
+        mode planned.now }
+    requires first_due { S.tells → IsDuePlan (T.view first.now) (T.stands_for first.now)
+        (source_meaning ⟦<F as Source>⟧ source.now) mode (S.disk store.old).files head.now
+        planned.now }
+    requires publishable { IsFoundPublishable (U.view second.now) found }
+    requires ours { S.tells → IsFoundOfSource (U.view second.now) (F.kind source.now) found }
+    requires found { S.tells → IsFound (U.reads second.now) (U.stands_for second.now)
+        (S.disk store.old).files found }
+    requires whole { S.tells → IfSome whole.old (F.is_table source.now (S.disk store.old).files) }
+    requires whole_publishable { IfSome whole.old IsPublishable }
+    ensures sound { IsFoundOurs (U.view second.now) (F.kind source.now) found
+        → IfOk result (IsSoundPlan (U.view second.now) (U.image second.now) (F.kind source.now)
+        mode) }
+    ensures due { S.tells → IfOk result (IsDuePlan (U.view second.now) (U.stands_for second.now)
+        (source_meaning ⟦<F as Source>⟧ source.now) mode (S.disk store.old).files head.now) }
+    ensures refused { S.tells → IfErr result
+        (IsReadRefusal (IsReadFault (source_meaning ⟦<F as Source>⟧ source.now)
+        (target_facts ⟦<U as Target>⟧ second.now) mode (S.disk store.old).files)) }
+    ensures only_reads { S.tells → OnlyReads ⟦<S as Store>⟧ store.old store.new }
+    ensures cause { FailsBy ⟦<S as Store>⟧ store.old store.new
+        (IsErrOf result SourceError.StoreFault) }
+    ensures contest { IsUncontestedBy ⟦<S as Store>⟧ store.old store.new ⊥ }
+{
+    let Some(kept) = found else {
+        return plan_with(alloc, source, head, second, store, None, mode, whole);
+    };
+    match needs_alike(alloc, head, first, planned, second, &kept, mode)? {
+        Alike::Commits(commits) => Ok(plan_since(alloc, head, second, kept, commits)?),
+        Alike::Whole => plan_full(alloc, source, head, second, store, Some(kept), mode, whole),
+        Alike::Nothing => plan_with(alloc, source, head, second, store, Some(kept), mode, whole),
+    }
+}
+
 /// Plans what is due to a target of which this was found, beside another one for which this is
 /// planned. What both need of the source isn't read again: neither the commits since a position, nor
 /// the table at the head, which is `whole` where it was read. It writes nothing.
@@ -181,30 +230,7 @@ pub fn plan_beside<F: Source, T: Target, U: Target, S: Store>(
     ensures contest { IsUncontestedBy ⟦<S as Store>⟧ store.old store.new ⊥ }
 {
     let mut whole = whole;
-    let Some(kept) = found else {
-        return plan_with(alloc, source, head, second, store, None, mode, &mut whole);
-    };
-    match needs_alike(alloc, head, first, planned, second, &kept, mode)? {
-        Alike::Commits(commits) => Ok(plan_since(alloc, head, second, kept, commits)?),
-        Alike::Whole => plan_full(
-            alloc,
-            source,
-            head,
-            second,
-            store,
-            Some(kept),
-            mode,
-            &mut whole,
-        ),
-        Alike::Nothing => plan_with(
-            alloc,
-            source,
-            head,
-            second,
-            store,
-            Some(kept),
-            mode,
-            &mut whole,
-        ),
-    }
+    plan_shared(
+        alloc, source, head, first, planned, second, store, found, mode, &mut whole,
+    )
 }

@@ -13,7 +13,7 @@ pub enum Side {
 }
 
 /// How a command ends.
-#[derive(Debug, Drop, PartialEq, Eq)]
+#[derive(Debug, Drop)]
 pub enum Status {
     /// Each target is at the head.
     Done,

@@ -30,44 +30,44 @@ loop-next-init g c =
       contest = record { same = refl; still = λ may. may; never = λ never. never };
     }
 
-pub returns-in_err-later-2-clause-refused : goal.returns-in_err-later-2-clause-refused
-returns-in_err-later-2-clause-refused g c told = λ position reached.
+pub returns-in_err-take_version-clause-refused : goal.returns-in_err-take_version-clause-refused
+returns-in_err-take_version-clause-refused g c told = λ position reached.
     let store = g.S.Store in
-    let exit = err_from_is_err_and c.from_residual-in_err-later-2.result c.from_residual-in_err-later-2.ensures.1 in
+    let exit = err_from_is_err_and c.from_residual-in_err-take_version.result c.from_residual-in_err-take_version.ensures.1 in
     let so_far = c.loop-next.invariant in
     let files = (store.disk c.args.store.now).files in
     let later = c.loop-next.later in
     let count = so_far.count in
     let before : c.args.version + length later.commits < c.args.newest = omega (arith, count, c.loop-next-test.true) in
-    let here = subst (λ (d : Disk). IsReadRefusal (IsRefusedBehind d.files c.loop-next.next later.table later.actions) c.in_err-later-2.field-0.0) (so_far.reads told).disk (c.in_err-later-2.ensures.refused told) in
-    let step = subst (λ n. IsReadRefusal (IsRefusedBehind files n later.table later.actions) c.in_err-later-2.field-0.0) (sym count) here in
+    let here = subst (λ (d : Disk). IsReadRefusal (IsRefusedBehind d.files c.loop-next.next later.table later.actions) c.in_err-take_version.field-0.0) (so_far.reads told).disk (c.in_err-take_version.ensures.refused told) in
+    let step = subst (λ n. IsReadRefusal (IsRefusedBehind files n later.table later.actions) c.in_err-take_version.field-0.0) (sym count) here in
     subst (λ (r : Result (List Commit) SourceError). IfErr r (IsReadRefusal (ShowsFromPosition files position c.args.base.now))) (sym exit.1)
     (subst (IsReadRefusal (ShowsFromPosition files position c.args.base.now)) (sym exit.2)
-    (stops_behind files position c.args.version c.args.newest c.args.base.now later reached c.requires.few before so_far.few (so_far.are told) c.in_err-later-2.field-0.0 step))
+    (stops_behind files position c.args.version c.args.newest c.args.base.now later reached c.requires.few before so_far.few (so_far.are told) c.in_err-take_version.field-0.0 step))
 
-pub returns-in_err-later-2-clause-only_reads : goal.returns-in_err-later-2-clause-only_reads
-returns-in_err-later-2-clause-only_reads g c = reading_further g.S.Store c.args.store.now c.loop-next.store c.with_version.new.store c.loop-next.invariant.reads c.in_err-later-2.ensures.only_reads
+pub returns-in_err-take_version-clause-only_reads : goal.returns-in_err-take_version-clause-only_reads
+returns-in_err-take_version-clause-only_reads g c = reading_further g.S.Store c.args.store.now c.loop-next.store c.take_version.new.store c.loop-next.invariant.reads c.in_err-take_version.ensures.only_reads
 
 pub loop-next-preserved : goal.loop-next-preserved
 loop-next-preserved g c =
     let store = g.S.Store in
     let so_far = c.loop-next.invariant in
     let before = c.loop-next.later in
-    let after = c.in_ok-later-2.later in
+    let after = c.take_version.new.self in
     let files = (store.disk c.args.store.now).files in
     let count = so_far.count in
-    let longer = later_longer before after c.in_ok-later-2.ensures.sound in
+    let longer = later_longer before after c.in_ok-take_version.ensures.sound in
     record {
       within = omega (arith, c.loop-next-test.true);
       count = omega (arith, count, longer);
-      few = c.in_ok-later-2.ensures.few;
+      few = c.in_ok-take_version.ensures.few;
       are = λ told.
-          let more = subst (λ (d : Disk). IsOneMore d.files c.loop-next.next before after) (so_far.reads told).disk (c.in_ok-later-2.ensures.next told) in
+          let more = subst (λ (d : Disk). IsOneMore d.files c.loop-next.next before after) (so_far.reads told).disk (c.in_ok-take_version.ensures.next told) in
           later_on files c.args.version c.args.base.now before after (so_far.are told) (subst (λ n. IsOneMore files n before after) (sym count) more);
-      fit = lead_on c.args.base.now before after so_far.fit c.in_ok-later-2.ensures.sound;
-      reads = reading_further store c.args.store.now c.loop-next.store c.with_version.new.store so_far.reads c.in_ok-later-2.ensures.only_reads;
-      cause = fails_never store.faults store.may_fail c.args.store.now c.loop-next.store c.with_version.new.store _ so_far.cause c.in_ok-later-2.ensures.cause;
-      contest = uncontested_further store.contests store.may_contest c.args.store.now c.loop-next.store c.with_version.new.store so_far.contest c.in_ok-later-2.ensures.contest;
+      fit = lead_on c.args.base.now before after so_far.fit c.in_ok-take_version.ensures.sound;
+      reads = reading_further store c.args.store.now c.loop-next.store c.take_version.new.store so_far.reads c.in_ok-take_version.ensures.only_reads;
+      cause = fails_never store.faults store.may_fail c.args.store.now c.loop-next.store c.take_version.new.store _ so_far.cause c.in_ok-take_version.ensures.cause;
+      contest = uncontested_further store.contests store.may_contest c.args.store.now c.loop-next.store c.take_version.new.store so_far.contest c.in_ok-take_version.ensures.contest;
     }
 
 pub returns-clause-sound : goal.returns-clause-sound

@@ -1,17 +1,20 @@
-use Rattle.std.proofs.Common.{◌++◌, ◌∷◌, [], List, ap, sym, subst, ◌∙◌, append_assoc}
+use Rattle.std.proofs.Common.{List, Option, ℕ, subst}
+use Rattle.std.specs.Prelude.{MatchOption}
 use Rattle.iceberg_metadata.specs.declared.metadata.Snapshot.{Snapshot}
-use Rattle.source_iceberg.specs.Later.{HasNone}
-use Rattle.source_iceberg.proofs.LaterLaws.{none_pushed}
+use Rattle.source_iceberg.specs.Later.{HasNone, IsFirstAt}
+use Rattle.source_iceberg.proofs.LaterLaws.{ahead_placed}
 use Rattle.source_iceberg.proofs.later.ahead_of.Goals as goal
 
-pub loop-snapshot-preserved : goal.loop-snapshot-preserved
-loop-snapshot-preserved c =
-    let so_far = c.loop-snapshot.invariant in
-    let ahead = c.loop-snapshot.ahead in
-    let s = c.in-Some.snapshot in
-    let rest = c.next.new.self.rest.items in
+pub returns-in-Some : goal.returns-in-Some
+returns-in-Some c =
     let position = c.args.position.now in
-    record {
-      split = so_far.split ∙ ap (λ (l : List Snapshot). ahead ++ l) c.in-Some.ensures.steps.0 ∙ sym (append_assoc ahead (s ∷ []) rest) ∙ ap (λ (l : List Snapshot). l ++ rest) (sym c.in_ok-push.ensures.ok);
-      others = subst (λ (l : List Snapshot). HasNone l position) (sym c.in_ok-push.ensures.ok) (none_pushed ahead s position so_far.others c.in_ok-is_at.ensures c.if-branch.false);
-    }
+    let ys = c.as_slice.result.now in
+    let first = subst (λ (o : Option ℕ). MatchOption o (HasNone ys position) (IsFirstAt ys position)) c.in-Some.is c.in_ok-place.ensures in
+    ahead_placed c.args.snapshots c.up_to_place.result position c.in-Some.place (subst (λ (l : List Snapshot). IsFirstAt l position c.in-Some.place) c.as_slice.ensures first) c.up_to_place.ensures
+
+pub returns-in-None : goal.returns-in-None
+returns-in-None c =
+    let position = c.args.position.now in
+    let ys = c.as_slice.result.now in
+    subst (λ (l : List Snapshot). HasNone l position) c.as_slice.ensures
+    (subst (λ (o : Option ℕ). MatchOption o (HasNone ys position) (IsFirstAt ys position)) c.in-None.is c.in_ok-place.ensures)

@@ -6,4 +6,4 @@ use Rattle.target_delta.proofs.fresh.fresh_kept.Goals as goal
 
 pub returns-clause-stands : goal.returns-clause-stands
 returns-clause-stands c =
-    fresh_stands c.args.id.now _ c.args.partition.now (ap (λ (t : Table). let v : View = record { commits = 0; mark = None; table = t } in v) c.in_ok-empty.ensures) c.in_ok-copy.ensures refl
+    fresh_stands c.args.id.now _ c.args.partition.now (ap (λ (t : Table). let v : View = record { commits = 0; mark = None; table = t } in v) c.in_ok-empty.ensures) c.in_ok-id.ensures refl

@@ -1,9 +1,10 @@
-use Rattle.target_core.proofs.HeldRows.{held_few}
-use Rattle.target_delta.proofs.WritableLemmas.{writable}
+use Rattle.std.proofs.Common.{◌<◌, ℕ, List, length, refl, subst, arith}
+use Rattle.lake_basics.specs.declared.limits.TheConstants.{MAX_FILE_BYTES}
+use Rattle.target_delta.proofs.NewVersionLemmas.{too_long}
 use Rattle.target_delta.proofs.version.text_of.Goals as goal
 
-pub bytes_of-requires : goal.bytes_of-requires
-bytes_of-requires c =
-    let behind = c.args.behind.now in
-    writable behind c.args.change.now c.args.mark.now c.in_ok-written.written c.in_ok-written.ensures.is (c.in_ok-written.ensures.sound c.requires.paths c.requires.partition)
-    c.requires.leaves (held_few behind.table.rows behind.rows_held) c.requires.few
+pub returns-then-as_slice-gt-MAX_FILE_BYTES-clause-refusal : goal.returns-then-as_slice-gt-MAX_FILE_BYTES-clause-refusal
+returns-then-as_slice-gt-MAX_FILE_BYTES-clause-refusal c =
+    let more = c.if-as_slice-gt-MAX_FILE_BYTES.true in
+    let long = subst (λ (l : List ℕ). MAX_FILE_BYTES < length l) c.as_slice.ensures.value (omega (arith, more)) in
+    (refl, refl, too_long c.args.behind.now c.args.change.now c.args.mark.now c.args.now_ms c.in_ok-bytes.bytes c.in_ok-bytes.ensures long)

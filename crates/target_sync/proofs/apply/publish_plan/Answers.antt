@@ -24,15 +24,15 @@ pub follow-requires-clause-counted : goal.follow-requires-clause-counted
 follow-requires-clause-counted g c = c.requires.counted
 
 pub follow-requires-clause-source : goal.follow-requires-clause-source
-follow-requires-clause-source g c = goes_on_start c.args.source c.args.plan.partition (g.T.Target.view c.args.target.now c.args.plan.kept) c.requires.can.start
+follow-requires-clause-source g c = goes_on_start c.args.source c.args.plan.now.partition (g.T.Target.view c.args.target.now c.args.plan.now.kept) c.requires.can.start
 
 pub follow-requires-clause-can : goal.follow-requires-clause-can
 follow-requires-clause-can g c =
     let t = c.args.target.now in
-    let kept = c.args.plan.kept in
+    let kept = c.args.plan.now.kept in
     let view = g.T.Target.view t kept in
-    let partition = c.args.plan.partition in
-    let commits = c.args.plan.commits in
+    let partition = c.args.plan.now.partition in
+    let commits = c.args.plan.now.commits in
     let unfit = g.T.Target.unfit t kept in
     let fitted = subst (λ (cs : List Commit). Fits unfit partition cs) c.as_slice-commits.ensures
     (subst (λ (names : List (List ℕ)). Fits unfit names c.as_slice-commits.result.now) c.as_slice.ensures c.in_ok-fits.ensures.fits) in
@@ -40,15 +40,15 @@ follow-requires-clause-can g c =
     let image = g.T.Target.image t in
     let origin_at : Option (List ℕ) → Origin = λ id. record { source = c.args.source; table = id } in
     subst (λ (cs : List Commit). CanPublishAll image (origin_at (option_copied c.as_ref.result)) view cs) (sym c.as_slice-commits.ensures)
-    (subst (λ (id : Option (List ℕ)). CanPublishAll image (origin_at id) view commits) (sym c.as_ref.ensures.value) (can_where image (origin_at c.args.plan.table) partition commits view columns c.requires.can.can))
+    (subst (λ (id : Option (List ℕ)). CanPublishAll image (origin_at id) view commits) (sym c.as_ref.ensures.value) (can_where image (origin_at c.args.plan.now.table) partition commits view columns c.requires.can.can))
 
 pub follow-requires-clause-fits : goal.follow-requires-clause-fits
 follow-requires-clause-fits g c =
     let t = c.args.target.now in
-    let kept = c.args.plan.kept in
+    let kept = c.args.plan.now.kept in
     let view = g.T.Target.view t kept in
-    let partition = c.args.plan.partition in
-    let commits = c.args.plan.commits in
+    let partition = c.args.plan.now.partition in
+    let commits = c.args.plan.now.commits in
     let unfit = g.T.Target.unfit t kept in
     let fitted = subst (λ (cs : List Commit). Fits unfit partition cs) c.as_slice-commits.ensures
     (subst (λ (names : List (List ℕ)). Fits unfit names c.as_slice-commits.result.now) c.as_slice.ensures c.in_ok-fits.ensures.fits) in
@@ -59,15 +59,15 @@ follow-requires-clause-fits g c =
 pub returns-in_err-fits : goal.returns-in_err-fits
 returns-in_err-fits g c =
     let t = c.args.target.now in
-    let kept = c.args.plan.kept in
+    let kept = c.args.plan.now.kept in
     let view = g.T.Target.view t kept in
-    let partition = c.args.plan.partition in
-    let commits = c.args.plan.commits in
+    let partition = c.args.plan.now.partition in
+    let commits = c.args.plan.now.commits in
     let unfit = g.T.Target.unfit t kept in
     let store = g.S.Store in
     let old = c.args.store.now in
     let files = (store.disk old).files in
-    let origin : Origin = record { source = c.args.source; table = c.args.plan.table } in
+    let origin : Origin = record { source = c.args.source; table = c.args.plan.now.table } in
     let passes = g.T.Target.passes t kept files origin c.args.now_ms in
     let written = HaveWritten g.T.Target t kept files origin c.args.now_ms in
     let Stands : Type 0 = g.T.Target.stands_for t kept files × g.T.Target.settled t (store.disk old) in
@@ -75,19 +75,19 @@ returns-in_err-fits g c =
     let e : TargetError = c.in_err-fits.field-0.0 in
     let refused = subst (λ (cs : List Commit). IsFitsRefusal (unfit partition cs) e) c.as_slice-commits.ensures
     (subst (λ (names : List (List ℕ)). IsFitsRefusal (unfit names c.as_slice-commits.result.now) e) c.as_slice.ensures c.in_err-fits.ensures.refusal) in
-    subst (λ (r : Result Report TargetError). Applies store (meaning g.T.Target t) (unfit partition commits) passes written origin view partition commits c.args.plan.full Stands old old r)
+    subst (λ (r : Result Report TargetError). Applies store (meaning g.T.Target t) (unfit partition commits) passes written origin view partition commits c.args.plan.now.full Stands old old r)
     (sym (exit.1 ∙ ap (λ (x : TargetError). Err x) exit.2))
-    (applies_unfit store (meaning g.T.Target t) origin view commits (unfit partition commits) passes written partition c.args.plan.full g.met.S.Store.only_now
+    (applies_unfit store (meaning g.T.Target t) origin view commits (unfit partition commits) passes written partition c.args.plan.now.full g.met.S.Store.only_now
     (record { reads = g.met.T.Target.crash_reads t; carries = g.met.T.Target.crash_carries t; settled = g.met.T.Target.crash_settled t; within = g.met.T.Target.carries_within t })
     old Stands (λ stands. (g.met.T.Target.kept_view t kept files stands.0, stands.1)) e refused)
 
 pub returns-in_err-published : goal.returns-in_err-published
 returns-in_err-published g c =
     let t = c.args.target.now in
-    let kept = c.args.plan.kept in
+    let kept = c.args.plan.now.kept in
     let view = g.T.Target.view t kept in
-    let partition = c.args.plan.partition in
-    let commits = c.args.plan.commits in
+    let partition = c.args.plan.now.partition in
+    let commits = c.args.plan.now.commits in
     let unfit = g.T.Target.unfit t kept in
     let fitted = subst (λ (cs : List Commit). Fits unfit partition cs) c.as_slice-commits.ensures
     (subst (λ (names : List (List ℕ)). Fits unfit names c.as_slice-commits.result.now) c.as_slice.ensures c.in_ok-fits.ensures.fits) in
@@ -104,20 +104,20 @@ returns-in_err-published g c =
     let id_is = c.as_ref.ensures.value in
     let exit = err_from_is_err_and c.from_residual-in_err-published.result c.from_residual-in_err-published.ensures.1 in
     let e : TargetError = c.in_err-published.field-0.0 in
-    subst (λ (r : Result Report TargetError). Applies store (meaning g.T.Target t) (unfit partition commits) (passes_at c.args.plan.table) (written_at c.args.plan.table) (origin_at c.args.plan.table) view partition commits c.args.plan.full Stands old new r)
+    subst (λ (r : Result Report TargetError). Applies store (meaning g.T.Target t) (unfit partition commits) (passes_at c.args.plan.now.table) (written_at c.args.plan.now.table) (origin_at c.args.plan.now.table) view partition commits c.args.plan.now.full Stands old new r)
     (sym (exit.1 ∙ ap (λ (x : TargetError). Err x) exit.2))
-    (applies_refused store (meaning g.T.Target t) (origin_at c.args.plan.table) view commits (unfit partition commits) (passes_at c.args.plan.table) (written_at c.args.plan.table) partition c.args.plan.full Stands old new columns (λ told none. c.in_err-published.ensures.none told (commits_is ∙ none))
+    (applies_refused store (meaning g.T.Target t) (origin_at c.args.plan.now.table) view commits (unfit partition commits) (passes_at c.args.plan.now.table) (written_at c.args.plan.now.table) partition c.args.plan.now.full Stands old new columns (λ told none. c.in_err-published.ensures.none told (commits_is ∙ none))
     c.in_err-published.ensures.alone c.in_err-published.ensures.short e
     (λ told stands.
-    subst (λ (cs : List Commit). Publishes store (meaning g.T.Target t) (origin_at c.args.plan.table) view cs (e ≡ Contested → ⊥) false old new) commits_is
+    subst (λ (cs : List Commit). Publishes store (meaning g.T.Target t) (origin_at c.args.plan.now.table) view cs (e ≡ Contested → ⊥) false old new) commits_is
     (subst (λ (id : Option (List ℕ)). Publishes store (meaning g.T.Target t) (origin_at id) view c.as_slice-commits.result.now (e ≡ Contested → ⊥) false old new) id_is
     (c.in_err-published.ensures.publishes told stands.0 stands.1)))
     (λ told.
-    subst (λ (cs : List Commit). IsRefusedAt store (meaning g.T.Target t) (passes_at c.args.plan.table) (written_at c.args.plan.table) Stands (origin_at c.args.plan.table) view cs old new e) commits_is
+    subst (λ (cs : List Commit). IsRefusedAt store (meaning g.T.Target t) (passes_at c.args.plan.now.table) (written_at c.args.plan.now.table) Stands (origin_at c.args.plan.now.table) view cs old new e) commits_is
     (subst (λ (id : Option (List ℕ)). IsRefusedAt store (meaning g.T.Target t) (passes_at id) (written_at id) Stands (origin_at id) view c.as_slice-commits.result.now old new e) id_is
     (c.in_err-published.ensures.refusal told)))
     (λ told stands.
-    subst (λ (cs : List Commit). IsEachMoment store old new (KeepsShown (meaning g.T.Target t) (origin_at c.args.plan.table) view cs (store.disk new).files e)) commits_is
+    subst (λ (cs : List Commit). IsEachMoment store old new (KeepsShown (meaning g.T.Target t) (origin_at c.args.plan.now.table) view cs (store.disk new).files e)) commits_is
     (subst (λ (id : Option (List ℕ)). IsEachMoment store old new (KeepsShown (meaning g.T.Target t) (origin_at id) view c.as_slice-commits.result.now (store.disk new).files e)) id_is
     (c.in_err-published.ensures.kept told stands.0 stands.1)))
     c.in_err-published.ensures.cause c.in_err-published.ensures.contest)
@@ -125,10 +125,10 @@ returns-in_err-published g c =
 pub returns-in_err-report_of : goal.returns-in_err-report_of
 returns-in_err-report_of g c =
     let t = c.args.target.now in
-    let kept = c.args.plan.kept in
+    let kept = c.args.plan.now.kept in
     let view = g.T.Target.view t kept in
-    let partition = c.args.plan.partition in
-    let commits = c.args.plan.commits in
+    let partition = c.args.plan.now.partition in
+    let commits = c.args.plan.now.commits in
     let unfit = g.T.Target.unfit t kept in
     let fitted = subst (λ (cs : List Commit). Fits unfit partition cs) c.as_slice-commits.ensures
     (subst (λ (names : List (List ℕ)). Fits unfit names c.as_slice-commits.result.now) c.as_slice.ensures c.in_ok-fits.ensures.fits) in
@@ -144,27 +144,27 @@ returns-in_err-report_of g c =
     let commits_is = c.as_slice-commits.ensures in
     let id_is = c.as_ref.ensures.value in
     let exit = err_from_is_err_and c.from_residual-in_err-report_of.result c.from_residual-in_err-report_of.ensures.1 in
-    subst (λ (r : Result Report TargetError). Applies store (meaning g.T.Target t) (unfit partition commits) (passes_at c.args.plan.table) (written_at c.args.plan.table) (origin_at c.args.plan.table) view partition commits c.args.plan.full Stands old new r)
+    subst (λ (r : Result Report TargetError). Applies store (meaning g.T.Target t) (unfit partition commits) (passes_at c.args.plan.now.table) (written_at c.args.plan.now.table) (origin_at c.args.plan.now.table) view partition commits c.args.plan.now.full Stands old new r)
     (sym (exit.1 ∙ ap (λ (x : TargetError). Err x) exit.2))
-    (applies_untold store (meaning g.T.Target t) (origin_at c.args.plan.table) view commits (unfit partition commits) (passes_at c.args.plan.table) (written_at c.args.plan.table) partition c.args.plan.full Stands old new columns (λ told none. c.in_ok-published.ensures.none told (commits_is ∙ none))
+    (applies_untold store (meaning g.T.Target t) (origin_at c.args.plan.now.table) view commits (unfit partition commits) (passes_at c.args.plan.now.table) (written_at c.args.plan.now.table) partition c.args.plan.now.full Stands old new columns (λ told none. c.in_ok-published.ensures.none told (commits_is ∙ none))
     c.in_ok-published.ensures.alone c.in_ok-published.ensures.short c.in_ok-published.published
     (λ told stands.
-    subst (λ (cs : List Commit). Publishes store (meaning g.T.Target t) (origin_at c.args.plan.table) view cs (Unit {0}) true old new) commits_is
+    subst (λ (cs : List Commit). Publishes store (meaning g.T.Target t) (origin_at c.args.plan.now.table) view cs (Unit {0}) true old new) commits_is
     (subst (λ (id : Option (List ℕ)). Publishes store (meaning g.T.Target t) (origin_at id) view c.as_slice-commits.result.now (Unit {0}) true old new) id_is
     (c.in_ok-published.ensures.publishes told stands.0 stands.1)))
     c.in_ok-published.ensures.cause c.in_ok-published.ensures.contest g.met.S.Store.only_now
     (λ told stands.
-    subst (λ (cs : List Commit). written_at c.args.plan.table cs (store.disk new).files) commits_is
+    subst (λ (cs : List Commit). written_at c.args.plan.now.table cs (store.disk new).files) commits_is
     (subst (λ (id : Option (List ℕ)). written_at id c.as_slice-commits.result.now (store.disk new).files) id_is
     (c.follow.new.kept, c.in_ok-published.ensures.written told stands.0 stands.1))))
 
 pub returns : goal.returns
 returns g c =
     let t = c.args.target.now in
-    let kept = c.args.plan.kept in
+    let kept = c.args.plan.now.kept in
     let view = g.T.Target.view t kept in
-    let partition = c.args.plan.partition in
-    let commits = c.args.plan.commits in
+    let partition = c.args.plan.now.partition in
+    let commits = c.args.plan.now.commits in
     let unfit = g.T.Target.unfit t kept in
     let fitted = subst (λ (cs : List Commit). Fits unfit partition cs) c.as_slice-commits.ensures
     (subst (λ (names : List (List ℕ)). Fits unfit names c.as_slice-commits.result.now) c.as_slice.ensures c.in_ok-fits.ensures.fits) in
@@ -181,22 +181,22 @@ returns g c =
     let id_is = c.as_ref.ensures.value in
     let last = g.T.Target.view t c.follow.new.kept in
     let count = c.in_ok-published.ensures.count ∙ ap (λ (cs : List Commit). length cs) commits_is in
-    applies_all store (meaning g.T.Target t) (origin_at c.args.plan.table) view commits (unfit partition commits) (passes_at c.args.plan.table) (written_at c.args.plan.table) partition c.args.plan.full Stands old new columns (λ told none. c.in_ok-published.ensures.none told (commits_is ∙ none))
+    applies_all store (meaning g.T.Target t) (origin_at c.args.plan.now.table) view commits (unfit partition commits) (passes_at c.args.plan.now.table) (written_at c.args.plan.now.table) partition c.args.plan.now.full Stands old new columns (λ told none. c.in_ok-published.ensures.none told (commits_is ∙ none))
     c.in_ok-published.ensures.alone c.in_ok-published.ensures.short c.in_ok-published.published
     (λ told stands.
-    subst (λ (cs : List Commit). Publishes store (meaning g.T.Target t) (origin_at c.args.plan.table) view cs (Unit {0}) true old new) commits_is
+    subst (λ (cs : List Commit). Publishes store (meaning g.T.Target t) (origin_at c.args.plan.now.table) view cs (Unit {0}) true old new) commits_is
     (subst (λ (id : Option (List ℕ)). Publishes store (meaning g.T.Target t) (origin_at id) view c.as_slice-commits.result.now (Unit {0}) true old new) id_is
     (c.in_ok-published.ensures.publishes told stands.0 stands.1)))
     c.in_ok-published.ensures.cause c.in_ok-published.ensures.contest
     (λ told stands.
-    subst (λ (cs : List Commit). written_at c.args.plan.table cs (store.disk new).files) commits_is
+    subst (λ (cs : List Commit). written_at c.args.plan.now.table cs (store.disk new).files) commits_is
     (subst (λ (id : Option (List ℕ)). written_at id c.as_slice-commits.result.now (store.disk new).files) id_is
     (c.follow.new.kept, c.in_ok-published.ensures.written told stands.0 stands.1)))
     c.in_ok-report_of.field-0
     (record {
       last = last;
-      leads = subst (λ (cs : List Commit). IsAdvancedAll (g.T.Target.image t) (origin_at c.args.plan.table) view cs last) commits_is
+      leads = subst (λ (cs : List Commit). IsAdvancedAll (g.T.Target.image t) (origin_at c.args.plan.now.table) view cs last) commits_is
           (subst (λ (id : Option (List ℕ)). IsAdvancedAll (g.T.Target.image t) (origin_at id) view c.as_slice-commits.result.now last) id_is c.in_ok-published.ensures.view);
-      is = subst (λ (n : ℕ). IsReportOf n c.args.plan.full last c.in_ok-report_of.field-0) count c.in_ok-report_of.ensures;
+      is = subst (λ (n : ℕ). IsReportOf n c.args.plan.now.full last c.in_ok-report_of.field-0) count c.in_ok-report_of.ensures;
       reads = λ all. g.met.T.Target.kept_view t c.follow.new.kept (store.disk new).files (c.in_ok-published.ensures.stands all.0 all.1.0 all.1.1);
     })

@@ -1,5 +1,6 @@
 use Rattle.std.proofs.Common.{List, Result, refl, sym, subst, ◌++◌}
 use Rattle.std.specs.Prelude.{IfErr}
+use Rattle.std.specs.Fmt.{signed_decimal}
 use Rattle.std.proofs.lemmas.Result.{err_from_is_err_and}
 use Rattle.iceberg_table.specs.declared.manifest.Manifest.{Manifest}
 use Rattle.source_core.specs.Answers.{IsReadRefusal}
@@ -19,33 +20,19 @@ returns-in_err-own-clause-refused g c told = λ listed read counts.
     let P : SourceError → Type 0 = IsRefusedBehind files c.args.version c.args.metadata.now c.args.self.table read c.args.snapshot.now in
     subst (λ (r : Result Later SourceError). IfErr r (IsReadRefusal P)) (sym exit.1) (subst (IsReadRefusal P) (sym exit.2) (c.in_err-own.ensures.refused told read))
 
-pub returns-in_err-position-clause-refused : goal.returns-in_err-position-clause-refused
-returns-in_err-position-clause-refused g c told = λ listed read counts.
-    let exit = err_from_is_err_and c.from_residual-in_err-position.result c.from_residual-in_err-position.ensures.1 in
-    let files = (g.S.Store.disk c.args.store.now).files in
-    let P : SourceError → Type 0 = IsRefusedBehind files c.args.version c.args.metadata.now c.args.self.table read c.args.snapshot.now in
-    subst (λ (r : Result Later SourceError). IfErr r (IsReadRefusal P)) (sym exit.1) (subst (IsReadRefusal P) (sym exit.2) tt)
-
-pub returns-in_err-counted-clause-refused : goal.returns-in_err-counted-clause-refused
-returns-in_err-counted-clause-refused g c told = λ listed read counts.
-    let exit = err_from_is_err_and c.from_residual-in_err-counted.result c.from_residual-in_err-counted.ensures.1 in
+pub returns-in_err-put_commit-clause-refused : goal.returns-in_err-put_commit-clause-refused
+returns-in_err-put_commit-clause-refused g c told = λ listed read counts.
+    let exit = err_from_is_err_and c.from_residual-in_err-put_commit.result c.from_residual-in_err-put_commit.ensures.1 in
     let files = (g.S.Store.disk c.args.store.now).files in
     let m = c.args.metadata.now in
     let s = c.args.snapshot.now in
     let before = c.args.self in
     let own = c.in_ok-own.own in
-    let e = c.in_err-counted.field-0.0 in
-    let many = subst (λ (rs : List Manifest). IsReadRefusal (HasManyEntries read rs) e) c.as_slice.ensures (c.in_err-counted.ensures.many read counts) in
+    let e = c.in_err-put_commit.field-0.0 in
+    let many = subst (λ (rs : List Manifest). IsReadRefusal (HasManyEntries read rs) e) c.as_slice-manifests.ensures (c.in_err-put_commit.ensures.many read counts) in
     let P : SourceError → Type 0 = IsRefusedBehind files c.args.version m before.table read s in
     subst (λ (r : Result Later SourceError). IfErr r (IsReadRefusal P)) (sym exit.1)
     (subst (IsReadRefusal P) (sym exit.2) (entries_refused files c.args.version m before.table read s (own_table own) c.in_ok-own.ensures.unchanged (c.in_ok-own.ensures.own.read told listed) e many))
-
-pub returns-in_err-push-clause-refused : goal.returns-in_err-push-clause-refused
-returns-in_err-push-clause-refused g c told = λ listed read counts.
-    let exit = err_from_is_err_and c.from_residual-in_err-push.result c.from_residual-in_err-push.ensures.1 in
-    let files = (g.S.Store.disk c.args.store.now).files in
-    let P : SourceError → Type 0 = IsRefusedBehind files c.args.version c.args.metadata.now c.args.self.table read c.args.snapshot.now in
-    subst (λ (r : Result Later SourceError). IfErr r (IsReadRefusal P)) (sym exit.1) (subst (IsReadRefusal P) (sym exit.2) tt)
 
 pub returns-clause-next : goal.returns-clause-next
 returns-clause-next g c told = λ listed.
@@ -53,11 +40,11 @@ returns-clause-next g c told = λ listed.
     let own = c.in_ok-own.own in
     let is = c.in_ok-own.ensures.own in
     record {
-      commit = record { position = c.in_ok-position.position; change = own.change };
+      commit = record { position = signed_decimal c.args.snapshot.now.id; change = own.change };
       own = own_table own;
-      commits = c.in_ok-push.ensures.ok;
+      commits = c.in_ok-put_commit.ensures.commits;
       is = record {
-        position = c.in_ok-position.ensures;
+        position = refl;
         read = is.read told listed;
         is = is.is told listed;
         partition = partition_kept c.args.metadata.now c.args.snapshot.now before.table own.table is.columns c.in_ok-own.ensures.unchanged;
@@ -66,7 +53,7 @@ returns-clause-next g c told = λ listed.
         schema = is.schema;
       };
       table = refl;
-      counted = λ rs counts. subst (λ (own : List Manifest). Counts (rs ++ own) c.in_ok-counted.counted) c.as_slice.ensures (c.in_ok-counted.ensures.counts rs counts);
+      counted = λ rs counts. subst (λ (own : List Manifest). Counts (rs ++ own) c.put_commit.new.counted) c.as_slice-manifests.ensures (c.in_ok-put_commit.ensures.counts rs counts);
     }
 
 pub returns-clause-sound : goal.returns-clause-sound
@@ -77,9 +64,9 @@ returns-clause-sound g c writable =
     let sound = is.sound writable in
     let partition = partition_kept c.args.metadata.now c.args.snapshot.now before.table own.table is.columns c.in_ok-own.ensures.unchanged in
     record {
-      commit = record { position = c.in_ok-position.position; change = own.change };
-      commits = c.in_ok-push.ensures.ok;
+      commit = record { position = signed_decimal c.args.snapshot.now.id; change = own.change };
+      commits = c.in_ok-put_commit.ensures.commits;
       fits = is.fits;
-      leads = leads_to_own before.table own.table (record { position = c.in_ok-position.position; change = own.change }) is.schema is.leads sound.sound.distinct partition;
+      leads = leads_to_own before.table own.table (record { position = signed_decimal c.args.snapshot.now.id; change = own.change }) is.schema is.leads sound.sound.distinct partition;
       sound = publishable_of_snapshot own.table sound;
     }

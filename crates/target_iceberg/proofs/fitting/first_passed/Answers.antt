@@ -8,7 +8,7 @@ use Rattle.target_iceberg.specs.Following.{IsPassed}
 use Rattle.target_iceberg.specs.Newest.{shape_at}
 use Rattle.target_iceberg.proofs.FollowLemmas.{AtCommit, at_start, changes_here, no_commits_left, passed_on, ready}
 use Rattle.target_iceberg.proofs.NewestLemmas.{next_of}
-use Rattle.target_iceberg.proofs.fitting.first_change.Goals as goal
+use Rattle.target_iceberg.proofs.fitting.first_passed.Goals as goal
 
 is_zero : (n : ℕ) → nat_eq n 0 ≡ true → n ≡ 0
 is_zero n is = grind (arith, nat_tests)
@@ -18,8 +18,8 @@ is_some n is = grind (arith, nat_tests)
 
 pub loop-place-init : goal.loop-place-init
 loop-place-init c = record {
-  at = at_start (state_of c.args.kept.now) (shape_at c.in_ok-held.held.newest) c.in_ok-held.held.current c.in_ok-held.held.count c.args.commits.now c.in_ok-held.ensures.held;
-  few = omega (arith, ints, c.in_ok-held.ensures.few);
+  at = at_start (state_of c.args.kept.now) (shape_at c.args.held.now.newest) c.args.held.now.current c.args.held.now.count c.args.commits.now c.requires.held;
+  few = omega (arith, ints, c.requires.count);
 }
 
 pub loop-place-preserved : goal.loop-place-preserved

@@ -2,7 +2,7 @@ use Rattle.std.proofs.Common.{◌≡◌, ◌++◌, ◌≤◌, List, length}
 use Rattle.iceberg_table.specs.Tables.{rows_of}
 use Rattle.target_iceberg.specs.InspectSteps.{AreLinked}
 use Rattle.iceberg_table.specs.declared.manifest.Manifest.{Manifest}
-use Rattle.target_iceberg.proofs.linking.link_all.Given as goal
+use Rattle.target_iceberg.proofs.linking.link_each.Given as goal
 
 abbrev pub invariant-loop-manifest : goal.invariant-loop-manifest
 invariant-loop-manifest l = record {

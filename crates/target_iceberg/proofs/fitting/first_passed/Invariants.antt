@@ -3,7 +3,7 @@ use Rattle.std.specs.Prelude.{◌+ℤ◌, ◌≤ℤ◌}
 use Rattle.target_iceberg.specs.Fitting.{state_of}
 use Rattle.target_iceberg.specs.Newest.{shape_at}
 use Rattle.target_iceberg.proofs.FollowLemmas.{AtCommit}
-use Rattle.target_iceberg.proofs.fitting.first_change.Given as goal
+use Rattle.target_iceberg.proofs.fitting.first_passed.Given as goal
 
 abbrev pub invariant-loop-place : goal.invariant-loop-place
 invariant-loop-place l = record {

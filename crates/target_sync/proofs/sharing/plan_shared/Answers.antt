@@ -12,10 +12,10 @@ use Rattle.target_sync.specs.declared.sharing.Alike.{Alike}
 use Rattle.table_history.specs.declared.table.Commit.{Commit}
 use Rattle.target_sync.proofs.DueToo.{not_taken_too, shared_due, shared_sound}
 use Rattle.target_sync.proofs.Planning.{full_fault, if_err_as, read_refusal_as}
-use Rattle.target_sync.proofs.sharing.plan_beside.Goals as goal
+use Rattle.target_sync.proofs.sharing.plan_shared.Goals as goal
 
-pub returns-in-Commits-clause-sound : goal.returns-in-Commits-clause-sound
-returns-in-Commits-clause-sound g c ours =
+pub returns-in_ok-plan_since-in-Commits-clause-sound : goal.returns-in_ok-plan_since-in-Commits-clause-sound
+returns-in_ok-plan_since-in-Commits-clause-sound g c ours =
     let first = g.T.Target in
     let t = c.args.first.now in
     let second = g.U.Target in
@@ -31,8 +31,8 @@ returns-in-Commits-clause-sound g c ours =
     (first.image t) (second.image u) kind c.requires.first_sound (g.met.U.Target.image_publishable u)
     (subst (λ (f : Option _). IsFoundOurs (second.view u) kind f) c.in-Some.is ours)
 
-pub returns-in-Commits-clause-due : goal.returns-in-Commits-clause-due
-returns-in-Commits-clause-due g c told =
+pub returns-in_ok-plan_since-in-Commits-clause-due : goal.returns-in_ok-plan_since-in-Commits-clause-due
+returns-in_ok-plan_since-in-Commits-clause-due g c told =
     let first = g.T.Target in
     let t = c.args.first.now in
     let second = g.U.Target in
@@ -85,5 +85,5 @@ returns-in-Whole-clause-refused g c told =
 pub returns-in_err-plan_since-in-Commits-clause-only_reads : goal.returns-in_err-plan_since-in-Commits-clause-only_reads
 returns-in_err-plan_since-in-Commits-clause-only_reads g c = reading_begins g.S.Store g.met.S.Store.only_now c.args.store.now
 
-pub returns-in-Commits-clause-only_reads : goal.returns-in-Commits-clause-only_reads
-returns-in-Commits-clause-only_reads g c = reading_begins g.S.Store g.met.S.Store.only_now c.args.store.now
+pub returns-in_ok-plan_since-in-Commits-clause-only_reads : goal.returns-in_ok-plan_since-in-Commits-clause-only_reads
+returns-in_ok-plan_since-in-Commits-clause-only_reads g c = reading_begins g.S.Store g.met.S.Store.only_now c.args.store.now
