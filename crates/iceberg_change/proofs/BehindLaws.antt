@@ -1,6 +1,7 @@
 -- A snapshot behind the one before it.
-use Rattle.std.proofs.Common.{◌≡◌, ◌≤◌, ◌-◌, ◌+◌, ℕ, List, [], ◌++◌, Contains, Option, None, Some, length, map, sym, ap, subst, ◌∙◌, append-nil, arith}
-use Rattle.lake_basics.specs.declared.limits.TheConstants.{MAX_LIVE_FILES}
+use Rattle.std.proofs.Common.{◌≡◌, ◌≤◌, ◌-◌, ◌+◌, ℕ, List, [], ◌++◌, Contains, Option, None, Some, Result, Ok, Err, length, map, sym, ap, subst, ◌∙◌, append-nil, arith}
+use Rattle.std.specs.Prelude.{IfOk}
+use Rattle.lake_basics.specs.declared.limits.TheConstants.{MAX_ACTIONS, MAX_LIVE_FILES}
 use Rattle.lake_store.specs.Disk.{Files}
 use Rattle.table_history.specs.Rows.{HasDistinctPaths, HasPath, SameRows}
 use Rattle.table_history.specs.Tables.{IsDiff}
@@ -8,22 +9,19 @@ use Rattle.table_history.specs.declared.row.FileRow.{FileRow}
 use Rattle.table_history.specs.declared.table.Change.{Change}
 use Rattle.table_history.specs.declared.table.Table.{Table}
 use Rattle.table_history.proofs.Laws.{same_rows_length}
-use Rattle.iceberg_manifest.specs.Lists.{AreEach}
 use Rattle.iceberg_manifest.specs.declared.partition.PartColumn.{PartColumn}
 use Rattle.iceberg_metadata.specs.declared.metadata.Metadata.{Metadata}
-use Rattle.iceberg_table.specs.Counted.{AreFew}
-use Rattle.iceberg_table.specs.Lists.{SaysList}
-use Rattle.iceberg_table.specs.Manifests.{IsManifestOf}
+use Rattle.iceberg_table.specs.Once.{entries_once}
 use Rattle.iceberg_table.specs.Plan.{part_columns}
 use Rattle.iceberg_table.specs.Tables.{IsTableOfRows, rows_of}
-use Rattle.iceberg_table.specs.declared.list.ManifestFile.{ManifestFile}
 use Rattle.iceberg_table.specs.declared.manifest.Manifest.{Manifest}
 use Rattle.iceberg_table.specs.declared.plan.Plan.{Plan}
-use Rattle.iceberg_table.proofs.CountLaws.{few_counted}
-use Rattle.iceberg_change.specs.Behind.{AreApart, AreFit, AreParts, AreRead, GoesOn, HoldsRead, GoesOnFrom, AreReadFor, IsChangeTo, IsJoined, IsListed, IsStart, IsStepBy, held_rows, slots_rows}
+use Rattle.iceberg_change.specs.Behind.{AreApart, AreFit, AreParts, AreRead, GoesOn, HoldsRead, GoesOnFrom, AreReadFor, IsChangeTo, IsJoined, IsListRead, IsListed, IsStart, IsStepBy, held_rows, slots_rows}
 use Rattle.iceberg_change.specs.declared.behind.Listed.{Listed}
 use Rattle.iceberg_change.specs.declared.behind.Start.{Start}
+use Rattle.iceberg_change.specs.declared.behind.Step.{Step}
 use Rattle.iceberg_change.specs.declared.joining.Joining.{Joining}
+use Rattle.iceberg_change.specs.declared.joining.Stop.{Stop}
 use Rattle.iceberg_change.proofs.BesideLaws.{all_diff, all_distinct, all_length, left_apart, left_distinct}
 use Rattle.iceberg_change.proofs.HeldLaws.{filled_rows, filled_with}
 
@@ -99,18 +97,17 @@ holds_none files location columns s slots = λ m there. absurd (no_slot m (subst
     no_slot : (m : Manifest) → Contains [] (Some m) → ⊥
     no_slot m h = absurd (omega (arith, h.1))
 
-pub step_made : (tells : Type 0) (files : Files) (m : Metadata) (plan : Plan) (before : Table) (was : Listed) (columns : List PartColumn) → columns ≡ part_columns plan.columns → (rows : List FileRow) (j : Joining) → IsJoined columns rows None j → AreFew j.counted → HasDistinctPaths before.rows
-    → (change : Change) → IsChangeTo before.rows (rows_of j.manifests) change → change.schema ≡ Some plan.schema
-    → (tells → IsListed files m.location was → (list : List ManifestFile) × SaysList files m plan.list list × ((others : List ManifestFile) → SaysList files m plan.list others → others ≡ list) × AreEach (IsManifestOf files m.location columns) list j.manifests)
-    → IsStepBy tells files m plan before was (record { change = change; listed = record { manifests = j.manifests; columns = Some columns } })
-step_made tells files m plan before was columns same rows j joined few own change is schema read = record {
-  change = is;
-  within = few_counted j.manifests j.counted joined.counts few;
-  columns = ap Some same;
-  fit = subst (λ (cs : List PartColumn). AreFit cs j.manifests) same joined.fit;
+pub step_made : (tells : Type 0) (files : Files) (m : Metadata) (plan : Plan) (before : Table) (was : Listed) (columns : List PartColumn) → columns ≡ part_columns plan.columns → (manifests : List Manifest) → entries_once manifests ≤ MAX_ACTIONS → AreFit columns manifests → HasDistinctPaths before.rows
+    → (tells → IsListed files m.location was → IsListRead files m plan manifests)
+    → (r : Result Step Stop) → IfOk r (λ s. IsChangeTo before.rows (rows_of manifests) s.change) → IfOk r (λ s. s.change.schema ≡ Some plan.schema) → IfOk r (λ s. s.listed.manifests ≡ manifests) → IfOk r (λ s. s.listed.columns ≡ Some columns)
+    → IfOk r (IsStepBy tells files m plan before was)
+step_made tells files m plan before was columns same manifests within fit own read (Err e) change schema are of = tt
+step_made tells files m plan before was columns same manifests within fit own read (Ok step) change schema are of = record {
+  change = subst (λ (ms : List Manifest). IsChangeTo before.rows (rows_of ms) step.change) (sym are) change;
+  within = subst (λ (ms : List Manifest). entries_once ms ≤ MAX_ACTIONS) (sym are) within;
+  columns = of ∙ ap Some same;
+  fit = subst (λ (cs : List PartColumn). AreFit cs step.listed.manifests) same (subst (AreFit columns) (sym are) fit);
   schema = schema;
   own = own;
-  read = λ told listed.
-      let l = read told listed in
-      record { list = l.0; says = l.1; only = l.2; are = subst (λ (cs : List PartColumn). AreEach (IsManifestOf files m.location cs) l.0 j.manifests) same l.3 };
+  read = λ told listed. subst (IsListRead files m plan) (sym are) (read told listed);
 }

@@ -1,8 +1,8 @@
 -- The manifests that are held, when one of them is taken out.
-use Rattle.std.proofs.Common.{◌≡◌, ℕ, zero, suc, List, [], ◌∷◌, ◌++◌, Contains, Option, None, Some, length, map, slice_get, refl, sym, ap, subst, ◌∙◌, ⊎_elim, append_assoc}
+use Rattle.std.proofs.Common.{◌≡◌, ◌<◌, ◌+◌, ℕ, zero, suc, List, [], ◌∷◌, ◌++◌, Contains, Option, None, Some, drop, get_or, length, map, slice_get, take, refl, sym, ap, subst, ◌∙◌, ⊎_elim, append_assoc}
 use Rattle.std.specs.Prelude.{IfSome, slice_set}
 use Rattle.std.specs.List.Sorted.{IsPermutation}
-use Rattle.std.proofs.lemmas.List.{map-append}
+use Rattle.std.proofs.lemmas.List.{drop_more, map-append, take_more}
 use Rattle.std.proofs.lemmas.List.Sorted.{IsPermutation-append, IsPermutation-append_comm, IsPermutation-refl, IsPermutation-trans}
 use Rattle.table_history.specs.declared.row.FileRow.{FileRow}
 use Rattle.table_history.proofs.RowListLemmas.{Contains-cases, Contains-head, Contains-none, Contains-tail}
@@ -73,3 +73,20 @@ filled_more all front rest more m slots after split next so_far is = (
 
 pub filled_all : (all front rest : List Manifest) (slots : List (Option Manifest)) → all ≡ front ++ rest → length rest ≡ 0 → slots ≡ map Some front → slots ≡ map Some all
 filled_all all front rest slots split none so_far = so_far ∙ ap (λ (l : List Manifest). map Some l) (sym (left_none all front rest split none))
+
+-- ---- the rows of slots, one after another
+
+-- one row more behind those of a front
+pub pushed_more : {A B : Type 0} (f : A → B) (front rows new : List B) (items : List A) (i : ℕ) (row : B) (item : A) → i < length items → item ≡ get_or items i item → new ≡ rows ++ row ∷ [] → row ≡ f item → rows ≡ front ++ map f (take i items) → new ≡ front ++ map f (take (i + 1) items)
+pushed_more {A} {B} f front rows new items i row item within at put same so_far =
+    put
+    ∙ (λ j. so_far j ++ same j ∷ [])
+    ∙ append_assoc front (map f (take i items)) (f item ∷ [])
+    ∙ ap (λ l. front ++ l) (sym (map-append f (take i items) (item ∷ [])) ∙ ap (λ (x : A). map f (take i items ++ x ∷ [])) at ∙ ap (map f) (sym (take_more items i item within)))
+
+-- the rows of one slot more
+pub slots_more : (slots : List (Option Manifest)) (i : ℕ) (slot : Option Manifest) (rows new all : List FileRow) → i < length slots → slot ≡ get_or slots i slot → new ≡ rows ++ slot_rows slot → rows ++ slots_rows (drop i slots) ≡ all → new ++ slots_rows (drop (i + 1) slots) ≡ all
+slots_more slots i slot rows new all within at put so_far =
+    let rest = slots_rows (drop (i + 1) slots) in
+    let here : drop i slots ≡ slot ∷ drop (i + 1) slots = drop_more slots i slot within ∙ ap (λ (s : Option Manifest). s ∷ drop (i + 1) slots) (sym at) in
+    ap (λ l. l ++ rest) put ∙ append_assoc rows (slot_rows slot) rest ∙ sym (ap (λ (l : List (Option Manifest)). rows ++ slots_rows l) here) ∙ so_far

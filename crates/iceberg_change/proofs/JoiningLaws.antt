@@ -1,6 +1,6 @@
 -- The manifests of a list, one more.
 use Rattle.std.proofs.Common.{◌≡◌, ◌⊎◌, ℕ, ℤ, List, [], ◌∷◌, ◌++◌, Option, None, Some, Result, Ok, Err, refl, sym, ap, subst, ◌∙◌, inl, inr, ⊎_elim, append_assoc, append-nil}
-use Rattle.std.specs.Prelude.{IfOk, filter}
+use Rattle.std.specs.Prelude.{OnOk, filter}
 use Rattle.std.specs.List.Sorted.{IsPermutation}
 use Rattle.std.proofs.lemmas.Grind.{flat_map-append}
 use Rattle.std.proofs.lemmas.List.Sorted.{IsPermutation-append, IsPermutation-append_comm, IsPermutation-refl, IsPermutation-trans}
@@ -23,7 +23,6 @@ use Rattle.iceberg_table.specs.declared.manifest.Manifest.{Manifest}
 use Rattle.iceberg_change.specs.Behind.{AreFit, EachHeld, IsHeld, IsJoined, IsNextIn, NamesSame, held_rows, slot_rows}
 use Rattle.iceberg_change.specs.declared.held.Held.{Held}
 use Rattle.iceberg_change.specs.declared.joining.Joining.{Joining}
-use Rattle.iceberg_change.specs.declared.joining.Stop.{Stop}
 
 -- ---- a manifest under another row of a list
 
@@ -135,15 +134,21 @@ module _ (columns : List PartColumn) (rows : List FileRow) (old new : Joining) w
         counts = counts;
       }
 
+pub joins_new : {A E : Type 0} (columns : List PartColumn) (rows : List FileRow) (old mid new : Joining) (m : Manifest) (r : Result A E)
+    → OnOk r (new.manifests ≡ old.manifests ++ m ∷ []) → OnOk r (new.held ≡ old.held) → OnOk r (new.came ≡ mid.came) → mid.came.items ≡ old.came.items ++ rows_in m.rows
+    → OnOk r (Counts new.manifests new.counted) → FitLive columns m.rows → IsJoined columns rows None old → OnOk r (IsJoined columns rows None new)
+joins_new columns rows old mid new m (Ok a) manifests held came put counts fit is = joined_new columns rows old new m manifests held (ap (λ v. v.items) came ∙ put) counts fit is
+joins_new columns rows old mid new m (Err e) manifests held came put counts fit is = tt
+
 -- ---- what is held further
 
 pub holds_left : (P : Manifest → Type 0) (old new : Held) → ((m : Manifest) → IsHeld new m → IsHeld old m) → EachHeld P old → EachHeld P new
 holds_left P old new left each = λ m there. each m (left m there)
 
-pub held_same : (P : Held → Type 0) (h : Held) (r : Result Joining Stop) → IfOk r (λ j. j.held ≡ h) → P h → IfOk r (λ j. P j.held)
-held_same P h (Ok j) same is = subst P (sym same) is
-held_same P h (Err e) same is = tt
+pub held_same : {A E : Type 0} (P : Held → Type 0) (h k : Held) (r : Result A E) → OnOk r (k ≡ h) → P h → OnOk r (P k)
+held_same P h k (Ok a) same is = subst P (sym same) is
+held_same P h k (Err e) same is = tt
 
-pub next_as : (files : Files) (location : List ℕ) (columns : List PartColumn) (file : ManifestFile) (a b : Joining) (r : Result Joining Stop) → a.manifests ≡ b.manifests → IfOk r (IsNextIn files location columns file a) → IfOk r (IsNextIn files location columns file b)
-next_as files location columns file a b (Ok j) same next = record { manifest = next.manifest; manifests = next.manifests ∙ ap (λ (l : List Manifest). l ++ next.manifest ∷ []) same; is = next.is }
-next_as files location columns file a b (Err e) same next = tt
+pub next_as : {A E : Type 0} (files : Files) (location : List ℕ) (columns : List PartColumn) (file : ManifestFile) (a b new : Joining) (r : Result A E) → a.manifests ≡ b.manifests → OnOk r (IsNextIn files location columns file a new) → OnOk r (IsNextIn files location columns file b new)
+next_as files location columns file a b new (Ok x) same next = record { manifest = next.manifest; manifests = next.manifests ∙ ap (λ (l : List Manifest). l ++ next.manifest ∷ []) same; is = next.is }
+next_as files location columns file a b new (Err e) same next = tt

@@ -1,5 +1,6 @@
 -- The rows of a table, one by one, and a table with rows more.
-use Rattle.std.proofs.Common.{◌≡◌, ◌<◌, ◌+◌, ℕ, zero, suc, List, [], ◌∷◌, ◌++◌, Contains, length, get_or, take, refl, sym, ap, subst, ◌∙◌, inl, inr, ⊎_elim, arith}
+use Rattle.std.proofs.Common.{◌≡◌, ◌<◌, ◌+◌, ℕ, zero, suc, List, [], ◌∷◌, ◌++◌, Contains, Result, Ok, Err, length, get_or, take, refl, sym, ap, subst, ◌∙◌, inl, inr, ⊎_elim, arith}
+use Rattle.std.specs.Prelude.{IfOk}
 use Rattle.std.specs.List.{IsDistinct}
 use Rattle.std.specs.Str.{bytes_eq}
 use Rattle.std.proofs.lemmas.List.{take_more}
@@ -12,6 +13,16 @@ use Rattle.table_history.specs.declared.table.Table.{Table}
 use Rattle.table_history.proofs.RowListLemmas.{Contains-none}
 use Rattle.iceberg_table.proofs.RowLaws.{no_paths}
 use Rattle.iceberg_change.specs.Behind.{AreApart}
+
+-- ---- what a result is, if it is one
+
+pub if_so : {A E : Type 0} (r : Result A E) (P Q : A → Type 0) → IfOk r P → ((a : A) → P a → Q a) → IfOk r Q
+if_so (Ok a) P Q p so = so a p
+if_so (Err e) P Q p so = tt
+
+pub if_both : {A E : Type 0} (r : Result A E) (P Q R : A → Type 0) → IfOk r P → IfOk r Q → ((a : A) → P a → Q a → R a) → IfOk r R
+if_both (Ok a) P Q R p q both = both a p q
+if_both (Err e) P Q R p q both = tt
 
 -- ---- the path of a row at a place
 

@@ -1,12 +1,16 @@
 //! A snapshot read behind the one before it.
 
-ghost use Rattle.std.specs.Prelude.{◌≡◌, ◌≤◌, ◌+◌, ◌-◌, ◌++◌, ℕ, List, length, Contains, Some, IfOk, IsErrOf, IsTrue};
-ghost use Rattle.lake_basics.specs.declared.limits.TheConstants.{MAX_LIVE_FILES};
+ghost use Rattle.std.specs.Prelude.{◌≡◌, ◌≤◌, ◌+◌, ◌-◌, ◌++◌, ℕ, List, length, map, Contains, Some, IfOk, IsErrOf, IsTrue};
+ghost use Rattle.lake_basics.specs.declared.limits.TheConstants.{MAX_ACTIONS, MAX_LIVE_FILES};
 ghost use Rattle.lake_store.specs.Disk.{Files};
 ghost use Rattle.lake_store.specs.Runs.{FailsBy, IsUncontestedBy, OnlyReads};
 ghost use Rattle.table_history.specs.Rows.{HasDistinctPaths, HasPath, SameRows};
+ghost use Rattle.table_history.specs.Tables.{IsDiff};
 ghost use Rattle.table_history.specs.declared.row.FileRow.{FileRow};
-ghost use Rattle.iceberg_change.specs.Behind.{AreApart, AreParts, GoesOn, HoldsRead, IsChangeTo, IsListed, IsStart, IsStep, IsStepBy, held_rows};
+ghost use Rattle.iceberg_table.specs.Once.{entries_once};
+ghost use Rattle.iceberg_table.specs.Plan.{part_columns};
+ghost use Rattle.iceberg_table.specs.Tables.{rows_of};
+ghost use Rattle.iceberg_change.specs.Behind.{AreApart, AreFit, AreParts, GoesOn, HoldsRead, IsChangeTo, IsListRead, IsListed, IsStart, IsStep, IsStepBy, held_rows};
 ghost use Rattle.iceberg_change.specs.declared.joining.Stop.TheVariants.{StoreFault};
 
 use crate::held::Held;
@@ -35,6 +39,15 @@ pub struct Listed {
 struct Start {
     held: Held,
     others: Table,
+}
+
+/// What was read of a snapshot's list for these columns, and the table of the rows before that aren't
+/// those of a manifest.
+#[derive(Drop)]
+struct ListRead {
+    columns: Items<PartColumn>,
+    others: Table,
+    joining: Joining,
 }
 
 /// What a snapshot makes of the table before it.
@@ -125,9 +138,32 @@ fn are_free(before: &Table, went: &Table, rows: &[FileRow]) -> bool
 fn is_within(before: usize, went: usize, came: usize) -> bool
     ensures { IsTrue result → (before - went) + came ≤ MAX_LIVE_FILES }
 {
-    let kept = before.saturating_sub(went) as u64;
-    let came = came as u64;
-    came <= MAX_LIVE_FILES && kept <= MAX_LIVE_FILES - came
+    before.saturating_sub(went).saturating_add(came) as u64 <= MAX_LIVE_FILES
+}
+
+/// The table of the rows that went: those of the start, and those of the manifests that are left.
+fn went_of(alloc: Global, start: Table, left: &Held) -> Result<Table, AllocError>
+    requires distinct { HasDistinctPaths (held_rows left.now) }
+    requires apart { AreApart (held_rows left.now) start.rows }
+    ensures rows { IfOk result (λ t. SameRows t.rows (start.rows ++ held_rows left.now)) }
+    ensures own { IfOk result (λ t. HasDistinctPaths t.rows) }
+{
+    let left = left.rows(alloc)?;
+    with_rows(alloc, start, left)
+}
+
+/// The change from the rows that went to those that came, if so many may be live then.
+fn change_within(alloc: Global, count: usize, went: &Table, came: &Table) -> Result<Change, Stop>
+    ensures within { IfOk result (λ _. (count - length went.now.rows) + length came.now.rows
+        ≤ MAX_LIVE_FILES) }
+    ensures diff { IfOk result (λ c. IsDiff went.now.rows came.now.rows c.removed c.added) }
+    ensures schema { IfOk result (λ c. c.schema ≡ Some came.now.schema) }
+    ensures no_fault { IsErrOf result StoreFault → ⊥ }
+{
+    if !is_within(count, went.rows.len(), came.rows.len()) {
+        return Err(Stop::Scratch);
+    }
+    Ok(went.change_to(alloc, came)?)
 }
 
 /// The change from the rows before to those of the manifests of a list: of these manifests some were
@@ -151,16 +187,12 @@ fn change_of(
     ensures schema { IfOk result (λ c. c.schema ≡ Some schema) }
     ensures no_fault { IsErrOf result StoreFault → ⊥ }
 {
-    let left = left.rows(alloc)?;
-    let went = with_rows(alloc, start, left)?;
+    let went = went_of(alloc, start, left)?;
     if !are_free(before, &went, came.as_slice()) {
         return Err(Stop::Scratch);
     }
     let came = table_of(alloc, schema, came)?;
-    if !is_within(count, went.rows.len(), came.rows.len()) {
-        return Err(Stop::Scratch);
-    }
-    Ok(went.change_to(alloc, &came)?)
+    change_within(alloc, count, &went, &came)
 }
 
 // ---- a snapshot
@@ -173,6 +205,15 @@ fn is_for(known: &Option<Items<PartColumn>>, columns: &Items<PartColumn>) -> boo
         Some(known) => *known == *columns,
         None => false,
     }
+}
+
+/// These manifests held, beside the table of the rows that aren't theirs.
+fn start_of(alloc: Global, manifests: Items<Manifest>, others: Table) -> Result<Start, AllocError>
+    ensures held { IfOk result (λ s. s.held.slots.items ≡ map Some manifests) }
+    ensures others { IfOk result (λ s. s.others ≡ others) }
+{
+    let held = Held::new(alloc, manifests)?;
+    Ok(Start { held, others })
 }
 
 /// What is held of the list before, if it was read for these columns.
@@ -188,19 +229,89 @@ fn begin(
     ensures read { (files : Files) (location : List ℕ) → IsListed files location listed
         → IfOk result (λ s. HoldsRead files location columns.now s.held) }
 {
-    let Listed {
-        manifests,
-        columns: known,
-    } = listed;
-    if is_for(&known, columns) {
-        return Ok(Start {
-            held: Held::new(alloc, manifests)?,
-            others: Table::empty(alloc, before.partition.as_slice())?,
-        });
+    if is_for(&listed.columns, columns) {
+        let none = Table::empty(alloc, before.partition.as_slice())?;
+        return start_of(alloc, listed.manifests, none);
     }
-    Ok(Start {
-        held: Held::new(alloc, Items::new(alloc))?,
-        others: before.copy(alloc)?,
+    let others = before.copy(alloc)?;
+    start_of(alloc, Items::new(alloc), others)
+}
+
+/// What is read of the list that the plan names, behind what was read of the list before.
+fn read_list<S: Store>(
+    alloc: Global,
+    store: &mut S,
+    metadata: &Metadata,
+    plan: &Plan,
+    before: &Table,
+    listed: Listed,
+) -> Result<ListRead, Stop>
+    requires own { HasDistinctPaths before.now.rows }
+    requires on { GoesOn before.now listed }
+    ensures columns { IfOk result (λ r. r.columns ≡ part_columns plan.now.columns) }
+    ensures parts { IfOk result (λ r. AreParts before.now.rows r.others.rows
+        (held_rows r.joining.held) r.joining.came.items (rows_of r.joining.manifests)) }
+    ensures fit { IfOk result (λ r. AreFit r.columns r.joining.manifests) }
+    ensures within { IfOk result (λ r. entries_once r.joining.manifests ≤ MAX_ACTIONS) }
+    ensures read { S.tells → IsListed (S.disk store.old).files metadata.now.location listed
+        → IfOk result (λ r. IsListRead (S.disk store.old).files metadata.now plan.now
+        r.joining.manifests) }
+    ensures only_reads { S.tells → OnlyReads ⟦<S as Store>⟧ store.old store.new }
+    ensures cause { FailsBy ⟦<S as Store>⟧ store.old store.new (IsErrOf result StoreFault) }
+    ensures contest { IsUncontestedBy ⟦<S as Store>⟧ store.old store.new ⊥ }
+{
+    let columns = part_columns(alloc, plan.columns.as_slice())?;
+    let list = match read_list_file(alloc, store, metadata, &plan.list) {
+        Ok(list) => list,
+        Err(error) => return Err(stop_for(error)),
+    };
+    let Start { held, others } = begin(alloc, before, listed, &columns)?;
+    let location = metadata.location.as_str();
+    let joining = join_list(alloc, store, location, columns.as_slice(), list, held)?;
+    Ok(ListRead {
+        columns,
+        others,
+        joining,
+    })
+}
+
+/// What a snapshot of this schema makes of the table before it, by what was read of its list.
+fn step_by(
+    alloc: Global,
+    before: &Table,
+    count: usize,
+    read: ListRead,
+    schema: Schema,
+) -> Result<Step, Stop>
+    requires count { count ≡ length before.now.rows }
+    requires own { HasDistinctPaths before.now.rows }
+    requires parts { AreParts before.now.rows read.others.rows (held_rows read.joining.held)
+        read.joining.came.items (rows_of read.joining.manifests) }
+    ensures change { IfOk result
+        (λ s. IsChangeTo before.now.rows (rows_of read.joining.manifests) s.change) }
+    ensures schema { IfOk result (λ s. s.change.schema ≡ Some schema) }
+    ensures manifests { IfOk result (λ s. s.listed.manifests ≡ read.joining.manifests) }
+    ensures columns { IfOk result (λ s. s.listed.columns ≡ Some read.columns) }
+    ensures no_fault { IsErrOf result StoreFault → ⊥ }
+{
+    let ListRead {
+        columns,
+        others,
+        joining,
+    } = read;
+    let Joining {
+        held: left,
+        manifests,
+        came,
+        ..
+    } = joining;
+    let change = change_of(alloc, before, count, others, &left, came, schema)?;
+    Ok(Step {
+        change,
+        listed: Listed {
+            manifests,
+            columns: Some(columns),
+        },
     })
 }
 
@@ -219,34 +330,9 @@ fn step_planned<S: Store>(
     ensures cause { FailsBy ⟦<S as Store>⟧ store.old store.new (IsErrOf result StoreFault) }
     ensures contest { IsUncontestedBy ⟦<S as Store>⟧ store.old store.new ⊥ }
 {
-    let Plan {
-        list: path,
-        schema,
-        columns,
-    } = plan;
-    let columns = part_columns(alloc, columns.as_slice())?;
-    let list = match read_list_file(alloc, store, metadata, &path) {
-        Ok(list) => list,
-        Err(error) => return Err(stop_for(error)),
-    };
     let count = before.rows.len();
-    let Start { held, others } = begin(alloc, before, listed, &columns)?;
-    let location = metadata.location.as_str();
-    let joining = join_list(alloc, store, location, columns.as_slice(), list, held)?;
-    let Joining {
-        held: left,
-        manifests,
-        came,
-        ..
-    } = joining;
-    let change = change_of(alloc, before, count, others, &left, came, schema)?;
-    Ok(Step {
-        change,
-        listed: Listed {
-            manifests,
-            columns: Some(columns),
-        },
-    })
+    let read = read_list(alloc, store, metadata, &plan, before, listed)?;
+    step_by(alloc, before, count, read, plan.schema)
 }
 
 /// What a snapshot makes of the table before it (Apache Iceberg specification, "Scan Planning"). Its

@@ -1,6 +1,6 @@
 //! The manifests of the list before, by their paths.
 
-ghost use Rattle.std.specs.Prelude.{◌≡◌, ◌<◌, ◌++◌, None, Some, length, map, slice_get, slice_set, IfOk, IfSome, IsTrue};
+ghost use Rattle.std.specs.Prelude.{◌≡◌, ◌<◌, ◌++◌, ◌∷◌, [], None, Some, length, map, slice_get, slice_set, IfOk, IfSome, IsTrue, OnOk};
 ghost use Rattle.std.specs.List.Sorted.{IsPermutation};
 ghost use Rattle.iceberg_table.specs.Tables.{rows_in};
 ghost use Rattle.iceberg_table.specs.declared.manifest.Manifest.{Manifest};
@@ -30,24 +30,31 @@ fn emptied(slots: &mut Vec<Option<Manifest>>, place: usize) -> Option<Manifest>
     std::mem::replace(&mut slots[place], None)
 }
 
-/// The rows of live entries.
-pub(crate) fn rows_in(alloc: Global, live: &[LiveRow]) -> Result<Vec<FileRow>, AllocError>
-    ensures { IfOk result (λ rows. rows.items ≡ rows_in live.now) }
+/// Puts the rows of live entries behind these.
+pub(crate) fn push_rows(
+    alloc: Global,
+    rows: &mut Vec<FileRow>,
+    live: &[LiveRow],
+) -> Result<(), AllocError>
+    ensures { OnOk result (rows.new.items ≡ rows.old.items ++ rows_in live.now) }
 {
-    let mut rows = Vec::with_capacity(alloc, live.len())?;
     for found in live {
         rows.push(found.row.copy(alloc)?)?;
     }
-    Ok(rows)
+    Ok(())
 }
 
-/// The rows of the manifest in a slot.
-fn slot_rows(alloc: Global, slot: &Option<Manifest>) -> Result<Vec<FileRow>, AllocError>
-    ensures { IfOk result (λ rows. rows.items ≡ slot_rows slot.now) }
+/// Puts the rows of the manifest in a slot behind these.
+fn push_slot(
+    alloc: Global,
+    rows: &mut Vec<FileRow>,
+    slot: &Option<Manifest>,
+) -> Result<(), AllocError>
+    ensures { OnOk result (rows.new.items ≡ rows.old.items ++ slot_rows slot.now) }
 {
     match slot {
-        Some(manifest) => rows_in(alloc, manifest.rows.as_slice()),
-        None => Ok(Vec::new(alloc)),
+        Some(manifest) => push_rows(alloc, rows, manifest.rows.as_slice()),
+        None => Ok(()),
     }
 }
 
@@ -57,8 +64,7 @@ fn slots_rows(alloc: Global, slots: &[Option<Manifest>]) -> Result<Vec<FileRow>,
 {
     let mut rows = Vec::new(alloc);
     for slot in slots {
-        let mut more = slot_rows(alloc, slot)?;
-        rows.append(&mut more)?;
+        push_slot(alloc, &mut rows, slot)?;
     }
     Ok(rows)
 }
@@ -78,13 +84,24 @@ impl Held {
     pub fn new(alloc: Global, manifests: Items<Manifest>) -> Result<Held, AllocError>
         ensures { IfOk result (λ h. h.slots.items ≡ map Some manifests) }
     {
-        let mut places = IndexMap::new(alloc);
-        let mut slots = Vec::new(alloc);
+        let mut held = Held {
+            places: IndexMap::new(alloc),
+            slots: Vec::new(alloc),
+        };
         for manifest in manifests.into_vec() {
-            drop(places.insert(manifest.file.path.copy(alloc)?, slots.len())?);
-            slots.push(Some(manifest))?;
+            held.hold(alloc, manifest)?;
         }
-        Ok(Held { places, slots })
+        Ok(held)
+    }
+
+    /// Puts the manifest into a slot of its own, behind the others.
+    fn hold(&mut self, alloc: Global, manifest: Manifest) -> Result<(), AllocError>
+        ensures { OnOk result (self.new.slots.items ≡ self.old.slots.items ++ Some manifest ∷ []) }
+    {
+        let path = manifest.file.path.copy(alloc)?;
+        drop(self.places.insert(path, self.slots.len())?);
+        self.slots.push(Some(manifest))?;
+        Ok(())
     }
 
     /// Takes out the manifest at this path, if it is held.

@@ -1,6 +1,6 @@
 //! The manifests of a snapshot's list. Those that are held aren't read again.
 
-ghost use Rattle.std.specs.Prelude.{◌≡◌, ◌≤◌, ◌+◌, ◌++◌, ◌∷◌, [], ℕ, List, None, Some, IfOk, IsErrOf};
+ghost use Rattle.std.specs.Prelude.{◌≡◌, ◌≤◌, ◌+◌, ◌++◌, ◌∷◌, [], ℕ, List, None, Some, IfOk, IsErrOf, OnOk};
 ghost use Rattle.lake_basics.specs.declared.limits.TheConstants.{MAX_ACTIONS};
 ghost use Rattle.lake_store.specs.Disk.{Files};
 ghost use Rattle.lake_store.specs.Runs.{FailsBy, IsUncontestedBy, OnlyReads};
@@ -14,7 +14,7 @@ ghost use Rattle.iceberg_table.specs.declared.error.IcebergError.TheVariants as 
 ghost use Rattle.iceberg_change.specs.Behind.{HoldsFit, HoldsRead, IsJoined, IsNextIn, held_rows};
 ghost use Rattle.iceberg_change.specs.declared.joining.Stop.TheVariants.{Memory, StoreFault};
 
-use crate::held::{Held, names_same, rows_in};
+use crate::held::{Held, names_same, push_rows};
 use iceberg_manifest::PartColumn;
 use iceberg_table::{Counted, IcebergError, Manifest, ManifestFile, read_manifest_file};
 use lake_basics::Items;
@@ -24,7 +24,7 @@ use std::alloc::{AllocError, AllocFailed, Global};
 use table_history::FileRow;
 
 /// Why a snapshot isn't read behind the one before it.
-#[derive(Debug, Drop)]
+#[derive(Drop)]
 pub(crate) enum Stop {
     Memory,
     StoreFault,
@@ -89,48 +89,41 @@ impl Joining {
         }
     }
 
-    /// The list names this manifest too.
-    fn with_manifest(self, alloc: Global, manifest: Manifest) -> Result<Joining, AllocError>
-        requires { before_of manifest.file.path self.counted + manifest.entries ≤ MAX_ACTIONS }
-        ensures same { IfOk result (λ j. (j.held ≡ self.held) × (j.came ≡ self.came)) }
-        ensures manifests { IfOk result (λ j. j.manifests ≡ self.manifests ++ manifest ∷ []) }
-        ensures counts { Counts self.manifests self.counted
-            → IfOk result (λ j. Counts j.manifests j.counted) }
-        ensures few { AreFew self.counted → IfOk result (λ j. AreFew j.counted) }
+    /// Puts a manifest that the list names too behind the others.
+    fn put(&mut self, alloc: Global, manifest: Manifest) -> Result<(), AllocError>
+        requires { before_of manifest.file.path self.old.counted + manifest.entries ≤ MAX_ACTIONS }
+        ensures held { OnOk result (self.new.held ≡ self.old.held) }
+        ensures came { OnOk result (self.new.came ≡ self.old.came) }
+        ensures manifests { OnOk result
+            (self.new.manifests ≡ self.old.manifests ++ manifest ∷ []) }
+        ensures counts { Counts self.old.manifests self.old.counted
+            → OnOk result (Counts self.new.manifests self.new.counted) }
+        ensures few { AreFew self.old.counted → OnOk result (AreFew self.new.counted) }
     {
-        let Joining {
-            held,
-            mut manifests,
-            counted,
-            came,
-        } = self;
+        let counted = std::mem::replace(&mut self.counted, Counted::new(alloc));
         let counted = counted.with_manifest(alloc, &manifest)?;
-        manifests.push(manifest)?;
-        Ok(Joining {
-            held,
-            manifests,
-            counted,
-            came,
-        })
+        self.counted = counted;
+        self.manifests.push(manifest)?;
+        Ok(())
     }
 
-    /// The same with a manifest that was taken out of those that are held, under its row of this
-    /// list.
-    fn with_taken(
-        self,
+    /// Puts a manifest that was taken out of those that are held behind the others, under its row of
+    /// this list.
+    fn put_taken(
+        &mut self,
         alloc: Global,
         manifest: Manifest,
         file: ManifestFile,
-    ) -> Result<Joining, Stop>
-        requires { AreFew self.counted }
+    ) -> Result<(), Stop>
+        requires { AreFew self.old.counted }
         ensures joined { (columns : List PartColumn) (rows : List FileRow)
-            → FitLive columns manifest.rows → IsJoined columns rows (Some manifest) self
-            → IfOk result (IsJoined columns rows None) }
-        ensures same { IfOk result (λ j. j.held ≡ self.held) }
+            → FitLive columns manifest.rows → IsJoined columns rows (Some manifest) self.old
+            → OnOk result (IsJoined columns rows None self.new) }
+        ensures same { OnOk result (self.new.held ≡ self.old.held) }
         ensures next { (files : Files) (location : List ℕ) (columns : List PartColumn)
             → IsManifestOf files location columns manifest.file manifest
-            → IfOk result (IsNextIn files location columns file self) }
-        ensures few { IfOk result (λ j. AreFew j.counted) }
+            → OnOk result (IsNextIn files location columns file self.old self.new) }
+        ensures few { OnOk result (AreFew self.new.counted) }
         ensures no_fault { IsErrOf result StoreFault → ⊥ }
     {
         if !names_same(&manifest.file, &file) {
@@ -139,62 +132,58 @@ impl Joining {
         if manifest.entries > MAX_ACTIONS - self.counted.before(&file.path) {
             return Err(Stop::Scratch);
         }
-        let Manifest { entries, rows, .. } = manifest;
-        let manifest = Manifest {
-            file,
-            entries,
-            rows,
-        };
-        Ok(self.with_manifest(alloc, manifest)?)
+        let mut manifest = manifest;
+        manifest.file = file;
+        self.put(alloc, manifest)?;
+        Ok(())
     }
 
-    /// The same with a manifest that wasn't held.
-    fn with_new(self, alloc: Global, manifest: Manifest) -> Result<Joining, AllocError>
-        requires { before_of manifest.file.path self.counted + manifest.entries ≤ MAX_ACTIONS }
+    /// Puts a manifest that wasn't held behind the others.
+    fn put_new(&mut self, alloc: Global, manifest: Manifest) -> Result<(), AllocError>
+        requires { before_of manifest.file.path self.old.counted + manifest.entries ≤ MAX_ACTIONS }
         ensures joined { (columns : List PartColumn) (rows : List FileRow)
-            → FitLive columns manifest.rows → IsJoined columns rows None self
-            → IfOk result (IsJoined columns rows None) }
-        ensures same { IfOk result (λ j. j.held ≡ self.held) }
-        ensures manifests { IfOk result (λ j. j.manifests ≡ self.manifests ++ manifest ∷ []) }
-        ensures few { AreFew self.counted → IfOk result (λ j. AreFew j.counted) }
+            → FitLive columns manifest.rows → IsJoined columns rows None self.old
+            → OnOk result (IsJoined columns rows None self.new) }
+        ensures same { OnOk result (self.new.held ≡ self.old.held) }
+        ensures manifests { OnOk result
+            (self.new.manifests ≡ self.old.manifests ++ manifest ∷ []) }
+        ensures few { AreFew self.old.counted → OnOk result (AreFew self.new.counted) }
     {
-        let mut more = rows_in(alloc, manifest.rows.as_slice())?;
-        let mut joining = self.with_manifest(alloc, manifest)?;
-        joining.came.append(&mut more)?;
-        Ok(joining)
+        push_rows(alloc, &mut self.came, manifest.rows.as_slice())?;
+        self.put(alloc, manifest)
     }
 
-    /// The same with the next manifest of the list. It is read where it isn't held.
-    fn with_file<S: Store>(
-        self,
+    /// Puts the next manifest of the list behind the others. It is read where it isn't held.
+    fn put_file<S: Store>(
+        &mut self,
         alloc: Global,
         store: &mut S,
         location: &str,
         columns: &[PartColumn],
         file: ManifestFile,
-    ) -> Result<Joining, Stop>
-        requires few { AreFew self.counted }
-        requires fit { HoldsFit columns.now self.held }
-        ensures joined { (rows : List FileRow) → IsJoined columns.now rows None self
-            → IfOk result (IsJoined columns.now rows None) }
-        ensures fit { IfOk result (λ j. HoldsFit columns.now j.held) }
-        ensures few { IfOk result (λ j. AreFew j.counted) }
+    ) -> Result<(), Stop>
+        requires few { AreFew self.old.counted }
+        requires fit { HoldsFit columns.now self.old.held }
+        ensures joined { (rows : List FileRow) → IsJoined columns.now rows None self.old
+            → OnOk result (IsJoined columns.now rows None self.new) }
+        ensures fit { OnOk result (HoldsFit columns.now self.new.held) }
+        ensures few { OnOk result (AreFew self.new.counted) }
         ensures next { S.tells
-            → HoldsRead (S.disk store.old).files location.now columns.now self.held
-            → IfOk result (IsNextIn (S.disk store.old).files location.now columns.now file self) }
-        ensures held { (files : Files) → HoldsRead files location.now columns.now self.held
-            → IfOk result (λ j. HoldsRead files location.now columns.now j.held) }
+            → HoldsRead (S.disk store.old).files location.now columns.now self.old.held
+            → OnOk result (IsNextIn (S.disk store.old).files location.now columns.now file
+            self.old self.new) }
+        ensures held { (files : Files) → HoldsRead files location.now columns.now self.old.held
+            → OnOk result (HoldsRead files location.now columns.now self.new.held) }
         ensures only_reads { S.tells → OnlyReads ⟦<S as Store>⟧ store.old store.new }
         ensures cause { FailsBy ⟦<S as Store>⟧ store.old store.new (IsErrOf result StoreFault) }
         ensures contest { IsUncontestedBy ⟦<S as Store>⟧ store.old store.new ⊥ }
     {
-        let mut joining = self;
-        if let Some(manifest) = joining.held.take(&file.path) {
-            return joining.with_taken(alloc, manifest, file);
+        if let Some(manifest) = self.held.take(&file.path) {
+            return self.put_taken(alloc, manifest, file);
         }
-        let before = joining.counted.before(&file.path);
+        let before = self.counted.before(&file.path);
         match read_manifest_file(alloc, store, location, columns, before, file) {
-            Ok(manifest) => Ok(joining.with_new(alloc, manifest)?),
+            Ok(manifest) => Ok(self.put_new(alloc, manifest)?),
             Err(error) => Err(stop_for(error)),
         }
     }
@@ -221,7 +210,7 @@ pub(crate) fn join_list<S: Store>(
 {
     let mut joining = Joining::new(alloc, held);
     for file in list.into_vec() {
-        joining = joining.with_file(alloc, store, location, columns, file)?;
+        joining.put_file(alloc, store, location, columns, file)?;
     }
     Ok(joining)
 }

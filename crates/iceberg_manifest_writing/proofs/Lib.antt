@@ -1,3 +1,4 @@
+pub mod ContainerLemmas
 pub mod ListWrittenLemmas
 pub mod ManifestWrittenLemmas
 pub mod PartNameLemmas

@@ -1,7 +1,8 @@
 -- Manifest lists that are written, read back.
-use Rattle.std.proofs.Common.{◌≡◌, ℕ, ◌+◌, ◌*◌, ◌≤◌, ◌⊎◌, inl, inr, ℤ, pos, negsuc, List, [], ◌∷◌, length, map, true, Option, Some, Ok, refl, sym, subst, arith, rules, FitsSigned, w32}
+use Rattle.std.proofs.Common.{◌≡◌, ℕ, ◌+◌, ◌*◌, ◌≤◌, ◌⊎◌, inl, inr, ℤ, pos, negsuc, List, [], ◌∷◌, length, map, true, Option, Some, Result, Ok, Err, refl, sym, subst, arith, rules, FitsSigned, w32}
 use Rattle.std.proofs.lemmas.Bool.{le-leb}
 use Rattle.std.proofs.lemmas.Int.{ints}
+use Rattle.std.specs.Prelude.{IfOk}
 use Rattle.std.specs.List.{AllByRecursion}
 use Rattle.avro_schema.specs.Tree.{SchemaTree}
 use Rattle.avro_schema.specs.Plain.{IsPlain}
@@ -18,6 +19,7 @@ use Rattle.iceberg_manifest.specs.ListReading.{count_places, list_plan, content_
 use Rattle.iceberg_manifest.specs.Scans.{infos_of}
 use Rattle.iceberg_manifest.specs.WrittenTypes.{list_type}
 use Rattle.iceberg_manifest.specs.ListWriting.{info_trees, info_tree, HavePlaces, HasContent, HasInts, IsWritableList, list_meta}
+use Rattle.iceberg_manifest.specs.declared.error.ManifestError.{ManifestError}
 use Rattle.iceberg_manifest.specs.declared.info.ManifestInfo.{ManifestInfo}
 use Rattle.iceberg_manifest.specs.declared.list.ListPlan.{ListPlan}
 
@@ -78,13 +80,10 @@ list_free limit snapshot parent sequence many = record { no_schema = refl; no_co
 pub fits_by : (t : SchemaTree) (vs : List ValueTree) (is : List ManifestInfo) → t ≡ list_type → vs ≡ map info_tree is → AllByRecursion (Fits (layout_of t)) vs
 fits_by t vs is same values = rw (same, values) (list_fits is)
 
-pub written_by : (limit : ℕ) (bytes : List ℕ) (meta : Pairs) (m : List ℕ) (t : SchemaTree) (vs : List ValueTree) (is : List ManifestInfo) → t ≡ list_type → vs ≡ map info_tree is → IsWritten limit bytes meta t m vs → IsWritten limit bytes meta list_type m (map info_tree is)
-written_by limit bytes meta m t vs is same values w = subst (λ (u : SchemaTree). IsWritten limit bytes meta u m (map info_tree is)) same (subst (λ (us : List ValueTree). IsWritten limit bytes meta t m us) values w)
-
 pub spelled_by : (t : SchemaTree) → t ≡ list_type → (IsPlain t → IsSpelled t) → IsSpelled list_type
 spelled_by t same spelled = subst IsSpelled same (spelled (subst IsPlain (sym same) list_plain))
 
-pub stands_by : (limit : ℕ) (bytes : List ℕ) (meta : Pairs) (m : List ℕ) (is : List ManifestInfo) → IsWritableList limit is → AllByRecursion HasInts is → IsSpelled list_type → IsWritten limit bytes meta list_type m (map info_tree is) → StandsFor limit infos_of bytes is
+stands_by : (limit : ℕ) (bytes : List ℕ) (meta : Pairs) (m : List ℕ) (is : List ManifestInfo) → IsWritableList limit is → AllByRecursion HasInts is → IsSpelled list_type → IsWritten limit bytes meta list_type m (map info_tree is) → StandsFor limit infos_of bytes is
 stands_by limit bytes meta m is writable ints spelled w = record {
   meta = w.pairs;
   schema = list_type;
@@ -92,3 +91,7 @@ stands_by limit bytes meta m is writable ints spelled w = record {
   container = w.read_back spelled (rw (list_total is) writable.few);
   read = list_again is writable.places ints writable.contents;
 }
+
+pub lists_back : (limit : ℕ) (r : Result (List ℕ) ManifestError) (meta : Pairs) (m : List ℕ) (is : List ManifestInfo) → IsWritableList limit is → AllByRecursion HasInts is → IsSpelled list_type → IfOk r (λ b. IsWritten limit b meta list_type m (map info_tree is)) → IfOk r (λ b. StandsFor limit infos_of b is)
+lists_back limit (Ok bytes) meta m is writable ints spelled w = stands_by limit bytes meta m is writable ints spelled w
+lists_back limit (Err e) meta m is writable ints spelled w = tt

@@ -1,9 +1,10 @@
 -- Manifests that are written, read back.
-use Rattle.std.proofs.Common.{◌≡◌, ℕ, suc, ◌+◌, ◌*◌, ◌<◌, ◌≤◌, add-one, ℤ, pos, negsuc, List, [], ◌∷◌, length, map, Bool, true, false, Option, Some, None, Result, Ok, if◌then◌else◌, refl, sym, ap, ◌∙◌, subst, arith, rules, codes, FitsSigned, w32}
+use Rattle.std.proofs.Common.{◌≡◌, ℕ, suc, ◌+◌, ◌*◌, ◌<◌, ◌≤◌, add-one, ℤ, pos, negsuc, List, [], ◌∷◌, length, map, Bool, true, false, Option, Some, None, Result, Ok, Err, if◌then◌else◌, refl, sym, ap, ◌∙◌, subst, arith, rules, codes, FitsSigned, w32}
 use Rattle.std.proofs.lemmas.Bool.{lt-ltb}
 use Rattle.std.proofs.lemmas.Bool.Decides.{Decides-int_eq}
 use Rattle.std.proofs.lemmas.Int.{ints}
 use Rattle.std.proofs.lemmas.List.{length-map}
+use Rattle.std.specs.Prelude.{IfOk}
 use Rattle.std.specs.List.{AllByRecursion, IsDistinct, list_any, list_all}
 use Rattle.std.specs.Ordering.{int_eq}
 use Rattle.std.specs.Str.{bytes_eq}
@@ -40,6 +41,7 @@ use Rattle.iceberg_manifest.specs.Values.{whole_value, whole_at, required_whole,
 use Rattle.iceberg_manifest.specs.WrittenTypes.{nullable_type, long_type, kind_type, part_fields, part_names, id_name, file_fields, entry_type, manifest_type, record_type}
 use Rattle.iceberg_manifest.specs.ManifestWriting.{whole_tree, file_trees, entry_trees, entry_tree, field_ids, HasValues, HasId, HasInt, HasRanges, IsWritableManifest, manifest_meta}
 use Rattle.iceberg_manifest.specs.declared.error.EntryFault.{EntryFault}
+use Rattle.iceberg_manifest.specs.declared.error.ManifestError.{ManifestError}
 use Rattle.iceberg_manifest.specs.declared.partition.ColumnPlace.{ColumnPlace}
 use Rattle.iceberg_manifest.specs.declared.partition.PartColumn.{PartColumn}
 use Rattle.iceberg_manifest.specs.declared.plan.EntryPlan.{EntryPlan}
@@ -388,15 +390,12 @@ names_of limit cs names es r = record { named = all_named cs names r.writable.na
 pub manifest_fits : (limit : ℕ) (cs : List PartColumn) (names : List (List ℕ)) (es : List EntryData) (t : SchemaTree) (vs : List ValueTree) → IsReady limit cs names es → t ≡ manifest_type cs names → vs ≡ map entry_tree es → AllByRecursion (Fits (layout_of t)) vs
 manifest_fits limit cs names es t vs r same values = rw (same, values) (all_fit cs (part_names cs names) es (names_of limit cs names es r).named r.writable.values)
 
-pub manifest_written : (limit : ℕ) (bytes : List ℕ) (meta : Pairs) (m : List ℕ) (t u : SchemaTree) (vs ws : List ValueTree) → t ≡ u → vs ≡ ws → IsWritten limit bytes meta t m vs → IsWritten limit bytes meta u m ws
-manifest_written limit bytes meta m t u vs ws same values w = subst (λ (u : SchemaTree). IsWritten limit bytes meta u m ws) same (subst (λ (us : List ValueTree). IsWritten limit bytes meta t m us) values w)
-
 pub manifest_spelled : (limit : ℕ) (cs : List PartColumn) (names : List (List ℕ)) (es : List EntryData) (t : SchemaTree) → IsReady limit cs names es → t ≡ manifest_type cs names → (IsPlain t → IsSpelled t) → IsSpelled (manifest_type cs names)
 manifest_spelled limit cs names es t r same spelled =
     let are = names_of limit cs names es r in
     subst IsSpelled same (spelled (subst IsPlain (sym same) (manifest_plain cs (part_names cs names) are.named are.own r.ids r.writable.few_columns)))
 
-pub manifest_stands : (limit : ℕ) (bytes : List ℕ) (meta : Pairs) (m : List ℕ) (cs : List PartColumn) (names : List (List ℕ)) (es : List EntryData) → IsReady limit cs names es → IsSpelled (manifest_type cs names) → IsWritten limit bytes meta (manifest_type cs names) m (map entry_tree es) → StandsFor limit (entries_of cs) bytes es
+manifest_stands : (limit : ℕ) (bytes : List ℕ) (meta : Pairs) (m : List ℕ) (cs : List PartColumn) (names : List (List ℕ)) (es : List EntryData) → IsReady limit cs names es → IsSpelled (manifest_type cs names) → IsWritten limit bytes meta (manifest_type cs names) m (map entry_tree es) → StandsFor limit (entries_of cs) bytes es
 manifest_stands limit bytes meta m cs names es r spelled w = record {
   meta = w.pairs;
   schema = manifest_type cs names;
@@ -404,3 +403,7 @@ manifest_stands limit bytes meta m cs names es r spelled w = record {
   container = w.read_back spelled (rw (entries_count cs es r.writable.values) r.writable.few);
   read = entries_again cs (part_names cs names) es (names_of limit cs names es r).named r.writable.own_ids r.writable.values r.ranges;
 }
+
+pub manifests_back : (limit : ℕ) (r : Result (List ℕ) ManifestError) (meta : Pairs) (m : List ℕ) (cs : List PartColumn) (names : List (List ℕ)) (es : List EntryData) → IsReady limit cs names es → IsSpelled (manifest_type cs names) → IfOk r (λ b. IsWritten limit b meta (manifest_type cs names) m (map entry_tree es)) → IfOk r (λ b. StandsFor limit (entries_of cs) b es)
+manifests_back limit (Ok bytes) meta m cs names es r spelled w = manifest_stands limit bytes meta m cs names es r spelled w
+manifests_back limit (Err e) meta m cs names es r spelled w = tt

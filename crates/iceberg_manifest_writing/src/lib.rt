@@ -3,6 +3,7 @@
 #![tactic(auto)]
 
 mod avro_name;
+mod container;
 mod list_writing;
 mod manifest_writing;
 mod schema;

@@ -1,6 +1,7 @@
 //! Manifest lists written.
 
-ghost use Rattle.std.specs.Prelude.{◌≡◌, map, IfOk, IfErr, string_bytes};
+ghost use Rattle.std.specs.Prelude.{◌≡◌, ◌++◌, ◌∷◌, [], map, IfOk, IfErr, string_bytes};
+ghost use Rattle.std.specs.Fmt.{signed_decimal};
 ghost use Rattle.std.specs.List.{AllByRecursion};
 ghost use Rattle.avro_value.specs.ValueTree.{value_tree};
 ghost use Rattle.avro_container.specs.Writing.{IsWritten};
@@ -9,14 +10,13 @@ ghost use Rattle.iceberg_manifest.specs.Scans.{infos_of};
 ghost use Rattle.iceberg_manifest.specs.WrittenTypes.{list_type};
 ghost use Rattle.iceberg_manifest.specs.ListWriting.{marker, info_tree, IsWritableList, HasInts, parent_text as parent_text_of, list_meta as list_meta_of};
 
+use crate::container::written;
 use crate::schema::list_schema;
-use avro_container::{Meta, write_container};
+use avro_container::Meta;
 use avro_value::{MAX_VALUES, Value};
 use iceberg_manifest::{ManifestError, ManifestInfo};
 use lake_basics::{Blob, Items, Text};
 use std::alloc::{AllocError, Global};
-
-pub(crate) const MARKER: [u8; 16] = *b"lakebridge-sync!";
 
 fn info_value(alloc: Global, info: &ManifestInfo) -> Result<Value, AllocError>
     ensures tree { IfOk result (λ v. value_tree v ≡ info_tree info.now) }
@@ -51,11 +51,32 @@ fn info_values(alloc: Global, infos: &[ManifestInfo]) -> Result<Vec<Value>, Allo
     Ok(values)
 }
 
-pub(crate) fn pair(alloc: Global, name: &str, bytes: &[u8]) -> Result<(Text, Blob), AllocError>
-    ensures { IfOk result (λ p. p ≡ (name.now, bytes.now)) }
+/// The pairs with one more behind them.
+pub(crate) fn with_pair(
+    alloc: Global,
+    pairs: Meta,
+    name: &str,
+    bytes: &[u8],
+) -> Result<Meta, AllocError>
+    ensures { IfOk result (λ ps. ps ≡ pairs ++ (name.now, bytes.now) ∷ []) }
 {
+    let mut pairs = pairs;
     let name = Text::from_str(alloc, name)?;
-    Ok((name, Blob::from_slice(alloc, bytes)?))
+    pairs.push((name, Blob::from_slice(alloc, bytes)?))?;
+    Ok(pairs)
+}
+
+/// The pairs with a whole number behind them.
+pub(crate) fn with_number(
+    alloc: Global,
+    pairs: Meta,
+    name: &str,
+    number: i64,
+) -> Result<Meta, AllocError>
+    ensures { IfOk result (λ ps. ps ≡ pairs ++ (name.now, signed_decimal number) ∷ []) }
+{
+    let text = number.to_string(alloc)?;
+    with_pair(alloc, pairs, name, text.as_bytes())
 }
 
 fn parent_text(alloc: Global, parent: Option<i64>) -> Result<String, AllocError>
@@ -76,14 +97,10 @@ fn list_meta(
     ensures { IfOk result (λ m. m ≡ list_meta_of snapshot parent sequence) }
 {
     let parent = parent_text(alloc, parent)?;
-    let sequence = sequence.to_string(alloc)?;
-    let snapshot = snapshot.to_string(alloc)?;
-    let mut pairs = Vec::new(alloc);
-    pairs.push(pair(alloc, "format-version", b"2")?)?;
-    pairs.push(pair(alloc, "parent-snapshot-id", parent.as_bytes())?)?;
-    pairs.push(pair(alloc, "sequence-number", sequence.as_bytes())?)?;
-    pairs.push(pair(alloc, "snapshot-id", snapshot.as_bytes())?)?;
-    Ok(Items::from_vec(pairs))
+    let pairs = with_pair(alloc, Items::new(alloc), "format-version", b"2")?;
+    let pairs = with_pair(alloc, pairs, "parent-snapshot-id", parent.as_bytes())?;
+    let pairs = with_number(alloc, pairs, "sequence-number", sequence)?;
+    with_number(alloc, pairs, "snapshot-id", snapshot)
 }
 
 /// A manifest list of these rows, an Avro container without compression ("Manifest Lists"). It tells
@@ -103,11 +120,8 @@ pub fn list_bytes(
     ensures reads_back { IfOk result (λ b. StandsFor MAX_VALUES infos_of b infos.now) }
     ensures err { IfErr result (λ e. e ≡ ManifestError.Memory) }
 {
-    let schema = list_schema(alloc)?;
     let values = info_values(alloc, infos)?;
+    let schema = list_schema(alloc)?;
     let meta = list_meta(alloc, snapshot, parent, sequence)?;
-    match write_container(alloc, &meta, &schema, values.as_slice(), MARKER) {
-        Ok(bytes) => Ok(bytes),
-        Err(_) => Err(ManifestError::Memory),
-    }
+    written(alloc, meta, schema, values)
 }

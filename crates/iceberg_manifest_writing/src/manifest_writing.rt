@@ -1,6 +1,6 @@
 //! Manifests written.
 
-ghost use Rattle.std.specs.Prelude.{◌≡◌, ◌<◌, map, length, FitsSigned, IfOk, IfErr};
+ghost use Rattle.std.specs.Prelude.{◌≡◌, ◌<◌, ◌++◌, ◌∷◌, [], map, length, FitsSigned, IfOk, IfErr};
 ghost use Rattle.std.specs.Int.{w32};
 ghost use Rattle.std.specs.List.{AllByRecursion};
 ghost use Rattle.avro_value.specs.ValueTree.{value_tree, union_of, int};
@@ -12,9 +12,10 @@ ghost use Rattle.iceberg_manifest.specs.WrittenTypes.{manifest_type};
 ghost use Rattle.iceberg_manifest.specs.ListWriting.{marker};
 ghost use Rattle.iceberg_manifest.specs.ManifestWriting.{whole_tree, file_trees, entry_tree, HasInt, HasRanges, IsWritableManifest, manifest_meta as manifest_meta_of};
 
-use crate::list_writing::{MARKER, pair};
+use crate::container::written;
+use crate::list_writing::{with_number, with_pair};
 use crate::schema::manifest_schema;
-use avro_container::{Meta, write_container};
+use avro_container::Meta;
 use avro_value::{MAX_VALUES, Value};
 use iceberg_manifest::{Entry, ManifestError, PartColumn};
 use lake_basics::{Blob, Items, Text};
@@ -82,11 +83,13 @@ fn file_values(alloc: Global, entry: &Entry) -> Result<Vec<Value>, AllocError>
     ensures trees { IfOk result (λ vs. map value_tree vs.items ≡ file_trees entry.now) }
     ensures ints { IfOk result (λ _. AllByRecursion HasInt entry.now.values) }
 {
+    let path = entry.path.copy(alloc)?;
+    let format = Text::from_str(alloc, "PARQUET")?;
     let parts = part_values(alloc, entry.values.as_slice())?;
     let values = vec![in alloc;
         Value::Int(0),
-        Value::Text(entry.path.copy(alloc)?),
-        Value::Text(Text::from_str(alloc, "PARQUET")?),
+        Value::Text(path),
+        Value::Text(format),
         Value::Fields(parts),
         Value::Long(entry.count as i64),
         Value::Long(entry.size as i64),
@@ -94,18 +97,37 @@ fn file_values(alloc: Global, entry: &Entry) -> Result<Vec<Value>, AllocError>
     Ok(values)
 }
 
+/// The values with one more behind them.
+fn with_value(mut values: Vec<Value>, value: Value) -> Result<Vec<Value>, AllocError>
+    ensures { IfOk result (λ vs. map value_tree vs.items
+        ≡ map value_tree values.items ++ value_tree value ∷ []) }
+{
+    values.push(value)?;
+    Ok(values)
+}
+
+/// The values with that of a whole number, which may be null, behind them.
+fn with_whole(
+    alloc: Global,
+    values: Vec<Value>,
+    number: Option<i64>,
+) -> Result<Vec<Value>, AllocError>
+    ensures { IfOk result (λ vs. map value_tree vs.items
+        ≡ map value_tree values.items ++ whole_tree number ∷ []) }
+{
+    with_value(values, whole_value(alloc, number)?)
+}
+
 fn entry_value(alloc: Global, entry: &Entry) -> Result<Value, AllocError>
     ensures tree { IfOk result (λ v. value_tree v ≡ entry_tree entry.now) }
     ensures ranges { IfOk result (λ _. HasRanges entry.now) }
 {
+    let values = vec![in alloc; Value::Int(i32::from(entry.status))]?;
+    let values = with_whole(alloc, values, entry.snapshot)?;
+    let values = with_whole(alloc, values, entry.sequence)?;
+    let values = with_whole(alloc, values, entry.file_sequence)?;
     let file = file_values(alloc, entry)?;
-    let values = vec![in alloc;
-        Value::Int(i32::from(entry.status)),
-        whole_value(alloc, entry.snapshot)?,
-        whole_value(alloc, entry.sequence)?,
-        whole_value(alloc, entry.file_sequence)?,
-        Value::Fields(file),
-    ]?;
+    let values = with_value(values, Value::Fields(file))?;
     Ok(Value::Fields(values))
 }
 
@@ -128,15 +150,12 @@ fn manifest_meta(
 ) -> Result<Meta, AllocError>
     ensures { IfOk result (λ m. m ≡ manifest_meta_of schema_json.now schema_id spec_json.now) }
 {
-    let schema_id = schema_id.to_string(alloc)?;
-    let mut pairs = Vec::new(alloc);
-    pairs.push(pair(alloc, "content", b"data")?)?;
-    pairs.push(pair(alloc, "format-version", b"2")?)?;
-    pairs.push(pair(alloc, "partition-spec", spec_json.as_bytes())?)?;
-    pairs.push(pair(alloc, "partition-spec-id", b"0")?)?;
-    pairs.push(pair(alloc, "schema", schema_json.as_bytes())?)?;
-    pairs.push(pair(alloc, "schema-id", schema_id.as_bytes())?)?;
-    Ok(Items::from_vec(pairs))
+    let pairs = with_pair(alloc, Items::new(alloc), "content", b"data")?;
+    let pairs = with_pair(alloc, pairs, "format-version", b"2")?;
+    let pairs = with_pair(alloc, pairs, "partition-spec", spec_json.as_bytes())?;
+    let pairs = with_pair(alloc, pairs, "partition-spec-id", b"0")?;
+    let pairs = with_pair(alloc, pairs, "schema", schema_json.as_bytes())?;
+    with_number(alloc, pairs, "schema-id", i64::from(schema_id))
 }
 
 /// A manifest of these entries, an Avro container without compression ("Manifests"): each with its
@@ -162,11 +181,8 @@ pub fn manifest_bytes(
         StandsFor MAX_VALUES (entries_by columns.now) b entries.now) }
     ensures err { IfErr result (λ e. e ≡ ManifestError.Memory) }
 {
-    let schema = manifest_schema(alloc, columns, names)?;
     let values = entry_values(alloc, entries)?;
+    let schema = manifest_schema(alloc, columns, names)?;
     let meta = manifest_meta(alloc, schema_json, schema_id, spec_json)?;
-    match write_container(alloc, &meta, &schema, values.as_slice(), MARKER) {
-        Ok(bytes) => Ok(bytes),
-        Err(_) => Err(ManifestError::Memory),
-    }
+    written(alloc, meta, schema, values)
 }

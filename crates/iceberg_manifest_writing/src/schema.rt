@@ -1,11 +1,11 @@
 //! The Avro types of what is written.
 
-ghost use Rattle.std.specs.Prelude.{◌≡◌, ◌++◌, ◌∷◌, [], Some, map, length, codes, string_bytes, IfOk};
+ghost use Rattle.std.specs.Prelude.{◌≡◌, ◌++◌, ◌∷◌, [], Some, pos, map, length, codes, string_bytes, IfOk};
 ghost use Rattle.std.specs.Fmt.{signed_decimal};
 ghost use Rattle.std.specs.List.{AllByRecursion};
 ghost use Rattle.avro_schema.specs.Tree.{tree_of, shape_of, field_of};
 ghost use Rattle.iceberg_manifest.specs.ManifestWriting.{HasId};
-ghost use Rattle.iceberg_manifest.specs.WrittenTypes.{plain_type, nullable_type, record_type, list_fields as list_fields_of, list_type};
+ghost use Rattle.iceberg_manifest.specs.WrittenTypes.{plain_type, int_type, long_type, text_type, nullable_type, record_type, list_fields as list_fields_of, list_type};
 ghost use Rattle.iceberg_manifest.specs.WrittenTypes.{kind_type, part_field, part_fields as part_fields_of, part_names, id_name as id_name_of, file_fields as file_fields_of, entry_fields as entry_fields_of, entry_type, manifest_type};
 
 use crate::avro_name::are_avro_names;
@@ -30,9 +30,7 @@ pub(crate) fn plain(shape: Shape) -> Schema
 pub(crate) fn nullable(alloc: Global, schema: Schema) -> Result<Schema, AllocError>
     ensures { IfOk result (λ s. tree_of s ≡ nullable_type (tree_of schema)) }
 {
-    let mut branches = Vec::new(alloc);
-    branches.push(plain(Shape::Null))?;
-    branches.push(schema)?;
+    let branches = vec![in alloc; plain(Shape::Null), schema]?;
     Ok(plain(Shape::Union(branches)))
 }
 
@@ -97,8 +95,7 @@ fn list_fields(alloc: Global) -> Result<Vec<Field>, AllocError>
         plain(Shape::Long),
         513,
     )?;
-    let fields = with_field(alloc, fields, "deleted_rows_count", plain(Shape::Long), 514)?;
-    Ok(fields)
+    with_field(alloc, fields, "deleted_rows_count", plain(Shape::Long), 514)
 }
 
 /// The record of a manifest list.
@@ -114,9 +111,13 @@ pub(crate) fn list_schema(alloc: Global) -> Result<Schema, AllocError>
 fn date(alloc: Global) -> Result<Schema, AllocError>
     ensures { IfOk result (λ s. tree_of s ≡ kind_type PartKind.Date) }
 {
-    let mut schema = plain(Shape::Int);
-    schema.logical = Some(Text::from_str(alloc, "date")?);
-    Ok(schema)
+    let logical = Text::from_str(alloc, "date")?;
+    Ok(Schema {
+        shape: Shape::Int,
+        logical: Some(logical),
+        precision: None,
+        scale: None,
+    })
 }
 
 /// The type of a partition column's values.
@@ -199,32 +200,62 @@ fn named_fields(
     part_fields(alloc, columns, names.as_slice())
 }
 
-fn file_fields(alloc: Global, partition: Schema) -> Result<Vec<Field>, AllocError>
-    ensures { IfOk result (λ fs. map field_of fs.items ≡ file_fields_of (tree_of partition)) }
+/// The fields of `data_file` before its partition.
+fn path_fields(alloc: Global) -> Result<Vec<Field>, AllocError>
+    ensures { IfOk result (λ fs. map field_of fs.items
+        ≡ (codes "content", int_type, Some (pos 134))
+        ∷ (codes "file_path", text_type, Some (pos 100))
+        ∷ (codes "file_format", text_type, Some (pos 101)) ∷ []) }
 {
     let fields = Vec::new(alloc);
     let fields = with_field(alloc, fields, "content", plain(Shape::Int), 134)?;
     let fields = with_field(alloc, fields, "file_path", plain(Shape::Text), 100)?;
-    let fields = with_field(alloc, fields, "file_format", plain(Shape::Text), 101)?;
+    with_field(alloc, fields, "file_format", plain(Shape::Text), 101)
+}
+
+fn file_fields(alloc: Global, partition: Schema) -> Result<Vec<Field>, AllocError>
+    ensures { IfOk result (λ fs. map field_of fs.items ≡ file_fields_of (tree_of partition)) }
+{
+    let fields = path_fields(alloc)?;
     let fields = with_field(alloc, fields, "partition", partition, 102)?;
     let fields = with_field(alloc, fields, "record_count", plain(Shape::Long), 103)?;
-    let fields = with_field(alloc, fields, "file_size_in_bytes", plain(Shape::Long), 104)?;
-    Ok(fields)
+    with_field(alloc, fields, "file_size_in_bytes", plain(Shape::Long), 104)
+}
+
+/// The fields with that of a whole number, which may be null, behind them.
+fn with_whole(
+    alloc: Global,
+    fields: Vec<Field>,
+    name: &str,
+    id: i32,
+) -> Result<Vec<Field>, AllocError>
+    ensures { IfOk result (λ fs. map field_of fs.items
+        ≡ map field_of fields.items ++ (name.now, nullable_type long_type, Some id) ∷ []) }
+{
+    let schema = nullable(alloc, plain(Shape::Long))?;
+    with_field(alloc, fields, name, schema, id)
+}
+
+/// The fields of an entry before its data file.
+fn number_fields(alloc: Global) -> Result<Vec<Field>, AllocError>
+    ensures { IfOk result (λ fs. map field_of fs.items
+        ≡ (codes "status", int_type, Some (pos 0))
+        ∷ (codes "snapshot_id", nullable_type long_type, Some (pos 1))
+        ∷ (codes "sequence_number", nullable_type long_type, Some (pos 3))
+        ∷ (codes "file_sequence_number", nullable_type long_type, Some (pos 4)) ∷ []) }
+{
+    let fields = Vec::new(alloc);
+    let fields = with_field(alloc, fields, "status", plain(Shape::Int), 0)?;
+    let fields = with_whole(alloc, fields, "snapshot_id", 1)?;
+    let fields = with_whole(alloc, fields, "sequence_number", 3)?;
+    with_whole(alloc, fields, "file_sequence_number", 4)
 }
 
 fn entry_fields(alloc: Global, file: Schema) -> Result<Vec<Field>, AllocError>
     ensures { IfOk result (λ fs. map field_of fs.items ≡ entry_fields_of (tree_of file)) }
 {
-    let snapshot = nullable(alloc, plain(Shape::Long))?;
-    let sequence = nullable(alloc, plain(Shape::Long))?;
-    let file_sequence = nullable(alloc, plain(Shape::Long))?;
-    let fields = Vec::new(alloc);
-    let fields = with_field(alloc, fields, "status", plain(Shape::Int), 0)?;
-    let fields = with_field(alloc, fields, "snapshot_id", snapshot, 1)?;
-    let fields = with_field(alloc, fields, "sequence_number", sequence, 3)?;
-    let fields = with_field(alloc, fields, "file_sequence_number", file_sequence, 4)?;
-    let fields = with_field(alloc, fields, "data_file", file, 2)?;
-    Ok(fields)
+    let fields = number_fields(alloc)?;
+    with_field(alloc, fields, "data_file", file, 2)
 }
 
 fn entry_schema(alloc: Global, parts: Vec<Field>) -> Result<Schema, AllocError>

@@ -1,3 +1,4 @@
 pub mod AgainLemmas
+pub mod IdLemmas
 pub mod MalformedLemmas
 pub mod ReadLemmas

@@ -1,10 +1,10 @@
 //! What metadata names by an id, and the paths of its manifest lists.
 
-ghost use Rattle.std.specs.Prelude.{◌≡◌, map, IfOk};
+ghost use Rattle.std.specs.Prelude.{◌≡◌, ◌&&◌, map, IfOk};
 ghost use Rattle.std.specs.List.{list_all};
 ghost use Rattle.iceberg_metadata.specs.Location.{names_path};
 ghost use Rattle.iceberg_metadata.specs.IdSets.{HoldsIds};
-ghost use Rattle.iceberg_metadata.specs.Judging.{is_among, is_among_if_any, are_held, is_consistent};
+ghost use Rattle.iceberg_metadata.specs.Judging.{is_among, is_among_if_any, are_distinct, are_held, is_consistent};
 
 use iceberg_metadata::{Metadata, Snapshot, Spec, after_front, id_set, location_front};
 use std::alloc::{AllocError, Global};
@@ -74,6 +74,24 @@ fn name_paths(front: &[u8], snapshots: &[Snapshot]) -> bool
         .all(|snapshot| names_path(front, snapshot.list.as_str()))
 }
 
+/// Whether no two of these are one.
+fn are_distinct(alloc: Global, ids: &[i64]) -> Result<bool, AllocError>
+    ensures { IfOk result (λ own. own ≡ are_distinct ids.now) }
+{
+    Ok(id_set(alloc, ids)?.is_some())
+}
+
+/// Whether no two of the schemas have one id, and each that a snapshot names is among them.
+fn are_known(alloc: Global, snapshots: &[Snapshot], schemas: &[i64]) -> Result<bool, AllocError>
+    ensures { IfOk result (λ known. known ≡ (are_distinct schemas.now
+        && list_all (λ s. is_among_if_any schemas.now s.schema_id) snapshots.now)) }
+{
+    match id_set(alloc, schemas)? {
+        Some(held) => Ok(has_schemas(snapshots, &held, schemas)),
+        None => Ok(false),
+    }
+}
+
 /// Whether no two schemas, specs or snapshots have one id, what is named by an id is held, and each
 /// manifest list in the table's location has a path there.
 pub(crate) fn is_consistent(
@@ -84,21 +102,15 @@ pub(crate) fn is_consistent(
     ensures { IfOk result (λ is. is ≡ is_consistent metadata.now schemas.now) }
 {
     let snapshots = metadata.snapshots.as_slice();
-    let held = snapshot_ids(alloc, snapshots)?;
-    let specs = spec_ids(alloc, metadata.specs.as_slice())?;
-    let Some(schema_set) = id_set(alloc, schemas)? else {
-        return Ok(false);
-    };
-    if id_set(alloc, specs.as_slice())?.is_none() {
+    if !are_known(alloc, snapshots, schemas)? {
         return Ok(false);
     }
-    if id_set(alloc, held.as_slice())?.is_none() {
+    let held = snapshot_ids(alloc, snapshots)?;
+    let specs = spec_ids(alloc, metadata.specs.as_slice())?;
+    if !are_distinct(alloc, specs.as_slice())? || !are_distinct(alloc, held.as_slice())? {
         return Ok(false);
     }
     if !are_held(metadata, schemas, specs.as_slice(), held.as_slice()) {
-        return Ok(false);
-    }
-    if !has_schemas(snapshots, &schema_set, schemas) {
         return Ok(false);
     }
     let front = location_front(alloc, metadata.location.as_str())?;

@@ -11,10 +11,17 @@ ghost use Rattle.iceberg_metadata.specs.Writing.{HaveOwnNames};
 
 use iceberg_metadata::{MALFORMED, MetadataError, Snapshot, Snapshots, Spec, SpecField};
 use iceberg_schemas::{required_int, required_list, required_text, required_whole};
-use json_reading::{int_in, present_of, whole_in};
+use json_reading::{int_in, present_of, text_of, whole_in};
 use lake_basics::{Items, Text};
 use serde_json::{Map, Value};
 use std::alloc::Global;
+
+/// The text of this member. `Malformed` where there is none.
+pub(crate) fn required_str<'a>(value: &'a Value, name: &str) -> Result<&'a str, MetadataError>
+    ensures { GivesBy (λ s. s.now) result (read.text_in name.now (view value.now)) }
+{
+    text_of(value, name).ok_or(MALFORMED)
+}
 
 // ---- members that may be absent or null
 
@@ -148,8 +155,9 @@ fn snapshot_of(alloc: Global, value: &Value) -> Result<Snapshot, MetadataError>
     let parent = whole_if_any(value, "parent-snapshot-id")?;
     let sequence = sequence_of(value)?;
     let timestamp = required_whole(value, "timestamp-ms")?;
-    let list = required_text(alloc, value, "manifest-list")?;
+    let list = required_str(value, "manifest-list")?;
     let schema_id = int_if_any(value, "schema-id")?;
+    let list = Text::from_str(alloc, list)?;
     let operation = operation_of(alloc, value)?;
     Ok(Snapshot {
         id,

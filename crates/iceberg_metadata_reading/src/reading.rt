@@ -1,6 +1,6 @@
 //! Reading the metadata of a table.
 
-ghost use Rattle.std.specs.Prelude.{◌≡◌, ◌⊎◌, codes, IfOk, IfErr, OnOk, Err};
+ghost use Rattle.std.specs.Prelude.{◌≡◌, ◌⊎◌, List, codes, IfOk, IfErr, OnOk, Err};
 ghost use Rattle.serde_json.specs.View.{view};
 ghost use Rattle.lake_basics.specs.Outcome.{required};
 ghost use Rattle.json_reading.specs.Json.{json};
@@ -9,20 +9,24 @@ ghost use Rattle.iceberg_metadata.specs.Errors.{Gives, GivesBy};
 ghost use Rattle.iceberg_metadata.specs.Judging.{members, unkept, consistent, version_two, contents, limit_passed, judged, metadata_of};
 ghost use Rattle.iceberg_metadata.specs.Members.{integer, format_version};
 ghost use Rattle.iceberg_metadata.specs.Reading.{HasCause, causes, IsRead};
+ghost use Rattle.iceberg_metadata.specs.Schemas.{HeldSchema};
 ghost use Rattle.iceberg_metadata.specs.Writing.{HaveOwnNames, IsWritable};
 ghost use Rattle.iceberg_metadata.specs.declared.error.MetadataError.TheVariants as errors;
+ghost use Rattle.iceberg_metadata.specs.declared.metadata.Metadata.{Metadata};
 
 use crate::consistent::is_consistent;
-use crate::members::{current_snapshot_of, properties_of, refs_fit, snapshots_of, specs_of};
+use crate::members::{
+    current_snapshot_of, properties_of, refs_fit, required_str, snapshots_of, specs_of,
+};
 use iceberg_columns::{has_other_partition, has_other_transform, is_renamed};
 use iceberg_metadata::{MALFORMED, Metadata, MetadataError, SpecField, Unread, default_fields};
 use iceberg_schemas::{
     has_limit_of_columns, has_limit_of_depth, has_schema_type, required_int, required_list,
-    required_text, required_whole, schemas_in,
+    required_whole, schemas_in,
 };
 use json_reading::read_json;
 use lake_basics::limits::MAX_PARTITION_COLUMNS;
-use lake_basics::{Items, ReadError};
+use lake_basics::{Items, ReadError, Text};
 use schema_map::Ids;
 use serde_json::Value;
 use std::alloc::Global;
@@ -60,23 +64,22 @@ fn version_two(value: &Value) -> Result<(), MetadataError>
     }
 }
 
-/// The members that are kept, beside these schemas.
+/// The members that are kept, without the schemas.
 #[tactic(auto, unfolding(iceberg_metadata::specs::Judging::members))]
-fn members_of(
-    alloc: Global,
-    value: &Value,
-    schemas: Items<(i32, Schema, Ids)>,
-) -> Result<Metadata, MetadataError>
-    ensures read { Gives result (members (view value.now) schemas) }
+fn stated_in(alloc: Global, value: &Value) -> Result<Metadata, MetadataError>
+    ensures read { (schemas : List HeldSchema) → GivesBy {A = Metadata}
+        (λ m. record m { schemas = schemas }) result (members (view value.now) schemas) }
     ensures own { IfOk result (λ m. HaveOwnNames m.properties) }
 {
-    let uuid = required_text(alloc, value, "table-uuid")?;
-    let location = required_text(alloc, value, "location")?;
+    let uuid = required_str(value, "table-uuid")?;
+    let location = required_str(value, "location")?;
     let last_sequence = required_whole(value, "last-sequence-number")?;
     let last_updated = required_whole(value, "last-updated-ms")?;
     let last_column_id = required_int(value, "last-column-id")?;
     let current_schema = required_int(value, "current-schema-id")?;
     let listed = required_list(value, "partition-specs")?;
+    let uuid = Text::from_str(alloc, uuid)?;
+    let location = Text::from_str(alloc, location)?;
     let specs = specs_of(alloc, listed)?;
     let default_spec = required_int(value, "default-spec-id")?;
     let last_partition_id = required_int(value, "last-partition-id")?;
@@ -89,7 +92,7 @@ fn members_of(
         last_sequence,
         last_updated,
         last_column_id,
-        schemas,
+        schemas: Items::new(alloc),
         current_schema,
         specs,
         default_spec,
@@ -98,6 +101,20 @@ fn members_of(
         current_snapshot,
         snapshots,
     })
+}
+
+/// The members that are kept, beside these schemas.
+fn members_of(
+    alloc: Global,
+    value: &Value,
+    schemas: Items<(i32, Schema, Ids)>,
+) -> Result<Metadata, MetadataError>
+    ensures read { Gives result (members (view value.now) schemas) }
+    ensures own { IfOk result (λ m. HaveOwnNames m.properties) }
+{
+    let mut metadata = stated_in(alloc, value)?;
+    metadata.schemas = schemas;
+    Ok(metadata)
 }
 
 /// The members that aren't kept are of their kinds.

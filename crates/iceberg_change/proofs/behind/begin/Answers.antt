@@ -1,14 +1,29 @@
 use Rattle.std.proofs.Common.{List, Some, map, ap, ◌∙◌}
 use Rattle.table_history.specs.declared.table.Table.{Table}
 use Rattle.iceberg_table.specs.declared.manifest.Manifest.{Manifest}
-use Rattle.iceberg_change.proofs.BehindLaws.{goes_held, starts_held, starts_new}
+use Rattle.iceberg_change.proofs.BehindLaws.{goes_held, holds_none, holds_read, listed_read, starts_held, starts_new}
+use Rattle.iceberg_change.proofs.StepLaws.{if_both, if_so}
 use Rattle.iceberg_change.proofs.behind.begin.Goals as goal
 
 pub returns-then-is_for-clause-start : goal.returns-then-is_for-clause-start
 returns-then-is_for-clause-start c =
     let columns = c.args.columns.now in
     let was = goes_held c.args.before.now c.args.listed columns (c.is_for.ensures c.if-is_for.true) c.requires.on in
-    starts_held columns c.args.before.now c.args.listed.manifests _ c.in_ok-new.ensures (ap (λ (t : Table). t.rows) c.in_ok-empty.ensures) c.requires.own was.0 was.1
+    if_both c.start_of.result _ _ _ c.start_of.ensures.held c.start_of.ensures.others
+    (λ s slots same. starts_held columns c.args.before.now c.args.listed.manifests s slots (ap (λ (t : Table). t.rows) (same ∙ c.in_ok-none.ensures)) c.requires.own was.0 was.1)
+
+pub returns-then-is_for-clause-read : goal.returns-then-is_for-clause-read
+returns-then-is_for-clause-read c = λ files location listed.
+    let columns = c.args.columns.now in
+    if_so c.start_of.result _ _ c.start_of.ensures.held
+    (λ s slots. holds_read files location columns c.args.listed.manifests s slots (listed_read files location c.args.listed columns (c.is_for.ensures c.if-is_for.true) listed))
 
 pub returns-clause-start : goal.returns-clause-start
-returns-clause-start c = starts_new c.args.columns.now c.args.before.now _ (c.in_ok-new-2.ensures ∙ ap (λ (l : List Manifest). map Some l) c.new-2.ensures) c.in_ok-copy.ensures c.requires.own
+returns-clause-start c =
+    if_both c.start_of-2.result _ _ _ c.start_of-2.ensures.held c.start_of-2.ensures.others
+    (λ s slots same. starts_new c.args.columns.now c.args.before.now s (slots ∙ ap (λ (l : List Manifest). map Some l) c.new.ensures) (same ∙ c.in_ok-others.ensures) c.requires.own)
+
+pub returns-clause-read : goal.returns-clause-read
+returns-clause-read c = λ files location listed.
+    if_so c.start_of-2.result _ _ c.start_of-2.ensures.held
+    (λ s slots. holds_none files location c.args.columns.now s (slots ∙ ap (λ (l : List Manifest). map Some l) c.new.ensures))

@@ -31,15 +31,15 @@ loop-file-init g c =
       contest = record { same = refl; still = λ m. m; never = λ never. never };
     }
 
-pub returns-in_err-joining-clause-only_reads : goal.returns-in_err-joining-clause-only_reads
-returns-in_err-joining-clause-only_reads g c = runs.reading_further g.S.Store c.args.store.now c.loop-file.store c.with_file.new.store c.loop-file.invariant.reads c.in_err-joining.ensures.only_reads
+pub returns-in_err-put_file-clause-only_reads : goal.returns-in_err-put_file-clause-only_reads
+returns-in_err-put_file-clause-only_reads g c = runs.reading_further g.S.Store c.args.store.now c.loop-file.store c.put_file.new.store c.loop-file.invariant.reads c.in_err-put_file.ensures.only_reads
 
 pub loop-file-preserved : goal.loop-file-preserved
 loop-file-preserved g c =
     let store = g.S.Store in
     let old = c.args.store.now in
     let mid = c.loop-file.store in
-    let new = c.with_file.new.store in
+    let new = c.put_file.new.store in
     let files = (store.disk old).files in
     let location = c.args.location.now in
     let columns = c.args.columns.now in
@@ -47,8 +47,8 @@ loop-file-preserved g c =
     let was = so_far.parts in
     let x = c.in-Some.file in
     let before = c.loop-file.joining in
-    let after = c.in_ok-joining.joining in
-    let step = c.in_ok-joining.ensures in
+    let after = c.put_file.new.self in
+    let step = c.in_ok-put_file.ensures in
     let split = left_next c.args.list was.0 c.loop-file.file-iterator.rest.items c.next.new.self.rest.items x was.1 c.in-Some.ensures.steps.0 in
     record {
       few = step.few;

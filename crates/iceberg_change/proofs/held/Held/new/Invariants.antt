@@ -3,4 +3,4 @@ use Rattle.iceberg_table.specs.declared.manifest.Manifest.{Manifest}
 use Rattle.iceberg_change.proofs.held.Held.new.Given as goal
 
 abbrev pub invariant-loop-manifest : goal.invariant-loop-manifest
-invariant-loop-manifest l = (front : List Manifest) × (l.fn.manifests ≡ front ++ l.manifest-iterator.rest.items) × (l.slots.items ≡ map Some front)
+invariant-loop-manifest l = (front : List Manifest) × (l.fn.manifests ≡ front ++ l.manifest-iterator.rest.items) × (l.held.slots.items ≡ map Some front)
