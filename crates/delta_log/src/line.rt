@@ -3,7 +3,7 @@
 ghost use Rattle.std.specs.Prelude.{◌≡◌, codes, true, option_map, Ok, IfOk, IfSome, IsSome};
 ghost use Rattle.std.specs.List.{list_all};
 ghost use Rattle.serde_json.specs.Find.{get};
-ghost use Rattle.serde_json.specs.View.{view, items_view, members_view};
+ghost use Rattle.json_outline.specs.View.{view, items_view, members_view, sorted_view};
 ghost use Rattle.lake_basics.specs.Outcome.{Gives, each, required, ◌>>=◌ as and_then};
 ghost use Rattle.json_reading.specs.Json.{count_member, items, present, text, text_member, pairs};
 ghost use Rattle.delta_log.specs.declared.error.LineFault.TheVariants.{Malformed};
@@ -15,17 +15,17 @@ use crate::action::LineAction;
 use crate::commit::{MetaData, Protocol};
 use crate::error::LineFault;
 use json::Scratch;
-use json_reading::{
-    count_of, list_of, object_of, present_of, read_json, text_from, text_of, texts_from, whole_of,
+use json_outline::{
+    Members, Node, SortedMembers, count_of, list_of, object_of, present_of, read_json,
+    sorted_members, text_from, text_of, texts_from, whole_of,
 };
 use json_scan::stated_count;
 use lake_basics::{Items, ReadError, Text};
-use serde_json::{Map, Value};
 use std::alloc::Global;
 
 const MALFORMED: ReadError<LineFault> = ReadError::Fault(LineFault::Malformed);
 
-fn required_str<'a>(value: &'a Value, name: &str) -> Result<&'a str, ReadError<LineFault>>
+fn required_str<'a>(value: &'a Node<'_>, name: &str) -> Result<&'a str, ReadError<LineFault>>
     ensures { Gives (λ s. s.now) result (required Malformed (text_member name.now (view value.now))) }
 {
     text_of(value, name).ok_or(MALFORMED)
@@ -33,12 +33,12 @@ fn required_str<'a>(value: &'a Value, name: &str) -> Result<&'a str, ReadError<L
 
 // ---- pairs
 
-fn text_or_null_in(alloc: Global, value: &Value) -> Result<Option<Text>, ReadError<LineFault>>
+fn text_or_null_in(alloc: Global, value: &Node<'_>) -> Result<Option<Text>, ReadError<LineFault>>
     ensures { Gives (λ t. t) result (text_or_null (view value.now)) }
 {
     match value {
-        Value::Null => Ok(None),
-        Value::String(text) => Ok(Some(Text::from_str(alloc, text.as_str())?)),
+        Node::Null => Ok(None),
+        Node::Text(text) => Ok(Some(Text::from_str(alloc, *text)?)),
         _ => Err(MALFORMED),
     }
 }
@@ -46,7 +46,7 @@ fn text_or_null_in(alloc: Global, value: &Value) -> Result<Option<Text>, ReadErr
 fn value_pair(
     alloc: Global,
     name: &str,
-    value: &Value,
+    value: &Node<'_>,
 ) -> Result<(Text, Option<Text>), ReadError<LineFault>>
     ensures { Gives (λ p. p) result (partition_value (name.now, view value.now)) }
 {
@@ -57,33 +57,34 @@ fn value_pair(
 fn values_in(
     alloc: Global,
     room: usize,
-    members: &Map<String, Value>,
+    sorted: &SortedMembers<'_, '_>,
 ) -> Result<Items<(Text, Option<Text>)>, ReadError<LineFault>>
     ensures { Gives (λ vs. vs) result
-        (each partition_value (pairs (members_view members.now.entries))) }
+        (each partition_value (pairs (sorted_view sorted.now.entries))) }
 {
     let mut values = Items::from_vec(Vec::with_capacity(alloc, room)?);
-    for (name, value) in members {
-        values.push(value_pair(alloc, name.as_str(), value)?)?;
+    for (name, value) in sorted {
+        values.push(value_pair(alloc, *name, *value)?)?;
     }
     Ok(values)
 }
 
 fn values_of(
     alloc: Global,
-    members: &Map<String, Value>,
+    members: &Members<'_>,
 ) -> Result<Items<(Text, Option<Text>)>, ReadError<LineFault>>
     ensures read { Gives (λ vs. vs) result
-        (each partition_value (pairs (members_view members.now.entries))) }
+        (each partition_value (pairs (members_view members.now.items))) }
     ensures names { IfOk result (λ vs. HaveDistinctNames vs) }
 {
-    values_in(alloc, members.len(), members)
+    let sorted = sorted_members(alloc, members)?;
+    values_in(alloc, sorted.len(), &sorted)
 }
 
 fn setting_pair(
     alloc: Global,
     name: &str,
-    value: &Value,
+    value: &Node<'_>,
 ) -> Result<(Text, Text), ReadError<LineFault>>
     ensures { Gives (λ p. p) result (setting (name.now, view value.now)) }
 {
@@ -93,36 +94,36 @@ fn setting_pair(
 
 fn settings_in(
     alloc: Global,
-    members: &Map<String, Value>,
+    sorted: &SortedMembers<'_, '_>,
 ) -> Result<Items<(Text, Text)>, ReadError<LineFault>>
-    ensures { Gives (λ vs. vs) result
-        (each setting (pairs (members_view members.now.entries))) }
+    ensures { Gives (λ vs. vs) result (each setting (pairs (sorted_view sorted.now.entries))) }
 {
     let mut values = Items::new(alloc);
-    for (name, value) in members {
-        values.push(setting_pair(alloc, name.as_str(), value)?)?;
+    for (name, value) in sorted {
+        values.push(setting_pair(alloc, *name, *value)?)?;
     }
     Ok(values)
 }
 
 fn settings_of(
     alloc: Global,
-    members: &Map<String, Value>,
+    members: &Members<'_>,
 ) -> Result<Items<(Text, Text)>, ReadError<LineFault>>
     ensures read { Gives (λ vs. vs) result
-        (each setting (pairs (members_view members.now.entries))) }
+        (each setting (pairs (members_view members.now.items))) }
     ensures names { IfOk result (λ vs. HaveDistinctNames vs) }
 {
+    let sorted = sorted_members(alloc, members)?;
     // A map says with its length that its names are in order.
-    drop(members.len());
-    settings_in(alloc, members)
+    drop(sorted.len());
+    settings_in(alloc, &sorted)
 }
 
 // ---- the protocol
 
 fn features_of(
     alloc: Global,
-    value: &Value,
+    value: &Node<'_>,
     name: &str,
 ) -> Result<Option<Items<Text>>, ReadError<LineFault>>
     ensures { Gives (λ f. f) result (features (present name.now (view value.now))) }
@@ -151,7 +152,7 @@ fn needed_features(
 }
 
 #[tactic(auto, unfolding(crate::specs::Grammar::protocol))]
-fn protocol_of(alloc: Global, value: &Value) -> Result<LineAction, ReadError<LineFault>>
+fn protocol_of(alloc: Global, value: &Node<'_>) -> Result<LineAction, ReadError<LineFault>>
     ensures read { Gives (λ a. a) result (grammar.protocol (view value.now)) }
     ensures sound { IfOk result IsSoundAction }
 {
@@ -172,7 +173,7 @@ fn protocol_of(alloc: Global, value: &Value) -> Result<LineAction, ReadError<Lin
 
 fn configuration_of(
     alloc: Global,
-    value: &Value,
+    value: &Node<'_>,
 ) -> Result<Items<(Text, Text)>, ReadError<LineFault>>
     ensures read { Gives (λ s. s) result (settings (get (codes "configuration") (view value.now))) }
     ensures names { IfOk result (λ vs. HaveDistinctNames vs) }
@@ -186,10 +187,10 @@ fn configuration_of(
 /// The metadata with this id and the text of this schema, and the value's lists.
 fn meta_data_with(
     alloc: Global,
-    value: &Value,
+    value: &Node<'_>,
     id: &str,
     schema: &str,
-    columns: &Vec<Value>,
+    columns: &Vec<Node<'_>>,
 ) -> Result<MetaData, ReadError<LineFault>>
     ensures read { Gives (λ m. m) result
         (and_then (each (text Malformed) (items (items_view columns.now.items))) (λ partition.
@@ -215,7 +216,7 @@ fn meta_data_with(
 }
 
 #[tactic(auto, unfolding(crate::specs::Grammar::meta_data))]
-fn meta_data_of(alloc: Global, value: &Value) -> Result<LineAction, ReadError<LineFault>>
+fn meta_data_of(alloc: Global, value: &Node<'_>) -> Result<LineAction, ReadError<LineFault>>
     ensures read { Gives (λ a. a) result (grammar.meta_data (view value.now)) }
     ensures sound { IfOk result IsSoundAction }
 {
@@ -242,7 +243,7 @@ fn stated_count_of(alloc: Global, stats: &str) -> Result<Option<u64>, ReadError<
 }
 
 #[tactic(auto, unfolding(crate::specs::Grammar::record_count))]
-fn record_count_of(alloc: Global, value: &Value) -> Result<Option<u64>, ReadError<LineFault>>
+fn record_count_of(alloc: Global, value: &Node<'_>) -> Result<Option<u64>, ReadError<LineFault>>
     ensures read { Gives (λ n. n) result (record_count (view value.now)) }
     ensures small { IfOk result (λ n. IfSome n IsCount) }
 {
@@ -259,7 +260,7 @@ fn record_count_of(alloc: Global, value: &Value) -> Result<Option<u64>, ReadErro
 }
 
 /// The size in bytes, and the record count.
-fn counts_of(alloc: Global, value: &Value) -> Result<(u64, Option<u64>), ReadError<LineFault>>
+fn counts_of(alloc: Global, value: &Node<'_>) -> Result<(u64, Option<u64>), ReadError<LineFault>>
     ensures read { Gives (λ n. n) result
         (and_then (required Malformed (count_member (codes "size") (view value.now))) (λ size.
         and_then (record_count (view value.now)) (λ count. Ok (size, count)))) }
@@ -270,7 +271,7 @@ fn counts_of(alloc: Global, value: &Value) -> Result<(u64, Option<u64>), ReadErr
 }
 
 #[tactic(auto, unfolding(crate::specs::Grammar::add))]
-fn add_of(alloc: Global, value: &Value) -> Result<LineAction, ReadError<LineFault>>
+fn add_of(alloc: Global, value: &Node<'_>) -> Result<LineAction, ReadError<LineFault>>
     ensures read { Gives (λ a. a) result (grammar.add (view value.now)) }
     ensures sound { IfOk result IsSoundAction }
 {
@@ -290,7 +291,7 @@ fn add_of(alloc: Global, value: &Value) -> Result<LineAction, ReadError<LineFaul
 }
 
 #[tactic(auto, unfolding(crate::specs::Grammar::remove))]
-fn remove_of(alloc: Global, value: &Value) -> Result<LineAction, ReadError<LineFault>>
+fn remove_of(alloc: Global, value: &Node<'_>) -> Result<LineAction, ReadError<LineFault>>
     ensures read { Gives (λ a. a) result (grammar.remove (view value.now)) }
     ensures sound { IfOk result IsSoundAction }
 {
@@ -305,7 +306,7 @@ fn remove_of(alloc: Global, value: &Value) -> Result<LineAction, ReadError<LineF
 // ---- lines
 
 #[tactic(auto, unfolding(crate::specs::Grammar::object_action))]
-fn object_action_of(alloc: Global, value: &Value) -> Result<LineAction, ReadError<LineFault>>
+fn object_action_of(alloc: Global, value: &Node<'_>) -> Result<LineAction, ReadError<LineFault>>
     ensures read { Gives (λ a. a) result (object_action (view value.now)) }
     ensures sound { IfOk result IsSoundAction }
 {
@@ -342,6 +343,7 @@ pub(crate) fn line_action_of(alloc: Global, line: &[u8]) -> Result<LineAction, R
     if is_blank(line) {
         return Ok(LineAction::NoAction);
     }
-    let value = read_json(alloc, line, LineFault::Malformed)?;
+    let mut scratch = Scratch::new(alloc);
+    let value = read_json(alloc, &mut scratch, line, LineFault::Malformed)?;
     object_action_of(alloc, &value)
 }
