@@ -1,3 +1,12 @@
+pub mod WordLemmas
+pub mod FactLemmas
+pub mod PlaceLemmas
+pub mod PartLemmas
+pub mod WalkLemmas
+pub mod FoundLemmas
+pub mod DepthLemmas
+pub mod BadLemmas
 pub mod OutlineLemmas
 pub mod SchemaListLemmas
 pub mod ToldLemmas
+pub mod SchemaToldLemmas

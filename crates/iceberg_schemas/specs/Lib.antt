@@ -1,1 +1,2 @@
 pub mod SchemaLists
+pub mod SchemaOutlines

@@ -1,7 +1,8 @@
 //! What the JSON of a held schema has in it, whatever its types and however large it is.
 
-ghost use Rattle.std.specs.Prelude.{◌≡◌, ◌∷◌, ◌++◌, [], codes, pos, true, IfOk};
-ghost use Rattle.serde_json.specs.Data.{string, array, item, no_items};
+ghost use Rattle.std.specs.Prelude.{◌≡◌, ◌≤◌, ◌∷◌, ◌++◌, [], codes, pos, true, IfOk, IfErr};
+ghost use Rattle.serde_json.specs.Data.{string, array, item, no_items, depth};
+ghost use Rattle.serde_json.specs.Read.{max_depth};
 ghost use Rattle.serde_json.specs.View.{view, items_view};
 ghost use Rattle.lake_basics.specs.Outcome.{each};
 ghost use Rattle.json_reading.specs.Json.{items};
@@ -14,6 +15,7 @@ ghost use Rattle.iceberg_metadata.specs.Outlines.{part_outline, field_outline, f
 ghost use Rattle.iceberg_metadata.specs.Outlines.{struct_outline, list_outline, map_outline};
 ghost use Rattle.iceberg_metadata.specs.Outlines.{nested_outline, shape_outline, type_outline};
 ghost use Rattle.iceberg_metadata.specs.Outlines.{schema_outline, field_kind, field_kinds};
+ghost use Rattle.iceberg_schemas.specs.SchemaOutlines.{IsIcebergOutline, IsNoIcebergOutline};
 
 use crate::required::{required_bool, required_int, required_list, required_member, required_text};
 use iceberg_metadata::{MALFORMED, MetadataError, Outline, kind_of};
@@ -282,9 +284,8 @@ fn type_outline(
     shape_outline(alloc, prefix, value, outline, levels - 1)
 }
 
-/// The columns of a schema at all levels.
 #[tactic(auto, unfolding(iceberg_metadata::specs::Outlines::schema_outline))]
-pub(crate) fn schema_outline(alloc: Global, value: &Value) -> Result<Outline, MetadataError>
+fn outline_of(alloc: Global, value: &Value) -> Result<Outline, MetadataError>
     ensures { Gives result (schema_outline (view value.now)) }
 {
     let word = required_text(alloc, value, "type")?;
@@ -296,6 +297,21 @@ pub(crate) fn schema_outline(alloc: Global, value: &Value) -> Result<Outline, Me
         has_other: false,
     };
     struct_outline(alloc, &Items::new(alloc), value, outline, MAX_JSON_LEVELS)
+}
+
+/// The outline of a schema (Apache Iceberg specification, "JSON serialization", Schemas), which is
+/// gone over whole: its columns at all levels, and whether a type has no row in the table of types.
+/// `Malformed` comes only where the JSON isn't in the grammar.
+pub(crate) fn schema_outline(alloc: Global, value: &Value) -> Result<Outline, MetadataError>
+    // The JSON is in the grammar, and has just what the outline tells.
+    ensures found { IfOk result (IsIcebergOutline (view value.now)) }
+    // JSON of no more levels than are read, without an outline, isn't in the grammar.
+    ensures refused { depth (view value.now) ≤ max_depth
+        → IfErr result (IsNoIcebergOutline (view value.now)) }
+    // The same as a function of the value.
+    ensures exact { Gives result (schema_outline (view value.now)) }
+{
+    outline_of(alloc, value)
 }
 
 // ---- kinds of partition columns

@@ -1,14 +1,19 @@
 //! The schemas that a table holds.
 
-ghost use Rattle.std.specs.Prelude.{◌≡◌, IfOk};
+ghost use Rattle.std.specs.Prelude.{◌≡◌, ◌≤◌, IfOk, IfErr};
 ghost use Rattle.std.specs.List.{list_any};
+ghost use Rattle.serde_json.specs.Data.{items_depth};
+ghost use Rattle.serde_json.specs.Read.{max_depth};
 ghost use Rattle.serde_json.specs.View.{view, items_view};
 ghost use Rattle.json_reading.specs.Json.{items};
+ghost use Rattle.schema_map.specs.Among.{IsAmong};
 ghost use Rattle.iceberg_metadata.specs.Errors.{Gives};
 ghost use Rattle.iceberg_metadata.specs.Judging.{is_schema_type, is_limit_of_columns, is_limit_of_depth};
 ghost use Rattle.iceberg_metadata.specs.Schemas.{size_limit, refusal_of, first_refusal, refusals};
 ghost use Rattle.iceberg_metadata.specs.Schemas.{unread_reading, refused_columns, columns_reading, schema_reading};
+ghost use Rattle.iceberg_metadata.specs.Schemas.{HeldUnread};
 ghost use Rattle.iceberg_schemas.specs.SchemaLists.{each_schema, with_reading};
+ghost use Rattle.iceberg_schemas.specs.SchemaOutlines.{IsToldOf, IsNoSchemaList};
 
 use crate::outline::{field_kinds, schema_outline};
 use crate::required::{required_int, required_list};
@@ -128,9 +133,7 @@ impl HeldSchemas {
     }
 }
 
-/// The schemas of a list, where each is in the grammar (Apache Iceberg specification, "Schemas").
-/// `Malformed` where one isn't.
-pub fn schemas_in(alloc: Global, values: &Vec<Value>) -> Result<HeldSchemas, MetadataError>
+fn each_schema(alloc: Global, values: &Vec<Value>) -> Result<HeldSchemas, MetadataError>
     ensures { Gives result (each_schema (items (items_view values.now.items))) }
 {
     let mut held = HeldSchemas {
@@ -143,6 +146,21 @@ pub fn schemas_in(alloc: Global, values: &Vec<Value>) -> Result<HeldSchemas, Met
         held = held.with(id, columns)?;
     }
     Ok(held)
+}
+
+/// The schemas of a list, where each is in the grammar (Apache Iceberg specification, "Schemas").
+/// `Malformed` where one isn't.
+pub fn schemas_in(alloc: Global, values: &Vec<Value>) -> Result<HeldSchemas, MetadataError>
+    // What is known of a schema that can't be taken over is what its outline tells.
+    ensures told { IfOk result (λ held. (known : HeldUnread) → IsAmong known held.unread
+        → IsToldOf (items (items_view values.now.items)) known) }
+    // A list of no more levels than are read is refused where a schema isn't in the grammar.
+    ensures refused { items_depth (items_view values.now.items) ≤ max_depth
+        → IfErr result (IsNoSchemaList (items (items_view values.now.items))) }
+    // The same as a function of the values.
+    ensures exact { Gives result (each_schema (items (items_view values.now.items))) }
+{
+    each_schema(alloc, values)
 }
 
 // ---- refusals
