@@ -15,7 +15,7 @@ use Rattle.iceberg_metadata.specs.Schemas.{HeldUnread}
 -- ---- columns
 
 -- The second is the JSON of the type of a field of a struct, of the elements of a list, or of the keys
--- or the values of a map, which has this name and this id.
+-- or the values of a map. The part has this name and this id.
 abbrev pub IsNamedPart : Data → List ℕ → ℤ → Data → Type 0
 IsNamedPart whole name id part =
     ((ds : Items) × (field : Data) × IsNamed (codes "struct") whole × (list_member (codes "fields") whole ≡ Some ds) × IsAmong field (items ds)
@@ -31,7 +31,7 @@ HasColumn (name ∷ path) id d = (own : ℤ) × (part : Data) × IsNamedPart d n
 
 -- ---- outlines
 
--- The JSON is in the grammar; the outline has its columns at all levels, and tells whether a column has a place of a type that isn't in the table of types.
+-- The JSON is in the grammar. The outline has its columns at all levels, and tells whether a column has a place of a type that isn't in the table of types.
 pub record IsIcebergOutline (d : Data) (o : Outline) : Type 0 where
   pub grammar : IsBadIcebergSchema d → ⊥
   pub columns : (path : Path) (id : ℤ) → IsAmong (path, id) o.paths → HasColumn path id d
