@@ -6,7 +6,7 @@ ghost use Rattle.table_history.specs.declared.kind.Kind.TheVariants.{Iceberg};
 ghost use Rattle.iceberg_table.specs.Folder.{version_path};
 ghost use Rattle.iceberg_table.specs.declared.error.IcebergError.TheVariants as iceberg;
 ghost use Rattle.source_core.specs.Answers.{IsReadRefusal};
-ghost use Rattle.source_core.specs.declared.error.SourceError.TheVariants.{Limit, Malformed, StoreFault};
+ghost use Rattle.source_core.specs.declared.error.SourceError.TheVariants.{Limit, Malformed, Memory, StoreFault};
 ghost use Rattle.source_iceberg.specs.Reading.{Tells, TellsFault};
 
 use iceberg_table::{Fault, IcebergError, version_path};
@@ -28,6 +28,7 @@ pub(crate) fn limit(which: LimitKind) -> SourceError
 fn fault_error(path: Text, fault: Fault) -> SourceError
     ensures told { TellsFault path fault result }
     ensures fault { result ≢ StoreFault }
+    ensures memory { result ≢ Memory }
 {
     match fault {
         Fault::Malformed => SourceError::Malformed { path },
@@ -52,6 +53,7 @@ pub(crate) fn lacks_head(alloc: Global, version: u32) -> SourceError
 pub(crate) fn source_error(error: IcebergError) -> SourceError
     ensures told { IsReadRefusal (Tells error) result }
     ensures fault { result ≡ StoreFault → error ≡ iceberg.StoreFault }
+    ensures memory { result ≡ Memory → error ≡ iceberg.Memory }
 {
     match error {
         IcebergError::Memory => SourceError::Memory,
