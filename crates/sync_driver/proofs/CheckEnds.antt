@@ -16,7 +16,7 @@ use Rattle.target_core.specs.Conditions.{GoesOn}
 use Rattle.target_core.specs.Views.{View}
 use Rattle.target_sync.specs.Answered.{StandsAt}
 use Rattle.target_sync.specs.Applied.{status_of_source}
-use Rattle.sync_driver.specs.Checked.{CheckAnswer, Checks, IsCheck, IsCheckEnd, IsCheckFault, IsCheckRefusal, IsCheckStatus, IsCheckedSo, IsOfCheck, StandsBehind, check_line, check_status}
+use Rattle.sync_driver.specs.Checked.{CheckAnswer, Checks, IsCheck, IsCheckAbsent, IsCheckEnd, IsCheckFault, IsCheckRefusal, IsCheckStatus, IsCheckedSo, IsOfCheck, StandsBehind, check_line, check_status}
 use Rattle.sync_driver.specs.Commands.{IsPending}
 use Rattle.sync_driver.specs.Lines.{pending_line}
 use Rattle.target_sync.specs.Sources.{SourceMeaning}
@@ -28,7 +28,7 @@ use Rattle.target_sync.specs.declared.status.Status.{Status}
 use Rattle.target_sync.specs.declared.status.Status.TheVariants as status
 use Rattle.target_sync.proofs.Counting.{fails_as, fails_then, uncontested_then}
 use Rattle.target_sync.proofs.Finding.{source_fault}
-use Rattle.target_sync.proofs.Refusing.{before_of_head}
+use Rattle.target_sync.proofs.Refusing.{absence_of_head, before_of_head}
 
 -- a refusal of reading the source
 pub few_of_source : (kind : Kind) (e : SourceError) → IsOfCheck kind (status_of_source e)
@@ -48,19 +48,21 @@ module _ {S : Type 0} (store : Ghosts S) (source : SourceMeaning) (target : Targ
     contest = uncontested_then store.contests store.may_contest old mid new B ⊥ quiet check.contest;
     few = check.few;
     checked = λ told. subst (λ (d : Disk). IsCheckedSo source target d.files answer) (reading told).disk (check.checked told);
+    absent = λ told is. subst (λ (d : Disk). IsCheckAbsent source d.files answer) (reading told).disk (check.absent told (subst (λ (d : Disk). source.is_absent d.files) (sym (reading told).disk) is));
     foreign = λ told path is. subst (λ (d : Disk). IsCheckStatus source target d.files (status.Foreign target.files.kind path) answer) (reading told).disk (check.foreign told path (subst (λ (d : Disk). target.is_foreign source.kind d.files path) (sym (reading told).disk) is));
     behind = λ told head at is. subst (λ (d : Disk). IsCheckStatus source target d.files (status.Behind target.files.kind at head.position) answer) (reading told).disk
         (check.behind told head at (subst (λ (d : Disk). StandsBehind source target d.files head at) (sym (reading told).disk) is));
   }
 
   -- the pending commit's line was cut
-  pub check_none : (old new : S) → (store.tells → OnlyReads store old new) → (A B : Type 0) → FailsBy store old new A → IsUncontestedBy store old new B → IsCheck store source target old new None
-  check_none old new reading A B cause quiet = record {
+  pub check_none : (old new : S) → (store.tells → OnlyReads store old new) → (A B : Type 0) → FailsBy store old new A → IsUncontestedBy store old new B → (store.tells → ¬ source.is_absent (store.disk old).files) → IsCheck store source target old new None
+  check_none old new reading A B cause quiet there = record {
     reads = reading;
     fault = fails_as store.faults store.may_fail old new A (None ≡ Some (Err status.StoreFault)) (λ is. absurd (cc is)) cause;
     contest = record { same = quiet.same; still = quiet.still; never = λ never. never };
     few = tt;
     checked = λ told. tt;
+    absent = λ told is. there told is;
     foreign = λ told path is. tt;
     behind = λ told head at is. tt;
   }
@@ -82,6 +84,7 @@ module _ {S : Type 0} (store : Ghosts S) (source : SourceMeaning) (target : Targ
     contest = quiet;
     few = few_of_source target.files.kind e;
     checked = λ told. head_checked (store.disk old).files e (refused told);
+    absent = λ told is. absence_of_head source target modes.Sync 0 (store.disk old).files (Unit {0}) tt e (refused told) is;
     foreign = λ told path is. inr (before_of_head source target modes.Sync 0 (store.disk old).files (Unit {0}) tt e (refused told));
     behind = λ told head at is. inr (before_of_head source target modes.Sync 0 (store.disk old).files (Unit {0}) tt e (refused told));
   }

@@ -158,15 +158,17 @@ module _ {S F T K : Type 0} (store : Ghosts S) (source : sources.Ghosts F) (f : 
   -- a run that only read, and answered so
   pub check_of : (old new : S) (answer : CheckAnswer) → (store.tells → OnlyReads store old new) → FailsBy store old new (answer ≡ Some (Err status.StoreFault)) → (B : Type 0) → IsUncontestedBy store old new B → IsFewOfCheck (target.kind t) answer
       → (store.tells → IsCheckedSo (source_meaning source f) (target_facts target t) (store.disk old).files answer)
+      → (store.tells → ¬ source.is_absent f (store.disk old).files)
       → (store.tells → (path : List ℕ) → target.is_foreign t (source.kind f) (store.disk old).files path → IsCheckStatus (source_meaning source f) (target_facts target t) (store.disk old).files (status.Foreign (target.kind t) path) answer)
       → (store.tells → (head : Head) (at : Option (List ℕ)) → StandsBehind (source_meaning source f) (target_facts target t) (store.disk old).files head at → IsCheckStatus (source_meaning source f) (target_facts target t) (store.disk old).files (status.Behind (target.kind t) at head.position) answer)
       → IsCheck store (source_meaning source f) (target_facts target t) old new answer
-  check_of old new answer reading cause B quiet few checked foreign behind = record {
+  check_of old new answer reading cause B quiet few checked there foreign behind = record {
     reads = reading;
     fault = cause;
     contest = record { same = quiet.same; still = quiet.still; never = λ never. never };
     few = few;
     checked = checked;
+    absent = λ told is. absurd (there told is);
     foreign = foreign;
     behind = behind;
   }
@@ -175,13 +177,13 @@ module _ {S F T K : Type 0} (store : Ghosts S) (source : sources.Ghosts F) (f : 
   seen_no_fault view kind head seen e why is = absurd (subst (IsSeenRefusal kind view head seen) is why)
 
   -- what was seen isn't compared
-  pub kept_refused : (old new : S) → (store.tells → OnlyReads store old new) → (A B : Type 0) → FailsBy store old new A → IsUncontestedBy store old new B → (head : Head) → (store.tells → source.is_head f (store.disk old).files head) → (seen : Seen K)
+  pub kept_refused : (old new : S) → (store.tells → OnlyReads store old new) → (A B : Type 0) → FailsBy store old new A → IsUncontestedBy store old new B → (head : Head) → (store.tells → source.is_head f (store.disk old).files head) → (store.tells → ¬ source.is_absent f (store.disk old).files) → (seen : Seen K)
       → (store.tells → IsSeen (target.reads t (store.disk old).files) (target.is_foreign t (source.kind f) (store.disk old).files) (target.view t) (λ kept. target.stands_for t kept (store.disk old).files) (source.kind f) seen)
       → (e : Status) → IsSeenRefusal (target.kind t) (target.view t) head seen e → IsCheck store (source_meaning source f) (target_facts target t) old new (Some (Err e))
-  kept_refused old new reading A B cause quiet head is_head seen is e why =
+  kept_refused old new reading A B cause quiet head is_head there seen is e why =
       check_of old new (Some (Err e)) reading
       (fails_as store.faults store.may_fail old new A (Some (Err e) ≡ Some (Err status.StoreFault)) (λ same. let one : e ≡ status.StoreFault = cc same in seen_no_fault (target.view t) (target.kind t) head seen e why one) cause) B quiet (few_of_seen (target.view t) (target.kind t) head seen e why)
-      (λ told. seen_checked (store.disk old).files head (is_head told) seen (is told) e why)
+      (λ told. seen_checked (store.disk old).files head (is_head told) seen (is told) e why) there
       (λ told path foreign. seen_foreign (store.disk old).files head (is_head told) seen (is told) e why path foreign)
       (λ told other at stands. seen_behind (store.disk old).files head (is_head told) seen (is told) e why other at stands)
 
@@ -235,7 +237,7 @@ module _ {S F T K : Type 0} (store : Ghosts S) (source : sources.Ghosts F) (f : 
   compared_no_fault view table r is same = let one : r ≡ Err status.StoreFault = cc same in subst (IsCompared (target.kind t) view table) one is
 
   module _ (old mid new : S) (reading : store.tells → OnlyReads store old mid) (A B : Type 0) (cause : FailsBy store old mid A) (quiet : IsUncontestedBy store old mid B) (further : store.tells → OnlyReads store mid new)
-      (head : Head) (is_head : store.tells → source.is_head f (store.disk old).files head) (kept : K) (stands : store.tells → target.stands_for t kept (store.disk old).files) (ours : IsOfSource (source.kind f) (target.view t kept))
+      (head : Head) (is_head : store.tells → source.is_head f (store.disk old).files head) (there : store.tells → ¬ source.is_absent f (store.disk old).files) (kept : K) (stands : store.tells → target.stands_for t kept (store.disk old).files) (ours : IsOfSource (source.kind f) (target.view t kept))
       (marked : IsMarkedAt head (target.view t kept)) where
     all : store.tells → OnlyReads store old new
     all = reading_further store old mid new reading further
@@ -247,9 +249,9 @@ module _ {S F T K : Type 0} (store : Ghosts S) (source : sources.Ghosts F) (f : 
         check_of old new (Some (Err (status_of_source e))) all
         (fails_as store.faults store.may_fail old new (e ≡ source_error.StoreFault) _ (λ same. let one : status_of_source e ≡ status.StoreFault = cc same in source_fault e one) (fails_then store.faults store.may_fail old mid new A (e ≡ source_error.StoreFault) cause more)) ⊥
         (uncontested_then store.contests store.may_contest old mid new B ⊥ quiet still) (few_of_source (target.kind t) e)
-        (λ told. read_checked (store.disk old).files head (is_head told) kept (stands told) ours marked e (subst (λ (d : Disk). IsReadRefusal (source.from_scratch f d.files) e) (reading told).disk (refused told)))
+        (λ told. read_checked (store.disk old).files head (is_head told) kept (stands told) ours marked e (subst (λ (d : Disk). IsReadRefusal (source.from_scratch f d.files) e) (reading told).disk (refused told))) there
         (λ told path foreign. absurd (no_foreign (store.disk old).files head (is_head told) kept (stands told) ours marked path foreign))
-        (λ told other at there. absurd (no_behind (store.disk old).files head (is_head told) kept (stands told) ours marked other at there))
+        (λ told other at behind. absurd (no_behind (store.disk old).files head (is_head told) kept (stands told) ours marked other at behind))
 
     -- the rows were compared
     pub rows_compared : (C : Type 0) → FailsBy store mid new C → IsUncontestedBy store mid new ⊥ → (table : Table) → (store.tells → source.is_table f (store.disk mid).files table) → (r : Result Same Status) → IsCompared (target.kind t) (target.view t kept) table r
@@ -258,6 +260,6 @@ module _ {S F T K : Type 0} (store : Ghosts S) (source : sources.Ghosts F) (f : 
         check_of old new (Some r) all
         (fails_as store.faults store.may_fail old new C (Some r ≡ Some (Err status.StoreFault)) (λ same. absurd (compared_no_fault (target.view t kept) table r is same)) (fails_then store.faults store.may_fail old mid new A C cause more)) ⊥
         (uncontested_then store.contests store.may_contest old mid new B ⊥ quiet still) (few_of_compared (target.kind t) (target.view t kept) table r is)
-        (λ told. compared_checked (store.disk old).files head (is_head told) kept (stands told) ours marked table (subst (λ (d : Disk). source.is_table f d.files table) (reading told).disk (is_table told)) r is)
+        (λ told. compared_checked (store.disk old).files head (is_head told) kept (stands told) ours marked table (subst (λ (d : Disk). source.is_table f d.files table) (reading told).disk (is_table told)) r is) there
         (λ told path foreign. absurd (no_foreign (store.disk old).files head (is_head told) kept (stands told) ours marked path foreign))
-        (λ told other at there. absurd (no_behind (store.disk old).files head (is_head told) kept (stands told) ours marked other at there))
+        (λ told other at behind. absurd (no_behind (store.disk old).files head (is_head told) kept (stands told) ours marked other at behind))

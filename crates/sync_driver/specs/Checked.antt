@@ -21,7 +21,7 @@ use Rattle.target_core.specs.Conditions.{GoesOn}
 use Rattle.target_core.specs.Views.{IsUnpublished, View}
 use Rattle.target_core.specs.declared.target.Seen.{Seen}
 use Rattle.target_core.specs.declared.target.Seen.TheVariants.{Absent, Ours, Foreign}
-use Rattle.target_sync.specs.Answered.{CameBefore, StandsAt}
+use Rattle.target_sync.specs.Answered.{CameBefore, IsAbsence, StandsAt}
 use Rattle.target_sync.specs.Applied.{position_at, status_of_source}
 use Rattle.sync_driver.specs.Commands.{IsPending}
 use Rattle.target_sync.specs.Dues.{IsMarked, MayBeSame}
@@ -119,20 +119,27 @@ IsCheckedSo source target files None = Unit {0}
 IsCheckedSo source target files (Some (Ok same)) = IsSame source target files same
 IsCheckedSo source target files (Some (Err e)) = IsCheckRefusal source target files e
 
+-- finding the head ended it
+abbrev pub IsCheckAbsent : SourceMeaning → Files → CheckAnswer → Type 0
+IsCheckAbsent source files None = ⊥
+IsCheckAbsent source files (Some (Ok same)) = ⊥
+IsCheckAbsent source files (Some (Err e)) = IsAbsence source files e
+
 -- the answer is this status, unless another one came before; or there is none
 abbrev pub IsCheckStatus : SourceMeaning → TargetFacts → Files → Status → CheckAnswer → Type 0
 IsCheckStatus source target files due None = Unit {0}
 IsCheckStatus source target files due (Some (Ok same)) = ⊥
 IsCheckStatus source target files due (Some (Err e)) = (e ≡ due) ⊎ CameBefore source target files e
 
--- No file changes, whatever is answered. Each answer has its cause, no other status is answered, and a target that is foreign or behind is always told
--- so.
+-- No file changes, whatever is answered. Each answer has its cause, no other status is answered, and a source that is absent and a target that is foreign
+-- or behind are always told so.
 pub record IsCheck {S : Type 0} (store : Ghosts S) (source : SourceMeaning) (target : TargetFacts) (old new : S) (answer : CheckAnswer) : Type 0 where
   pub reads : store.tells → OnlyReads store old new
   pub fault : FailsBy store old new (answer ≡ Some (Err status.StoreFault))
   pub contest : IsUncontestedBy store old new ⊥
   pub few : IsFewOfCheck target.files.kind answer
   pub checked : store.tells → IsCheckedSo source target (store.disk old).files answer
+  pub absent : store.tells → source.is_absent (store.disk old).files → IsCheckAbsent source (store.disk old).files answer
   pub foreign : store.tells → (path : List ℕ) → target.is_foreign source.kind (store.disk old).files path → IsCheckStatus source target (store.disk old).files (status.Foreign target.files.kind path) answer
   pub behind : store.tells → (head : Head) (at : Option (List ℕ)) → StandsBehind source target (store.disk old).files head at → IsCheckStatus source target (store.disk old).files (status.Behind target.files.kind at head.position) answer
 

@@ -118,7 +118,7 @@ returns g c =
     let apart = not_foreign store g.F.Source f g.T.Target t laws (g.met.T.Target.one_path t) in
     let head = c.in-Ok.head in
     checks store source target g.O.Sink old c.head.new.store c.args.out.now c.put_pending.new.out c.in-Err-put_pending.cut apart head.pending None
-    (check_none store source target old c.head.new.store c.in-Ok.ensures.only_reads _ _ c.in-Ok.ensures.cause c.in-Ok.ensures.contest)
+    (check_none store source target old c.head.new.store c.in-Ok.ensures.only_reads _ _ c.in-Ok.ensures.cause c.in-Ok.ensures.contest (λ told. (c.in-Ok.ensures.head told).0))
     (λ told. inl (head, (c.in-Ok.ensures.head told).1, refl))
     (λ tells some. absurd (some refl))
     (told_alone g.O.Sink c.args.out.now c.put_pending.new.out (pending_line head.pending) Done c.in-Err-put_pending.cut c.in-Err-put_pending.ensures.0)

@@ -42,7 +42,7 @@ returns-in_err-kept g c =
     let exit = err_from_is_err_and c.from_residual-in_err-kept.result c.from_residual-in_err-kept.ensures.1 in
     let e : Status = c.in_err-kept.field-0.0 in
     subst (λ (r : Result Same Status). IsCheck store (source_meaning g.F.Source f) (target_facts g.T.Target t) old c.inspected.new.store (Some r)) (sym (exit.1 ∙ ap (λ (s : Status). Err s) exit.2))
-    (kept_refused store g.F.Source f g.T.Target t laws (g.met.T.Target.one_path t) old c.inspected.new.store c.in_ok-seen.ensures.only_reads _ _ c.in_ok-seen.ensures.cause c.in_ok-seen.ensures.contest c.args.head.now c.requires.head c.in_ok-seen.seen
+    (kept_refused store g.F.Source f g.T.Target t laws (g.met.T.Target.one_path t) old c.inspected.new.store c.in_ok-seen.ensures.only_reads _ _ c.in_ok-seen.ensures.cause c.in_ok-seen.ensures.contest c.args.head.now c.requires.head c.requires.there c.in_ok-seen.seen
     (λ told. subst (λ (k : Kind). IsSeen (g.T.Target.reads t files) (g.T.Target.is_foreign t k files) (g.T.Target.view t) (λ kept. g.T.Target.stands_for t kept files) k c.in_ok-seen.seen) c.kind.ensures (c.in_ok-seen.ensures.seen told))
     e c.in_err-kept.ensures.refused)
 
@@ -76,7 +76,7 @@ returns-in-Ok g c =
     let sound = subst (λ (s : Seen _). IsSeenSound (g.T.Target.view t) (g.F.Source.kind f) s) at.ours (subst (λ (k : Kind). IsSeenSound (g.T.Target.view t) k c.in_ok-seen.seen) c.kind.ensures c.in_ok-seen.ensures.sound) in
     let stands : store.tells → g.T.Target.stands_for t kept files = λ told. (subst (Seeing c.kind.result) at.ours (c.in_ok-seen.ensures.seen told)).0 in
     rows_compared store g.F.Source f g.T.Target t laws (g.met.T.Target.one_path t) old c.inspected.new.store c.whole.new.store c.in_ok-seen.ensures.only_reads _ _ c.in_ok-seen.ensures.cause c.in_ok-seen.ensures.contest c.in-Ok.ensures.only_reads
-    c.args.head.now c.requires.head kept stands sound.2 at.marked _ c.in-Ok.ensures.cause c.in-Ok.ensures.contest c.in-Ok.table c.in-Ok.ensures.table c.compared.result c.compared.ensures
+    c.args.head.now c.requires.head c.requires.there kept stands sound.2 at.marked _ c.in-Ok.ensures.cause c.in-Ok.ensures.contest c.in-Ok.table c.in-Ok.ensures.table c.compared.result c.compared.ensures
 
 pub returns : goal.returns
 returns g c =
@@ -109,5 +109,5 @@ returns g c =
     let stands : store.tells → g.T.Target.stands_for t kept files = λ told. (subst (Seeing c.kind.result) at.ours (c.in_ok-seen.ensures.seen told)).0 in
     subst (λ (s : Status). IsCheck store (source_meaning g.F.Source f) (target_facts g.T.Target t) old c.whole.new.store (Some (Err s))) (sym c.status_of_source.ensures)
     (whole_refused store g.F.Source f g.T.Target t laws (g.met.T.Target.one_path t) old c.inspected.new.store c.whole.new.store c.in_ok-seen.ensures.only_reads _ _ c.in_ok-seen.ensures.cause c.in_ok-seen.ensures.contest c.in-Err.ensures.only_reads
-    c.args.head.now c.requires.head kept stands sound.2 at.marked c.in-Err.error
+    c.args.head.now c.requires.head c.requires.there kept stands sound.2 at.marked c.in-Err.error
     (fails_as store.faults store.may_fail c.inspected.new.store c.whole.new.store _ (c.in-Err.error ≡ StoreFault) (λ is. ap (λ (x : SourceError). Err x) is) c.in-Err.ensures.cause) c.in-Err.ensures.contest c.in-Err.ensures.refused)
