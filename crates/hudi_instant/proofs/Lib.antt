@@ -1,3 +1,4 @@
 pub mod GrammarLemmas
 pub mod PathForms
 pub mod TextLemmas
+pub mod TokenLemmas

@@ -1,10 +1,10 @@
 -- Runs of neighbours, objects of arrays, and what the text of an instant is read back as.
 use Rattle.std.proofs.Common.{◌≡◌, ℕ, suc, ◌+◌, ◌<◌, ◌≤◌, ◌^◌, List, [], ◌∷◌, ◌++◌, length, get_or, length-drop, take, drop, map, Option, Some, None, nat_le, Bool, true, false, cond, Ok, Ordering, Less, Equal, Greater, refl, sym, ap, subst, ◌∙◌, append_assoc, arith, nat_lt, nat_cmp, is_eq}
-use Rattle.std.specs.Prelude.{◌||◌, codes, flat_map, All}
+use Rattle.std.specs.Prelude.{codes, flat_map, All}
 use Rattle.std.specs.Cmp.Lexicographic.{slice_cmp}
 use Rattle.std.specs.List.{AllByRecursion, prefix_len}
 use Rattle.std.specs.List.Sorted.{IsSorted}
-use Rattle.std.specs.Ordering.{match_ordering, ordering_then, ordering_reverse, is_lt}
+use Rattle.std.specs.Ordering.{ordering_then, ordering_reverse, is_lt}
 use Rattle.std.specs.Str.{bytes_eq}
 use Rattle.std.proofs.lemmas.Bool.{true≢false}
 use Rattle.std.proofs.lemmas.Cmp.{nat_list_cmp_total}
@@ -12,18 +12,16 @@ use Rattle.std.proofs.lemmas.Grind.{common_steps}
 use Rattle.std.proofs.lemmas.List.{append-nil}
 use Rattle.std.proofs.lemmas.Map.Text.{is_eq-slice_cmp}
 use Rattle.std.proofs.lemmas.Slice.Eq.{bytes_eq-Decides}
-use Rattle.serde_json.specs.Data.{Data, string, array, Members, no_members, member, put, depth, items_depth, members_depth}
-use Rattle.serde_json.specs.Read.{max_depth}
+use Rattle.serde_json.specs.Data.{Data, array, Members, no_members, member, put}
 use Rattle.serde_json.specs.View.{items_of}
-use Rattle.serde_json.specs.Written.{compact_text, has_float, items_have_float, members_have_float}
-use Rattle.json_reading.specs.Json.{items, pairs, members_with, IsReadAgain}
+use Rattle.json_reading.specs.Json.{json, items, pairs, members_with}
 use Rattle.lake_basics.specs.declared.limits.TheConstants.{MAX_ACTIONS}
 use Rattle.hudi_instant.specs.declared.instant.Instant.{Instant}
 use Rattle.hudi_instant.specs.declared.instant.Stat.{Stat}
 use Rattle.hudi_instant.proofs.PathForms.{is_path_of_any_length-true}
 use Rattle.hudi_instant.specs.Instants.{stat, with_stats, with_partitions, with_ids, with_replaced, extra_text, instant, json_instant}
 use Rattle.hudi_instant.specs.InstantGrammar.{mark_in}
-use Rattle.hudi_instant.specs.InstantText.{stat_data, onto_group, runs_by, arrays_by, partition_of, replaced_partition, id_data, put_text, extra_data, instant_data, stat_cmp, replaced_cmp, IsSoundStat, IsWritable}
+use Rattle.hudi_instant.specs.InstantText.{stat_data, onto_group, runs_by, arrays_by, partition_of, replaced_partition, id_data, extra_data, instant_data, stat_cmp, replaced_cmp, IsSoundStat, IsWritable}
 
 -- ---- runs
 
@@ -181,85 +179,13 @@ none_below (g ∷ gs) = (tt, none_below gs)
 pub members_of_runs : {B : Type 0} (shown : B → Data) (gs : List (List ℕ × B)) → Ascends gs → pairs (members_with shown gs no_members) ≡ map (λ h. (h.0, shown h.1)) gs
 members_of_runs shown gs rising = members_again shown gs no_members rising (none_below gs)
 
--- ---- shallow, and without floats
-
-pub record IsShallow (n : ℕ) (d : Data) : Type 0 where
-  pub no_float : has_float d ≡ false
-  pub shallow : depth d ≤ n
-
-pub record AreShallow (n : ℕ) (ms : Members) : Type 0 where
-  pub no_float : members_have_float ms ≡ false
-  pub shallow : members_depth ms ≤ n
-
-none_shallow : (n : ℕ) → AreShallow n no_members
-none_shallow n = record { no_float = refl; shallow = omega arith }
-
-or_false : (a b : Bool) → a ≡ false → b ≡ false → (a || b) ≡ false
-or_false true b e f = e
-or_false false b e f = f
-
-or_parts : (a b : Bool) → (a || b) ≡ false → (a ≡ false) × (b ≡ false)
-or_parts true b e = absurd (cc)
-or_parts false b e = (refl, e)
-
-member_shallow : (n : ℕ) (k : List ℕ) (d : Data) (ms : Members) → IsShallow n d → AreShallow n ms → AreShallow n (member k d ms)
-member_shallow n k d ms one rest = record { no_float = or_false _ _ one.no_float rest.no_float; shallow = omega (arith, one.shallow, rest.shallow) }
-
-put_by : (n : ℕ) (o : Ordering) (k l : List ℕ) (d e : Data) (ms : Members) → IsShallow n d → AreShallow n (member l e ms) → AreShallow n (put k d ms) → AreShallow n (match_ordering o (member k d (member l e ms)) (member l d ms) (member l e (put k d ms)))
-put_by n Less k l d e ms one all later = member_shallow n k d (member l e ms) one all
-put_by n Equal k l d e ms one all later = member_shallow n l d ms one (record { no_float = (or_parts _ _ all.no_float).1; shallow = omega (arith, all.shallow) })
-put_by n Greater k l d e ms one all later = member_shallow n l e (put k d ms) (record { no_float = (or_parts _ _ all.no_float).0; shallow = omega (arith, all.shallow) }) later
-
-put_shallow : (n : ℕ) (k : List ℕ) (d : Data) (ms : Members) → IsShallow n d → AreShallow n ms → AreShallow n (put k d ms)
-put_shallow n k d no_members one all = member_shallow n k d no_members one all
-put_shallow n k d (member l e ms) one all =
-    put_by n (slice_cmp nat_cmp k l) k l d e ms one all (put_shallow n k d ms one (record { no_float = (or_parts _ _ all.no_float).1; shallow = omega (arith, all.shallow) }))
-
-items_shallow : {B : Type 0} (n : ℕ) (shown : B → Data) → ((b : B) → IsShallow n (shown b)) → (bs : List B) → (items_have_float (items_of (map shown bs)) ≡ false) × (items_depth (items_of (map shown bs)) ≤ n)
-items_shallow n shown each [] = (refl, omega arith)
-items_shallow n shown each (b ∷ bs) =
-    let one = each b in
-    let rest = items_shallow n shown each bs in (or_false _ _ one.no_float rest.0, omega (arith, one.shallow, rest.1))
-
-array_shallow : {B : Type 0} (n : ℕ) (shown : B → Data) → ((b : B) → IsShallow n (shown b)) → (bs : List B) → IsShallow (suc n) (array (items_of (map shown bs)))
-array_shallow n shown each bs = let all = items_shallow n shown each bs in record { no_float = all.0; shallow = omega (arith, all.1) }
-
-with_shallow : {B : Type 0} (n : ℕ) (shown : B → Data) → ((b : B) → IsShallow n (shown b)) → (gs : List (List ℕ × B)) (ms : Members) → AreShallow n ms → AreShallow n (members_with shown gs ms)
-with_shallow n shown each [] ms all = all
-with_shallow n shown each (g ∷ gs) ms all = with_shallow n shown each gs (put g.0 (shown g.1) ms) (put_shallow n g.0 (shown g.1) ms (each g.1) all)
-
-arrays_shallow : {B : Type 0} (n : ℕ) (key : B → List ℕ) (shown : B → Data) → ((b : B) → IsShallow n (shown b)) → (bs : List B) → AreShallow (suc n) (arrays_by key shown bs no_members)
-arrays_shallow n key shown each bs = with_shallow (suc n) (λ run. array (items_of (map shown run))) (array_shallow n shown each) (runs_by key bs) no_members (none_shallow (suc n))
-
-string_shallow : (s : List ℕ) → IsShallow 1 (string s)
-string_shallow s = record { no_float = refl; shallow = omega arith }
-
-stat_shallow : (s : Stat) → IsShallow 1 (stat_data s)
-stat_shallow s = record { no_float = refl; shallow = omega arith }
-
-text_shallow : (name : List ℕ) (text : Option (List ℕ)) (ms : Members) → AreShallow 1 ms → AreShallow 1 (put_text name text ms)
-text_shallow name None ms all = all
-text_shallow name (Some text) ms all = put_shallow 1 name (string text) ms (string_shallow text) all
-
-pub instant_no_float : (i : Instant) → has_float (instant_data i) ≡ false
-instant_no_float i =
-    let extra = text_shallow (codes "schema") i.schema _ (text_shallow (codes "lakebridge.mark") i.mark no_members (none_shallow 1)) in
-    let ids = arrays_shallow 1 replaced_partition id_data (λ p. string_shallow p.1) i.replaced in
-    let stats = arrays_shallow 1 partition_of stat_data stat_shallow i.stats in rw (extra.no_float, ids.no_float, stats.no_float)
-
-pub instant_shallow : (i : Instant) → depth (instant_data i) ≤ max_depth
-instant_shallow i =
-    let extra = text_shallow (codes "schema") i.schema _ (text_shallow (codes "lakebridge.mark") i.mark no_members (none_shallow 1)) in
-    let ids = arrays_shallow 1 replaced_partition id_data (λ p. string_shallow p.1) i.replaced in
-    let stats = arrays_shallow 1 partition_of stat_data stat_shallow i.stats in omega (arith, extra.shallow, ids.shallow, stats.shallow)
-
 -- ---- read again
 
-all_rec : {B : Type 0} (P : B → Type 0) (bs : List B) → All P bs → AllByRecursion P bs
+pub all_rec : {B : Type 0} (P : B → Type 0) (bs : List B) → All P bs → AllByRecursion P bs
 all_rec P [] h = tt
 all_rec P (b ∷ bs) h = (h 0 b (omega arith), all_rec P bs (λ k d within. h (suc k) d (omega (arith, within))))
 
-all_front : {B : Type 0} (P : B → Type 0) (xs ys : List B) → AllByRecursion P (xs ++ ys) → AllByRecursion P xs × AllByRecursion P ys
+pub all_front : {B : Type 0} (P : B → Type 0) (xs ys : List B) → AllByRecursion P (xs ++ ys) → AllByRecursion P xs × AllByRecursion P ys
 all_front P [] ys h = (tt, h)
 all_front P (x ∷ xs) ys h = let rest = all_front P xs ys h.1 in ((h.0, rest.0), rest.1)
 
@@ -313,10 +239,10 @@ first_of_two Less b h = h
 first_of_two Equal b h = refl
 first_of_two Greater b h = refl
 
-stat_order : (x y : Stat) → is_lt (stat_cmp x y) ≡ false → is_lt (slice_cmp nat_cmp x.partition_path y.partition_path) ≡ false
+pub stat_order : (x y : Stat) → is_lt (stat_cmp x y) ≡ false → is_lt (slice_cmp nat_cmp x.partition_path y.partition_path) ≡ false
 stat_order x y h = first_of_two (slice_cmp nat_cmp x.partition_path y.partition_path) (slice_cmp nat_cmp x.path y.path) h
 
-id_order : (x y : List ℕ × List ℕ) → is_lt (replaced_cmp x y) ≡ false → is_lt (slice_cmp nat_cmp x.0 y.0) ≡ false
+pub id_order : (x y : List ℕ × List ℕ) → is_lt (replaced_cmp x y) ≡ false → is_lt (slice_cmp nat_cmp x.0 y.0) ≡ false
 id_order x y h = first_of_two (slice_cmp nat_cmp x.0 y.0) (slice_cmp nat_cmp x.1 y.1) h
 
 all_stats_again : (ss : List Stat) → All IsSoundStat ss → IsSorted stat_cmp ss → with_partitions [] (pairs (arrays_by partition_of stat_data ss no_members)) ≡ Ok ss
@@ -353,7 +279,7 @@ instant_again i h =
 few : (i : Instant) → length i.stats + length i.replaced ≤ MAX_ACTIONS → nat_le (length i.stats + length i.replaced) MAX_ACTIONS ≡ true
 few i h = grind (arith, common_steps)
 
--- bytes that are the compact text of an instant, and are read again as JSON, read as it
-pub text_again : (bytes : List ℕ) (i : Instant) → bytes ≡ compact_text (instant_data i) → IsReadAgain (instant_data i) → IsWritable i → json_instant bytes ≡ Ok i
+-- bytes that are the JSON of an instant read as it
+pub text_again : (bytes : List ℕ) (i : Instant) → json bytes ≡ Some (instant_data i) → IsWritable i → json_instant bytes ≡ Ok i
 unfolding json_instant
-text_again bytes i is again h = rw (is, again, instant_again i h, few i h.sound.few)
+text_again bytes i is h = rw (is, instant_again i h, few i h.sound.few)

@@ -1,3 +1,4 @@
 pub mod InstantGrammar
 pub mod InstantText
+pub mod InstantTokens
 pub mod Instants

@@ -1,34 +1,43 @@
-//! The text of a completed replacecommit.
+//! The text of a completed replacecommit. It is written token by token, so no tree of it stands in
+//! memory.
 
-ghost use Rattle.std.specs.Prelude.{◌≡◌, ◌<◌, ◌≤◌, ◌∷◌, List, ℕ, length, map, false, Ok, IfOk, IfErr, OnOk};
+ghost use Rattle.std.specs.Prelude.{◌≡◌, ◌<◌, ◌≤◌, ◌∷◌, ◌++◌, [], List, ℕ, length, map, decimal, Some, Ok, IfOk, IfErr, OnOk};
 ghost use Rattle.std.specs.List.{prefix_len};
 ghost use Rattle.std.specs.Str.{bytes_eq};
-ghost use Rattle.serde_json.specs.Data.{Data, array, number, unsigned, object, no_members, put, depth};
-ghost use Rattle.serde_json.specs.Read.{max_depth};
-ghost use Rattle.serde_json.specs.View.{view, items_of, members_view};
-ghost use Rattle.serde_json.specs.Written.{compact_text, has_float};
-ghost use Rattle.json_reading.specs.Json.{IsReadAgain};
+ghost use Rattle.json.specs.Token.{Token, begin_object, end_object, key, string, number};
+ghost use Rattle.json.specs.Tree.{json_tokens};
+ghost use Rattle.serde_json.specs.Data.{Data, array, object};
+ghost use Rattle.serde_json.specs.View.{items_of};
+ghost use Rattle.serde_json.specs.Written.{outline};
+ghost use Rattle.json_reading.specs.Json.{json};
 ghost use Rattle.hudi_instant.specs.Instants.{json_instant};
-ghost use Rattle.hudi_instant.specs.InstantText.{stat_data, id_data, runs_by, arrays_by, put_text, extra_data, whole_data, instant_data, instant_text, IsWritable};
+ghost use Rattle.hudi_instant.specs.InstantText.{stat_data, id_data, runs_by, extra_data, instant_data, instant_text, IsWritable};
+ghost use Rattle.hudi_instant.specs.InstantTokens.{run_members, text_tokens, written_data};
 
 use crate::instant::{Instant, Stat};
 use hudi_names::HudiError;
-use json_reading::{text_value, with_member, with_text};
+use json::Writer;
 use lake_basics::{Blob, Text};
-use serde_json::{Map, Value};
 use std::alloc::{AllocError, Global};
 
-/// The members with a whole number.
-fn with_number(
-    alloc: Global,
-    members: Map<String, Value>,
-    name: &str,
-    count: u64,
-) -> Result<Map<String, Value>, AllocError>
-    ensures { IfOk result (λ m. members_view m.entries
-        ≡ put name.now (number (unsigned count)) (members_view members.entries)) }
+/// A member with a text.
+fn write_text(out: &mut Writer, name: &str, text: &str) -> Result<(), AllocError>
+    ensures before { out.new.before ≡ out.old.before }
+    ensures tokens { OnOk result (out.new.tokens
+        ≡ out.old.tokens ++ key name.now ∷ string text.now ∷ []) }
 {
-    with_member(alloc, members, name, Value::from(count))
+    out.key(name)?;
+    out.string(text)
+}
+
+/// A member with a whole number.
+fn write_number(out: &mut Writer, name: &str, count: u64) -> Result<(), AllocError>
+    ensures before { out.new.before ≡ out.old.before }
+    ensures tokens { OnOk result (out.new.tokens
+        ≡ out.old.tokens ++ key name.now ∷ number (decimal count) ∷ []) }
+{
+    out.key(name)?;
+    out.u64(count)
 }
 
 /// What stands in an array under the name of its partition.
@@ -40,8 +49,10 @@ trait InPartition {
     fn partition(&self) -> &str
         ensures { result.now ≡ partition_of self.now };
 
-    fn value(&self, alloc: Global) -> Result<Value, AllocError>
-        ensures { IfOk result (λ v. view v ≡ data_of self.now) };
+    fn write(&self, out: &mut Writer) -> Result<(), AllocError>
+        ensures before { out.new.before ≡ out.old.before }
+        ensures tokens { OnOk result (out.new.tokens
+            ≡ out.old.tokens ++ json_tokens (outline (data_of self.now))) };
 }
 
 impl InPartition for Stat {
@@ -53,25 +64,20 @@ impl InPartition for Stat {
         self.partition_path.as_str()
     }
 
-    fn value(&self, alloc: Global) -> Result<Value, AllocError> {
-        let members = Map::new(alloc);
-        let members = with_text(alloc, members, "fileId", self.file_id.as_str())?;
-        let members = with_number(alloc, members, "fileSizeInBytes", self.size)?;
-        let members = with_number(alloc, members, "numDeletes", 0)?;
-        let members = with_number(alloc, members, "numInserts", self.writes)?;
-        let members = with_number(alloc, members, "numUpdateWrites", 0)?;
-        let members = with_number(alloc, members, "numWrites", self.writes)?;
-        let members = with_text(
-            alloc,
-            members,
-            "partitionPath",
-            self.partition_path.as_str(),
-        )?;
-        let members = with_text(alloc, members, "path", self.path.as_str())?;
-        let members = with_text(alloc, members, "prevCommit", "null")?;
-        let members = with_number(alloc, members, "totalWriteBytes", self.size)?;
-        let members = with_number(alloc, members, "totalWriteErrors", 0)?;
-        Ok(Value::Object(members))
+    fn write(&self, out: &mut Writer) -> Result<(), AllocError> {
+        out.begin_object()?;
+        write_text(out, "fileId", self.file_id.as_str())?;
+        write_number(out, "fileSizeInBytes", self.size)?;
+        write_number(out, "numDeletes", 0)?;
+        write_number(out, "numInserts", self.writes)?;
+        write_number(out, "numUpdateWrites", 0)?;
+        write_number(out, "numWrites", self.writes)?;
+        write_text(out, "partitionPath", self.partition_path.as_str())?;
+        write_text(out, "path", self.path.as_str())?;
+        write_text(out, "prevCommit", "null")?;
+        write_number(out, "totalWriteBytes", self.size)?;
+        write_number(out, "totalWriteErrors", 0)?;
+        out.end_object()
     }
 }
 
@@ -84,8 +90,8 @@ impl InPartition for (Text, Text) {
         self.0.as_str()
     }
 
-    fn value(&self, alloc: Global) -> Result<Value, AllocError> {
-        text_value(alloc, self.1.as_str())
+    fn write(&self, out: &mut Writer) -> Result<(), AllocError> {
+        out.string(self.1.as_str())
     }
 }
 
@@ -111,111 +117,94 @@ fn split_run<T: InPartition>(entries: &[T]) -> (&str, &[T], &[T])
     (partition, run, behind)
 }
 
-fn array_of<T: InPartition>(alloc: Global, entries: &[T]) -> Result<Value, AllocError>
-    ensures { IfOk result (λ v. view v ≡ array (items_of (map T.data_of entries.now))) }
+fn write_array<T: InPartition>(out: &mut Writer, entries: &[T]) -> Result<(), AllocError>
+    ensures before { out.new.before ≡ out.old.before }
+    ensures tokens { OnOk result (out.new.tokens ≡ out.old.tokens
+        ++ json_tokens (outline (array (items_of (map T.data_of entries.now))))) }
 {
-    let mut list = Vec::new(alloc);
+    out.begin_array()?;
     for entry in entries {
-        list.push(entry.value(alloc)?)?;
+        entry.write(out)?;
     }
-    Ok(Value::Array(list))
+    out.end_array()
 }
 
-/// The arrays of the partitions.
-fn arrays_of<T: InPartition>(alloc: Global, entries: &[T]) -> Result<Map<String, Value>, AllocError>
-    ensures { IfOk result (λ m. members_view m.entries
-        ≡ arrays_by T.partition_of T.data_of entries.now no_members) }
+/// The arrays of the partitions, in one object.
+fn write_arrays<T: InPartition>(out: &mut Writer, entries: &[T]) -> Result<(), AllocError>
+    ensures before { out.new.before ≡ out.old.before }
+    ensures tokens { OnOk result (out.new.tokens ≡ out.old.tokens
+        ++ json_tokens (outline (object (run_members T.data_of (runs_by T.partition_of entries.now))))) }
 {
-    let mut map = Map::new(alloc);
+    out.begin_object()?;
     let mut rest = entries;
     'runs: while !rest.is_empty() {
         let (partition, run, behind) = split_run(rest);
-        let array = array_of(alloc, run)?;
-        serde_json::put(&mut map, alloc, partition, array)?;
+        out.key(partition)?;
+        write_array(out, run)?;
         rest = behind;
     }
-    Ok(map)
+    out.end_object()
 }
 
-fn arrays_object<T: InPartition>(alloc: Global, entries: &[T]) -> Result<Value, AllocError>
-    ensures { IfOk result (λ v. view v
-        ≡ object (arrays_by T.partition_of T.data_of entries.now no_members)) }
-{
-    Ok(Value::Object(arrays_of(alloc, entries)?))
-}
-
-fn put_text(
-    alloc: Global,
-    map: &mut Map<String, Value>,
-    name: &str,
-    text: &Option<Text>,
-) -> Result<(), AllocError>
-    ensures { OnOk result (members_view map.new.entries
-        ≡ put_text name.now text.now (members_view map.old.entries)) }
+fn write_text_if_any(out: &mut Writer, name: &str, text: &Option<Text>) -> Result<(), AllocError>
+    ensures before { out.new.before ≡ out.old.before }
+    ensures tokens { OnOk result (out.new.tokens
+        ≡ out.old.tokens ++ text_tokens name.now text.now) }
 {
     match text {
         None => Ok(()),
-        Some(text) => {
-            let value = text_value(alloc, text.as_str())?;
-            serde_json::put(map, alloc, name, value)
-        }
+        Some(text) => write_text(out, name, text.as_str()),
     }
 }
 
-fn extra_value(alloc: Global, instant: &Instant) -> Result<Value, AllocError>
-    ensures { IfOk result (λ v. view v ≡ extra_data instant.now.mark instant.now.schema) }
+fn write_extra(out: &mut Writer, instant: &Instant) -> Result<(), AllocError>
+    ensures before { out.new.before ≡ out.old.before }
+    ensures tokens { OnOk result (out.new.tokens ≡ out.old.tokens
+        ++ json_tokens (outline (extra_data instant.now.mark instant.now.schema))) }
 {
-    let mut map = Map::new(alloc);
-    put_text(alloc, &mut map, "lakebridge.mark", &instant.mark)?;
-    put_text(alloc, &mut map, "schema", &instant.schema)?;
-    Ok(Value::Object(map))
+    out.begin_object()?;
+    write_text_if_any(out, "lakebridge.mark", &instant.mark)?;
+    write_text_if_any(out, "schema", &instant.schema)?;
+    out.end_object()
 }
 
-fn instant_value(alloc: Global, instant: &Instant) -> Result<Value, AllocError>
-    ensures { IfOk result (λ v. view v ≡ instant_data instant.now) }
+fn write_instant(out: &mut Writer, instant: &Instant) -> Result<(), AllocError>
+    ensures before { out.new.before ≡ out.old.before }
+    ensures tokens { OnOk result (out.new.tokens
+        ≡ out.old.tokens ++ json_tokens (outline (written_data instant.now))) }
 {
-    let extra = extra_value(alloc, instant)?;
-    let replaced = arrays_object(alloc, instant.replaced.as_slice())?;
-    let stats = arrays_object(alloc, instant.stats.as_slice())?;
-    whole_value(alloc, extra, replaced, stats)
+    out.begin_object()?;
+    out.key("compacted")?;
+    out.boolean(false)?;
+    out.key("extraMetadata")?;
+    write_extra(out, instant)?;
+    write_text(out, "operationType", "INSERT_OVERWRITE")?;
+    out.key("partitionToReplaceFileIds")?;
+    write_arrays(out, instant.replaced.as_slice())?;
+    out.key("partitionToWriteStats")?;
+    write_arrays(out, instant.stats.as_slice())?;
+    out.end_object()
 }
 
-fn whole_value(
-    alloc: Global,
-    extra: Value,
-    replaced: Value,
-    stats: Value,
-) -> Result<Value, AllocError>
-    ensures { IfOk result (λ v. view v ≡ whole_data (view extra) (view replaced) (view stats)) }
+fn instant_bytes(alloc: Global, instant: &Instant) -> Result<Vec<u8>, AllocError>
+    requires { IsWritable instant.now }
+    ensures text { IfOk result (λ v. v.items ≡ instant_text instant.now) }
+    ensures reads_back { IfOk result (λ v. json v.items ≡ Some (instant_data instant.now)) }
 {
-    let members = with_member(alloc, Map::new(alloc), "extraMetadata", extra)?;
-    let members = with_member(alloc, members, "partitionToReplaceFileIds", replaced)?;
-    let members = with_member(alloc, members, "partitionToWriteStats", stats)?;
-    let members = with_member(alloc, members, "compacted", Value::Bool(false))?;
-    let members = with_text(alloc, members, "operationType", "INSERT_OVERWRITE")?;
-    Ok(Value::Object(members))
-}
-
-fn json_bytes(alloc: Global, value: &Value) -> Result<Vec<u8>, AllocError>
-    requires no_float { has_float (view value.now) ≡ false }
-    requires shallow { depth (view value.now) ≤ max_depth }
-    ensures text { IfOk result (λ v. v.items ≡ compact_text (view value.now)) }
-    ensures reads_back { OnOk result (IsReadAgain (view value.now)) }
-{
-    let bytes = value.to_vec(alloc)?;
-    Ok(bytes)
+    let text = Vec::new(alloc);
+    let mut out = Writer::new(text);
+    write_instant(&mut out, instant)?;
+    Ok(out.into_inner())
 }
 
 /// The text of a completed replacecommit that did this, in compact JSON. `read_instant` gives the
 /// instant back.
-#[tactic(auto, using(crate::proofs::TextLemmas::instant_no_float, crate::proofs::TextLemmas::instant_shallow))]
 pub fn instant_text(alloc: Global, instant: &Instant) -> Result<Blob, HudiError>
     requires { IsWritable instant.now }
     ensures text { IfOk result (λ b. b ≡ instant_text instant.now) }
     ensures reads_back { IfOk result (λ b. json_instant b ≡ Ok instant.now) }
     ensures memory { IfErr result (λ e. e ≡ HudiError.Memory) }
 {
-    let value = instant_value(alloc, instant)?;
-    let bytes = json_bytes(alloc, &value)?;
+    let bytes = instant_bytes(alloc, instant)?;
     Ok(Blob::from_vec(bytes))
 }
