@@ -4,7 +4,7 @@
 ghost use Rattle.std.specs.Prelude.{◌≡◌, ◌<◌, ◌≤◌, ◌∷◌, ◌++◌, [], List, ℕ, length, map, decimal, Some, Ok, IfOk, IfErr, OnOk};
 ghost use Rattle.std.specs.List.{prefix_len};
 ghost use Rattle.std.specs.Str.{bytes_eq};
-ghost use Rattle.json.specs.Token.{Token, begin_object, end_object, key, string, number};
+ghost use Rattle.json.specs.Token.{key, string, number};
 ghost use Rattle.json.specs.Tree.{json_tokens};
 ghost use Rattle.serde_json.specs.Data.{Data, array, object};
 ghost use Rattle.serde_json.specs.View.{items_of};
