@@ -22,7 +22,7 @@ use std::alloc::{AllocError, Global};
 
 /// A member with a text.
 fn write_text(out: &mut Writer, name: &str, text: &str) -> Result<(), AllocError>
-    ensures before { out.new.before ≡ out.old.before }
+    ensures before { OnOk result (out.new.before ≡ out.old.before) }
     ensures tokens { OnOk result (out.new.tokens
         ≡ out.old.tokens ++ key name.now ∷ string text.now ∷ []) }
 {
@@ -32,7 +32,7 @@ fn write_text(out: &mut Writer, name: &str, text: &str) -> Result<(), AllocError
 
 /// A member with a whole number.
 fn write_number(out: &mut Writer, name: &str, count: u64) -> Result<(), AllocError>
-    ensures before { out.new.before ≡ out.old.before }
+    ensures before { OnOk result (out.new.before ≡ out.old.before) }
     ensures tokens { OnOk result (out.new.tokens
         ≡ out.old.tokens ++ key name.now ∷ number (decimal count) ∷ []) }
 {
@@ -50,7 +50,7 @@ trait InPartition {
         ensures { result.now ≡ partition_of self.now };
 
     fn write(&self, out: &mut Writer) -> Result<(), AllocError>
-        ensures before { out.new.before ≡ out.old.before }
+        ensures before { OnOk result (out.new.before ≡ out.old.before) }
         ensures tokens { OnOk result (out.new.tokens
             ≡ out.old.tokens ++ json_tokens (outline (data_of self.now))) };
 }
@@ -118,7 +118,7 @@ fn split_run<T: InPartition>(entries: &[T]) -> (&str, &[T], &[T])
 }
 
 fn write_array<T: InPartition>(out: &mut Writer, entries: &[T]) -> Result<(), AllocError>
-    ensures before { out.new.before ≡ out.old.before }
+    ensures before { OnOk result (out.new.before ≡ out.old.before) }
     ensures tokens { OnOk result (out.new.tokens ≡ out.old.tokens
         ++ json_tokens (outline (array (items_of (map T.data_of entries.now))))) }
 {
@@ -131,7 +131,7 @@ fn write_array<T: InPartition>(out: &mut Writer, entries: &[T]) -> Result<(), Al
 
 /// The arrays of the partitions, in one object.
 fn write_arrays<T: InPartition>(out: &mut Writer, entries: &[T]) -> Result<(), AllocError>
-    ensures before { out.new.before ≡ out.old.before }
+    ensures before { OnOk result (out.new.before ≡ out.old.before) }
     ensures tokens { OnOk result (out.new.tokens ≡ out.old.tokens
         ++ json_tokens (outline (object (run_members T.data_of (runs_by T.partition_of entries.now))))) }
 {
@@ -147,7 +147,7 @@ fn write_arrays<T: InPartition>(out: &mut Writer, entries: &[T]) -> Result<(), A
 }
 
 fn write_text_if_any(out: &mut Writer, name: &str, text: &Option<Text>) -> Result<(), AllocError>
-    ensures before { out.new.before ≡ out.old.before }
+    ensures before { OnOk result (out.new.before ≡ out.old.before) }
     ensures tokens { OnOk result (out.new.tokens
         ≡ out.old.tokens ++ text_tokens name.now text.now) }
 {
@@ -158,7 +158,7 @@ fn write_text_if_any(out: &mut Writer, name: &str, text: &Option<Text>) -> Resul
 }
 
 fn write_extra(out: &mut Writer, instant: &Instant) -> Result<(), AllocError>
-    ensures before { out.new.before ≡ out.old.before }
+    ensures before { OnOk result (out.new.before ≡ out.old.before) }
     ensures tokens { OnOk result (out.new.tokens ≡ out.old.tokens
         ++ json_tokens (outline (extra_data instant.now.mark instant.now.schema))) }
 {
@@ -169,7 +169,7 @@ fn write_extra(out: &mut Writer, instant: &Instant) -> Result<(), AllocError>
 }
 
 fn write_instant(out: &mut Writer, instant: &Instant) -> Result<(), AllocError>
-    ensures before { out.new.before ≡ out.old.before }
+    ensures before { OnOk result (out.new.before ≡ out.old.before) }
     ensures tokens { OnOk result (out.new.tokens
         ≡ out.old.tokens ++ json_tokens (outline (written_data instant.now))) }
 {

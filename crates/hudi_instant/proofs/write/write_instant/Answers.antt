@@ -1,4 +1,4 @@
-use Rattle.std.proofs.Common.{◌++◌, ◌∷◌, [], ℕ, List, false, ap, ◌∙◌}
+use Rattle.std.proofs.Common.{◌++◌, ◌∷◌, [], ℕ, List, false, ap, ◌∙◌, rules}
 use Rattle.std.specs.Prelude.{codes}
 use Rattle.std.proofs.lemmas.Result.{on_ok_weaker}
 use Rattle.json.specs.Token.{Token, begin_object, end_object, key, string, boolean}
@@ -33,3 +33,6 @@ returns-clause-tokens c =
     (key (codes "partitionToWriteStats") ∷ []) (stat_tokens instant.stats) (end_object ∷ []) in
     on_ok_weaker c.end_object.result
     (λ last. (more _ _ _ _ _ written last).is ∙ ap (λ ts. c.args.out.now.tokens ++ begin_object ∷ key (codes "compacted") ∷ boolean false ∷ key (codes "extraMetadata") ∷ ts) whole) c.end_object.ensures.ok
+
+pub returns-clause-before : goal.returns-clause-before
+returns-clause-before c = on_ok_weaker c.end_object.result (λ _. search rules) c.end_object.ensures.ok

@@ -1,4 +1,4 @@
-use Rattle.std.proofs.Common.{[], ◌∷◌}
+use Rattle.std.proofs.Common.{[], ◌∷◌, rules}
 use Rattle.std.proofs.lemmas.Result.{on_ok_weaker}
 use Rattle.json.specs.Token.{begin_object}
 use Rattle.hudi_instant.proofs.TokenLemmas.{first, more, more_text}
@@ -18,3 +18,6 @@ returns-clause-tokens c =
     let previous = more _ _ _ _ _ path c.in_ok-write_text-4.ensures.tokens in
     let bytes = more _ _ _ _ _ previous c.in_ok-write_number-6.ensures.tokens in
     let errors = more _ _ _ _ _ bytes c.in_ok-write_number-7.ensures.tokens in on_ok_weaker c.end_object.result (λ last. (more _ _ _ _ _ errors last).is) c.end_object.ensures.ok
+
+pub returns-clause-before : goal.returns-clause-before
+returns-clause-before c = on_ok_weaker c.end_object.result (λ _. search rules) c.end_object.ensures.ok
