@@ -13,7 +13,7 @@ mod value;
 mod writer;
 
 pub use api::{MAX_VALUES, decode, decode_within, encode, fault_error, read_long};
-pub use avro_schema::{Field, Schema, Shape};
+pub use avro_schema::{Field, Schema, SchemaError, Shape};
 pub use bare::is_bare;
 pub use error::AvroError;
 pub use reader::value as read_value;
