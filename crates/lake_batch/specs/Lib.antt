@@ -1,3 +1,4 @@
+pub mod Access
 pub mod Batch
 pub mod Fence
 pub mod Part

@@ -1,7 +1,7 @@
 //! The program: reads one lake table's metadata and writes the others' beside it.
 #![tactic(auto)]
 
-use lake_batch::{BatchStatus, run_all};
+use lake_batch::{BatchStatus, run_all, writes};
 use lake_store::Sink;
 use lake_system::{Access, FolderStore, HeldFolder, StdSink, SystemClock, lock_folder};
 use std::alloc::{AllocError, Global};
@@ -51,14 +51,12 @@ fn run_over(
     }
 }
 
-// What the words do to the folder's files: `show` and `check` change none.
+// How the folder is held while the words are run: alone where they may write.
 fn access_of(words: &[String]) -> Access {
-    match words.get(1) {
-        Some(word) => match word.as_str() {
-            "sync" | "full" | "sweep" | "compact" | "batch" => Access::Writes,
-            _ => Access::Reads,
-        },
-        None => Access::Reads,
+    if writes(words) {
+        Access::Writes
+    } else {
+        Access::Reads
     }
 }
 
