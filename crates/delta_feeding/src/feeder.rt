@@ -14,7 +14,8 @@ use std::mem;
 
 /// A commit of a Delta log (Delta protocol, "Actions") whose bytes come in pieces, cut anywhere.
 /// Contracts see what has been read, or the refusal that was answered. Beside the commit and the
-/// paths of its file actions it keeps the bytes behind the last newline alone.
+/// paths of its file actions it keeps the bytes behind the last newline, and the working space of its
+/// lines.
 #[derive(Drop)]
 pub struct LineFeeder {
     alloc: Global,

@@ -1,14 +1,14 @@
 //! The lines of a commit so far, of which the last one isn't ended.
 
 ghost use Rattle.std.specs.Prelude.{◌≡◌, ◌↔◌, ◌++◌, [], Ok, IfOk, IsTrue, MatchOption, false};
-ghost use Rattle.std.specs.List.{list_any, position};
+ghost use Rattle.std.specs.List.{list_any};
 ghost use Rattle.delta_log.specs.Judging.{Answers, is_newline};
 ghost use Rattle.delta_log.specs.Sound.{IsWritable};
 ghost use Rattle.delta_feeding.specs.Feeding.{ended, fed, nothing_read, with_end};
 ghost use Rattle.delta_feeding.specs.Cut.{IsCut};
 
 use crate::lines::WholeLines;
-use delta_log::{DeltaCommit, DeltaError};
+use delta_log::{DeltaCommit, DeltaError, newline_in};
 use lake_basics::Blob;
 use std::alloc::Global;
 use std::marker::Model;
@@ -26,12 +26,6 @@ impl Model for LinesSoFar {
     ghost Value = { SoFar };
 
     ghost view = { λ s. record { whole = s.whole; rest = s.rest } };
-}
-
-fn newline_in(bytes: &[u8]) -> Option<usize>
-    ensures { result ≡ position is_newline bytes.now }
-{
-    bytes.iter().position(|b| *b == b'\n')
 }
 
 /// The first line that a newline ends, and what stands behind the newline.

@@ -14,6 +14,7 @@ use crate::error::{Fault, LineFault, MALFORMED};
 use crate::line::line_action_of;
 use crate::place::{Place, place_of};
 use crate::reading::Reading;
+use crate::space::LineSpace;
 use lake_basics::{Items, ReadError, Text};
 use std::alloc::Global;
 use table_history::{Feature, LimitKind};
@@ -182,11 +183,15 @@ fn judged_action(
 }
 
 /// The action of a line, by the fault that it is told of among other lines.
-fn action_of(alloc: Global, line: &[u8]) -> Result<LineAction, ReadError<Fault>>
+fn action_of(
+    alloc: Global,
+    space: &mut LineSpace,
+    line: &[u8],
+) -> Result<LineAction, ReadError<Fault>>
     ensures read { Gives (λ a. a) result (with_fault judged (line_action line.now)) }
     ensures sound { IfOk result IsSoundAction }
 {
-    match line_action_of(alloc, line) {
+    match line_action_of(alloc, space, line) {
         Ok(action) => Ok(action),
         Err(ReadError::Memory) => Err(ReadError::Memory),
         Err(ReadError::Fault(LineFault::Malformed)) => Err(MALFORMED),
@@ -197,12 +202,13 @@ fn action_of(alloc: Global, line: &[u8]) -> Result<LineAction, ReadError<Fault>>
 #[tactic(auto, unfolding(crate::specs::Judging::with_line))]
 pub(crate) fn judged_line(
     alloc: Global,
+    space: &mut LineSpace,
     commit: &Reading,
     line: &[u8],
 ) -> Result<Addition, ReadError<Fault>>
     ensures read { Gives (with_addition commit.now) result (with_line commit.now line.now) }
     ensures sound { IfOk result (IsSoundAddition commit.now) }
 {
-    let action = action_of(alloc, line)?;
+    let action = action_of(alloc, space, line)?;
     judged_action(alloc, commit, action)
 }

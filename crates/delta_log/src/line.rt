@@ -14,6 +14,7 @@ ghost use Rattle.delta_log.specs.Sound.{HaveDistinctNames, IsCount, IsSoundActio
 use crate::action::LineAction;
 use crate::commit::{MetaData, Protocol};
 use crate::error::LineFault;
+use crate::space::LineSpace;
 use json::Scratch;
 use json_outline::{
     Members, Node, SortedMembers, count_of, list_of, object_of, present_of, read_json,
@@ -234,16 +235,21 @@ fn meta_data_of(alloc: Global, value: &Node<'_>) -> Result<LineAction, ReadError
 
 /// The record count that the text of an object states, if it states one.
 #[tactic(auto, unfolding(crate::specs::Grammar::stated_count))]
-fn stated_count_of(alloc: Global, stats: &str) -> Result<Option<u64>, ReadError<LineFault>>
+fn stated_count_of(
+    scratch: &mut Scratch<Global>,
+    stats: &str,
+) -> Result<Option<u64>, ReadError<LineFault>>
     ensures read { Gives (λ n. n) result (stated_count stats.now) }
     ensures small { IfOk result (λ n. IfSome n IsCount) }
 {
-    let mut scratch = Scratch::new(alloc);
-    stated_count(&mut scratch, stats, "numRecords", LineFault::Malformed)
+    stated_count(scratch, stats, "numRecords", LineFault::Malformed)
 }
 
 #[tactic(auto, unfolding(crate::specs::Grammar::record_count))]
-fn record_count_of(alloc: Global, value: &Node<'_>) -> Result<Option<u64>, ReadError<LineFault>>
+fn record_count_of(
+    scratch: &mut Scratch<Global>,
+    value: &Node<'_>,
+) -> Result<Option<u64>, ReadError<LineFault>>
     ensures read { Gives (λ n. n) result (record_count (view value.now)) }
     ensures small { IfOk result (λ n. IfSome n IsCount) }
 {
@@ -254,31 +260,38 @@ fn record_count_of(alloc: Global, value: &Node<'_>) -> Result<Option<u64>, ReadE
             if stats.is_empty() {
                 return Ok(None);
             }
-            stated_count_of(alloc, stats)
+            stated_count_of(scratch, stats)
         }
     }
 }
 
 /// The size in bytes, and the record count.
-fn counts_of(alloc: Global, value: &Node<'_>) -> Result<(u64, Option<u64>), ReadError<LineFault>>
+fn counts_of(
+    scratch: &mut Scratch<Global>,
+    value: &Node<'_>,
+) -> Result<(u64, Option<u64>), ReadError<LineFault>>
     ensures read { Gives (λ n. n) result
         (and_then (required Malformed (count_member (codes "size") (view value.now))) (λ size.
         and_then (record_count (view value.now)) (λ count. Ok (size, count)))) }
     ensures small { IfOk result (λ n. IsCount n.0 × IfSome n.1 IsCount) }
 {
     let size = count_of(value, "size").ok_or(MALFORMED)?;
-    Ok((size, record_count_of(alloc, value)?))
+    Ok((size, record_count_of(scratch, value)?))
 }
 
 #[tactic(auto, unfolding(crate::specs::Grammar::add))]
-fn add_of(alloc: Global, value: &Node<'_>) -> Result<LineAction, ReadError<LineFault>>
+fn add_of(
+    alloc: Global,
+    scratch: &mut Scratch<Global>,
+    value: &Node<'_>,
+) -> Result<LineAction, ReadError<LineFault>>
     ensures read { Gives (λ a. a) result (grammar.add (view value.now)) }
     ensures sound { IfOk result IsSoundAction }
 {
     let uri = required_str(value, "path")?;
     let members = object_of(value, "partitionValues").ok_or(MALFORMED)?;
     let values = values_of(alloc, members)?;
-    let (size, count) = counts_of(alloc, value)?;
+    let (size, count) = counts_of(scratch, value)?;
     let uri = Text::from_str(alloc, uri)?;
     let has_deletion_vector = present_of(value, "deletionVector").is_some();
     Ok(LineAction::Add {
@@ -306,7 +319,11 @@ fn remove_of(alloc: Global, value: &Node<'_>) -> Result<LineAction, ReadError<Li
 // ---- lines
 
 #[tactic(auto, unfolding(crate::specs::Grammar::object_action))]
-fn object_action_of(alloc: Global, value: &Node<'_>) -> Result<LineAction, ReadError<LineFault>>
+fn object_action_of(
+    alloc: Global,
+    scratch: &mut Scratch<Global>,
+    value: &Node<'_>,
+) -> Result<LineAction, ReadError<LineFault>>
     ensures read { Gives (λ a. a) result (object_action (view value.now)) }
     ensures sound { IfOk result IsSoundAction }
 {
@@ -321,7 +338,7 @@ fn object_action_of(alloc: Global, value: &Node<'_>) -> Result<LineAction, ReadE
         (None, None, None, None) => Ok(LineAction::NoAction),
         (Some(action), None, None, None) => protocol_of(alloc, action),
         (None, Some(action), None, None) => meta_data_of(alloc, action),
-        (None, None, Some(action), None) => add_of(alloc, action),
+        (None, None, Some(action), None) => add_of(alloc, scratch, action),
         (None, None, None, Some(action)) => remove_of(alloc, action),
         _ => Err(MALFORMED),
     }
@@ -336,14 +353,17 @@ fn is_blank(line: &[u8]) -> bool
 /// What a line says. It is malformed where it isn't blank and is no JSON object, where it has two
 /// actions, or where its action isn't in the grammar.
 #[tactic(auto, unfolding(crate::specs::Grammar::line_action))]
-pub(crate) fn line_action_of(alloc: Global, line: &[u8]) -> Result<LineAction, ReadError<LineFault>>
+pub(crate) fn line_action_of(
+    alloc: Global,
+    space: &mut LineSpace,
+    line: &[u8],
+) -> Result<LineAction, ReadError<LineFault>>
     ensures read { Gives (λ a. a) result (line_action line.now) }
     ensures sound { IfOk result IsSoundAction }
 {
     if is_blank(line) {
         return Ok(LineAction::NoAction);
     }
-    let mut scratch = Scratch::new(alloc);
-    let value = read_json(alloc, &mut scratch, line, LineFault::Malformed)?;
-    object_action_of(alloc, &value)
+    let value = read_json(alloc, &mut space.line, line, LineFault::Malformed)?;
+    object_action_of(alloc, &mut space.stats, &value)
 }

@@ -17,18 +17,21 @@ ghost use Rattle.delta_log.specs.declared.commit.DeltaCommit.{DeltaCommit};
 use crate::commit::{DeltaCommit, FileAction, MetaData, Protocol};
 use crate::error::{DeltaError, Fault};
 use crate::judging::{Addition, judged_line};
+use crate::space::LineSpace;
 use lake_basics::limits::MAX_ACTIONS;
 use lake_basics::{Items, ReadError};
+use memchr::memchr;
 use std::alloc::{AllocError, Global};
 use std::collections::HashSet;
 use std::marker::Model;
 
 /// A commit so far, read line by line (Delta protocol, "Actions"). Contracts see that commit. The set
-/// holds the paths of its file actions.
+/// holds the paths of its file actions. The space is made at the first line, and serves all lines.
 #[derive(Drop)]
 pub struct Reading {
     commit: DeltaCommit,
     paths: HashSet<String>,
+    space: Option<Box<LineSpace>>,
 }
 
 impl Model for Reading {
@@ -57,6 +60,7 @@ impl Reading {
                 files: Items::new(alloc),
             },
             paths: HashSet::new(alloc),
+            space: None,
         }
     }
 
@@ -94,17 +98,17 @@ impl Reading {
     fn with_protocol(self, protocol: Protocol) -> Reading
         ensures { result ≡ with_addition self (Addition.Protocol protocol) }
     {
-        let Reading { mut commit, paths } = self;
-        commit.protocol = Some(protocol);
-        Reading { commit, paths }
+        let mut reading = self;
+        reading.commit.protocol = Some(protocol);
+        reading
     }
 
     fn with_meta_data(self, meta: MetaData) -> Reading
         ensures { result ≡ with_addition self (Addition.MetaData meta) }
     {
-        let Reading { mut commit, paths } = self;
-        commit.meta = Some(meta);
-        Reading { commit, paths }
+        let mut reading = self;
+        reading.commit.meta = Some(meta);
+        reading
     }
 
     fn with_file(self, alloc: Global, file: FileAction) -> Result<Reading, AllocError>
@@ -113,9 +117,14 @@ impl Reading {
         let Reading {
             mut commit,
             mut paths,
+            space,
         } = self;
         put_file(alloc, &mut commit.files, &mut paths, file)?;
-        Ok(Reading { commit, paths })
+        Ok(Reading {
+            commit,
+            paths,
+            space,
+        })
     }
 
     fn with_addition(self, alloc: Global, addition: Addition) -> Result<Reading, AllocError>
@@ -129,6 +138,23 @@ impl Reading {
         }
     }
 
+    /// The space of the lines before, or a new one.
+    fn take_space(&mut self, alloc: Global) -> Result<Box<LineSpace>, AllocError>
+        ensures { self.new ≡ self.old }
+    {
+        match self.space.take() {
+            Some(space) => Ok(space),
+            None => LineSpace::boxed(alloc),
+        }
+    }
+
+    /// Keeps the space for the next line.
+    fn keep_space(&mut self, space: Box<LineSpace>)
+        ensures { self.new ≡ self.old }
+    {
+        self.space = Some(space);
+    }
+
     /// The commit with what one more line says, or what is wrong with that line behind the others: by
     /// itself, a feature that it shows, a number that it passes, or a second action on a path.
     pub fn with_line(self, alloc: Global, line: &[u8]) -> Result<Reading, ReadError<Fault>>
@@ -136,8 +162,12 @@ impl Reading {
         ensures read { Gives (λ r. r) result (with_line self line.now) }
         ensures sound { IfOk result IsWritable }
     {
-        let addition = judged_line(alloc, &self, line)?;
-        Ok(self.with_addition(alloc, addition)?)
+        let mut reading = self;
+        let mut space = reading.take_space(alloc)?;
+        let addition = judged_line(alloc, &mut space, &reading, line)?;
+        let mut longer = reading.with_addition(alloc, addition)?;
+        longer.keep_space(space);
+        Ok(longer)
     }
 }
 
@@ -171,10 +201,11 @@ pub fn error_with_line(error: ReadError<Fault>, line: u64) -> DeltaError
     }
 }
 
-fn newline_in(bytes: &[u8]) -> Option<usize>
+/// Where the first newline stands.
+pub fn newline_in(bytes: &[u8]) -> Option<usize>
     ensures { result ≡ position is_newline bytes.now }
 {
-    bytes.iter().position(|b| *b == b'\n')
+    memchr(b'\n', bytes)
 }
 
 /// The first line, and what stands behind its newline.
