@@ -1,5 +1,6 @@
 //! Paths as relative URIs, as Delta commits have them.
 ghost use Rattle.std.specs.Prelude.{◌≡◌, ◌++◌, ◌==◌, IfOk, IfErr, OnOk, length, slice_index, string_bytes, take_while};
+ghost use Rattle.percent_encoding.specs.Percent.{percent_decode};
 ghost use Rattle.table_history.specs.Path.{IsPath};
 ghost use Rattle.partition_map.specs.Uri.{is_plain, escaped_byte, escaped_path, is_scheme_byte, colon, NamesPath, ExplainsRefusal};
 ghost use Rattle.partition_map.specs.UriPath.{is_outside, begins_hex, is_path_byte, is_well_escaped, path_place, uri_path, inside_table, GivesPath};
@@ -9,6 +10,7 @@ use lake_basics::Text;
 use lake_basics::limits::MAX_PATH_BYTES;
 use percent_encoding::{percent_decode, percent_encode_byte};
 use std::alloc::{AllocError, Global};
+use std::borrow::CowSlice;
 use table_history::path_form_of_any_length;
 
 /// The path as a relative URI: each byte but ASCII letters, digits and `-._~/=` is escaped, with
@@ -19,7 +21,7 @@ pub fn encode_uri_path(alloc: Global, path: &str) -> Result<Text, PartError>
     ensures reads_back { IfOk result (λ t. IsPath path.now → uri_path t ≡ inside_table path.now) }
     ensures refused { IfErr result (λ e. e ≡ PartError.Memory) }
 {
-    let mut uri = String::new(alloc);
+    let mut uri = String::with_capacity(alloc, path.len())?;
     for byte in path.as_bytes() {
         push_escaped(&mut uri, *byte)?;
     }
@@ -57,9 +59,17 @@ pub fn decode_uri_path(alloc: Global, uri: &str) -> Result<Text, PartError>
     if !is_well_escaped(bytes) {
         return Err(PartError::BadPath);
     }
-    let mut path = Vec::new(alloc);
-    percent_decode(bytes).append_to(&mut path)?;
-    place_path(path)
+    place_path(unescaped(alloc, bytes)?)
+}
+
+// The bytes without escapes.
+fn unescaped(alloc: Global, uri: &[u8]) -> Result<Vec<u8>, AllocError>
+    ensures { IfOk result (λ bytes. bytes.items ≡ percent_decode uri.now) }
+{
+    match percent_decode(uri).into_cow(alloc)? {
+        CowSlice::Borrowed(plain) => Vec::from_slice(alloc, plain),
+        CowSlice::Owned(bytes) => Ok(bytes),
+    }
 }
 
 // The path of unescaped bytes, where they are one.

@@ -1,6 +1,5 @@
-use Rattle.std.proofs.Common.{◌≡◌, ◌++◌, ℕ, List, Err, sym, ap, subst, ◌∙◌}
+use Rattle.std.proofs.Common.{Err, sym, ap, subst, ◌∙◌}
 use Rattle.percent_encoding.specs.Percent.{percent_decode}
-use Rattle.percent_encoding.specs.Iter.{decoded_bytes}
 use Rattle.partition_map.specs.declared.error.PartError.TheVariants.{OutsideTable, BadPath}
 use Rattle.partition_map.specs.UriPath.{is_outside, is_well_escaped, uri_path, path_place, GivesPath}
 use Rattle.partition_map.proofs.UriLemmas.{uri_path-outside, uri_path-bad_escape, reading, names, refuses}
@@ -20,8 +19,7 @@ returns-then-not-is_well_escaped-clause-refused c =
 gives : (c : After-place_path) → GivesPath (uri_path c.args.uri.now) c.place_path.result
 gives c =
     let same = sym c.as_bytes-bytes.ensures.value in
-    let path : c.append_to.new.out.items ≡ percent_decode c.args.uri.now =
-    c.in_ok-append_to.ensures.ok ∙ ap (λ (l : List ℕ). l ++ decoded_bytes c.percent_decode.result) c.new-path.ensures.items ∙ c.percent_decode.ensures.bytes ∙ ap percent_decode c.as_bytes-bytes.ensures.value in
+    let path = c.in_ok-unescaped.ensures ∙ ap percent_decode c.as_bytes-bytes.ensures.value in
     reading c.args.uri.now c.place_path.result (ap is_outside same ∙ sym c.if-is_outside.ensures) (ap is_well_escaped same ∙ sym c.if-not-is_well_escaped.ensures)
     (subst (λ p. GivesPath (path_place p) c.place_path.result) path c.place_path.ensures)
 
