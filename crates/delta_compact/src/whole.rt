@@ -12,13 +12,14 @@ ghost use Rattle.delta_change.specs.Change.{IsChangeRefusal, IsTableOfLog};
 ghost use Rattle.delta_change.specs.TableBehind.{table_before};
 ghost use Rattle.delta_log.specs.Readable.{IsReadableCommit, IsRefusal};
 ghost use Rattle.delta_log.specs.Sound.{IsSound};
+ghost use Rattle.delta_log.specs.declared.error.DeltaError.TheVariants as delta;
 ghost use Rattle.delta_table.specs.Log.{IsTaken};
 ghost use Rattle.delta_table.specs.Versions.{HasVersion};
 ghost use Rattle.source_delta.specs.Reading.{HasEach, IsLastMissing};
 ghost use Rattle.delta_compact.specs.Refusals.{HasCause};
 ghost use Rattle.delta_compact.specs.Steps.{IsPlainFault};
 ghost use Rattle.delta_compact.specs.Whole.{AllCompacted, IsFileRefusal, IsLargeFile, IsOfReading, IsPartPath, IsTableBefore, IsTakenAt, IsUnreadUpTo, StopsAtPart, TellsFile};
-ghost use Rattle.delta_compact.specs.declared.error.CompactFault.TheVariants.{Contested, Limit, StoreFault};
+ghost use Rattle.delta_compact.specs.declared.error.CompactFault.TheVariants.{Contested, Limit, Memory, StoreFault};
 
 use crate::blocks::{block_count, block_path};
 use crate::error::CompactFault;
@@ -48,6 +49,7 @@ fn file_fault(path: Text, error: DeltaError) -> CompactFault
     ensures told { HasCause (TellsFile path error) result }
     ensures never { IsOfReading result }
     ensures fault { result ≢ StoreFault }
+    ensures memory { result ≡ Memory → error ≡ delta.Memory }
 {
     match error {
         DeltaError::Memory => CompactFault::Memory,
