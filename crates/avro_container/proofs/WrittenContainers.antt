@@ -20,7 +20,7 @@ use Rattle.avro_value.specs.Fitting.{IsText, AreSound, Fits}
 use Rattle.avro_schema.proofs.Texts.{text_found}
 use Rattle.avro_value.proofs.WriteLaws.{natural_written, bytes_written, text_written, blocks_written, joined, written}
 use Rattle.avro_container.specs.Format.{Pairs, magic, Meta, meta_size, first_named, schema_name, codec_name, null_codec, HasSchema, IsPlain, Header, Block, Blocks, IsContainer}
-use Rattle.avro_container.specs.Writing.{pairs_text, meta_text, block_text, container_text, ArePairs, is_named, IsFree, AreWritten, IsWritten}
+use Rattle.avro_container.specs.Writing.{pairs_text, meta_text, block_text, objects_text, container_text, ArePairs, AreEncoded, is_named, IsFree, AreWritten, IsWritten}
 
 -- ---- names
 
@@ -110,18 +110,22 @@ container_written limit meta text pairs t marker vs low w free reads are fit sou
       are_blocks = written_blocks.1;
     }
 
-pub is_written : {E : Type 0} (limit : ℕ) (r : Result (Vec ℕ Global) E) (meta : Pairs) (text : List ℕ) (pairs : Pairs) (t : SchemaTree) (marker : List ℕ) (vs : List ValueTree)
-    → limit < 2 ^ 63 → length marker ≡ 16 → IsFree limit meta → AllByRecursion (Fits (layout_of t)) vs
+-- what is written of so many objects is a container of each list of values that they encode
+pub is_written : {E : Type 0} (limit : ℕ) (r : Result (Vec ℕ Global) E) (meta : Pairs) (text : List ℕ) (pairs : Pairs) (t : SchemaTree) (marker : List ℕ) (count : ℕ) (objects : List ℕ) (vs : List ValueTree)
+    → limit < 2 ^ 63 → length marker ≡ 16 → IsFree limit meta → count < 2 ^ 63 → length objects < 2 ^ 63
     → text ≡ compact_text (json_of t) → (IsSpelled t → schema_of text ≡ Ok t) → AreWritten meta text pairs
-    → IfOk r (λ b. b.items ≡ container_text pairs marker vs) → IfOk r (λ _. ArePairs pairs) → IfOk r (λ _. AreSound (values_of vs)) → IfOk r (λ _. length vs < 2 ^ 63) → IfOk r (λ _. length (values_encoding (values_of vs)) < 2 ^ 63)
-    → IfOk r (λ b. IsWritten limit b.items meta t marker vs)
-is_written limit (Ok b) meta text pairs t marker vs low len free fit is reads w exact are sound many small =
-    let container : IsSpelled t → IsContainer limit b.items pairs t vs = λ s. subst (λ (bytes : List ℕ). IsContainer limit bytes pairs t vs) (sym exact) (container_written limit meta text pairs t marker vs low w free (reads s) are fit sound len many small) in
+    → IfOk r (λ b. b.items ≡ objects_text pairs marker count objects) → IfOk r (λ _. ArePairs pairs)
+    → AreEncoded (layout_of t) vs count objects → IfOk r (λ b. IsWritten limit b.items meta t marker vs)
+is_written limit (Ok b) meta text pairs t marker count objects vs low len free many small is reads w exact are e =
+    let same : b.items ≡ container_text pairs marker vs = exact ∙ ap (λ (n : ℕ). objects_text pairs marker n objects) e.number ∙ ap (objects_text pairs marker (length vs)) e.exact in
+    let few : length vs < 2 ^ 63 = subst (λ (n : ℕ). n < 2 ^ 63) e.number many in
+    let short : length (values_encoding (values_of vs)) < 2 ^ 63 = subst (λ (bs : List ℕ). length bs < 2 ^ 63) e.exact small in
+    let container : IsSpelled t → IsContainer limit b.items pairs t vs = λ s. subst (λ (bytes : List ℕ). IsContainer limit bytes pairs t vs) (sym same) (container_written limit meta text pairs t marker vs low w free (reads s) are e.fit e.sound len few short) in
     record {
       pairs = pairs;
       metadata = subst (λ (bytes : List ℕ). AreWritten meta bytes pairs) is w;
-      exact = exact;
+      exact = same;
       container = container;
       read_back = λ s few. record { container = container s; few = few };
     }
-is_written limit (Err e) meta text pairs t marker vs low len free fit is reads w exact are sound many small = tt
+is_written limit (Err x) meta text pairs t marker count objects vs low len free many small is reads w exact are e = tt

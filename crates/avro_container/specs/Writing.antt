@@ -11,7 +11,8 @@ use Rattle.avro_schema.specs.Writing.{json_of}
 use Rattle.serde_json.specs.Written.{compact_text}
 use Rattle.avro_value.specs.ValueTree.{ValueTree, values_of, value_count, total}
 use Rattle.avro_value.specs.Writing.{varint_of, length_prefixed, block_encoding, values_encoding}
-use Rattle.avro_value.specs.Fitting.{IsText}
+use Rattle.avro_value.specs.Fitting.{IsText, AreSound, Fits}
+use Rattle.avro_value.specs.Layout.{Layout}
 use Rattle.avro_container.specs.Format.{Pairs, magic, schema_name, codec_name, null_codec, IsContainer, IsWithin}
 
 abbrev pub pairs_text : Pairs → List ℕ
@@ -25,8 +26,20 @@ meta_text ps = block_encoding (length ps) (pairs_text ps)
 abbrev pub block_text : ℕ → List ℕ → List ℕ → List ℕ
 block_text count objects marker = if count == 0 then [] else varint_of (2 * count) ++ (varint_of (2 * length objects) ++ (objects ++ marker))
 
+-- a container of so many objects, which have these bytes
+abbrev pub objects_text : Pairs → List ℕ → ℕ → List ℕ → List ℕ
+objects_text meta marker count objects = magic ++ (meta_text meta ++ (marker ++ block_text count objects marker))
+
 abbrev pub container_text : Pairs → List ℕ → List ValueTree → List ℕ
-container_text meta marker vs = magic ++ (meta_text meta ++ (marker ++ block_text (length vs) (values_encoding (values_of vs)) marker))
+container_text meta marker vs = objects_text meta marker (length vs) (values_encoding (values_of vs))
+
+-- The bytes are the encodings of these values one behind the other, and the values are so many. They
+-- have the shape of the layout, with numbers, texts and lengths in their ranges.
+pub record AreEncoded (l : Layout) (vs : List ValueTree) (count : ℕ) (objects : List ℕ) : Type 0 where
+  pub fit : AllByRecursion (Fits l) vs
+  pub sound : AreSound (values_of vs)
+  pub number : count ≡ length vs
+  pub exact : objects ≡ values_encoding (values_of vs)
 
 -- names are text, and nothing is longer than memory
 abbrev pub ArePairs : Pairs → Type 0

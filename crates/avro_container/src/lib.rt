@@ -11,4 +11,4 @@ mod write;
 
 pub use container::{Container, Meta, Values, read_container};
 pub use error::ContainerError;
-pub use write::write_container;
+pub use write::{write_container, write_encoded};

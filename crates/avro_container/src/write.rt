@@ -1,6 +1,6 @@
 //! Writing containers.
 
-ghost use Rattle.std.specs.Prelude.{◌≡◌, Ok, ◌++◌, ◌*◌, ◌<◌, ◌^◌, ◌∷◌, length, map, OnOk, IfOk, IfErr};
+ghost use Rattle.std.specs.Prelude.{◌≡◌, Ok, ◌++◌, ◌*◌, ◌<◌, ◌^◌, ◌∷◌, List, length, map, OnOk, IfOk, IfErr};
 ghost use Rattle.std.specs.List.{AllByRecursion};
 ghost use Rattle.serde_json.specs.Written.{compact_text};
 ghost use Rattle.avro_schema.specs.Tree.{tree_of};
@@ -9,10 +9,10 @@ ghost use Rattle.avro_schema.specs.Spelled.{IsSpelled};
 ghost use Rattle.avro_schema.specs.Plain.{IsPlain};
 ghost use Rattle.avro_schema.specs.Reading.{schema_of};
 ghost use Rattle.avro_value.specs.Layout.{layout_of};
-ghost use Rattle.avro_value.specs.ValueTree.{value_tree, values_of};
+ghost use Rattle.avro_value.specs.ValueTree.{ValueTree, value_tree, values_of};
 ghost use Rattle.avro_value.specs.Writing.{values_encoding};
 ghost use Rattle.avro_value.specs.Fitting.{AreSound, Fits};
-ghost use Rattle.avro_container.specs.Writing.{pairs_text, meta_text, block_text, container_text, ArePairs, IsFree, AreWritten, IsWritten};
+ghost use Rattle.avro_container.specs.Writing.{pairs_text, meta_text, block_text, objects_text, ArePairs, AreEncoded, IsFree, AreWritten, IsWritten};
 ghost use Rattle.avro_container.specs.Format.{schema_name, codec_name, null_codec};
 
 use crate::container::Meta;
@@ -77,27 +77,25 @@ fn push_block(
     push_bytes(out, marker)
 }
 
-/// A container with the metadata as it stands.
+/// A container of so many objects, with the metadata as it stands.
 fn container(
     alloc: Global,
     meta: &Vec<(Text, Blob)>,
-    values: &[Value],
+    count: usize,
+    objects: &[u8],
     marker: [u8; 16],
 ) -> Result<Vec<u8>, AllocError>
+    requires { count < 2 ^ 63 }
     ensures text { IfOk
-        result (λ b. b.items ≡ container_text meta.now.items marker (map value_tree values.now)) }
+        result (λ b. b.items ≡ objects_text meta.now.items marker count objects.now) }
     ensures are { IfOk result (λ _. ArePairs meta.now.items) }
-    ensures sound { IfOk result (λ _. AreSound (values_of (map value_tree values.now))) }
-    ensures many { IfOk result (λ _. length (map value_tree values.now) < 2 ^ 63) }
-    ensures small { IfOk
-        result (λ _. length (values_encoding (values_of (map value_tree values.now))) < 2 ^ 63) }
+    ensures small { length objects.now < 2 ^ 63 }
 {
-    let objects = objects(alloc, values)?;
     let mut out = Vec::new(alloc);
     push_bytes(&mut out, b"Obj\x01")?;
     push_meta(&mut out, meta)?;
     push_bytes(&mut out, &marker)?;
-    push_block(&mut out, values.len(), objects.as_slice(), &marker)?;
+    push_block(&mut out, count, objects, &marker)?;
     Ok(out)
 }
 
@@ -142,19 +140,45 @@ fn written(
     alloc: Global,
     meta: &Meta,
     schema: &Schema,
-    values: &[Value],
+    count: usize,
+    objects: &[u8],
     marker: [u8; 16],
 ) -> Result<Vec<u8>, AllocError>
-    requires fit { AllByRecursion (Fits (layout_of (tree_of schema.now)))
-        (map value_tree values.now) }
+    requires many { count < 2 ^ 63 }
     requires free { IsFree MAX_VALUES meta.now }
-    ensures { IfOk
-        result (λ b. IsWritten MAX_VALUES b.items meta.now (tree_of schema.now) marker
-        (map value_tree values.now)) }
+    ensures { (vs : List ValueTree)
+        → AreEncoded (layout_of (tree_of schema.now)) vs count objects.now
+        → IfOk result (λ b. IsWritten MAX_VALUES b.items meta.now (tree_of schema.now) marker vs) }
 {
     let text = schema_text(alloc, schema)?;
     let pairs = metadata(alloc, meta, text.as_slice())?;
-    container(alloc, &pairs, values, marker)
+    container(alloc, &pairs, count, objects, marker)
+}
+
+/// A container of the schema and of so many objects of it, fewer than 2^63, that are encoded one behind
+/// the other ("Object Container Files"). It is what `write_container` makes of their values, which
+/// need not be in memory together. The only error is want of memory.
+pub fn write_encoded(
+    alloc: Global,
+    meta: &Meta,
+    schema: &Schema,
+    count: usize,
+    objects: &[u8],
+    marker: [u8; 16],
+) -> Result<Blob, ContainerError>
+    requires many { count < 2 ^ 63 }
+    requires free { IsFree MAX_VALUES meta.now }
+    ensures written { (vs : List ValueTree)
+        → AreEncoded (layout_of (tree_of schema.now)) vs count objects.now
+        → IfOk result (λ b. IsWritten MAX_VALUES b meta.now (tree_of schema.now) marker vs) }
+    // A text can spell each schema that gives no name twice and keeps to the grammar.
+    ensures plain { IsPlain (tree_of schema.now) → IsSpelled (tree_of schema.now) }
+    ensures err { IfErr result (λ e. e ≡ ContainerError.Memory) }
+{
+    match written(alloc, meta, schema, count, objects, marker) {
+        Ok(bytes) => Ok(Blob::from_vec(bytes)),
+        Err(_) => Err(ContainerError::Memory),
+    }
 }
 
 /// A container of the schema and the values, in one block, or none where there are no values. Its
@@ -176,8 +200,8 @@ pub fn write_container(
     ensures plain { IsPlain (tree_of schema.now) → IsSpelled (tree_of schema.now) }
     ensures err { IfErr result (λ e. e ≡ ContainerError.Memory) }
 {
-    match written(alloc, meta, schema, values, marker) {
-        Ok(bytes) => Ok(Blob::from_vec(bytes)),
+    match objects(alloc, values) {
+        Ok(objects) => write_encoded(alloc, meta, schema, values.len(), &objects, marker),
         Err(_) => Err(ContainerError::Memory),
     }
 }

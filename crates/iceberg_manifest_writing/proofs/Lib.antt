@@ -1,4 +1,5 @@
 pub mod ContainerLemmas
+pub mod EntryLemmas
 pub mod ListWrittenLemmas
 pub mod ManifestWrittenLemmas
 pub mod PartNameLemmas

@@ -18,10 +18,11 @@ use Rattle.avro_schema.specs.Plain.{IsPlain, FieldsAreSound, names_in_fields}
 use Rattle.avro_schema.specs.Plain as plain
 use Rattle.avro_schema.specs.Spelled.{IsSpelled, IsId}
 use Rattle.avro_value.specs.Layout.{layout_of, field_layouts}
-use Rattle.avro_value.specs.Fitting.{Fits, FitsParts}
+use Rattle.avro_value.specs.Fitting.{AreSound, Fits, FitsParts}
 use Rattle.avro_value.specs.ValueTree.{ValueTree, ValueTrees, value_and, values_of, value_count, value_counts, total}
 use Rattle.avro_container.specs.Format.{Pairs}
-use Rattle.avro_container.specs.Writing.{IsFree, IsWritten}
+use Rattle.avro_value.specs.Writing.{values_encoding}
+use Rattle.avro_container.specs.Writing.{AreEncoded, IsFree, IsWritten}
 use Rattle.partition_map.specs.Avro.{avro_value_of, branch_of}
 use Rattle.partition_map.specs.Kind.{IsOfKind}
 use Rattle.partition_map.specs.declared.kind.PartKind.{PartKind}
@@ -387,8 +388,16 @@ pub record IsReady (limit : ℕ) (cs : List PartColumn) (names : List (List ℕ)
 names_of : (limit : ℕ) (cs : List PartColumn) (names : List (List ℕ)) (es : List EntryData) → IsReady limit cs names es → AreNames cs (part_names cs names)
 names_of limit cs names es r = record { named = all_named cs names r.writable.named; own = r.writable.own_names }
 
-pub manifest_fits : (limit : ℕ) (cs : List PartColumn) (names : List (List ℕ)) (es : List EntryData) (t : SchemaTree) (vs : List ValueTree) → IsReady limit cs names es → t ≡ manifest_type cs names → vs ≡ map entry_tree es → AllByRecursion (Fits (layout_of t)) vs
+manifest_fits : (limit : ℕ) (cs : List PartColumn) (names : List (List ℕ)) (es : List EntryData) (t : SchemaTree) (vs : List ValueTree) → IsReady limit cs names es → t ≡ manifest_type cs names → vs ≡ map entry_tree es → AllByRecursion (Fits (layout_of t)) vs
 manifest_fits limit cs names es t vs r same values = rw (same, values) (all_fit cs (part_names cs names) es (names_of limit cs names es r).named r.writable.values)
+
+pub manifest_encoded : (limit : ℕ) (cs : List PartColumn) (names : List (List ℕ)) (es : List EntryData) (t : SchemaTree) (objects : List ℕ) → IsReady limit cs names es → t ≡ manifest_type cs names → AreSound (values_of (map entry_tree es)) → objects ≡ values_encoding (values_of (map entry_tree es)) → AreEncoded (layout_of t) (map entry_tree es) (length es) objects
+manifest_encoded limit cs names es t objects r same sound exact = record {
+  fit = manifest_fits limit cs names es t (map entry_tree es) r same refl;
+  sound = sound;
+  number = sym (length-map es entry_tree);
+  exact = exact;
+}
 
 pub manifest_spelled : (limit : ℕ) (cs : List PartColumn) (names : List (List ℕ)) (es : List EntryData) (t : SchemaTree) → IsReady limit cs names es → t ≡ manifest_type cs names → (IsPlain t → IsSpelled t) → IsSpelled (manifest_type cs names)
 manifest_spelled limit cs names es t r same spelled =

@@ -4,6 +4,7 @@
 
 mod avro_name;
 mod container;
+mod entry_writing;
 mod list_writing;
 mod manifest_writing;
 mod schema;

@@ -1,145 +1,39 @@
 //! Manifests written.
 
-ghost use Rattle.std.specs.Prelude.{◌≡◌, ◌<◌, ◌++◌, ◌∷◌, [], map, length, FitsSigned, IfOk, IfErr};
-ghost use Rattle.std.specs.Int.{w32};
+ghost use Rattle.std.specs.Prelude.{◌≡◌, map, IfOk, IfErr};
 ghost use Rattle.std.specs.List.{AllByRecursion};
-ghost use Rattle.avro_value.specs.ValueTree.{value_tree, union_of, int};
+ghost use Rattle.avro_value.specs.Fitting.{AreSound};
+ghost use Rattle.avro_value.specs.ValueTree.{values_of};
+ghost use Rattle.avro_value.specs.Writing.{values_encoding};
 ghost use Rattle.avro_container.specs.Writing.{IsWritten};
-ghost use Rattle.partition_map.specs.Avro.{avro_value_of};
 ghost use Rattle.iceberg_manifest.specs.Containers.{StandsFor};
 ghost use Rattle.iceberg_manifest.specs.Scans.{entries_of as entries_by};
 ghost use Rattle.iceberg_manifest.specs.WrittenTypes.{manifest_type};
 ghost use Rattle.iceberg_manifest.specs.ListWriting.{marker};
-ghost use Rattle.iceberg_manifest.specs.ManifestWriting.{whole_tree, file_trees, entry_tree, HasInt, HasRanges, IsWritableManifest, manifest_meta as manifest_meta_of};
+ghost use Rattle.iceberg_manifest.specs.ManifestWriting.{entry_tree, HasRanges, IsWritableManifest, manifest_meta as manifest_meta_of};
 
-use crate::container::written;
+use crate::container::encoded;
+use crate::entry_writing::push_entry;
 use crate::list_writing::{with_number, with_pair};
 use crate::schema::manifest_schema;
 use avro_container::Meta;
-use avro_value::{MAX_VALUES, Value};
+use avro_value::MAX_VALUES;
 use iceberg_manifest::{Entry, ManifestError, PartColumn};
 use lake_basics::{Blob, Items, Text};
-use partition_map::to_avro_value;
 use std::alloc::{AllocError, Global};
-use table_history::PartValue;
 
-/// A value of a union's branch.
-fn in_union(alloc: Global, index: u32, value: Value) -> Result<Value, AllocError>
-    ensures { IfOk result (λ v. value_tree v ≡ union_of index (value_tree value)) }
-{
-    Ok(Value::Union(index, Box::new(alloc, value)?))
-}
-
-fn whole_value(alloc: Global, number: Option<i64>) -> Result<Value, AllocError>
-    ensures { IfOk result (λ v. value_tree v ≡ whole_tree number) }
-{
-    match number {
-        None => in_union(alloc, 0, Value::Null),
-        Some(n) => in_union(alloc, 1, Value::Long(n)),
-    }
-}
-
-fn avro_value(alloc: Global, value: &PartValue) -> Result<Value, AllocError>
-    ensures { IfOk result (λ v. value_tree v ≡ avro_value_of value.now) }
-{
-    match to_avro_value(alloc, value) {
-        Ok(value) => Ok(value),
-        Err(_) => Err(AllocError),
-    }
-}
-
-fn int_value(alloc: Global, n: i32) -> Result<Value, AllocError>
-    ensures tree { IfOk result (λ v. value_tree v ≡ union_of 1 (int n)) }
-    ensures fits { IfOk result (λ _. FitsSigned w32 n) }
-{
-    in_union(alloc, 1, Value::Int(n))
-}
-
-/// The value of a partition column, of the union of null and its type.
-fn part_value(alloc: Global, value: &PartValue) -> Result<Value, AllocError>
-    ensures tree { IfOk result (λ v. value_tree v ≡ avro_value_of value.now) }
-    ensures int { IfOk result (λ _. HasInt value.now) }
-{
-    match value {
-        PartValue::Int(n) => int_value(alloc, *n),
-        PartValue::Date(days) => int_value(alloc, *days),
-        _ => avro_value(alloc, value),
-    }
-}
-
-fn part_values(alloc: Global, values: &[PartValue]) -> Result<Vec<Value>, AllocError>
-    ensures trees { IfOk result (λ vs. map value_tree vs.items ≡ map avro_value_of values.now) }
-    ensures ints { IfOk result (λ _. AllByRecursion HasInt values.now) }
-{
-    let mut parts = Vec::with_capacity(alloc, values.len())?;
-    for value in values {
-        parts.push(part_value(alloc, value)?)?;
-    }
-    Ok(parts)
-}
-
-/// The values of `data_file`.
-fn file_values(alloc: Global, entry: &Entry) -> Result<Vec<Value>, AllocError>
-    ensures trees { IfOk result (λ vs. map value_tree vs.items ≡ file_trees entry.now) }
-    ensures ints { IfOk result (λ _. AllByRecursion HasInt entry.now.values) }
-{
-    let path = entry.path.copy(alloc)?;
-    let format = Text::from_str(alloc, "PARQUET")?;
-    let parts = part_values(alloc, entry.values.as_slice())?;
-    let values = vec![in alloc;
-        Value::Int(0),
-        Value::Text(path),
-        Value::Text(format),
-        Value::Fields(parts),
-        Value::Long(entry.count as i64),
-        Value::Long(entry.size as i64),
-    ]?;
-    Ok(values)
-}
-
-/// The values with one more behind them.
-fn with_value(mut values: Vec<Value>, value: Value) -> Result<Vec<Value>, AllocError>
-    ensures { IfOk result (λ vs. map value_tree vs.items
-        ≡ map value_tree values.items ++ value_tree value ∷ []) }
-{
-    values.push(value)?;
-    Ok(values)
-}
-
-/// The values with that of a whole number, which may be null, behind them.
-fn with_whole(
-    alloc: Global,
-    values: Vec<Value>,
-    number: Option<i64>,
-) -> Result<Vec<Value>, AllocError>
-    ensures { IfOk result (λ vs. map value_tree vs.items
-        ≡ map value_tree values.items ++ whole_tree number ∷ []) }
-{
-    with_value(values, whole_value(alloc, number)?)
-}
-
-fn entry_value(alloc: Global, entry: &Entry) -> Result<Value, AllocError>
-    ensures tree { IfOk result (λ v. value_tree v ≡ entry_tree entry.now) }
-    ensures ranges { IfOk result (λ _. HasRanges entry.now) }
-{
-    let values = vec![in alloc; Value::Int(i32::from(entry.status))]?;
-    let values = with_whole(alloc, values, entry.snapshot)?;
-    let values = with_whole(alloc, values, entry.sequence)?;
-    let values = with_whole(alloc, values, entry.file_sequence)?;
-    let file = file_values(alloc, entry)?;
-    let values = with_value(values, Value::Fields(file))?;
-    Ok(Value::Fields(values))
-}
-
-fn entry_values(alloc: Global, entries: &[Entry]) -> Result<Vec<Value>, AllocError>
-    ensures trees { IfOk result (λ vs. map value_tree vs.items ≡ map entry_tree entries.now) }
+/// The entries one behind the other, encoded.
+fn entry_objects(alloc: Global, entries: &[Entry]) -> Result<Vec<u8>, AllocError>
+    ensures bytes { IfOk
+        result (λ b. b.items ≡ values_encoding (values_of (map entry_tree entries.now))) }
+    ensures sound { IfOk result (λ _. AreSound (values_of (map entry_tree entries.now))) }
     ensures ranges { IfOk result (λ _. AllByRecursion HasRanges entries.now) }
 {
-    let mut values = Vec::with_capacity(alloc, entries.len())?;
+    let mut out = Vec::new(alloc);
     for entry in entries {
-        values.push(entry_value(alloc, entry)?)?;
+        push_entry(&mut out, entry)?;
     }
-    Ok(values)
+    Ok(out)
 }
 
 fn manifest_meta(
@@ -181,8 +75,8 @@ pub fn manifest_bytes(
         StandsFor MAX_VALUES (entries_by columns.now) b entries.now) }
     ensures err { IfErr result (λ e. e ≡ ManifestError.Memory) }
 {
-    let values = entry_values(alloc, entries)?;
+    let objects = entry_objects(alloc, entries)?;
     let schema = manifest_schema(alloc, columns, names)?;
     let meta = manifest_meta(alloc, schema_json, schema_id, spec_json)?;
-    written(alloc, meta, schema, values)
+    encoded(alloc, &meta, &schema, entries.len(), objects.as_slice())
 }
