@@ -1,8 +1,10 @@
 #!/usr/bin/env python3
-"""Writes an Avro object container of so many records like those of an Iceberg manifest."""
+"""make_manifest.py PATH RECORDS [EACH]: writes an Avro object container of so many records like those of an Iceberg manifest,
+so many in each block (all in one)."""
 import json
 import sys
 
+MARKER = bytes(range(16))
 ENTRY = {
     "type": "record",
     "name": "manifest_entry",
@@ -73,16 +75,25 @@ def entry(i):
     )
 
 
+def header(pairs):
+    """The header of a container whose metadata has these pairs besides the codec and the schema."""
+    pairs = [("avro.codec", "null"), *pairs, ("avro.schema", json.dumps(ENTRY))]
+    return b"Obj\x01" + number(len(pairs)) + b"".join(text(k) + text(v) for k, v in pairs) + number(0) + MARKER
+
+
+def block(records):
+    entries = b"".join(map(entry, records))
+    return number(len(records)) + number(len(entries)) + entries + MARKER
+
+
 def main():
     path, count = sys.argv[1], int(sys.argv[2])
-    marker = bytes(range(16))
-    head = b"Obj\x01" + number(2)
-    head += text("avro.codec") + text("null")
-    head += text("avro.schema") + text(json.dumps(ENTRY)) + number(0) + marker
-    entries = b"".join(entry(i) for i in range(count))
-    block = number(count) + number(len(entries)) + entries + marker
+    each = int(sys.argv[3]) if len(sys.argv) > 3 else count
     with open(path, "wb") as out:
-        out.write(head + block)
+        out.write(header([]))
+        for first in range(0, count, each):
+            out.write(block(range(first, min(first + each, count))))
 
 
-main()
+if __name__ == "__main__":
+    main()

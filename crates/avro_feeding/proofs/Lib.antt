@@ -7,3 +7,4 @@ pub mod KeepLemmas
 pub mod WholeLemmas
 pub mod RunLemmas
 pub mod CallLemmas
+pub mod ResumeLemmas

@@ -2,3 +2,4 @@ pub mod Feeding
 pub mod Calls
 pub mod Laws
 pub mod Views
+pub mod Resuming

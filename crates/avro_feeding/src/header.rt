@@ -7,6 +7,7 @@ ghost use Rattle.avro_feeding.specs.Feeding.{in_header};
 ghost use Rattle.avro_feeding.specs.Views.{IsFedBy, IsJudged, IsOpened, IsReadHeader, IsReadOn, behind_opened, named_at, summed};
 
 use crate::blocks::{BlocksSoFar, drop_front, refusal};
+use crate::metadata::{Resume, resumed};
 use crate::place::{Fed, Place, Refused, out_of_memory};
 use avro_container::ContainerError;
 use avro_container::fault::ContainerFault;
@@ -16,18 +17,22 @@ use lake_basics::{Blob, ReadError};
 use std::alloc::Global;
 use std::marker::Model;
 
-/// All bytes so far, which don't end the header.
+/// All bytes so far, which don't end the header, and where reading goes on in them, where it is known.
 #[derive(Drop)]
 pub(crate) struct HeaderSoFar {
     kept: Blob,
+    resume: Option<Resume>,
 }
 
 impl Model for HeaderSoFar {
-    ghost use Rattle.std.specs.Prelude.{ℕ, List};
+    ghost use Rattle.std.specs.Prelude.{ℕ, List, IfSome};
+    ghost use Rattle.avro_feeding.specs.Resuming.{IsResume};
 
     ghost Value = { List ℕ };
 
     ghost view = { λ h. h.kept };
+
+    ghost invariant = { λ h. IfSome h.resume (IsResume h.kept) };
 }
 
 /// A whole header, and the schema that it names.
@@ -134,6 +139,7 @@ fn read(alloc: Global, bytes: Vec<u8>) -> Fed
         Ok(None) => Fed {
             state: Ok(Place::Header(HeaderSoFar {
                 kept: Blob::from_vec(bytes),
+                resume: None,
             })),
             found: None,
         },
@@ -151,17 +157,29 @@ impl HeaderSoFar {
     {
         HeaderSoFar {
             kept: Blob::new(alloc),
+            resume: None,
         }
     }
 
-    /// What a piece more makes of it.
+    /// What a piece more makes of it. Items of the metadata that are whole aren't read again until
+    /// the header is whole or at fault.
     pub(crate) fn fed(self, alloc: Global, piece: &[u8]) -> Fed
         ensures { IsFedBy (Ok (in_header self)) piece.now (summed result) }
     {
-        let mut bytes = self.kept.into_vec();
+        let HeaderSoFar { kept, resume } = self;
+        let mut bytes = kept.into_vec();
         if bytes.extend_from_slice(piece).is_err() {
             return out_of_memory(None);
         }
-        read(alloc, bytes)
+        match resumed(bytes.as_slice(), resume) {
+            None => read(alloc, bytes),
+            Some(at) => Fed {
+                state: Ok(Place::Header(HeaderSoFar {
+                    kept: Blob::from_vec(bytes),
+                    resume: Some(at),
+                })),
+                found: None,
+            },
+        }
     }
 }

@@ -4,6 +4,7 @@
 mod blocks;
 mod feeder;
 mod header;
+mod metadata;
 mod place;
 
 pub use feeder::Feeder;
