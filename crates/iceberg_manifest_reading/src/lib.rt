@@ -10,4 +10,4 @@ mod reading;
 mod scan;
 mod value;
 
-pub use reading::{entries_of, read_list, read_manifest};
+pub use reading::{container_error, entries_of, read_list, read_manifest};

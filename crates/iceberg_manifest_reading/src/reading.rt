@@ -32,7 +32,9 @@ fn value_error(error: AvroError) -> ManifestError
     }
 }
 
-fn container_error(error: ContainerError) -> ManifestError
+/// The error of bytes that are no container: `Codec` where it is compressed, `Limit` where it has too
+/// many Avro values, and else `Malformed`.
+pub fn container_error(error: ContainerError) -> ManifestError
     ensures { result ≡ container_error_of error }
 {
     match error {

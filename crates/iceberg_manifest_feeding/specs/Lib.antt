@@ -1,0 +1,4 @@
+pub mod Feeding
+pub mod Order
+pub mod Laws
+pub mod Steps
