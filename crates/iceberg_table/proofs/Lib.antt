@@ -11,3 +11,4 @@ pub mod ListLaws
 pub mod LiveLaws
 pub mod SnapshotLaws
 pub mod PlanLaws
+pub mod PieceLaws

@@ -1,18 +1,17 @@
 -- What is read of a manifest, from its bytes.
-use Rattle.std.proofs.Common.{◌≡◌, ◌≢◌, ◌⊎◌, [], pos, ℕ, ◌+◌, List, length, Result, Ok, Err, Some, refl, sym, ap, subst, ◌∙◌, inl, inr, ⊎_elim}
-use Rattle.std.specs.Prelude.{IfOk, IfErr, MatchResult}
+use Rattle.std.proofs.Common.{◌≡◌, ◌≢◌, ◌⊎◌, [], pos, ℕ, ◌-◌, ◌^◌, ◌<◌, ◌≤◌, List, length, Result, Ok, Err, Some, refl, sym, subst, ◌∙◌, inl, inr, ⊎_elim, arith}
+use Rattle.std.specs.Prelude.{IfOk, IfErr}
 use Rattle.lake_basics.specs.declared.outcome.ReadError.{ReadError}
 use Rattle.lake_basics.specs.declared.outcome.ReadError.TheVariants as read
+use Rattle.lake_basics.specs.declared.limits.TheConstants.{MAX_FILE_BYTES}
 use Rattle.lake_store.specs.Disk.{Files}
-use Rattle.avro_value.specs.declared.api.TheConstants.{MAX_VALUES}
-use Rattle.iceberg_manifest.specs.Containers.{IsRefusedBy}
 use Rattle.iceberg_manifest.specs.Entry.{EntryData}
 use Rattle.iceberg_live.specs.LiveRows.{AreLiveRows}
-use Rattle.iceberg_manifest.specs.Scans.{entries_of}
 use Rattle.iceberg_manifest.specs.declared.error.ManifestError.{ManifestError}
 use Rattle.iceberg_manifest.specs.declared.error.ManifestError.TheVariants as manifest
 use Rattle.iceberg_live.specs.declared.live.LiveRow.{LiveRow}
 use Rattle.iceberg_manifest.specs.declared.partition.PartColumn.{PartColumn}
+use Rattle.iceberg_manifest_feeding.specs.Order.{IsRefusedInOrder}
 use Rattle.table_history.specs.First.{IsFirst, NoneOf}
 use Rattle.iceberg_ancestry.specs.Ancestry.{FormsCycle}
 use Rattle.iceberg_metadata.specs.Reading.{HasCause, IsRead, causes}
@@ -23,7 +22,7 @@ use Rattle.iceberg_table.specs.Errors.{IsFault, manifest_fault, metadata_fault}
 use Rattle.iceberg_table.specs.Refusals.{IsMetadataFault}
 use Rattle.iceberg_table.specs.Files.{HoldsFile}
 use Rattle.iceberg_table.specs.Kinds.{FitLive}
-use Rattle.iceberg_table.specs.Manifests.{AreEntries, HasEntries, IsContent, IsEntriesFault, IsManifestFault, IsManifestOf, SaysManifest}
+use Rattle.iceberg_table.specs.Manifests.{AreEntries, HasEntries, IsContent, IsEntriesFault, IsManifestFault, IsManifestOf}
 use Rattle.iceberg_table.specs.declared.error.Fault.{Fault}
 use Rattle.iceberg_table.specs.declared.list.ManifestFile.{ManifestFile}
 use Rattle.iceberg_table.specs.declared.manifest.Content.{Content}
@@ -56,11 +55,15 @@ module _ (location : List ℕ) (columns : List PartColumn) (file : ManifestFile)
   content_refused before (Ok c) refused = tt
   content_refused before (Err e) refused = fault_further (IsEntriesFault location file before entries) (IsManifestFault location columns before file bytes) e (λ f shows. inr (entries, are, shows)) refused
 
-pub bytes_refused : (location : List ℕ) (columns : List PartColumn) (file : ManifestFile) (before : ℕ) (bytes : List ℕ) (e : ManifestError) → (e ≡ manifest.Memory) ⊎ IsRefusedBy MAX_VALUES (entries_of columns) bytes e
+pub bytes_refused : (location : List ℕ) (columns : List PartColumn) (file : ManifestFile) (before : ℕ) (bytes : List ℕ) (e : ManifestError) → (e ≡ manifest.Memory) ⊎ IsRefusedInOrder columns bytes e
     → IsFault (IsManifestFault location columns before file bytes) (manifest_fault e)
 bytes_refused location columns file before bytes e is =
-    fault_further (λ f. (d : ManifestError) × IsRefusedBy MAX_VALUES (entries_of columns) bytes d × (manifest_fault d ≡ read.Fault f)) (IsManifestFault location columns before file bytes) (manifest_fault e) (λ f shows. inl shows)
-    (fault_by (IsRefusedBy MAX_VALUES (entries_of columns) bytes) e is)
+    fault_further (λ f. (d : ManifestError) × IsRefusedInOrder columns bytes d × (manifest_fault d ≡ read.Fault f)) (IsManifestFault location columns before file bytes) (manifest_fault e) (λ f shows. inl shows)
+    (fault_by (IsRefusedInOrder columns bytes) e is)
+
+-- The bytes of a file that is read can be counted.
+pub counted : (bytes : List ℕ) → length bytes ≤ MAX_FILE_BYTES → length bytes < 2 ^ 64 - 1
+counted bytes short = omega (arith, short)
 
 some_once : (a b : List ℕ) → Some a ≡ Some b → a ≡ b
 some_once a b is = cc is

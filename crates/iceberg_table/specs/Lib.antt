@@ -8,6 +8,7 @@ pub mod Kinds
 pub mod Once
 pub mod Counted
 pub mod Manifests
+pub mod Pieces
 pub mod Tables
 pub mod Snapshots
 pub mod Refusals

@@ -1,19 +1,21 @@
 -- What the manifests of a list say (Iceberg specification, "Manifests").
-use Rattle.std.specs.Prelude.{◌≡◌, ◌≢◌, ◌⊎◌, ◌<◌, ◌≤◌, ◌+◌, ℕ, pos, List, [], ◌∷◌, ◌++◌, length}
-use Rattle.lake_basics.specs.declared.limits.TheConstants.{MAX_ACTIONS}
+use Rattle.std.specs.Prelude.{◌≡◌, ◌≢◌, ◌⊎◌, ◌<◌, ◌≤◌, ◌+◌, ℕ, pos, List, [], ◌∷◌, ◌++◌, None, length, take}
+use Rattle.std.specs.FinMap as map
+use Rattle.lake_basics.specs.declared.limits.TheConstants.{MAX_ACTIONS, MAX_FILE_BYTES}
 use Rattle.lake_basics.specs.declared.outcome.ReadError.TheVariants as read
 use Rattle.lake_store.specs.Disk.{Files}
 use Rattle.avro_value.specs.declared.api.TheConstants.{MAX_VALUES}
 use Rattle.table_history.specs.Rows.{HasDistinctPaths}
 use Rattle.table_history.specs.declared.limit.LimitKind.TheVariants.{Actions}
-use Rattle.iceberg_manifest.specs.Containers.{StandsFor, IsRefusedBy}
+use Rattle.iceberg_manifest.specs.Containers.{StandsFor}
 use Rattle.iceberg_manifest.specs.Entry.{EntryData}
 use Rattle.iceberg_live.specs.LiveRows.{AreLiveRows, IsFirstFault}
 use Rattle.iceberg_manifest.specs.Scans.{entries_of}
 use Rattle.iceberg_manifest.specs.declared.error.ManifestError.{ManifestError}
 use Rattle.iceberg_live.specs.declared.live.LiveRow.{LiveRow}
 use Rattle.iceberg_manifest.specs.declared.partition.PartColumn.{PartColumn}
-use Rattle.iceberg_table.specs.Errors.{IsFileFault, IsTold, manifest_fault}
+use Rattle.iceberg_manifest_feeding.specs.Order.{IsFaultWithin, IsRefusedInOrder}
+use Rattle.iceberg_table.specs.Errors.{IsTold, manifest_fault}
 use Rattle.iceberg_table.specs.Files.{HoldsFile}
 use Rattle.iceberg_table.specs.Once.{counted_before, entries_once}
 use Rattle.iceberg_table.specs.Order.{Stops, StopsAt}
@@ -21,6 +23,7 @@ use Rattle.iceberg_table.specs.Tables.{AreShared, rows_in, rows_of}
 use Rattle.iceberg_table.specs.declared.error.Fault.{Fault}
 use Rattle.iceberg_table.specs.declared.error.Fault.TheVariants as fault
 use Rattle.iceberg_table.specs.declared.error.IcebergError.{IcebergError}
+use Rattle.iceberg_table.specs.declared.error.IcebergError.TheVariants as error
 use Rattle.iceberg_table.specs.declared.list.ManifestFile.{ManifestFile}
 use Rattle.iceberg_table.specs.declared.manifest.Content.{Content}
 use Rattle.iceberg_table.specs.declared.manifest.Manifest.{Manifest}
@@ -62,14 +65,33 @@ IsEntriesFault location file before entries f =
     ((MAX_ACTIONS < before + length entries) × (f ≡ fault.Limit Actions))
     ⊎ ((before + length entries ≤ MAX_ACTIONS) × (e : ManifestError) × IsFirstFault location file.info entries e × (manifest_fault e ≡ read.Fault f))
 
--- The bytes are no manifest, or its entries show this, behind so many of the manifests before it.
+-- The bytes are no manifest, first for this in the order of reading, or its entries show this, behind so many of the manifests before it.
 abbrev pub IsManifestFault : List ℕ → List PartColumn → ℕ → ManifestFile → List ℕ → Fault → Type 0
 IsManifestFault location columns before file bytes =
-    Stops (AreEntries columns bytes) (λ f. (e : ManifestError) × IsRefusedBy MAX_VALUES (entries_of columns) bytes e × (manifest_fault e ≡ read.Fault f)) (IsEntriesFault location file before)
+    Stops (AreEntries columns bytes) (λ f. (e : ManifestError) × IsRefusedInOrder columns bytes e × (manifest_fault e ≡ read.Fault f)) (IsEntriesFault location file before)
 
--- The manifest is refused so, behind so many entries.
+-- These bytes of a manifest, whatever follows them, show this first.
+abbrev pub IsShownWithin : List PartColumn → List ℕ → Fault → Type 0
+IsShownWithin columns bytes f = (e : ManifestError) × IsFaultWithin columns bytes e × (manifest_fault e ≡ read.Fault f)
+
+-- The manifest at this path has more bytes than are read, and these have no fault within.
+abbrev pub IsLargeManifest : Files → List PartColumn → List ℕ → Type 0
+IsLargeManifest files columns path =
+    (bytes : List ℕ) × HoldsFile files path bytes × (MAX_FILE_BYTES < length bytes) × ((e : ManifestError) → ¬ IsFaultWithin columns (take MAX_FILE_BYTES bytes) e)
+
+-- The bytes of the manifest show this. Where they are more than are read, those that are read show it.
+abbrev pub IsFaultyManifest : Files → List ℕ → List PartColumn → ℕ → ManifestFile → Fault → Type 0
+IsFaultyManifest files location columns before file f =
+    (bytes : List ℕ) × HoldsFile files file.path bytes × IsManifestFault location columns before file bytes f × (MAX_FILE_BYTES < length bytes → IsShownWithin columns (take MAX_FILE_BYTES bytes) f)
+
+-- The manifest is refused so, behind so many entries: it isn't there, it is too large, or it shows this fault.
 abbrev pub IsManifestRefusal : Files → List ℕ → List PartColumn → ℕ → ManifestFile → IcebergError → Type 0
-IsManifestRefusal files location columns before file e = IsFileFault files file.path (IsManifestFault location columns before file) e
+IsManifestRefusal files location columns before file error.Memory = ⊥
+IsManifestRefusal files location columns before file error.StoreFault = ⊥
+IsManifestRefusal files location columns before file error.ManyNames = ⊥
+IsManifestRefusal files location columns before file (error.Missing p) = (p ≡ file.path) × (map.get files file.path ≡ None)
+IsManifestRefusal files location columns before file (error.Large p) = (p ≡ file.path) × IsLargeManifest files columns file.path
+IsManifestRefusal files location columns before file (error.Refused p f) = (p ≡ file.path) × IsFaultyManifest files location columns before file f
 
 -- The manifest is read, and a live entry of it has the path of an earlier one, for which the list at this path is named.
 abbrev pub SharesFile : Files → List ℕ → List PartColumn → List ℕ → List Manifest → ManifestFile → IcebergError → Type 0

@@ -1,5 +1,5 @@
 -- What is said of an Iceberg table depends on the files in its folder of metadata alone.
-use Rattle.std.proofs.Common.{◌≡◌, ◌≢◌, ◌⊎◌, inl, inr, ℕ, pos, List, [], ◌∷◌, ◌++◌, Contains, Option, refl, sym, subst, ◌∙◌, ⊎_elim}
+use Rattle.std.proofs.Common.{◌≡◌, ◌≢◌, inl, inr, ℕ, pos, List, [], ◌∷◌, ◌++◌, Contains, Option, refl, sym, subst, ◌∙◌, ⊎_elim}
 use Rattle.std.specs.Prelude.{IsSome}
 use Rattle.std.proofs.lemmas.List.Elements.{Contains-append_left, Contains-append_right}
 use Rattle.std.specs.FinMap as map
@@ -21,7 +21,7 @@ use Rattle.iceberg_table.specs.Files.{HoldsFile, SaysMetadata}
 use Rattle.iceberg_table.specs.Errors.{IsFileFault}
 use Rattle.iceberg_table.specs.Folder.{HasVersion, metadata_folder, version_path}
 use Rattle.iceberg_table.specs.Lists.{IsListFault, IsListed, SaysList}
-use Rattle.iceberg_table.specs.Manifests.{AreManifestsRefused, HasEntries, IsManifestFault, IsManifestOf, SaysManifest, SharesFile}
+use Rattle.iceberg_table.specs.Manifests.{AreManifestsRefused, HasEntries, IsManifestOf, IsManifestRefusal, SaysManifest, SharesFile}
 use Rattle.iceberg_table.specs.Once.{counted_before}
 use Rattle.iceberg_table.specs.Plan.{part_columns}
 use Rattle.iceberg_table.specs.Refusals.{IsListedRefusal, IsMetadataFault, IsSnapshotRefusal}
@@ -77,6 +77,15 @@ module _ (a b : Files) (same : SameMetadataFiles a b) where
   fault_too path Shows (error.Missing p) within h = (h.0, same path within ∙ h.1)
   fault_too path Shows (error.Large p) within h = (h.0, h.1, holds_too path h.1 within h.2, h.3)
   fault_too path Shows (error.Refused p f) within h = (h.0, h.1, holds_too path h.1 within h.2, h.3)
+
+  -- a manifest that isn't read
+  pub manifest_refusal_too : (location : List ℕ) (columns : List PartColumn) (before : ℕ) (file : ManifestFile) (e : IcebergError) → IsIn metadata_folder file.path → IsManifestRefusal a location columns before file e → IsManifestRefusal b location columns before file e
+  manifest_refusal_too location columns before file error.Memory within h = h
+  manifest_refusal_too location columns before file error.StoreFault within h = h
+  manifest_refusal_too location columns before file error.ManyNames within h = h
+  manifest_refusal_too location columns before file (error.Missing p) within h = (h.0, same file.path within ∙ h.1)
+  manifest_refusal_too location columns before file (error.Large p) within h = (h.0, (h.1.0, holds_too file.path h.1.0 within h.1.1, h.1.2, h.1.3))
+  manifest_refusal_too location columns before file (error.Refused p f) within h = (h.0, (h.1.0, holds_too file.path h.1.0 within h.1.1, h.1.2, h.1.3))
 
   -- the newest metadata that can't be read
   pub version_refusal_too : (version : ℕ) (e : IcebergError) → IsFileFault a (version_path version) IsMetadataFault e → IsFileFault b (version_path version) IsMetadataFault e
@@ -161,7 +170,7 @@ module _ (a b : Files) (same : SameMetadataFiles a b) (location : List ℕ) (col
           h.refused.0,
           h.refused.1,
           ⊎_elim
-              (λ fault. inl (fault_too a b same h.item.path (IsManifestFault location columns (counted_before h.item.path h.found) h.item) e at fault))
+              (λ refusal. inl (manifest_refusal_too a b same location columns (counted_before h.item.path h.found) h.item e at refusal))
               (λ (shares : SharesFile a location columns path h.found h.item e). inr (shares.0, of_file_too h.item shares.0 at shares.1, shares.2, shares.3))
               h.refused.2,
         );

@@ -8,6 +8,7 @@ mod file;
 mod folder;
 mod list;
 mod manifest;
+mod pieces;
 mod plan;
 mod rows;
 mod snapshot;

@@ -1,27 +1,31 @@
 //! The manifests of a snapshot.
 
-ghost use Rattle.std.specs.Prelude.{◌≡◌, ◌≤◌, ◌+◌, [], length, IfErr, IfOk, IsErrOf};
-ghost use Rattle.lake_basics.specs.declared.limits.TheConstants.{MAX_ACTIONS};
+ghost use Rattle.std.specs.Prelude.{◌≡◌, ◌≤◌, ◌+◌, ℕ, List, [], length, IfErr, IfOk, IsErrOf, OnOk};
+ghost use Rattle.lake_basics.specs.declared.limits.TheConstants.{MAX_ACTIONS, MAX_FILE_BYTES};
 ghost use Rattle.lake_store.specs.Runs.{FailsBy, IsUncontestedBy, OnlyReads};
 ghost use Rattle.iceberg_manifest.specs.Lists.{AreEach};
-ghost use Rattle.iceberg_table.specs.Errors.{IsFault, IsFileFault, IsRefusal};
+ghost use Rattle.iceberg_manifest_feeding.specs.Feeding.{HasRead, so_far};
+ghost use Rattle.iceberg_table.specs.Errors.{IsFault, IsRefusal};
+ghost use Rattle.iceberg_table.specs.Files.{HoldsShortFile};
 ghost use Rattle.iceberg_live.specs.LiveRows.{AreLiveRows};
 ghost use Rattle.iceberg_table.specs.Kinds.{FitLive, FitRows};
 ghost use Rattle.iceberg_table.specs.Lists.{HaveContents};
 ghost use Rattle.iceberg_table.specs.Manifests.{AreManifestsRefused, HasEntries, IsContent, IsEntriesFault, IsManifestFault, IsManifestOf, IsManifestRefusal};
 ghost use Rattle.iceberg_table.specs.Once.{entries_once};
+ghost use Rattle.iceberg_table.specs.Pieces.{HasReadSome};
 ghost use Rattle.iceberg_table.specs.Tables.{AreOfContents, IsTableOfRows, TakeNoDeletes, TakesNoDeletes, rows_of};
 ghost use Rattle.iceberg_table.specs.declared.error.IcebergError.TheVariants.{StoreFault};
 
 use crate::counted::Counted;
 use crate::error::{Fault, IcebergError, manifest_fault};
-use crate::file::{read_file, refusal};
+use crate::file::refusal;
 use crate::list::ManifestFile;
+use crate::pieces::read_whole;
 use crate::rows::joined;
 use crate::snapshot::SnapshotTable;
 use iceberg_live::{Rows, live_rows};
 use iceberg_manifest::{Entries, PartColumn};
-use iceberg_manifest_reading::read_manifest;
+use iceberg_manifest_feeding::ManifestFeeder;
 use lake_basics::limits::MAX_ACTIONS;
 use lake_basics::{Items, ReadError, Text};
 use lake_store::Store;
@@ -75,29 +79,33 @@ fn content_of(
     }
 }
 
-/// What the bytes of a manifest give, behind the entries of the manifests before it.
+/// What a manifest that was fed gives at its end, behind the entries of the manifests before it.
 fn content_in(
     alloc: Global,
     location: &str,
     columns: &[PartColumn],
     file: &ManifestFile,
     before: u64,
-    bytes: &[u8],
+    feeder: ManifestFeeder,
 ) -> Result<Content, ReadError<Fault>>
     requires { before ≤ MAX_ACTIONS }
-    ensures found { IfOk result (IsContent location.now columns.now file.now bytes.now) }
-    ensures fit { IfOk result (λ c. FitLive columns.now c.rows) }
+    ensures found { (bytes : List ℕ) → HasRead columns.now bytes (so_far feeder)
+        → length bytes ≤ MAX_FILE_BYTES
+        → IfOk result (IsContent location.now columns.now file.now bytes) }
+    ensures fit { HasReadSome columns.now feeder → IfOk result (λ c. FitLive columns.now c.rows) }
     ensures within { IfOk result (λ c. before + c.entries ≤ MAX_ACTIONS) }
-    ensures refused { IfErr result
-        (IsFault (IsManifestFault location.now columns.now before file.now bytes.now)) }
+    ensures refused { (bytes : List ℕ) → HasRead columns.now bytes (so_far feeder)
+        → length bytes ≤ MAX_FILE_BYTES
+        → IfErr result (IsFault (IsManifestFault location.now columns.now before file.now bytes)) }
 {
-    match read_manifest(alloc, bytes, columns) {
+    match feeder.finish(columns) {
         Ok(entries) => content_of(alloc, location, file, before, &entries),
         Err(error) => Err(manifest_fault(error)),
     }
 }
 
-/// The entries and live rows of a manifest, behind the entries of the manifests before it.
+/// The entries and live rows of a manifest, behind the entries of the manifests before it. Its file is
+/// read in pieces.
 fn read_entries<S: Store>(
     alloc: Global,
     store: &mut S,
@@ -110,17 +118,17 @@ fn read_entries<S: Store>(
     ensures file { IfOk result (λ r. r.file ≡ file) }
     ensures entries { S.tells
         → IfOk result (HasEntries (S.disk store.old).files location.now columns.now) }
+    ensures short { S.tells → OnOk result (HoldsShortFile (S.disk store.old).files file.path) }
     ensures fit { IfOk result (λ r. FitLive columns.now r.rows) }
     ensures within { IfOk result (λ r. before + r.entries ≤ MAX_ACTIONS) }
     ensures refused { S.tells → IfErr result (IsRefusal
-        (IsFileFault (S.disk store.old).files file.path
-        (IsManifestFault location.now columns.now before file))) }
+        (IsManifestRefusal (S.disk store.old).files location.now columns.now before file)) }
     ensures only_reads { S.tells → OnlyReads ⟦<S as Store>⟧ store.old store.new }
     ensures cause { FailsBy ⟦<S as Store>⟧ store.old store.new (IsErrOf result StoreFault) }
     ensures contest { IsUncontestedBy ⟦<S as Store>⟧ store.old store.new ⊥ }
 {
-    let bytes = read_file(alloc, store, &file.path)?;
-    match content_in(alloc, location, columns, &file, before, bytes.as_slice()) {
+    let feeder = read_whole(alloc, store, columns, &file.path)?;
+    match content_in(alloc, location, columns, &file, before, feeder) {
         Ok(Content { entries, rows }) => Ok(Manifest {
             file,
             entries,
@@ -145,6 +153,8 @@ pub fn read_manifest_file<S: Store>(
     ensures found { S.tells
         → IfOk result (IsManifestOf (S.disk store.old).files location.now columns.now file) }
     ensures file { IfOk result (λ r. r.file ≡ file) }
+    // A manifest that is given has no more bytes than are read of a file.
+    ensures short { S.tells → OnOk result (HoldsShortFile (S.disk store.old).files file.path) }
     ensures fit { IfOk result (λ r. FitLive columns.now r.rows) }
     ensures no_deletes { IfOk result TakesNoDeletes }
     ensures within { IfOk result (λ r. before + r.entries ≤ MAX_ACTIONS) }

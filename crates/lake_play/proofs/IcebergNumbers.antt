@@ -19,11 +19,12 @@ use Rattle.table_history.proofs.RowListLemmas.{Contains-head}
 use Rattle.avro_value.specs.declared.api.TheConstants.{MAX_VALUES}
 use Rattle.iceberg_manifest.specs.Entry.{EntryData, is_live}
 use Rattle.iceberg_manifest.specs.Lists.{AreEach}
-use Rattle.iceberg_manifest.specs.Scans.{entries_of, infos_of}
+use Rattle.iceberg_manifest.specs.Scans.{infos_of}
 use Rattle.iceberg_manifest.specs.declared.error.ManifestError.{ManifestError}
 use Rattle.iceberg_manifest.specs.declared.error.ManifestError.TheVariants as manifest
 use Rattle.iceberg_manifest.specs.declared.info.ManifestInfo.{ManifestInfo}
 use Rattle.iceberg_manifest.specs.declared.partition.PartColumn.{PartColumn}
+use Rattle.iceberg_manifest_feeding.proofs.OrderLaws.{read_or_refused}
 use Rattle.iceberg_live.specs.Live.{IsRowOf}
 use Rattle.iceberg_live.specs.LiveRows.{HasFault, IsFirstFault}
 use Rattle.iceberg_live.specs.declared.live.LiveRow.{LiveRow}
@@ -52,6 +53,7 @@ use Rattle.iceberg_table.specs.declared.plan.Plan.{Plan}
 use Rattle.iceberg_table.proofs.CountLaws.{count_one, once_more}
 use Rattle.iceberg_table.proofs.EachLaws.{each_of}
 use Rattle.iceberg_table.proofs.ManifestLaws.{held_once}
+use Rattle.iceberg_table.proofs.PieceLaws.{as_file_fault}
 use Rattle.target_core.specs.Views.{View}
 use Rattle.target_iceberg.specs.FaultLemmas.{plan_or_fault, row_or_fault, stop_in}
 use Rattle.target_iceberg.specs.Inspecting.{IsCrowded, IsRefusedSnapshot, IsRefusedVersion, TellsNumber}
@@ -149,7 +151,7 @@ module _ (files : Files) (location : List ℕ) (columns : List PartColumn) (file
           here = subst (λ (bs : List ℕ). AreEntries columns bs h.entries) (held_once files file.path h.says.bytes bytes h.says.holds holds) h.says.are
 
           shown : IsManifestFault location columns before file bytes (fault.Limit limit) → (MAX_ACTIONS < before + r.entries) × (limit ≡ Actions)
-          shown (inl (e, refused, told)) = absurd (once.stands_or_refused MAX_VALUES (entries_of columns) bytes h.entries e here refused)
+          shown (inl (e, refused, told)) = absurd (read_or_refused columns bytes h.entries e here refused)
           shown (inr (others, says, inl (many, told))) =
               let same = ap (λ (es : List EntryData). length es) (once.entries_once columns bytes others h.entries says here) in
               let count = h.count in
@@ -237,7 +239,7 @@ module _ (files : Files) (m : Metadata) (current : SaysCurrent files m) (which :
   ShownBy item found = IsManifestFault m.location columns (counted_before item.path found) item
 
   refused_at : (item : ManifestFile) (found : List Manifest) (r : Manifest) (rest : List Manifest) (e : IcebergError) → current.manifests ≡ found ++ r ∷ rest → Contains current.list item → Of item r → IsManifestRefusal files m.location columns (counted_before item.path found) item e → TellsNumber e which number → Past
-  refused_at item found r rest e split there of refused tells = by (told files item.path at.0 (ShownBy item found) which number e at.1 refused tells)
+  refused_at item found r rest e split there of refused tells = by (told files item.path at.0 (ShownBy item found) which number e at.1 (as_file_fault files m.location columns (counted_before item.path found) item e refused) tells)
     where
       at : (bytes : List ℕ) × HoldsFile files item.path bytes
       at = bytes_of files m.location columns item r of

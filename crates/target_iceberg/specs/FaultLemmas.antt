@@ -16,12 +16,13 @@ use Rattle.iceberg_manifest.specs.Entry.{is_live}
 use Rattle.iceberg_live.specs.LiveRows.{AreLiveRows, HasFault, IsFirstFault, LacksNumber}
 use Rattle.iceberg_metadata.specs.Location.{front_of}
 use Rattle.iceberg_live.specs.MetadataPaths.{HasPathFault, IsMetadataPath}
-use Rattle.iceberg_manifest.specs.Scans.{entries_of, infos_of}
+use Rattle.iceberg_manifest.specs.Scans.{infos_of}
 use Rattle.iceberg_manifest.specs.declared.error.ManifestError.{ManifestError}
 use Rattle.iceberg_manifest.specs.declared.error.ManifestError.TheVariants as manifest
 use Rattle.iceberg_manifest.specs.declared.info.ManifestInfo.{ManifestInfo}
 use Rattle.iceberg_live.specs.declared.live.LiveRow.{LiveRow}
 use Rattle.iceberg_manifest.specs.declared.partition.PartColumn.{PartColumn}
+use Rattle.iceberg_manifest_feeding.proofs.OrderLaws.{read_or_refused}
 use Rattle.iceberg_ancestry.specs.Ancestry.{FormsCycle}
 use Rattle.iceberg_metadata.specs.Reading.{HasCause, causes}
 use Rattle.iceberg_metadata.specs.Schemas.{HeldSchema}
@@ -47,6 +48,7 @@ use Rattle.iceberg_table.specs.declared.manifest.Manifest.{Manifest}
 use Rattle.iceberg_table.specs.declared.plan.Plan.{Plan}
 use Rattle.iceberg_table.proofs.EachLaws.{each_of}
 use Rattle.iceberg_table.proofs.ManifestLaws.{held_once}
+use Rattle.iceberg_table.proofs.PieceLaws.{as_file_fault}
 use Rattle.iceberg_table.proofs.RowLaws.{distinct_front}
 use Rattle.target_iceberg.specs.Inspecting.{faulty_path}
 use Rattle.target_iceberg.specs.OnceLemmas.{entries_once, none_or_some, ok_once, ok_or_err, read_once, rows_once, some_once, stands_or_refused}
@@ -181,17 +183,21 @@ live_or_fault location info entries rows e are first =
 
 entries_or_fault : (location : List ℕ) (columns : List PartColumn) (before : ℕ) (file : ManifestFile) (bytes : List ℕ) (entries : List EntryData) (rows : List LiveRow) (f : Fault) → IsOfFile f → AreEntries columns bytes entries → AreLiveRows location file.info entries rows
     → IsManifestFault location columns before file bytes f → ⊥
-entries_or_fault location columns before file bytes entries rows f of_file are live (inl (e, refused, told)) = stands_or_refused MAX_VALUES (entries_of columns) bytes entries e are refused
+entries_or_fault location columns before file bytes entries rows f of_file are live (inl (e, refused, told)) = read_or_refused columns bytes entries e are refused
 entries_or_fault location columns before file bytes entries rows f of_file are live (inr (others, says, inl (many, told))) = subst IsOfFile told of_file
 entries_or_fault location columns before file bytes entries rows f of_file are live (inr (others, says, inr (few, e, first, told))) =
     let same : others ≡ entries = entries_once columns bytes others entries says are in
     live_or_fault location file.info entries rows e live (subst (λ (es : List EntryData). IsFirstFault location file.info es e) same first)
 
+-- The path that is told of a manifest's refusal is the manifest's.
+pub manifest_told : (files : Files) (location : List ℕ) (columns : List PartColumn) (before : ℕ) (file : ManifestFile) (e : IcebergError) (told : List ℕ) → IsManifestRefusal files location columns before file e → faulty_path e ≡ Some told → told ≡ file.path
+manifest_told files location columns before file e told refusal is = file_told files file.path told (IsManifestFault location columns before file) e (as_file_fault files location columns before file e refusal) is
+
 module _ (files : Files) (location : List ℕ) (columns : List PartColumn) (before : ℕ) (file : ManifestFile) (told : List ℕ) (e : IcebergError) where
   has_or_fault : (n : ℕ) (rows : List LiveRow) → HasEntries files location columns (record { file = file; entries = n; rows = rows }) → IsManifestRefusal files location columns before file e → faulty_path e ≡ Some told → ⊥
   has_or_fault n rows h fault is =
       shows_none files file.path h.says.bytes told (IsManifestFault location columns before file) e h.says.holds
-      (λ f of_file shows. entries_or_fault location columns before file h.says.bytes h.entries rows f of_file h.says.are h.rows shows) fault is
+      (λ f of_file shows. entries_or_fault location columns before file h.says.bytes h.entries rows f of_file h.says.are h.rows shows) (as_file_fault files location columns before file e fault) is
 
   pub manifest_or_fault : (r : Manifest) → IsManifestOf files location columns file r → IsManifestRefusal files location columns before file e → faulty_path e ≡ Some told → ⊥
   manifest_or_fault r (same, inl (zero, h)) fault is = has_or_fault r.entries r.rows (subst (λ (f : ManifestFile). HasEntries files location columns (record { file = f; entries = r.entries; rows = r.rows })) same h) fault is

@@ -17,7 +17,7 @@ use Rattle.iceberg_metadata.specs.declared.metadata.Snapshot.{Snapshot}
 use Rattle.iceberg_table.specs.Files.{SaysMetadata}
 use Rattle.iceberg_table.specs.Folder.{HasVersion, IsNewest, path_of, version_path}
 use Rattle.iceberg_table.specs.Lists.{IsListFault, SaysList}
-use Rattle.iceberg_table.specs.Manifests.{AreManifestsRefused, IsManifestFault, IsManifestOf, IsManifestRefusal, SharesFile}
+use Rattle.iceberg_table.specs.Manifests.{AreManifestsRefused, IsManifestOf, IsManifestRefusal, SharesFile}
 use Rattle.iceberg_table.specs.Once.{counted_before}
 use Rattle.iceberg_table.specs.Plan.{IsPlanFault, part_columns}
 use Rattle.iceberg_table.specs.Refusals.{IsListedRefusal, IsMetadataFault, IsSnapshotRefusal}
@@ -30,7 +30,7 @@ use Rattle.iceberg_table.specs.declared.plan.Plan.{Plan}
 use Rattle.target_core.specs.Views.{IsOfSource, IsUnpublished, Standing, View}
 use Rattle.target_iceberg.specs.Inspecting.{HasForm, IsFirstStray, IsForeign, IsNewestRead, IsNotOurs, IsOfThis, IsRefusedSnapshot, IsRefusedVersion, faulty_path}
 use Rattle.target_iceberg.specs.Reading.{IsAbsent, IsCurrent, IsOurs, Reads, SaysSnapshot}
-use Rattle.target_iceberg.specs.FaultLemmas.{IsOfFile, file_told, list_or_fault, manifest_or_fault, plan_or_fault, shares_none, told_at, told_none, version_or_fault}
+use Rattle.target_iceberg.specs.FaultLemmas.{IsOfFile, file_told, list_or_fault, manifest_or_fault, manifest_told, plan_or_fault, shares_none, told_at, told_none, version_or_fault}
 use Rattle.target_iceberg.specs.OnceLemmas.{current_once, list_once, manifest_once, manifests_once, metadata_once, newest_once, plan_once, some_once}
 use Rattle.target_iceberg.specs.ViewLemmas.{never_ours}
 
@@ -110,7 +110,7 @@ module _ (files : Files) (location : List ℕ) (columns : List PartColumn) (path
     -- The one that is refused is told by its own path, or by that of the list.
     at_item : (a b : List Manifest) (item : ManifestFile) (d e : IcebergError) (p q : List ℕ) → IsManifestRefusal files location columns (counted_before item.path a) item d ⊎ SharesFile files location columns path a item d → IsManifestRefusal files location columns (counted_before item.path b) item e ⊎ SharesFile files location columns path b item e
         → faulty_path d ≡ Some p → faulty_path e ≡ Some q → p ≡ q
-    at_item a b item d e p q (inl x) (inl y) told too = file_told files item.path p (IsManifestFault location columns (counted_before item.path a) item) d x told ∙ sym (file_told files item.path q (IsManifestFault location columns (counted_before item.path b) item) e y too)
+    at_item a b item d e p q (inl x) (inl y) told too = manifest_told files location columns (counted_before item.path a) item d p x told ∙ sym (manifest_told files location columns (counted_before item.path b) item e q y too)
     at_item a b item d e p q (inl x) (inr y) told too = absurd (manifest_or_fault files location columns (counted_before item.path a) item p d y.0 y.1 x told)
     at_item a b item d e p q (inr x) (inl y) told too = absurd (manifest_or_fault files location columns (counted_before item.path b) item q e x.0 x.1 y too)
     at_item a b item d e p q (inr x) (inr y) told too = told_at path p (AreShared (rows_of a ++ rows_in x.0.rows)) d x.3 told ∙ sym (told_at path q (AreShared (rows_of b ++ rows_in y.0.rows)) e y.3 too)
