@@ -1,3 +1,3 @@
 pub mod Fronts
-pub mod NoFloats
+pub mod RowTexts
 pub mod Widths

@@ -15,7 +15,7 @@ fn printed(byte: u8) -> u8
 pub fn line_of_text(alloc: Global, text: &str) -> Result<Vec<u8>, AllocError>
     ensures { IfOk result (λ bytes. bytes.items ≡ line text.now) }
 {
-    let mut out = Vec::new(alloc);
+    let mut out = Vec::with_capacity(alloc, text.len().saturating_add(1))?;
     for byte in text.as_bytes() {
         out.push(printed(*byte))?;
     }

@@ -1,13 +1,18 @@
-use Rattle.std.proofs.Common.{◌≡◌, List, ℕ, ap, ◌∙◌, subst}
-use Rattle.std.specs.Prelude.{IfOk}
-use Rattle.serde_json.specs.Written.{compact_text, has_float}
-use Rattle.table_lines.specs.Lines.{line}
+use Rattle.std.proofs.Common.{◌++◌, ◌∷◌, [], List, ℕ, sym, ap, ◌∙◌}
+use Rattle.json.specs.Print.{print}
+use Rattle.json.specs.Token.{Token}
+use Rattle.json.specs.Tree.{json_tokens}
+use Rattle.serde_json.specs.Written.{outline}
+use Rattle.serde_json.proofs.Texts.{print-outline}
 use Rattle.table_lines.specs.TableLines.{row_data}
-use Rattle.table_lines.proofs.NoFloats.{plain_row}
+use Rattle.table_lines.proofs.RowTexts.{shown-row}
 use Rattle.table_lines.proofs.row.row_line.Goals as goal
 
 pub returns : goal.returns
 returns c =
-    let json = c.in_ok-json.ensures in
-    let text : c.as_str.result.now ≡ compact_text (row_data c.args.row.now) = c.as_str.ensures.value ∙ c.in_ok-text.ensures.text (ap has_float json ∙ plain_row c.args.row.now) ∙ ap compact_text json in
-    subst (λ (t : List ℕ). IfOk c.line_of_text.result (λ bytes. bytes.items ≡ line t)) text c.line_of_text.ensures
+    let row = c.args.row.now in
+    let before = c.in_ok-write_row.ensures.before ∙ c.new-out.ensures.before ∙ c.in_ok-room.ensures.items in
+    let tokens = c.in_ok-write_row.ensures.tokens ∙ ap (λ (ts : List Token). ts ++ json_tokens (outline (row_data row))) c.new-out.ensures.tokens in
+    let text = ap print tokens ∙ print-outline (row_data row) ∙ sym (shown-row row) in
+    c.in_ok-push.ensures.items
+    ∙ ap (λ (l : List ℕ). l ++ 10 ∷ []) (c.into_inner-line.ensures.items ∙ ap (λ (l : List ℕ). l ++ print c.write_row.new.out.tokens) before ∙ text)
