@@ -79,8 +79,7 @@ pub fn read_whole<R: Files>(rt: &R, alloc: Global, path: &str) -> io::Result<Fou
     let Some(file) = open_at(rt, path)? else {
         return Ok(Found::Absent);
     };
-    let mut bytes = Vec::with_capacity(alloc, length as usize)?;
-    file.take(MAX_FILE_BYTES + 1).read_to_end(&mut bytes)?;
+    let bytes = read_rest(file, alloc, length, MAX_FILE_BYTES + 1)?;
     // It may have grown in between.
     let length = bytes.len() as u64;
     if length > MAX_FILE_BYTES {
@@ -105,13 +104,56 @@ pub fn read_range<R: Files>(
     let Some(mut file) = open_at(rt, path)? else {
         return Ok(None);
     };
-    let mut bytes = Vec::new(alloc);
-    if from < metadata.len() {
-        file.seek(SeekFrom::Start(from))?;
-        file.take(u64::from(len)).read_to_end(&mut bytes)?;
+    let length = metadata.len();
+    if from >= length {
+        return Ok(Some(Vec::new(alloc)));
     }
-    bytes.truncate(len as usize);
-    Ok(Some(bytes))
+    file.seek(SeekFrom::Start(from))?;
+    let part = read_rest(file, alloc, length - from, u64::from(len))?;
+    Ok(Some(part))
+}
+
+// The bytes of the file from where it stands on, at most `limit` of them. So many more stood there when its length
+// was asked for, and that may have changed since.
+fn read_rest<F: Read + Drop>(
+    mut file: F,
+    alloc: Global,
+    stood: u64,
+    limit: u64,
+) -> io::Result<Vec<u8>>
+    ensures { IfOk result (λ bytes. vec_len bytes ≤ limit) }
+{
+    // One byte more than stood there, so that the end of the file is met in the same memory.
+    let room = stood.saturating_add(1).min(limit);
+    let mut bytes = vec![in alloc; 0; room as usize]?;
+    let count = fill(&mut file, bytes.as_mut_slice())?;
+    bytes.truncate(count);
+    // A file that has grown goes on behind that.
+    if count as u64 == room && room < limit {
+        file.take(limit - room).read_to_end(&mut bytes)?;
+        bytes.truncate(limit as usize);
+    }
+    Ok(bytes)
+}
+
+// Reads until the buffer is full or the file ends, and answers how many bytes came. A read that a signal interrupts is
+// made again.
+fn fill<F: Read>(file: &mut F, buffer: &mut [u8]) -> io::Result<usize>
+    ensures { IfOk result (λ count. count ≤ length buffer.new) }
+{
+    let mut filled = 0;
+    'reads: for _ in 0..u64::MAX {
+        if filled == buffer.len() {
+            return Ok(filled);
+        }
+        match file.read(&mut buffer[filled..]) {
+            Ok(0) => return Ok(filled),
+            Ok(count) => filled += count,
+            Err(error) if error.kind() == ErrorKind::Interrupted => {}
+            Err(error) => return Err(error),
+        }
+    }
+    Err(io::Error::from(ErrorKind::TimedOut))
 }
 
 /// The names of the files directly in the folder, in byte order. One that isn't UTF-8 is left out.
