@@ -8,7 +8,8 @@
 //!
 //! `CALL answers ERROR` has each such call of the store answer this error from then on, by its name of the system's,
 //! `CALL works` has it work again, and `lists begin with HEX` has each list of a folder begin with these names, each
-//! ended by a NUL.
+//! ended by a NUL. `looks see PATH` has each look at a path see what is at this one, and `reads bring COUNT bytes` has
+//! each read bring at most so many, where every other one is interrupted.
 //!
 //! `reading PATH` and `writing PATH` give a new store over a folder. Steps on the store show the calls of the system
 //! that change something or make it durable, or that failed, in order, and then the answer: `list PATH`, `read PATH`,

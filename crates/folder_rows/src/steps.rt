@@ -144,6 +144,8 @@ impl<'a> FolderSteps<'a> {
             "reading" => self.change_store(rest, Access::Reads),
             "writing" => self.change_store(rest, Access::Writes),
             "lists" => self.on_lists(rest, shown),
+            "looks" => self.on_looks(rest, shown),
+            "reads" => self.on_reads(rest, shown),
             "held" => show_held(self.alloc(), shown),
             "put" => self.put(rest, shown),
             "run" => self.on_run(rest, shown),
@@ -168,6 +170,27 @@ impl<'a> FolderSteps<'a> {
             }
             None => show_no_step(shown),
         }
+    }
+
+    fn on_looks(&mut self, words: &str, shown: &mut String) -> Result<(), AllocError> {
+        let Some(path) = words.strip_prefix("see ") else {
+            return show_no_step(shown);
+        };
+        let path = path.to_string(self.alloc())?;
+        if let Ok(mut watch) = self.watch.try_borrow_mut() {
+            watch.seen = Some(path);
+        }
+        Ok(())
+    }
+
+    fn on_reads(&mut self, words: &str, shown: &mut String) -> Result<(), AllocError> {
+        let Some(most) = count_of(words) else {
+            return show_no_step(shown);
+        };
+        if let Ok(mut watch) = self.watch.try_borrow_mut() {
+            watch.most_read = Some(most);
+        }
+        Ok(())
     }
 
     fn put(&mut self, text: &str, shown: &mut String) -> Result<(), AllocError> {
@@ -198,6 +221,12 @@ impl<'a> FolderSteps<'a> {
             _ => show_clock_at(self.alloc(), words, shown),
         }
     }
+}
+
+/// How many bytes a read is to bring at most.
+fn count_of(words: &str) -> Option<usize> {
+    let count = words.strip_prefix("bring ")?.strip_suffix(" bytes")?;
+    count.parse::<usize>().ok()
 }
 
 impl<'a> Steps for FolderSteps<'a> {

@@ -1,4 +1,6 @@
 //! What is noted of the calls of the system, and the errors that they are told to answer.
+ghost use Rattle.std.specs.Prelude.{◌≤◌, IfOk};
+
 use std::alloc::{AllocError, Global};
 use std::cell::RefCell;
 use std::io::{self, ErrorKind};
@@ -106,6 +108,11 @@ pub(crate) struct Watch {
     pub told: Option<Told>,
     /// The names that each list of a folder gives before its own, each ended by a NUL.
     pub listed_before: Vec<u8>,
+    /// The path that each look at one sees.
+    pub seen: Option<String>,
+    /// How many bytes a read brings at most, where every other one is interrupted.
+    pub most_read: Option<usize>,
+    interrupted: bool,
 }
 
 impl Watch {
@@ -114,6 +121,9 @@ impl Watch {
             noted: String::new(alloc),
             told: None,
             listed_before: Vec::new(alloc),
+            seen: None,
+            most_read: None,
+            interrupted: false,
         }
     }
 
@@ -122,6 +132,24 @@ impl Watch {
         self.noted.clear();
         self.told = None;
         self.listed_before.clear();
+        self.seen = None;
+        self.most_read = None;
+        self.interrupted = false;
+    }
+
+    // How many bytes a read of so many brings at most. Every other one is interrupted, where they are to be short.
+    fn read_length(&mut self, length: usize) -> io::Result<usize>
+        ensures { IfOk result (λ most. most ≤ length) }
+    {
+        let Some(most) = self.most_read else {
+            return Ok(length);
+        };
+        self.interrupted = !self.interrupted;
+        if self.interrupted {
+            Err(io::Error::from(ErrorKind::Interrupted))
+        } else {
+            Ok(length.min(most))
+        }
     }
 
     fn note(
@@ -194,6 +222,24 @@ pub(crate) fn after<T: Drop>(
     };
     watch.note(call, path, failure)?;
     answer
+}
+
+/// How many bytes a read of so many brings at most.
+pub(crate) fn read_length(watch: &RefCell<Watch>, length: usize) -> io::Result<usize>
+    ensures { IfOk result (λ most. most ≤ length) }
+{
+    let mut watch = watch.try_borrow_mut().map_err(in_use)?;
+    watch.read_length(length)
+}
+
+/// The path that a look at this one sees.
+pub(crate) fn seen_at(watch: &RefCell<Watch>, alloc: Global, path: &str) -> io::Result<String> {
+    let watch = watch.try_borrow().map_err(in_use)?;
+    let seen = match &watch.seen {
+        Some(seen) => seen.as_str(),
+        None => path,
+    };
+    Ok(seen.to_string(alloc)?)
 }
 
 /// The names that each list of a folder gives before its own.

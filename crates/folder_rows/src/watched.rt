@@ -1,5 +1,5 @@
 //! The system's files, where each call is noted and may be told to fail.
-use crate::watch::{Call, Watch, after, before, listed_before};
+use crate::watch::{Call, Watch, after, before, listed_before, seen_at};
 use crate::watched_file::{ListedDir, WatchedFile};
 use std::alloc::{Allocator, Global};
 use std::cell::RefCell;
@@ -64,7 +64,8 @@ impl<'a> Files for Watched<'a> {
 
     fn metadata(&self, path: &str) -> io::Result<Metadata> {
         before(self.watch, Call::Look, path)?;
-        self.rt.metadata(path)
+        let seen = seen_at(self.watch, self.rt.alloc(), path)?;
+        self.rt.metadata(seen.as_str())
     }
 
     fn symlink_metadata(&self, path: &str) -> io::Result<Metadata> {

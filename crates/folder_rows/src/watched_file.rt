@@ -1,5 +1,5 @@
 //! A file and a folder's list of the system's, where each call is noted and may be told to fail.
-use crate::watch::{Call, Watch, after, before};
+use crate::watch::{Call, Watch, after, before, read_length};
 use std::cell::RefCell;
 use std::fs::{File, Metadata, OpenFile};
 use std::io::{self, Read, Seek, SeekFrom, Write};
@@ -16,7 +16,8 @@ pub(crate) struct WatchedFile<'a> {
 
 impl<'a> Read for WatchedFile<'a> {
     fn read(&mut self, buf: &mut [u8]) -> io::Result<usize> {
-        self.file.read(buf)
+        let most = read_length(self.watch, buf.len())?;
+        self.file.read(&mut buf[..most])
     }
 }
 
