@@ -235,11 +235,10 @@ pub(crate) fn read_length(watch: &RefCell<Watch>, length: usize) -> io::Result<u
 /// The path that a look at this one sees.
 pub(crate) fn seen_at(watch: &RefCell<Watch>, alloc: Global, path: &str) -> io::Result<String> {
     let watch = watch.try_borrow().map_err(in_use)?;
-    let seen = match &watch.seen {
-        Some(seen) => seen.as_str(),
-        None => path,
-    };
-    Ok(seen.to_string(alloc)?)
+    match &watch.seen {
+        Some(seen) => Ok(seen.to_string(alloc)?),
+        None => Ok(path.to_string(alloc)?),
+    }
 }
 
 /// The names that each list of a folder gives before its own.
