@@ -51,6 +51,10 @@ IsFedBy old piece s = IsUnlessMemory (schema_of_state old) (schema_of_state (fed
 
 -- ---- blocks
 
+-- what is behind so many bytes more
+abbrev pub behind_front : ℕ → Behind → Behind
+behind_front front b = record b { offset = further b.offset front; rest = drop front b.rest }
+
 -- these values with those behind them
 abbrev pub with_found : Option (List ValueTree) → Option (List ValueTree) → Option (List ValueTree)
 with_found None more = more

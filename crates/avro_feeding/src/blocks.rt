@@ -6,7 +6,7 @@ ghost use Rattle.avro_value.specs.ValueTree.{value_tree};
 ghost use Rattle.avro_container.specs.Laws.{flaw_error as error_of_flaw};
 ghost use Rattle.avro_feeding.specs.Calls.{behind_of};
 ghost use Rattle.avro_feeding.specs.Feeding.{in_blocks, refusal as refusal_of, ended};
-ghost use Rattle.avro_feeding.specs.Views.{IsFedBy, IsRead, IsReadOn, summed, trees_found, with_found as found_with};
+ghost use Rattle.avro_feeding.specs.Views.{IsFedBy, IsRead, IsReadOn, behind_front, summed, trees_found, with_found as found_with};
 
 use crate::place::{Fed, Place, Refused, out_of_memory};
 use avro_container::ContainerError;
@@ -144,7 +144,7 @@ fn read_blocks(
 }
 
 /// Drops so many bytes at the front. The room stays.
-pub(crate) fn drop_front(bytes: &mut Vec<u8>, count: usize)
+fn drop_front(bytes: &mut Vec<u8>, count: usize)
     requires { count ≤ length bytes.old.items }
     ensures { bytes.new.items ≡ drop count bytes.old.items }
 {
@@ -152,7 +152,12 @@ pub(crate) fn drop_front(bytes: &mut Vec<u8>, count: usize)
         return;
     }
     let left = bytes.len() - count;
-    bytes.as_mut_slice().copy_within(count.., 0);
+    if left <= count {
+        let (front, back) = bytes.as_mut_slice().split_at_mut(count);
+        front[..left].copy_from_slice(back);
+    } else {
+        bytes.rotate_left(count);
+    }
     bytes.truncate(left);
 }
 
@@ -163,10 +168,11 @@ impl BlocksSoFar {
         &self.schema
     }
 
-    /// Reads all whole blocks at the front of the bytes that are kept. The bytes behind them alone
-    /// are kept then.
-    pub(crate) fn read(self, alloc: Global) -> Fed
-        ensures { IsReadOn (behind_of self) (summed result) }
+    /// Drops so many bytes at the front of those that are kept, and reads all whole blocks behind
+    /// them. The bytes behind the blocks alone are kept then.
+    pub(crate) fn read_behind(self, alloc: Global, front: usize) -> Fed
+        requires { front ≤ length self.rest }
+        ensures { IsReadOn (behind_front front (behind_of self)) (summed result) }
     {
         let BlocksSoFar {
             schema,
@@ -176,12 +182,14 @@ impl BlocksSoFar {
             budget,
         } = self;
         let mut bytes = rest.into_vec();
+        let blocks = &bytes.as_slice()[front..];
+        let len = blocks.len();
         let Ok(read) = read_blocks(
             alloc,
             &schema,
             marker.as_slice(),
-            offset,
-            bytes.as_slice(),
+            offset.saturating_add(front),
+            blocks,
             budget,
         ) else {
             return out_of_memory(Some(schema));
@@ -192,8 +200,8 @@ impl BlocksSoFar {
                 schema: Some(schema),
             }),
             None => {
-                let front = bytes.len().saturating_sub(read.left);
-                drop_front(&mut bytes, front);
+                let taken = front + len.saturating_sub(read.left);
+                drop_front(&mut bytes, taken);
                 Ok(Place::Blocks(BlocksSoFar {
                     schema,
                     marker,
@@ -231,7 +239,7 @@ impl BlocksSoFar {
             rest: Blob::from_vec(bytes),
             budget,
         }
-        .read(alloc)
+        .read_behind(alloc, 0)
     }
 
     /// What the end of the bytes makes of it: they are at fault where a block isn't whole.

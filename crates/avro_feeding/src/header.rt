@@ -6,7 +6,7 @@ ghost use Rattle.avro_schema.specs.Tree.{tree_of};
 ghost use Rattle.avro_feeding.specs.Feeding.{in_header};
 ghost use Rattle.avro_feeding.specs.Views.{IsFedBy, IsJudged, IsOpened, IsReadHeader, IsReadOn, behind_opened, named_at, summed};
 
-use crate::blocks::{BlocksSoFar, drop_front, refusal};
+use crate::blocks::{BlocksSoFar, refusal};
 use crate::metadata::{Resume, resumed};
 use crate::place::{Fed, Place, Refused, out_of_memory};
 use avro_container::ContainerError;
@@ -109,7 +109,7 @@ fn open(alloc: Global, bytes: &[u8]) -> Result<Option<Opened>, Refused>
     }
 }
 
-/// Reads the whole blocks behind a header, which is dropped.
+/// Reads the whole blocks behind a header, and drops it with them.
 fn read_behind(alloc: Global, bytes: Vec<u8>, opened: Opened) -> Fed
     ensures { IsReadOn (behind_opened bytes.items opened) (summed result) }
 {
@@ -118,17 +118,15 @@ fn read_behind(alloc: Global, bytes: Vec<u8>, opened: Opened) -> Fed
         marker,
         left,
     } = opened;
-    let mut rest = bytes;
-    let offset = rest.len().saturating_sub(left);
-    drop_front(&mut rest, offset);
+    let front = bytes.len().saturating_sub(left);
     BlocksSoFar {
         schema,
         marker,
-        offset,
-        rest: Blob::from_vec(rest),
+        offset: 0,
+        rest: Blob::from_vec(bytes),
         budget: MAX_VALUES,
     }
-    .read(alloc)
+    .read_behind(alloc, front)
 }
 
 /// Reads the header and the whole blocks behind it.
