@@ -1,13 +1,12 @@
 //! The rows of a manifest that are live.
 
-ghost use Rattle.std.specs.Prelude.{◌≡◌, List, ◌⊎◌, Ok, IfOk, IfErr, MatchResult};
+ghost use Rattle.std.specs.Prelude.{◌≡◌, ◌≤◌, List, ◌⊎◌, Ok, IfOk, IfErr, MatchResult, drop, length};
 ghost use Rattle.lake_basics.specs.Outcome.{Gives, GivesUnlessMemory};
 ghost use Rattle.iceberg_manifest.specs.Errors.{is_memory, error_of};
 ghost use Rattle.iceberg_live.specs.LiveRows.{AreLiveRows, IsFirstFault, live_rows_of};
 ghost use Rattle.iceberg_metadata.specs.Location.{front_of};
 ghost use Rattle.iceberg_live.specs.Live.{path_in_table as path_in_table_of, row_path as row_path_of, inherited as inherited_from, live_row as live_row_of, rows_in};
 
-use crate::text::text_of;
 use iceberg_manifest::{Entry, Fault, ManifestError, ManifestInfo};
 use iceberg_metadata::{after_front, location_front};
 use lake_basics::limits::MAX_PATH_BYTES;
@@ -29,16 +28,19 @@ pub type Rows = Items<LiveRow>;
 
 const MALFORMED: ReadError<Fault> = ReadError::Fault(Fault::Malformed);
 
-fn path_in_table(alloc: Global, rest: &[u8]) -> Result<Text, ReadError<Fault>>
-    ensures { Gives (λ p. p) result (path_in_table_of rest.now) }
+/// The path that stands behind so many bytes.
+fn path_in_table(alloc: Global, path: &str, front: usize) -> Result<Text, ReadError<Fault>>
+    requires { front ≤ length path.now }
+    ensures { Gives (λ p. p) result (path_in_table_of (drop front path.now)) }
 {
+    let rest = &path.as_bytes()[front..];
     if !path_form_of_any_length(rest) {
         return Err(MALFORMED);
     }
     if rest.len() as u64 > MAX_PATH_BYTES {
         return Err(ReadError::Fault(Fault::LongPath));
     }
-    Ok(text_of(alloc, rest)?)
+    Ok(Text::from_str(alloc, &path[front..])?)
 }
 
 fn row_path(alloc: Global, front: &[u8], path: &Text) -> Result<Text, ReadError<Fault>>
@@ -46,7 +48,7 @@ fn row_path(alloc: Global, front: &[u8], path: &Text) -> Result<Text, ReadError<
 {
     match after_front(front, path.as_bytes()) {
         None => Err(ReadError::Fault(Fault::OutsideTable)),
-        Some(rest) => path_in_table(alloc, rest),
+        Some(_) => path_in_table(alloc, path.as_str(), front.len()),
     }
 }
 
