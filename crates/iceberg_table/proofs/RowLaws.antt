@@ -1,12 +1,12 @@
 -- A table of rows, with one row more, and with those of manifests more.
-use Rattle.std.proofs.Common.{◌≡◌, ◌≢◌, ◌⊎◌, ◌↔◌, ℕ, ◌+◌, ◌<◌, List, [], ◌∷◌, ◌++◌, Bool, true, false, cond, Contains, Option, None, Some, map, take, drop, length, refl, sym, ap, subst, ◌∙◌, inl, inr, ⊎_elim, append_assoc, append-nil, arith, Bor}
+use Rattle.std.proofs.Common.{◌≡◌, ◌≢◌, ◌⊎◌, ◌↔◌, ℕ, ◌+◌, List, [], ◌∷◌, ◌++◌, Bool, true, false, cond, Contains, Option, None, Some, map, refl, sym, ap, subst, ◌∙◌, inl, inr, ⊎_elim, append_assoc, append-nil, arith, Bor}
 use Rattle.std.specs.Prelude.{IfOk, IfErr, MatchOption, is_some, flat_map}
 use Rattle.std.specs.List.{AllByRecursion, IsDistinct, list_any}
 use Rattle.std.specs.Str.{bytes_eq}
 use Rattle.std.proofs.lemmas.Bool.{cases_Bool, false≢true}
 use Rattle.std.proofs.lemmas.Cmp.{nat_list_eq_equiv}
 use Rattle.std.proofs.lemmas.Grind.{flat_map-append}
-use Rattle.std.proofs.lemmas.List.{map-append, drop_more, take-append-drop, take_more}
+use Rattle.std.proofs.lemmas.List.{map-append, drop_more, take_more}
 use Rattle.std.proofs.lemmas.List.Elements.{Contains-append_left, Contains-append_right, Contains-append_cases, Contains-push, Contains-push_cases}
 use Rattle.std.proofs.lemmas.Map.Keys.{IsDistinct-cons, IsDistinct-head, IsDistinct-push, IsDistinct-tail, IsDistinct-from_apart}
 use Rattle.std.proofs.lemmas.Slice.Eq.{bytes_eq-Decides}
@@ -114,9 +114,6 @@ pub fits_new : (table : Table) (row : FileRow) (change : Change) → change ≡ 
 fits_new table row change made lacks = one_row_fits table row change (ap (λ (c : Change). c.removed) made) (ap (λ (c : Change). c.added) made) lacks
 
 -- ---- item by item
-
-pub split_at : {X : Type 0} (xs : List X) (i : ℕ) (x : X) → i < length xs → drop i xs ≡ x ∷ drop (i + 1) xs → xs ≡ take i xs ++ x ∷ drop (i + 1) xs
-split_at xs i x within at = sym (take-append-drop i xs) ∙ ap (λ l. take i xs ++ l) at
 
 rows_split : (live front rest : List LiveRow) (x : LiveRow) → live ≡ front ++ x ∷ rest → rows_in live ≡ rows_in front ++ x.row ∷ rows_in rest
 rows_split live front rest x is = ap rows_in is ∙ map-append (λ (l : LiveRow). l.row) front (x ∷ rest)

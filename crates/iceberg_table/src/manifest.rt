@@ -207,9 +207,11 @@ pub(crate) fn read_manifests<S: Store>(
     let mut counted = Counted::new(alloc);
     for file in list.into_vec() {
         let before = counted.before(&file.path);
-        let manifest = read_manifest_file(alloc, store, location, columns, before, file)?;
+        let mut manifest = read_manifest_file(alloc, store, location, columns, before, file)?;
         counted = counted.with_manifest(alloc, &manifest)?;
-        table = joined(alloc, path, table, manifest.rows.as_slice())?;
+        let longer = joined(alloc, path, table, manifest.rows)?;
+        table = longer.table;
+        manifest.rows = longer.rows;
         manifests.push(manifest)?;
     }
     Ok(SnapshotTable { table, manifests })

@@ -63,25 +63,27 @@ loop-file-preserved g c =
     let x = c.in-Some.file in
     let r = c.in_ok-manifest.manifest in
     let split = left_next c.args.list was.0 c.loop-file.file-iterator.rest.items c.next.new.self.rest.items x was.1 c.in-Some.ensures.steps.0 in
+    let pushed : c.push.new.self ≡ c.loop-file.manifests ++ r ∷ [] =
+    c.in_ok-push.ensures.ok ∙ ap (λ (rows : List LiveRow). c.loop-file.manifests ++ (record { file = r.file; entries = r.entries; rows = rows }) ∷ []) c.in_ok-longer.ensures.same in
     record {
       few = c.in_ok-counted.ensures.few so_far.few;
-      counts = subst (λ (l : List Manifest). Counts l c.in_ok-counted.counted) (sym c.in_ok-push.ensures.ok) (c.in_ok-counted.ensures.counts c.loop-file.manifests so_far.counts);
+      counts = subst (λ (l : List Manifest). Counts l c.in_ok-counted.counted) (sym pushed) (c.in_ok-counted.ensures.counts c.loop-file.manifests so_far.counts);
       parts = (
         was.0 ++ x ∷ [],
         left_moved c.args.list was.0 c.next.new.self.rest.items x split,
         λ told.
             let one = subst (λ (d : Disk). IsManifestOf d.files location columns x r) (so_far.reads told).disk (c.in_ok-manifest.ensures.found told) in
-            subst (λ (l : List Manifest). AreEach (IsManifestOf files location columns) (was.0 ++ x ∷ []) l) (sym c.in_ok-push.ensures.ok) (each_push (IsManifestOf files location columns) was.0 c.loop-file.manifests x r (was.2 told) one),
+            subst (λ (l : List Manifest). AreEach (IsManifestOf files location columns) (was.0 ++ x ∷ []) l) (sym pushed) (each_push (IsManifestOf files location columns) was.0 c.loop-file.manifests x r (was.2 told) one),
       );
       table =
           let s = c.args.empty.schema in
           let p = c.args.empty.partition in
           let rows = rows_of c.loop-file.manifests in
-          let joined = subst (λ (l : List LiveRow). IsTableOfRows s p (rows ++ rows_in l) c.in_ok-table.table) c.as_slice.ensures (c.in_ok-table.ensures.found s p rows so_far.table) in
-          manifest_next s p [] c.loop-file.manifests c.push.new.self r c.in_ok-table.table c.in_ok-push.ensures.ok joined;
-      fit = subst (λ (l : List Manifest). FitRows columns (rows_of l)) (sym c.in_ok-push.ensures.ok) (fit_push columns c.loop-file.manifests r so_far.fit c.in_ok-manifest.ensures.fit);
-      no_deletes = subst TakeNoDeletes (sym c.in_ok-push.ensures.ok) (no_deletes_push c.loop-file.manifests r so_far.no_deletes c.in_ok-manifest.ensures.no_deletes);
-      contents = subst AreOfContents (sym c.in_ok-push.ensures.ok) (contents_push c.loop-file.manifests r so_far.contents (subst (λ (f : ManifestFile). HasContent f.info) (sym c.in_ok-manifest.ensures.file) (c.requires.contents x (in_list c.args.list was.0 c.next.new.self.rest.items x split))));
+          let joined = c.in_ok-longer.ensures.found s p rows so_far.table in
+          manifest_next s p [] c.loop-file.manifests c.push.new.self r c.in_ok-longer.longer.table pushed joined;
+      fit = subst (λ (l : List Manifest). FitRows columns (rows_of l)) (sym pushed) (fit_push columns c.loop-file.manifests r so_far.fit c.in_ok-manifest.ensures.fit);
+      no_deletes = subst TakeNoDeletes (sym pushed) (no_deletes_push c.loop-file.manifests r so_far.no_deletes c.in_ok-manifest.ensures.no_deletes);
+      contents = subst AreOfContents (sym pushed) (contents_push c.loop-file.manifests r so_far.contents (subst (λ (f : ManifestFile). HasContent f.info) (sym c.in_ok-manifest.ensures.file) (c.requires.contents x (in_list c.args.list was.0 c.next.new.self.rest.items x split))));
       reads = runs.reading_further store old mid new so_far.reads c.in_ok-manifest.ensures.only_reads;
       cause = fails_never store.faults store.may_fail old mid new _ so_far.cause c.in_ok-manifest.ensures.cause;
       contest = uncontested_further store.contests store.may_contest old mid new so_far.contest c.in_ok-manifest.ensures.contest;
@@ -108,9 +110,9 @@ loop-file-init g c =
       contest = record { same = refl; still = λ m. m; never = λ never. never };
     }
 
-pub returns-in_err-table-clause-refused : goal.returns-in_err-table-clause-refused
-returns-in_err-table-clause-refused g c told =
-    let exit = err_from_is_err_and c.from_residual-in_err-table.result c.from_residual-in_err-table.ensures.1 in
+pub returns-in_err-longer-clause-refused : goal.returns-in_err-longer-clause-refused
+returns-in_err-longer-clause-refused g c told =
+    let exit = err_from_is_err_and c.from_residual-in_err-longer.result c.from_residual-in_err-longer.ensures.1 in
     let store = g.S.Store in
     let files = (store.disk c.args.store.now).files in
     let location = c.args.location.now in
@@ -120,7 +122,7 @@ returns-in_err-table-clause-refused g c told =
     let was = so_far.parts in
     let x = c.in-Some.file in
     let r = c.in_ok-manifest.manifest in
-    let e = c.in_err-table.field-0.0 in
+    let e = c.in_err-longer.field-0.0 in
     let rows = rows_of c.loop-file.manifests in
     let split = left_next c.args.list was.0 c.loop-file.file-iterator.rest.items c.next.new.self.rest.items x was.1 c.in-Some.ensures.steps.0 in
     let P : IcebergError → Type 0 = AreManifestsRefused files location columns path c.args.list in
@@ -128,15 +130,15 @@ returns-in_err-table-clause-refused g c told =
     let manifests = c.loop-file.manifests in
     let bound = few_counted (manifests ++ r ∷ []) c.in_ok-counted.counted (c.in_ok-counted.ensures.counts manifests so_far.counts) (c.in_ok-counted.ensures.few so_far.few) in
     let within = few_counted manifests c.loop-file.counted so_far.counts so_far.few in
-    let shared = subst (λ (l : List LiveRow). IsRefusal (IsTold path (AreShared (rows ++ rows_in l))) e) c.as_slice.ensures (c.in_err-table.ensures.refused c.args.empty.schema c.args.empty.partition rows so_far.table) in
+    let shared = c.in_err-longer.ensures.refused c.args.empty.schema c.args.empty.partition rows so_far.table in
     subst (λ q. IfErr q (IsRefusal P)) (sym exit.1)
     (subst (IsRefusal P) (sym exit.2)
     (refused_further (IsTold path (AreShared (rows ++ rows_in r.rows))) P e
     (λ d shares. record { front = was.0; item = x; behind = c.next.new.self.rest.items; split = split; found = c.loop-file.manifests; are = was.2 told; refused = (within, so_far.table.distinct, inr (r, one, bound, shares)) })
     shared))
 
-pub returns-in_err-table-clause-only_reads : goal.returns-in_err-table-clause-only_reads
-returns-in_err-table-clause-only_reads g c = runs.reading_further g.S.Store c.args.store.now c.loop-file.store c.read_manifest_file.new.store c.loop-file.invariant.reads c.in_ok-manifest.ensures.only_reads
+pub returns-in_err-longer-clause-only_reads : goal.returns-in_err-longer-clause-only_reads
+returns-in_err-longer-clause-only_reads g c = runs.reading_further g.S.Store c.args.store.now c.loop-file.store c.read_manifest_file.new.store c.loop-file.invariant.reads c.in_ok-manifest.ensures.only_reads
 
 pub returns-in_err-push-clause-only_reads : goal.returns-in_err-push-clause-only_reads
 returns-in_err-push-clause-only_reads g c = runs.reading_further g.S.Store c.args.store.now c.loop-file.store c.read_manifest_file.new.store c.loop-file.invariant.reads c.in_ok-manifest.ensures.only_reads

@@ -1,5 +1,4 @@
 use Rattle.std.proofs.Common.{ℕ, List, refl, sym, ap, subst, ◌∙◌}
-use Rattle.lake_basics.specs.declared.outcome.ReadError.{ReadError}
 use Rattle.table_history.specs.Row.{Row}
 use Rattle.table_history.specs.Rows.{HasPath}
 use Rattle.iceberg_table.specs.Errors.{IsFault}
@@ -12,16 +11,16 @@ pub returns-then-is_some-clause-refused : goal.returns-then-is_some-clause-refus
 returns-then-is_some-clause-refused c =
     let rows = c.args.table.rows in
     let there = path_there rows c.as_bytes.result.now c.get.result (sym c.is_some.ensures ∙ c.if-is_some.true) c.get.ensures.cases in
-    subst (IsFault (λ (f : Fault). IsShared f × HasPath rows c.args.row.now.path)) (sym c.unsupported.ensures) (refl, subst (λ (p : List ℕ). HasPath rows p) (c.as_bytes.ensures.value ∙ ap (λ (r : Row). r.path) c.row.view_is) there)
+    subst (IsFault (λ (f : Fault). IsShared f × HasPath rows c.args.row.path)) (sym c.unsupported.ensures) (refl, subst (λ (p : List ℕ). HasPath rows p) (c.as_bytes.ensures.value ∙ ap (λ (r : Row). r.path) c.row.view_is) there)
 
 pub apply-requires : goal.apply-requires
 apply-requires c =
     let rows = c.args.table.rows in
     let lacks = path_lacks rows c.as_bytes.result.now c.get.result (sym c.is_some.ensures ∙ c.if-is_some.false) c.get.ensures.cases in
-    fits_new c.args.table c.args.row.now c.in_ok-change.change c.in_ok-change.ensures (subst (λ (p : List ℕ). HasPath rows p → ⊥) (c.as_bytes.ensures.value ∙ ap (λ (r : Row). r.path) c.row.view_is) lacks)
+    fits_new c.args.table c.args.row c.in_ok-change.change c.in_ok-change.ensures (subst (λ (p : List ℕ). HasPath rows p → ⊥) (c.as_bytes.ensures.value ∙ ap (λ (r : Row). r.path) c.row.view_is) lacks)
 
 pub returns-clause-found : goal.returns-clause-found
 returns-clause-found c schema partition before is =
     let rows = c.args.table.rows in
     let lacks = path_lacks rows c.as_bytes.result.now c.get.result (sym c.is_some.ensures ∙ c.if-is_some.false) c.get.ensures.cases in
-    row_added schema partition before c.args.table is c.args.row.now c.in_ok-change.change _ c.in_ok-change.ensures (subst (λ (p : List ℕ). HasPath rows p → ⊥) (c.as_bytes.ensures.value ∙ ap (λ (r : Row). r.path) c.row.view_is) lacks) c.in_ok-apply.ensures.ok
+    row_added schema partition before c.args.table is c.args.row c.in_ok-change.change _ c.in_ok-change.ensures (subst (λ (p : List ℕ). HasPath rows p → ⊥) (c.as_bytes.ensures.value ∙ ap (λ (r : Row). r.path) c.row.view_is) lacks) c.in_ok-apply.ensures.ok
