@@ -6,8 +6,9 @@ use Rattle.std.proofs.lemmas.List.{length-append, length-map, map-append, take_m
 use Rattle.iceberg_manifest.specs.Entry.{EntryData}
 use Rattle.iceberg_manifest.specs.Lists.{AreEach}
 use Rattle.iceberg_manifest.specs.declared.info.ManifestInfo.{ManifestInfo}
+use Rattle.file_links.specs.Rows.{rows_of as owned_rows}
 use Rattle.file_links.specs.declared.slots.Held.{Held}
-use Rattle.std.specs.Prelude.{◌^◌, ◌≤◌, ℤ, pos, IfErr, IfOk, IsErrAnd, OnOk, Option, Some, Result, Ok, Err, slice_get}
+use Rattle.std.specs.Prelude.{◌^◌, ◌≤◌, ℤ, pos, IfErr, IfOk, IsErrAnd, IsSome, OnOk, Option, Some, Result, Ok, Err, slice_get}
 use Rattle.std.proofs.lemmas.Option.{get_or_from_slice_get, slice_get_within}
 use Rattle.table_history.specs.Row.{Row}
 use Rattle.iceberg_metadata.specs.Judging.{metadata_of as read_metadata}
@@ -16,7 +17,6 @@ use Rattle.iceberg_metadata.specs.declared.metadata.Metadata.{Metadata}
 use Rattle.iceberg_manifest.specs.declared.partition.PartColumn.{PartColumn}
 use Rattle.iceberg_version.specs.Carrying.{parts_at, rows_at}
 use Rattle.iceberg_version.specs.KeptEnd.{held_rows, live_manifest}
-use Rattle.iceberg_version.specs.Removed.{HoldsPaths}
 use Rattle.iceberg_version.specs.declared.kept.KeptManifest.{KeptManifest}
 use Rattle.iceberg_version.specs.declared.carrying.Next.TheVariants.{Added, Anew, Stays}
 use Rattle.iceberg_version.proofs.CarryingLemmas.{kept_there}
@@ -215,17 +215,19 @@ metadata_in m bytes written back = record { written = written; again = back.0; r
 
 -- ---- the entries
 
-pub born_in : (before : Before) (place : ℕ) (m : KeptManifest) (rows : List (Bor Held)) → HasOwners before → place < length before.manifests.now → m ≡ get_or before.manifests.now place m → map (λ r. r.now) rows ≡ held_rows before.links.now m.owner → (row : Held) → Contains (map (λ r. r.now) rows) row → row.born < 2 ^ 63
-born_in before place m rows owners within at same row there = owners.born m row (kept_there before.manifests.now place m within at) (subst (λ (hs : List Held). Contains hs row) same there)
+pub owner_in : (before : Before) (place : ℕ) (m : KeptManifest) → HasOwners before → place < length before.manifests.now → m ≡ get_or before.manifests.now place m → IsSome (owned_rows before.links.now m.owner)
+owner_in before place m owners within at = owners.there m (kept_there before.manifests.now place m within at)
+
+pub born_in : (before : Before) (place : ℕ) (m : KeptManifest) → HasOwners before → place < length before.manifests.now → m ≡ get_or before.manifests.now place m → (row : Held) → Contains (held_rows before.links.now m.owner) row → row.born < 2 ^ 63
+born_in before place m owners within at row there = owners.born m row (kept_there before.manifests.now place m within at) there
 
 pub kept_at : {A : Type 0} (xs : List A) (place : ℕ) (x y : A) → x ≡ get_or xs place x → slice_get xs place ≡ Some y → x ≡ y
 kept_at xs place x y at is = at ∙ get_or_from_slice_get xs place y x is
 
-pub anew_is : {E : Type 0} (r : Result (List EntryData) E) (layout : Layout) (before : Before) (place : ℕ) (m : KeptManifest) (rows : List (Bor Held)) → m ≡ get_or before.manifests.now place m → map (λ r. r.now) rows ≡ held_rows before.links.now m.owner → IfOk r (λ entries. (paths : List (List ℕ)) → HoldsPaths before.paths paths → entries ≡ anew layout.front layout.version paths (map (λ r. r.now) rows)) → IfOk r (λ entries. (k : KeptManifest) → slice_get before.manifests.now place ≡ Some k → entries ≡ anew layout.front layout.version before.removed.now (held_rows before.links.now k.owner))
-anew_is (Err e) layout before place m rows at same told = tt
-anew_is (Ok entries) layout before place m rows at same told = λ k is.
-    told before.removed.now before.held
-    ∙ ap (anew layout.front layout.version before.removed.now) (same ∙ ap (λ (x : KeptManifest). held_rows before.links.now x.owner) (kept_at before.manifests.now place m k at is))
+pub anew_is : {E : Type 0} (r : Result (List EntryData) E) (layout : Layout) (before : Before) (place : ℕ) (m : KeptManifest) → m ≡ get_or before.manifests.now place m → IfOk r (λ entries. entries ≡ anew layout.front layout.version before.removed.now (held_rows before.links.now m.owner)) → IfOk r (λ entries. (k : KeptManifest) → slice_get before.manifests.now place ≡ Some k → entries ≡ anew layout.front layout.version before.removed.now (held_rows before.links.now k.owner))
+anew_is (Err e) layout before place m at told = tt
+anew_is (Ok entries) layout before place m at told = λ k is.
+    told ∙ ap (λ (x : KeptManifest). anew layout.front layout.version before.removed.now (held_rows before.links.now x.owner)) (kept_at before.manifests.now place m k at is)
 
 pub added_is : {E : Type 0} (r : Result (List EntryData) E) (layout : Layout) (before : Before) (place : ℕ) (part : Bor (List (Bor Row))) → part ≡ get_or before.parts.now place part → IfOk r (λ entries. entries ≡ map (added_entry layout.front layout.version) (map (λ r. r.now) part.now)) → IfOk r (λ entries. (rows : List Row) → slice_get (parts_at before.parts.now) place ≡ Some rows → entries ≡ map (added_entry layout.front layout.version) rows)
 added_is (Err e) layout before place part at told = tt

@@ -160,7 +160,7 @@ or_false : (b : Bool) → (b || false) ≡ b
 or_false true = refl
 or_false false = refl
 
-lost_decides : (path : List ℕ) (held : Held) → Decides (is_lost (path ∷ []) held) (held.row.path ≡ path)
+pub lost_decides : (path : List ℕ) (held : Held) → Decides (is_lost (path ∷ []) held) (held.row.path ≡ path)
 lost_decides path held = subst (λ (b : Bool). Decides b (held.row.path ≡ path)) (sym (or_false (bytes_eq held.row.path path))) (bytes_eq-Decides held.row.path path)
 
 not_lost : (b : Bool) → (b ≡ true → ⊥) → not b ≡ true

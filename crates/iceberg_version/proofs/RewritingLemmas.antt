@@ -2,6 +2,7 @@
 use Rattle.std.proofs.Common.{◌≡◌, ◌+◌, ◌<◌, ℕ, Bool, true, false, Bor, Contains, List, [], ◌∷◌, ◌++◌, cond, drop, get_or, map, length, sym, ap, subst, ◌∙◌}
 use Rattle.std.specs.List.{filter}
 use Rattle.std.proofs.lemmas.List.{append_assoc, drop_more, get_or-map, length-map}
+use Rattle.table_history.proofs.RowListLemmas.{Contains-filter}
 use Rattle.file_links.specs.declared.slots.Held.{Held}
 use Rattle.iceberg_manifest.specs.Entry.{EntryData}
 
@@ -33,3 +34,7 @@ pub passed : (f : Held → EntryData) (p : Held → Bool) (rows : List (Bor Held
 passed f p rows i row so_far all within at fails before =
     let here = left_rows p rows i row within at ∙ ap (λ b. cond b (row.now ∷ filter p (rows_now (drop (i + 1) rows))) (filter p (rows_now (drop (i + 1) rows)))) fails in
     ap (λ (hs : List Held). so_far ++ map f hs) (sym here) ∙ before
+
+-- What is said of all rows is said of those that pass a test.
+pub of_passing : (P : Held → Type 0) (p : Held → Bool) (all : List Held) (rows : List (Bor Held)) → ((held : Held) → Contains all held → P held) → rows_now rows ≡ filter p all → (held : Held) → Contains (rows_now rows) held → P held
+of_passing P p all rows each are held there = each held (Contains-filter p all held (subst (λ (hs : List Held). Contains hs held) are there)).0

@@ -24,17 +24,17 @@ there_by (Some rows) h = refl
 pub there : (links : OwnedRows) (owner : ℕ) → IsSome (rows_of links owner) → rows_of links owner ≡ Some (entries_of links owner)
 there links owner h = there_by (rows_of links owner) h
 
-abbrev EntryAt : List Entry → ℕ → ℕ → Type 0
+abbrev pub EntryAt : List Entry → ℕ → ℕ → Type 0
 EntryAt es k slot = (e : Entry) × (slice_get es k ≡ Some e) × (e.slot ≡ slot)
 
 entry_by : (es : List Entry) (k slot : ℕ) (o : Option Entry) → slice_get es k ≡ o → Some slot ≡ option_map (λ e. e.slot) o → EntryAt es k slot
 entry_by es k slot None at is = cc
 entry_by es k slot (Some e) at is = (e, at, let h = is in cc)
 
-entry_at : (es : List Entry) (k slot : ℕ) → Some slot ≡ slot_at es k → EntryAt es k slot
+pub entry_at : (es : List Entry) (k slot : ℕ) → Some slot ≡ slot_at es k → EntryAt es k slot
 entry_at es k slot is = entry_by es k slot (slice_get es k) refl is
 
-holds_entry : (links : OwnedRows) (owner k slot : ℕ) (e : Entry) → IsSome (rows_of links owner) → slice_get (entries_of links owner) k ≡ Some e → e.slot ≡ slot → Holds links slot e.held
+pub holds_entry : (links : OwnedRows) (owner k slot : ℕ) (e : Entry) → IsSome (rows_of links owner) → slice_get (entries_of links owner) k ≡ Some e → e.slot ≡ slot → Holds links slot e.held
 holds_entry links owner k slot e h at is =
     (owner, (entries_of links owner, there links owner h, (k, slice_get_within (entries_of links owner) k e at, get_or_from_slice_get (entries_of links owner) k e (record { slot = slot; held = e.held }) at ∙ ap (λ (s : ℕ). record { slot = s; held = e.held }) is)))
 
@@ -69,7 +69,7 @@ walked_more links owner slot rows after place next row h walked is just behind p
       behind owner (length rows) es (there links owner h) (sym walked.1 ∙ is) ∙ ap (slot_at es) (sym len),
     )
 
-all_taken : (es : List Entry) (k : ℕ) → None ≡ slot_at es k → take k es ≡ es
+pub all_taken : (es : List Entry) (k : ℕ) → None ≡ slot_at es k → take k es ≡ es
 all_taken [] zero none = refl
 all_taken [] (suc k) none = refl
 all_taken (e ∷ es) zero none = cc

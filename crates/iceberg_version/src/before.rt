@@ -1,9 +1,11 @@
 //! The manifests of the list before, and what a commit removes and adds.
 
 ghost use Rattle.std.specs.Prelude.{◌≡◌, IfOk};
+ghost use Rattle.iceberg_version.specs.Marks.{MarksLost};
 ghost use Rattle.iceberg_version.specs.Removed.{HoldsPaths};
 
 use crate::kept::KeptManifest;
+use crate::marks::lost_marks;
 use crate::removed::{Paths, path_set};
 use file_links::Links;
 use lake_basics::Text;
@@ -17,9 +19,12 @@ pub struct Before<'a> {
     pub manifests: &'a [KeptManifest],
     pub removed: &'a [Text],
     pub paths: Paths<'a>,
+    /// The slots of the rows that are removed.
+    pub marks: Vec<bool>,
     /// The rows that the commit adds, in the parts that the new manifests are of.
     pub parts: &'a [&'a [&'a FileRow]],
     ghost held: { HoldsPaths paths removed.now },
+    ghost marked: { MarksLost links.now removed.now marks.items },
 }
 
 /// These manifests with their live rows, the paths that are removed, and the parts that are added.
@@ -36,11 +41,13 @@ pub fn before_of<'a>(
     ensures parts { IfOk result (λ before. before.parts.now ≡ parts.now) }
 {
     let paths = path_set(alloc, removed)?;
+    let marks = lost_marks(alloc, links, removed)?;
     Ok(Before {
         links,
         manifests,
         removed,
         paths,
+        marks,
         parts,
     })
 }

@@ -4,6 +4,7 @@
 
 mod added;
 mod advancing;
+mod anew;
 mod before;
 mod carrying;
 mod columns;
@@ -14,8 +15,10 @@ mod json;
 mod kept;
 mod layout;
 mod mark;
+mod marks;
 mod metadata;
 mod names;
+mod parting;
 mod removed;
 mod rewriting;
 mod rows;
@@ -25,6 +28,7 @@ mod touched;
 
 pub use added::{parts_of, sorted_rows};
 pub use advancing::advance;
+pub use anew::anew_entries;
 pub use before::{Before, before_of};
 pub use carrying::{Next, next_manifests};
 pub use fresh::{fresh_kept, no_version};

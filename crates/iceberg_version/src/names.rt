@@ -46,7 +46,9 @@ pub(crate) fn front_of(alloc: Global, location: &Text) -> Result<Text, AllocErro
 pub(crate) fn file_at(alloc: Global, front: &Text, path: &str) -> Result<Text, AllocError>
     ensures { IfOk result (λ file. file ≡ name_of_file front.now path.now) }
 {
-    let mut file = String::from_str(alloc, front.as_str())?;
+    let front = front.as_str();
+    let mut file = String::with_capacity(alloc, front.len() + path.len())?;
+    file.push_str(front)?;
     file.push_str(path)?;
     Ok(Text::from_string(file))
 }

@@ -1,18 +1,24 @@
-use Rattle.std.proofs.Common.{◌≡◌, Bor, ap, map, sym, ◌∙◌}
+use Rattle.std.proofs.Common.{◌≡◌, ◌<◌, ◌^◌, Contains, IfOk, IsSome, List, subst, sym}
+use Rattle.file_links.specs.Rows.{rows_of as owned_rows}
 use Rattle.file_links.specs.declared.slots.Held.{Held}
+use Rattle.iceberg_manifest.specs.Entry.{EntryData}
 use Rattle.iceberg_version.specs.KeptEnd.{held_rows}
+use Rattle.iceberg_version.specs.Manifests.{rewritten_entries as anew}
 use Rattle.iceberg_version.specs.declared.kept.KeptManifest.{KeptManifest}
-use Rattle.iceberg_commit.proofs.TextLemmas.{anew_is, born_in}
+use Rattle.iceberg_commit.proofs.TextLemmas.{anew_is, born_in, owner_in}
 use Rattle.iceberg_commit.proofs.texts.entries_anew.Goals as goal
 
-pub rewritten_entries-requires : goal.rewritten_entries-requires
-rewritten_entries-requires c =
-    let m = c.index-before-place.result in
-    let same : map (λ (r : Bor Held). r.now) c.as_slice.result.now ≡ held_rows c.args.before.now.links.now m.owner = ap (map (λ (r : Bor Held). r.now)) c.as_slice.ensures.value ∙ c.in_ok-rows.ensures ∙ ap (λ (x : KeptManifest). held_rows c.args.before.now.links.now x.owner) (sym c.index-before-place.is) in
-    born_in c.args.before.now c.args.place m c.as_slice.result.now c.requires.owners c.requires.place c.index-before-place.is same
+pub anew_entries-requires-clause-owner : goal.anew_entries-requires-clause-owner
+anew_entries-requires-clause-owner c =
+    subst (λ (m : KeptManifest). IsSome (owned_rows c.args.before.now.links.now m.owner)) c.index-before-place.is
+    (owner_in c.args.before.now c.args.place c.index-before-place.result c.requires.owners c.requires.place c.index-before-place.is)
+
+pub anew_entries-requires-clause-born : goal.anew_entries-requires-clause-born
+anew_entries-requires-clause-born c =
+    subst (λ (m : KeptManifest). (row : Held) → Contains (held_rows c.args.before.now.links.now m.owner) row → row.born < 2 ^ 63) c.index-before-place.is
+    (born_in c.args.before.now c.args.place c.index-before-place.result c.requires.owners c.requires.place c.index-before-place.is)
 
 pub returns : goal.returns
 returns c =
-    let m = c.index-before-place.result in
-    let same : map (λ (r : Bor Held). r.now) c.as_slice.result.now ≡ held_rows c.args.before.now.links.now m.owner = ap (map (λ (r : Bor Held). r.now)) c.as_slice.ensures.value ∙ c.in_ok-rows.ensures ∙ ap (λ (x : KeptManifest). held_rows c.args.before.now.links.now x.owner) (sym c.index-before-place.is) in
-    anew_is c.rewritten_entries.result c.args.layout.now c.args.before.now c.args.place m c.as_slice.result.now c.index-before-place.is same c.rewritten_entries.ensures
+    anew_is c.anew_entries.result c.args.layout.now c.args.before.now c.args.place c.index-before-place.result c.index-before-place.is
+    (subst (λ (m : KeptManifest). IfOk c.anew_entries.result (λ (entries : List EntryData). entries ≡ anew c.args.layout.now.front c.args.layout.now.version c.args.before.now.removed.now (held_rows c.args.before.now.links.now m.owner))) (sym c.index-before-place.is) c.anew_entries.ensures)
