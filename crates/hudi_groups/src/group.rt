@@ -4,6 +4,8 @@ ghost use Rattle.std.specs.Prelude.{◌≡◌, ◌==◌, ◌-◌, ◌<◌, ◌�
 ghost use Rattle.std.specs.List.{suffix_len, position_or_len};
 ghost use Rattle.hudi_groups.specs.Group.{folder_of, file_name_of, file_id_of, joined};
 
+use memchr::{memchr, memrchr};
+
 /// The length of the path's folder, and the length of the file id in its name.
 pub fn group_of(path: &[u8]) -> (usize, usize)
     ensures { result ≡ (length (folder_of path.now), length (file_id_of path.now)) }
@@ -61,16 +63,15 @@ fn name_start(path: &[u8]) -> usize
     ensures within { result ≤ length path.now }
     ensures slash { 0 < result → slice_index path.now (result - 1) ≡ 47 }
 {
-    let mut start = path.len();
-    while start > 0 && path[start - 1] != b'/' {
-        start -= 1;
+    match memrchr(b'/', path) {
+        None => 0,
+        Some(slash) => slash + 1,
     }
-    start
 }
 
 fn id_len(name: &[u8]) -> usize
     ensures id { result ≡ position_or_len (λ b. b == 95) name.now }
     ensures within { result ≤ length name.now }
 {
-    name.iter().take_while(|b| **b != b'_').count()
+    memchr(b'_', name).unwrap_or(name.len())
 }
