@@ -1,2 +1,3 @@
+pub mod FolderLemmas
 pub mod StatLemmas
 pub mod ValueLemmas

@@ -1,17 +1,17 @@
 //! The rows that the write stats of an instant make.
 
-ghost use Rattle.std.specs.Prelude.{◌≡◌, [], ℕ, List, length, map, option_map, true, Contains, IfOk, IfErr, IfSome, vec_len, Ok};
+ghost use Rattle.std.specs.Prelude.{◌≡◌, [], ℕ, List, length, map, option_map, true, Contains, IfOk, IfErr, IfSome, IsTrue, vec_len, Ok};
 ghost use Rattle.std.specs.List.{list_any};
 ghost use Rattle.std.specs.Str.{is_utf8};
 ghost use Rattle.std.specs.Borrow.{Bor};
 ghost use Rattle.lake_basics.specs.Outcome.{each};
-ghost use Rattle.partition_map.specs.Folder.{texts_of};
+ghost use Rattle.partition_map.specs.Folder.{folder_components, texts_of};
 ghost use Rattle.table_history.specs.declared.row.PartValue.{PartValue};
 ghost use Rattle.table_history.specs.declared.row.FileRow.{FileRow};
 ghost use Rattle.hudi_names.specs.Errors.{Gives};
-ghost use Rattle.hudi_groups.specs.Files.{suffix_of};
+ghost use Rattle.hudi_groups.specs.Files.{suffix_of, without_end};
 ghost use Rattle.hudi_files.specs.Stats.{bare_row, is_external, has_other_id, is_other_file, name_fault};
-ghost use Rattle.hudi_files.specs.FileFaults.{OnlyFeature, IsFileFault, IsFolderFault};
+ghost use Rattle.hudi_files.specs.FileFaults.{OnlyFeature, IsFileFault, IsFolderFault, IsRowFault, IsSomeRowFault};
 ghost use Rattle.hudi_files.specs.Values.{style_of, component_parts, value_parts, is_in_folder, are_in_folders, PartStands, PartsStand, HasValues, HaveValues, ShowsNoValue, SpellsNoValues};
 
 use hudi_groups::{Form, file_id_in, folder_of, suffix_of, without_end};
@@ -19,6 +19,7 @@ use hudi_instant::Stat;
 use hudi_names::{HudiError, MALFORMED};
 use hudi_properties::HudiTable;
 use lake_basics::{Items, Text, TextError};
+use memchr::memrchr;
 use partition_map::{
     FolderStyle, PartError, PartKind, from_hive, last_components, unescape, value_part,
 };
@@ -65,11 +66,22 @@ fn bare_row(alloc: Global, suffix: &[u8], stat: &Stat) -> Result<FileRow, HudiEr
         return Err(MALFORMED);
     }
     Ok(FileRow {
-        path: text_of(alloc, path)?,
+        path: own_path(alloc, suffix, stat)?,
         values: Items::new(alloc),
         count: stat.writes,
         size: stat.size,
     })
+}
+
+/// The path of the stat's file. A path that is the whole text is copied as it is.
+fn own_path(alloc: Global, suffix: &[u8], stat: &Stat) -> Result<Text, HudiError>
+    requires { is_utf8 (without_end suffix.now stat.now.path) ≡ true }
+    ensures { Gives result (Ok (without_end suffix.now stat.now.path)) }
+{
+    if suffix.is_empty() {
+        return Ok(stat.path.copy(alloc)?);
+    }
+    text_of(alloc, without_end(suffix, stat.path.as_bytes()))
 }
 
 fn text_of(alloc: Global, path: &[u8]) -> Result<Text, HudiError>
@@ -214,6 +226,64 @@ fn are_in_folders(
     Ok(true)
 }
 
+// ---- a folder for several files
+
+/// A path, and the parts of its folder that spell the columns' values. There are none where it isn't
+/// in a folder of the partition columns.
+#[derive(Drop)]
+struct FolderParts<'a> {
+    path: &'a str,
+    parts: Option<Vec<&'a str>>,
+}
+
+fn folder_parts<'a>(
+    alloc: Global,
+    style: FolderStyle,
+    names: &[Text],
+    path: &'a str,
+) -> Result<FolderParts<'a>, AllocError>
+    ensures path { IfOk result (λ folder. folder.path.now ≡ path.now) }
+    ensures parts { IfOk result
+        (λ folder. option_map texts_of folder.parts ≡ value_parts style names.now path.now) }
+{
+    Ok(FolderParts {
+        path,
+        parts: value_parts(alloc, style, names, path)?,
+    })
+}
+
+/// Whether the two are in one folder below the table's own.
+fn is_same_folder(path: &[u8], other: &[u8]) -> bool
+    ensures { IsTrue result → folder_components path.now ≡ folder_components other.now }
+{
+    match (memrchr(b'/', path), memrchr(b'/', other)) {
+        (Some(end), Some(other_end)) => path[..end] == other[..other_end],
+        _ => false,
+    }
+}
+
+/// The parts of the path's folder. They are those of the path before where the two are in one folder.
+fn next_parts<'a>(
+    alloc: Global,
+    style: FolderStyle,
+    names: &[Text],
+    before: FolderParts<'a>,
+    path: &'a str,
+) -> Result<FolderParts<'a>, AllocError>
+    requires { option_map texts_of before.parts ≡ value_parts style names.now before.path.now }
+    ensures path { IfOk result (λ folder. folder.path.now ≡ path.now) }
+    ensures parts { IfOk result
+        (λ folder. option_map texts_of folder.parts ≡ value_parts style names.now path.now) }
+{
+    if is_same_folder(before.path.as_bytes(), path.as_bytes()) {
+        return Ok(FolderParts {
+            path,
+            parts: before.parts,
+        });
+    }
+    folder_parts(alloc, style, names, path)
+}
+
 // ---- values
 
 fn part_value(
@@ -259,19 +329,19 @@ fn part_values(
 fn row_with_values(
     alloc: Global,
     style: FolderStyle,
-    names: &[Text],
     kinds: &[PartKind],
+    parts: &Option<Vec<&str>>,
     file: &FileRow,
 ) -> Result<FileRow, HudiError>
-    requires counted { length kinds.now ≡ length names.now }
-    requires inside { is_in_folder style names.now file.now ≡ true }
-    ensures ok { IfOk result (HasValues style names.now kinds.now file.now) }
-    ensures refused { IfErr result
-        (ShowsNoValue (SpellsNoValues style names.now kinds.now file.now.path)) }
+    requires counted { IfSome parts.now (λ found. length kinds.now ≡ length found.items) }
+    ensures ok { (names : List (List ℕ))
+        → option_map texts_of parts.now ≡ value_parts style names file.now.path
+        → IfOk result (HasValues style names kinds.now file.now) }
+    ensures refused { (names : List (List ℕ))
+        → option_map texts_of parts.now ≡ value_parts style names file.now.path
+        → IfErr result (OnlyFeature (IsRowFault style names kinds.now file.now)) }
 {
-    let Some(parts) = value_parts(alloc, style, names, file.path.as_str())? else {
-        return Err(MALFORMED);
-    };
+    let parts = parts.as_ref().ok_or(PARTITION_PATH)?;
     let values = part_values(alloc, style, kinds, parts.as_slice())?;
     Ok(FileRow {
         path: file.path.copy(alloc)?,
@@ -281,7 +351,8 @@ fn row_with_values(
     })
 }
 
-/// The rows of the files, each with the values that its folder spells.
+/// The rows of the files, each with the values that its folder spells. A folder is read once for
+/// all its files that stand one behind another.
 fn rows_with_values(
     alloc: Global,
     style: FolderStyle,
@@ -289,15 +360,16 @@ fn rows_with_values(
     kinds: &[PartKind],
     files: &[FileRow],
 ) -> Result<Items<FileRow>, HudiError>
-    requires counted { length kinds.now ≡ length names.now }
-    requires inside { are_in_folders style names.now files.now ≡ true }
+    requires { length kinds.now ≡ length names.now }
     ensures ok { IfOk result (HaveValues style names.now kinds.now files.now) }
-    ensures refused { IfErr result (ShowsNoValue ((file : FileRow)
-        × Contains files.now file × SpellsNoValues style names.now kinds.now file.path)) }
+    ensures refused { IfErr result
+        (OnlyFeature (IsSomeRowFault style names.now kinds.now files.now)) }
 {
     let mut rows = Items::new(alloc);
+    let mut folder = folder_parts(alloc, style, names, "")?;
     for file in files {
-        rows.push(row_with_values(alloc, style, names, kinds, file)?)?;
+        folder = next_parts(alloc, style, names, folder, file.path.as_str())?;
+        rows.push(row_with_values(alloc, style, kinds, &folder.parts, file)?)?;
     }
     Ok(rows)
 }
@@ -360,8 +432,9 @@ fn rows_in_folders(
     ensures refused { IfErr result
         (OnlyFeature (IsFolderFault style names.now kinds.now files.now)) }
 {
-    if !are_in_folders(alloc, style, names, files)? {
+    let rows = rows_with_values(alloc, style, names, kinds, files);
+    if rows.is_err() && !are_in_folders(alloc, style, names, files)? {
         return Err(PARTITION_PATH);
     }
-    rows_with_values(alloc, style, names, kinds, files)
+    rows
 }
