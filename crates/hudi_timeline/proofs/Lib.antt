@@ -4,5 +4,6 @@ pub mod CountLemmas
 pub mod KindLemmas
 pub mod LiveLemmas
 pub mod MadeLemmas
+pub mod OrderLemmas
 pub mod StepLemmas
 pub mod TimelineLaws
