@@ -61,10 +61,6 @@ meta_no_float m = rw ((members_with_flat string string_flat m.configuration no_m
 pub meta_shallow : (m : MetaData) → depth (meta_data_data m) ≤ max_depth
 meta_shallow m = rw ((members_with_flat string string_flat m.configuration no_members none_flat).shallow, texts_shallow m.partition) (omega arith)
 
-pub file_no_float : (now : ℕ) (f : FileAction) → has_float (file_data now f) ≡ false
-file_no_float now (file.Add path values size count) = rw ((members_with_flat text_or_null_data value_flat values no_members none_flat).no_float)
-file_no_float now (file.Remove path) = refl
-
 pub file_shallow : (now : ℕ) (f : FileAction) → depth (file_data now f) ≤ max_depth
 file_shallow now (file.Add path values size count) = rw ((members_with_flat text_or_null_data value_flat values no_members none_flat).shallow) (omega arith)
 file_shallow now (file.Remove path) = omega arith

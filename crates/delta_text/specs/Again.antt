@@ -1,5 +1,5 @@
 -- That the texts in a commit are read as what they were written for.
-use Rattle.std.specs.Prelude.{◌≡◌, ℕ, IfSome, FitsSigned}
+use Rattle.std.specs.Prelude.{◌≡◌, ◌<◌, ◌^◌, ℕ, IfSome, FitsSigned}
 use Rattle.std.specs.Int.{w64}
 use Rattle.std.specs.List.{AllByRecursion}
 use Rattle.json_reading.specs.Json.{IsReadAgain}
@@ -21,6 +21,11 @@ HasReadableStats (file.Remove path) = Unit {0}
 -- the URI that is written for a path names it
 abbrev pub HasReadableUri : FileAction → Type 0
 HasReadableUri f = IsPath (file_path f) → uri_path (escaped_path (file_path f)) ≡ inside_table (file_path f)
+
+-- the numbers are of 64 bits
+abbrev pub HasSmallNumbers : ℕ → FileAction → Type 0
+HasSmallNumbers now (file.Add path values size count) = (now < 2 ^ 64) × (size < 2 ^ 64) × (count < 2 ^ 64)
+HasSmallNumbers now (file.Remove path) = now < 2 ^ 64
 
 -- the line of the protocol is read as it, and its versions are of 64 bits
 pub record IsProtocolAgain (p : Protocol) : Type 0 where

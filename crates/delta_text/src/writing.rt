@@ -1,29 +1,24 @@
 //! Writing a commit.
 
-ghost use Rattle.std.specs.Prelude.{◌≡◌, ◌≤◌, ◌++◌, IfOk, IfErr, codes, OnOk, IfSome, Ok, false, option_to_list, flat_map, map, FitsSigned};
+ghost use Rattle.std.specs.Prelude.{◌≡◌, ◌≤◌, ◌∷◌, ◌++◌, [], IfOk, IfErr, codes, OnOk, IfSome, Ok, false, option_to_list, flat_map, map, FitsSigned};
 ghost use Rattle.std.specs.Int.{w64};
-ghost use Rattle.table_history.specs.Path.{IsPath};
-ghost use Rattle.partition_map.specs.UriPath.{inside_table, uri_path};
 ghost use Rattle.std.specs.List.{AllByRecursion};
 ghost use Rattle.serde_json.specs.Data.{depth, member, no_members, object, put, string};
 ghost use Rattle.serde_json.specs.Read.{max_depth};
 ghost use Rattle.serde_json.specs.View.{view, members_view};
 ghost use Rattle.serde_json.specs.Written.{compact_text, has_float};
 ghost use Rattle.json_reading.specs.Json.{IsReadAgain};
-ghost use Rattle.partition_map.specs.Uri.{escaped_path};
 ghost use Rattle.delta_log.specs.declared.commit.DeltaCommit.{DeltaCommit};
 ghost use Rattle.delta_log.specs.Judging.{commit_of};
 ghost use Rattle.delta_log.specs.Readable.{IsReadableCommit};
 ghost use Rattle.delta_log.specs.Sound.{IsWritable};
-ghost use Rattle.delta_text.specs.Writing.{only_member, put_texts, protocol_data, meta_data_data, stats_data, add_data, remove_data, file_data, line_text, commit_text, SameCommit};
-ghost use Rattle.delta_text.specs.Again.{HasReadableStats, HasReadableUri, IsProtocolAgain, IsFileAgain, HasReadableParts};
+ghost use Rattle.delta_text.specs.Writing.{only_member, put_texts, protocol_data, meta_data_data, file_data, line_text, commit_text, SameCommit};
+ghost use Rattle.delta_text.specs.Again.{IsProtocolAgain, IsFileAgain, HasReadableParts};
 
+use crate::file_text::file_text;
 use delta_log::{DeltaCommit, DeltaError, FileAction, MetaData, Protocol};
-use json_reading::{
-    json_text, nullable_texts_object, texts_array, texts_object, with_member, with_text,
-};
+use json_reading::{json_text, texts_array, texts_object, with_member, with_text};
 use lake_basics::{Blob, Items, Text};
-use partition_map::encode_uri_path;
 use serde_json::{Map, Value};
 use std::alloc::{AllocError, Global};
 
@@ -99,86 +94,16 @@ fn meta_data_value(alloc: Global, meta: &MetaData) -> Result<Value, AllocError>
     only_member(alloc, "metaData", Value::Object(members))
 }
 
-fn stats_value(alloc: Global, count: u64) -> Result<Value, AllocError>
-    ensures { IfOk result (λ v. view v ≡ stats_data count) }
-{
-    only_member(alloc, "numRecords", Value::from(count))
-}
-
-/// The statistics of a file with this many records.
-fn stats_text(alloc: Global, count: u64) -> Result<Text, AllocError>
-    ensures text { IfOk result (λ t. t ≡ compact_text (stats_data count)) }
-    ensures reads_back { OnOk result (IsReadAgain (stats_data count)) }
-{
-    let value = stats_value(alloc, count)?;
-    json_text(alloc, &value)
-}
-
-fn uri_of(alloc: Global, path: &Text) -> Result<Text, AllocError>
-    ensures text { IfOk result (λ t. t ≡ escaped_path path.now) }
-    ensures reads_back { OnOk result (IsPath path.now
-        → uri_path (escaped_path path.now) ≡ inside_table path.now) }
-{
-    match encode_uri_path(alloc, path.as_str()) {
-        Ok(uri) => Ok(uri),
-        Err(_) => Err(AllocError),
-    }
-}
-
-fn add_value(
-    alloc: Global,
-    uri: &str,
-    values: Value,
-    size: u64,
-    stats: &str,
-    now_ms: u64,
-) -> Result<Value, AllocError>
-    ensures { IfOk result (λ v. view v
-        ≡ add_data now_ms uri.now (view values) size stats.now) }
-{
-    let members = with_member(alloc, Map::new(alloc), "partitionValues", values)?;
-    let members = with_member(alloc, members, "dataChange", Value::Bool(true))?;
-    let members = with_member(alloc, members, "modificationTime", Value::from(now_ms))?;
-    let members = with_text(alloc, members, "path", uri)?;
-    let members = with_member(alloc, members, "size", Value::from(size))?;
-    let members = with_text(alloc, members, "stats", stats)?;
-    only_member(alloc, "add", Value::Object(members))
-}
-
-fn remove_value(alloc: Global, uri: &str, now_ms: u64) -> Result<Value, AllocError>
-    ensures { IfOk result (λ v. view v ≡ remove_data now_ms uri.now) }
-{
-    let members = with_member(alloc, Map::new(alloc), "dataChange", Value::Bool(true))?;
-    let members = with_member(alloc, members, "deletionTimestamp", Value::from(now_ms))?;
-    let members = with_text(alloc, members, "path", uri)?;
-    only_member(alloc, "remove", Value::Object(members))
-}
-
-fn file_value(alloc: Global, file: &FileAction, now_ms: u64) -> Result<Value, AllocError>
-    ensures data { IfOk result (λ v. view v ≡ file_data now_ms file.now) }
-    ensures stats { OnOk result (HasReadableStats file.now) }
-    ensures uri { OnOk result (HasReadableUri file.now) }
-{
-    match file {
-        FileAction::Add {
-            path,
-            values,
-            size,
-            count,
-        } => {
-            let uri = uri_of(alloc, path)?;
-            let values = nullable_texts_object(alloc, values.as_slice())?;
-            let stats = stats_text(alloc, *count)?;
-            add_value(alloc, uri.as_str(), values, *size, stats.as_str(), now_ms)
-        }
-        FileAction::Remove { path } => {
-            let uri = uri_of(alloc, path)?;
-            remove_value(alloc, uri.as_str(), now_ms)
-        }
-    }
-}
-
 // ---- lines
+
+/// Writes a text and the end of its line.
+fn push_text(out: &mut Vec<u8>, text: &[u8]) -> Result<(), AllocError>
+    ensures { OnOk result (out.new.items ≡ out.old.items ++ (text.now ++ 10 ∷ [])) }
+{
+    out.extend_from_slice(text)?;
+    out.push(b'\n')?;
+    Ok(())
+}
 
 /// Writes a line that is read again.
 fn push_line(alloc: Global, out: &mut Vec<u8>, value: &Value) -> Result<(), AllocError>
@@ -188,9 +113,7 @@ fn push_line(alloc: Global, out: &mut Vec<u8>, value: &Value) -> Result<(), Allo
     ensures reads_back { OnOk result (IsReadAgain (view value.now)) }
 {
     let line = json_text(alloc, value)?;
-    out.extend_from_slice(line.as_bytes())?;
-    out.push(b'\n')?;
-    Ok(())
+    push_text(out, line.as_bytes())
 }
 
 #[tactic(auto, using(crate::proofs::ShapeLemmas::protocol_no_float, crate::proofs::ShapeLemmas::protocol_shallow))]
@@ -213,7 +136,6 @@ fn push_meta_data(alloc: Global, out: &mut Vec<u8>, meta: &MetaData) -> Result<(
     push_line(alloc, out, &value)
 }
 
-#[tactic(auto, using(crate::proofs::ShapeLemmas::file_no_float, crate::proofs::ShapeLemmas::file_shallow))]
 fn push_file(
     alloc: Global,
     out: &mut Vec<u8>,
@@ -224,8 +146,8 @@ fn push_file(
         ≡ out.old.items ++ line_text (file_data now_ms file.now)) }
     ensures reads_back { OnOk result (IsFileAgain now_ms file.now) }
 {
-    let value = file_value(alloc, file, now_ms)?;
-    push_line(alloc, out, &value)
+    let text = file_text(alloc, file, now_ms)?;
+    push_text(out, &text)
 }
 
 fn push_protocol_if_any(
