@@ -1,6 +1,7 @@
 //! A JSON value over its text.
 
-ghost use Rattle.std.specs.Prelude.{◌≡◌, option_map, option_and_then, is_some};
+ghost use Rattle.std.specs.Prelude.{◌≡◌, true, option_map, option_and_then, is_some};
+ghost use Rattle.std.specs.Str.{bytes_eq};
 ghost use Rattle.serde_json.specs.Find.{get, get_member, as_str, as_bool, as_number, as_i64, as_array, as_object};
 ghost use Rattle.json_outline.specs.View.{view, items_view, members_view};
 
@@ -92,6 +93,20 @@ impl<'t> Node<'t> {
     }
 }
 
+/// Whether the two are alike in their length and their first byte.
+fn begin_alike(found: &[u8], name: &[u8]) -> bool
+    ensures { found.now ≡ name.now → result ≡ true }
+{
+    found.len() == name.len() && (found.is_empty() || found[0] == name[0])
+}
+
+/// Whether the two are one name. Most names that differ don't begin alike.
+fn is_name(found: &str, name: &str) -> bool
+    ensures { result ≡ bytes_eq found.now name.now }
+{
+    begin_alike(found.as_bytes(), name.as_bytes()) && found == name
+}
+
 /// The last member of that name.
 fn last_named<'n, 't>(members: &'n Members<'t>, name: &str) -> Option<&'n Node<'t>>
     ensures { option_map (λ v. view v.now) result ≡ get_member name.now (members_view members.now.items) }
@@ -100,7 +115,7 @@ fn last_named<'n, 't>(members: &'n Members<'t>, name: &str) -> Option<&'n Node<'
     'members: while left > 0 {
         left -= 1;
         let member = &members[left];
-        if member.0 == name {
+        if is_name(member.0, name) {
             return Some(&member.1);
         }
     }

@@ -17,6 +17,9 @@ use std::alloc::{AllocError, AllocFailed, Global};
 /// How deep the arrays and objects of a text may nest.
 const MAX_DEPTH: usize = 127;
 
+/// The room for members that an object begins with.
+const MEMBER_ROOM: usize = 8;
+
 /// Why no value was read.
 #[derive(Clone, Copy, Drop)]
 enum Refusal {
@@ -125,7 +128,7 @@ fn read_members<'t>(
         → converted (λ ms. of_members ms no_members)
         (members (value depth) (length reader.old) reader.old) ≡ None }
 {
-    let mut found = Vec::new(alloc);
+    let mut found = Vec::with_capacity(alloc, MEMBER_ROOM)?;
     'members: while let Some(name) = reader.next_key()? {
         let member = read(alloc, reader, depth)?;
         found.push((name, member))?;
