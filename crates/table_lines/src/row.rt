@@ -51,10 +51,10 @@ fn write_row(out: &mut Writer, row: &FileRow) -> Result<(), AllocError>
     out.end_array()
 }
 
-// The most bytes of a number, a truth value or a null, with a comma.
+/// The most bytes of a number, a truth value or a null, with a comma.
 const PLAIN_BYTES: usize = 21;
 
-// The bytes that a text takes with its quotes and a comma, unless it has escapes.
+/// The bytes that a text takes with its quotes and a comma, unless it has escapes.
 fn text_bytes(text: &str) -> usize {
     text.len().saturating_add(3)
 }
