@@ -3,7 +3,6 @@
 #![tactic(auto)]
 
 mod actions;
-mod commit;
 mod fitting;
 mod fresh;
 mod inspect;

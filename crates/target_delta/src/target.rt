@@ -4,13 +4,13 @@ ghost use Rattle.std.specs.Prelude.{◌≡◌, ◌∷◌, ◌++◌, ℕ, List, [
 ghost use Rattle.target_core.specs.declared.target.TargetError.TheVariants.{Memory};
 ghost use Rattle.target_delta.specs.TableId.{id_name, table_id};
 
-use crate::commit::publish_commit;
 use crate::fitting::fits;
 use crate::fresh::fresh_kept;
 use crate::inspect::inspect;
 use crate::kept::DeltaKept;
+use crate::version::new_version;
 use lake_basics::Text;
-use lake_store::Store;
+use lake_store::{Store, stage_and_publish};
 use std::alloc::{AllocError, Global};
 use table_history::{Commit, Kind, Table};
 use target_core::{Mark, Seen, Target, TargetError};
@@ -139,6 +139,9 @@ impl Target for DeltaTarget {
         fits(alloc, kept, partition, commits)
     }
 
+    /// Publishes a commit as the next version (Delta protocol, "Delta Log Entries"): its file is
+    /// staged, made durable and renamed in one step. Its text is whole before the first file is
+    /// written.
     fn commit<S: Store>(
         &self,
         alloc: Global,
@@ -149,7 +152,11 @@ impl Target for DeltaTarget {
         table: Option<&Text>,
         now_ms: u64,
     ) -> Result<(), TargetError> {
-        publish_commit(alloc, store, kept, commit, source, table, now_ms)
+        let version = new_version(alloc, kept, commit, source, table, now_ms)?;
+        let staged = version.staged.as_str();
+        let path = version.path.as_str();
+        stage_and_publish(store, staged, path, version.bytes.as_slice())?;
+        Ok(())
     }
 
     ghost one_view = { λ t files v w a b. one_view files v w a b };

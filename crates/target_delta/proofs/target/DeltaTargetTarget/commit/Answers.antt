@@ -1,28 +1,348 @@
-use Rattle.std.proofs.Common.{sym, subst}
-use Rattle.lake_store.specs.Disk.{Disk}
-use Rattle.target_delta.specs.Kept.{view_of}
-use Rattle.target_delta.specs.Reading.{Reads}
+use Rattle.std.proofs.Common.{◌≡◌, ◌∙◌, ℕ, suc, Bool, true, List, [], ◌∷◌, Err, refl, sym, ap, subst, arith}
+use Rattle.std.specs.Prelude.{IsErrOf, is_ok, length, ◌≤◌}
+use Rattle.std.specs.Option.{option_copied}
+use Rattle.std.proofs.lemmas.Result.{err_from_is_err_and}
+use Rattle.lake_basics.specs.declared.limits.TheConstants.{MAX_FILE_BYTES}
+use Rattle.lake_store.proofs.RunLaws.{reading_begins}
+use Rattle.lake_store.proofs.ShortLaws.{short_same}
+use Rattle.delta_table.specs.Versions.{IsVersionPath}
+use Rattle.table_history.specs.declared.limit.LimitKind.TheVariants.{File}
+use Rattle.target_core.specs.Outcome.{Uncontested, answer_of}
+use Rattle.target_core.specs.Publishing.{Publishes}
+use Rattle.target_core.specs.Views.{Origin}
+use Rattle.target_core.specs.declared.target.TargetError.TheVariants.{Contested}
+use Rattle.target_core.proofs.Come.{come_later, come_uncontested, never_come}
+use Rattle.target_delta.specs.CountLemmas.{count_is}
+use Rattle.target_delta.specs.DeltaMeaning.{delta_meaning}
+use Rattle.target_delta.specs.Kept.{end_of, view_of}
+use Rattle.target_delta.specs.KeptLemmas.{versions_of_reads}
+use Rattle.target_delta.specs.Names.{HasVersions, IsStagedPath}
+use Rattle.target_delta.specs.NewVersion.{IsNewVersion}
+use Rattle.target_delta.specs.Reading.{commits_in}
+use Rattle.target_delta.specs.Writing.{LogEnd}
+use Rattle.target_delta.proofs.CommitLemmas.{fits_behind, free_path, stands_now}
+use Rattle.target_delta.proofs.StoreLemmas.{alone_staged, as_left, as_left_come, beside_now, contested_by, count_taken, counted_now, err_same, kept_taken, not_ok, ok_taken, publishes_nothing, publishes_staged, stands_come, unlimited_by, untaken_by, writes_now}
 use Rattle.target_delta.proofs.target.DeltaTargetTarget.commit.Goals as goal
 
-pub returns-clause-publishes : goal.returns-clause-publishes
-returns-clause-publishes g c told stands settled = c.publish_commit.ensures.publishes told c.args.self.now.id stands settled
+pub returns-in_err-version-clause-publishes : goal.returns-in_err-version-clause-publishes
+returns-in_err-version-clause-publishes g c told stands settled =
+    let id = c.args.self.now.id in
+    let kept = c.args.kept.now in
+    let s = c.args.store.now in
+    let origin : Origin = record { source = c.args.source; table = option_copied c.args.table } in
+    let exit = err_from_is_err_and c.from_residual.result c.from_residual.ensures.1 in
+    subst (λ (done : Bool). Publishes g.S.Store (delta_meaning id) origin (view_of kept) (c.args.commit.now ∷ []) (Uncontested c.from_residual.result) done s s) (sym (ap is_ok exit.1))
+    (publishes_nothing g.S.Store g.met.S.Store.only_now s told id origin kept c.args.commit.now stands settled (Uncontested c.from_residual.result))
 
-pub returns-clause-contested : goal.returns-clause-contested
-returns-clause-contested g c told stands settled is = c.publish_commit.ensures.contested told c.args.self.now.id stands settled is
+pub returns-in_err-version-clause-stands : goal.returns-in_err-version-clause-stands
+returns-in_err-version-clause-stands g c told stands settled come =
+    let id = c.args.self.now.id in
+    let exit = err_from_is_err_and c.from_residual.result c.from_residual.ensures.1 in
+    let kept = c.args.kept.now in
+    let files = (g.S.Store.disk c.args.store.now).files in
+    let count = count_is files kept.commits (versions_of_reads files (view_of kept) stands.reads) in
+    never_come c.from_residual.result exit.0 kept.commits (commits_in files) exit.1 (omega (arith, count)) come
 
-pub returns-clause-kept : goal.returns-clause-kept
-returns-clause-kept g c told stands settled is = c.publish_commit.ensures.kept told c.args.self.now.id stands settled is
+pub returns-in_err-version-clause-came : goal.returns-in_err-version-clause-came
+returns-in_err-version-clause-came g c told stands settled come =
+    let id = c.args.self.now.id in
+    let exit = err_from_is_err_and c.from_residual.result c.from_residual.ensures.1 in
+    let kept = c.args.kept.now in
+    let files = (g.S.Store.disk c.args.store.now).files in
+    let count = count_is files kept.commits (versions_of_reads files (view_of kept) stands.reads) in
+    never_come c.from_residual.result exit.0 kept.commits (commits_in files) exit.1 (omega (arith, count)) come
 
-pub returns-clause-limited : goal.returns-clause-limited
-returns-clause-limited g c told stands settled which number is =
-    let only = c.publish_commit.ensures.limited told which number is in
-    subst (λ (d : Disk). Reads d.files (view_of c.args.kept.now)) (sym only.disk) stands.reads
+pub returns-in_err-version-clause-limited : goal.returns-in_err-version-clause-limited
+returns-in_err-version-clause-limited g c told stands settled which number is = stands.reads
+
+pub returns-in_err-version-clause-untouched : goal.returns-in_err-version-clause-untouched
+returns-in_err-version-clause-untouched g c told which number is other = reading_begins g.S.Store g.met.S.Store.only_now c.args.store.now told
+
+pub stage_and_publish-requires-clause-free : goal.stage_and_publish-requires-clause-free
+stage_and_publish-requires-clause-free g c told =
+    let kept = c.args.kept.now in
+    let named = subst (λ p. IsVersionPath p kept.commits) (sym c.as_str-path.ensures.value) c.in_ok-version.ensures.path in
+    free_path (g.S.Store.disk c.args.store.now).files c.as_str-path.result.now kept.commits named (c.requires.counted told)
+
+pub returns-in_err-stage_and_publish-clause-alone : goal.returns-in_err-stage_and_publish-clause-alone
+returns-in_err-stage_and_publish-clause-alone g c told =
+    let store = g.S.Store in
+    let kept = c.args.kept.now in
+    let next = c.new_version.new.kept in
+    let old = c.args.store.now in
+    let new = c.stage_and_publish.new.store in
+    let staged = c.as_str-staged.result.now in
+    let name = c.as_str-path.result.now in
+    let bytes = c.as_slice.result.now in
+    let origin : Origin = record { source = c.args.source; table = option_copied c.args.table } in
+    let is_staged = subst (λ p. IsStagedPath p kept.commits) (sym c.as_str-staged.ensures.value) c.in_ok-version.ensures.staged in
+    let named = subst (λ p. IsVersionPath p kept.commits) (sym c.as_str-path.ensures.value) c.in_ok-version.ensures.path in
+    let v = subst (λ b. IsNewVersion origin c.args.now_ms kept c.args.commit.now b next) (sym c.as_slice.ensures.value) c.in_ok-version.ensures.is in
+    alone_staged store old new told staged name bytes kept.commits is_staged named _ (c.in_err-stage_and_publish.ensures.left told) c.in_err-stage_and_publish.ensures.any_moment
+
+pub returns-in_err-stage_and_publish-clause-publishes : goal.returns-in_err-stage_and_publish-clause-publishes
+returns-in_err-stage_and_publish-clause-publishes g c told stands settled =
+    let id = c.args.self.now.id in
+    let store = g.S.Store in
+    let kept = c.args.kept.now in
+    let next = c.new_version.new.kept in
+    let old = c.args.store.now in
+    let new = c.stage_and_publish.new.store in
+    let staged = c.as_str-staged.result.now in
+    let name = c.as_str-path.result.now in
+    let bytes = c.as_slice.result.now in
+    let origin : Origin = record { source = c.args.source; table = option_copied c.args.table } in
+    let is_staged = subst (λ p. IsStagedPath p kept.commits) (sym c.as_str-staged.ensures.value) c.in_ok-version.ensures.staged in
+    let named = subst (λ p. IsVersionPath p kept.commits) (sym c.as_str-path.ensures.value) c.in_ok-version.ensures.path in
+    let v = subst (λ b. IsNewVersion origin c.args.now_ms kept c.args.commit.now b next) (sym c.as_slice.ensures.value) c.in_ok-version.ensures.is in
+    let exit = err_from_is_err_and c.from_residual-in_err-stage_and_publish.result c.from_residual-in_err-stage_and_publish.ensures.1 in
+    let result = c.from_residual-in_err-stage_and_publish.result in
+    let error = c.in_err-stage_and_publish.field-0.0 in
+    publishes_staged store old new told staged name bytes kept.commits is_staged named _ (c.in_err-stage_and_publish.ensures.left told) c.in_err-stage_and_publish.ensures.any_moment id origin c.args.now_ms kept next c.args.commit.now refl v c.requires.can c.requires.fits stands settled
+    (Uncontested result) (λ u taken. untaken_by result exit.0 error exit.1 exit.2 u (err_same error taken)) (is_ok result) (λ ok. absurd (not_ok result exit.0 exit.1 ok))
+
+pub returns-in_err-stage_and_publish-clause-stands : goal.returns-in_err-stage_and_publish-clause-stands
+returns-in_err-stage_and_publish-clause-stands g c told stands settled come =
+    let id = c.args.self.now.id in
+    let store = g.S.Store in
+    let kept = c.args.kept.now in
+    let next = c.new_version.new.kept in
+    let old = c.args.store.now in
+    let new = c.stage_and_publish.new.store in
+    let staged = c.as_str-staged.result.now in
+    let name = c.as_str-path.result.now in
+    let bytes = c.as_slice.result.now in
+    let origin : Origin = record { source = c.args.source; table = option_copied c.args.table } in
+    let is_staged = subst (λ p. IsStagedPath p kept.commits) (sym c.as_str-staged.ensures.value) c.in_ok-version.ensures.staged in
+    let named = subst (λ p. IsVersionPath p kept.commits) (sym c.as_str-path.ensures.value) c.in_ok-version.ensures.path in
+    let v = subst (λ b. IsNewVersion origin c.args.now_ms kept c.args.commit.now b next) (sym c.as_slice.ensures.value) c.in_ok-version.ensures.is in
+    let exit = err_from_is_err_and c.from_residual-in_err-stage_and_publish.result c.from_residual-in_err-stage_and_publish.ensures.1 in
+    let result = c.from_residual-in_err-stage_and_publish.result in
+    let error = c.in_err-stage_and_publish.field-0.0 in
+    let later = come_later result exit.0 kept.commits (commits_in (store.disk new).files) exit.1 come in
+    stands_come store old new told staged name bytes kept.commits is_staged named _ (c.in_err-stage_and_publish.ensures.left told) c.in_err-stage_and_publish.ensures.any_moment id origin c.args.now_ms kept next c.args.commit.now refl v c.requires.can c.requires.fits stands settled
+    (λ taken. untaken_by result exit.0 error exit.1 exit.2 (come_uncontested result kept.commits (commits_in (store.disk new).files) come) (err_same error taken)) later
+
+pub returns-in_err-stage_and_publish-clause-came : goal.returns-in_err-stage_and_publish-clause-came
+returns-in_err-stage_and_publish-clause-came g c told stands settled come =
+    let id = c.args.self.now.id in
+    let store = g.S.Store in
+    let kept = c.args.kept.now in
+    let next = c.new_version.new.kept in
+    let old = c.args.store.now in
+    let new = c.stage_and_publish.new.store in
+    let staged = c.as_str-staged.result.now in
+    let name = c.as_str-path.result.now in
+    let bytes = c.as_slice.result.now in
+    let origin : Origin = record { source = c.args.source; table = option_copied c.args.table } in
+    let is_staged = subst (λ p. IsStagedPath p kept.commits) (sym c.as_str-staged.ensures.value) c.in_ok-version.ensures.staged in
+    let named = subst (λ p. IsVersionPath p kept.commits) (sym c.as_str-path.ensures.value) c.in_ok-version.ensures.path in
+    let v = subst (λ b. IsNewVersion origin c.args.now_ms kept c.args.commit.now b next) (sym c.as_slice.ensures.value) c.in_ok-version.ensures.is in
+    let exit = err_from_is_err_and c.from_residual-in_err-stage_and_publish.result c.from_residual-in_err-stage_and_publish.ensures.1 in
+    let result = c.from_residual-in_err-stage_and_publish.result in
+    let error = c.in_err-stage_and_publish.field-0.0 in
+    let later = come_later result exit.0 kept.commits (commits_in (store.disk new).files) exit.1 come in
+    as_left_come store old new told staged name bytes kept.commits is_staged named _ (c.in_err-stage_and_publish.ensures.left told) c.in_err-stage_and_publish.ensures.any_moment id origin c.args.now_ms kept next c.args.commit.now refl v c.requires.can c.requires.fits stands settled
+    (λ taken. untaken_by result exit.0 error exit.1 exit.2 (come_uncontested result kept.commits (commits_in (store.disk new).files) come) (err_same error taken)) later
+
+pub returns-in_err-stage_and_publish-clause-limited : goal.returns-in_err-stage_and_publish-clause-limited
+returns-in_err-stage_and_publish-clause-limited g c told stands settled which number is =
+    let result = c.from_residual-in_err-stage_and_publish.result in
+    let exit = err_from_is_err_and result c.from_residual-in_err-stage_and_publish.ensures.1 in
+    let error = c.in_err-stage_and_publish.field-0.0 in
+    absurd (unlimited_by result exit.0 error which number exit.1 exit.2 (λ n long. c.in_err-stage_and_publish.ensures.not_too_long n (ap (λ e. Err e) long)) is)
+
+pub returns-in_err-stage_and_publish-clause-untouched : goal.returns-in_err-stage_and_publish-clause-untouched
+returns-in_err-stage_and_publish-clause-untouched g c told which number is other =
+    let result = c.from_residual-in_err-stage_and_publish.result in
+    let exit = err_from_is_err_and result c.from_residual-in_err-stage_and_publish.ensures.1 in
+    let error = c.in_err-stage_and_publish.field-0.0 in
+    absurd (unlimited_by result exit.0 error which number exit.1 exit.2 (λ n long. c.in_err-stage_and_publish.ensures.not_too_long n (ap (λ e. Err e) long)) is)
+
+pub returns-in_err-stage_and_publish-clause-contest : goal.returns-in_err-stage_and_publish-clause-contest
+returns-in_err-stage_and_publish-clause-contest g c =
+    let result = c.from_residual-in_err-stage_and_publish.result in
+    let exit = err_from_is_err_and result c.from_residual-in_err-stage_and_publish.ensures.1 in
+    let error = c.in_err-stage_and_publish.field-0.0 in
+    let contest = c.in_err-stage_and_publish.ensures.contest in
+    let taken_by = λ (is : IsErrOf result Contested). ap (λ e. Err e) (contested_by result exit.0 error exit.1 exit.2 is) in
+    record {
+      later = contest.later;
+      still = contest.still;
+      rose = λ is. contest.rose (taken_by is);
+      allowed = λ is. contest.allowed (taken_by is);
+      same = λ never. contest.same (λ taken. never (exit.1 ∙ ap (λ e. Err e) (exit.2 ∙ ap (answer_of File MAX_FILE_BYTES) (err_same error taken))));
+    }
+
+pub returns-in_err-stage_and_publish-clause-contested : goal.returns-in_err-stage_and_publish-clause-contested
+returns-in_err-stage_and_publish-clause-contested g c told stands settled contested =
+    let id = c.args.self.now.id in
+    let store = g.S.Store in
+    let kept = c.args.kept.now in
+    let next = c.new_version.new.kept in
+    let old = c.args.store.now in
+    let new = c.stage_and_publish.new.store in
+    let staged = c.as_str-staged.result.now in
+    let name = c.as_str-path.result.now in
+    let bytes = c.as_slice.result.now in
+    let origin : Origin = record { source = c.args.source; table = option_copied c.args.table } in
+    let is_staged = subst (λ p. IsStagedPath p kept.commits) (sym c.as_str-staged.ensures.value) c.in_ok-version.ensures.staged in
+    let named = subst (λ p. IsVersionPath p kept.commits) (sym c.as_str-path.ensures.value) c.in_ok-version.ensures.path in
+    let v = subst (λ b. IsNewVersion origin c.args.now_ms kept c.args.commit.now b next) (sym c.as_slice.ensures.value) c.in_ok-version.ensures.is in
+    let exit = err_from_is_err_and c.from_residual-in_err-stage_and_publish.result c.from_residual-in_err-stage_and_publish.ensures.1 in
+    let result = c.from_residual-in_err-stage_and_publish.result in
+    let error = c.in_err-stage_and_publish.field-0.0 in
+    let taken = c.in_err-stage_and_publish.ensures.taken told (ap (λ e. Err e) (contested_by result exit.0 error exit.1 exit.2 contested)) in
+    count_taken store old new told staged name bytes kept.commits is_staged named _ (c.in_err-stage_and_publish.ensures.left told) c.in_err-stage_and_publish.ensures.any_moment (c.requires.counted told) v.within taken.theirs taken.file
+
+pub returns-in_err-stage_and_publish-clause-kept : goal.returns-in_err-stage_and_publish-clause-kept
+returns-in_err-stage_and_publish-clause-kept g c told stands settled contested =
+    let id = c.args.self.now.id in
+    let store = g.S.Store in
+    let kept = c.args.kept.now in
+    let next = c.new_version.new.kept in
+    let old = c.args.store.now in
+    let new = c.stage_and_publish.new.store in
+    let staged = c.as_str-staged.result.now in
+    let name = c.as_str-path.result.now in
+    let bytes = c.as_slice.result.now in
+    let origin : Origin = record { source = c.args.source; table = option_copied c.args.table } in
+    let is_staged = subst (λ p. IsStagedPath p kept.commits) (sym c.as_str-staged.ensures.value) c.in_ok-version.ensures.staged in
+    let named = subst (λ p. IsVersionPath p kept.commits) (sym c.as_str-path.ensures.value) c.in_ok-version.ensures.path in
+    let v = subst (λ b. IsNewVersion origin c.args.now_ms kept c.args.commit.now b next) (sym c.as_slice.ensures.value) c.in_ok-version.ensures.is in
+    let exit = err_from_is_err_and c.from_residual-in_err-stage_and_publish.result c.from_residual-in_err-stage_and_publish.ensures.1 in
+    let result = c.from_residual-in_err-stage_and_publish.result in
+    let error = c.in_err-stage_and_publish.field-0.0 in
+    let taken = c.in_err-stage_and_publish.ensures.taken told (ap (λ e. Err e) (contested_by result exit.0 error exit.1 exit.2 contested)) in
+    kept_taken store old new told staged name bytes kept.commits is_staged named _ (c.in_err-stage_and_publish.ensures.left told) c.in_err-stage_and_publish.ensures.any_moment id origin c.args.now_ms kept next c.args.commit.now refl v c.requires.can c.requires.fits stands settled
+    taken.theirs taken.file taken.moments
+
+pub returns-clause-alone : goal.returns-clause-alone
+returns-clause-alone g c told =
+    let store = g.S.Store in
+    let kept = c.args.kept.now in
+    let next = c.new_version.new.kept in
+    let old = c.args.store.now in
+    let new = c.stage_and_publish.new.store in
+    let staged = c.as_str-staged.result.now in
+    let name = c.as_str-path.result.now in
+    let bytes = c.as_slice.result.now in
+    let origin : Origin = record { source = c.args.source; table = option_copied c.args.table } in
+    let is_staged = subst (λ p. IsStagedPath p kept.commits) (sym c.as_str-staged.ensures.value) c.in_ok-version.ensures.staged in
+    let named = subst (λ p. IsVersionPath p kept.commits) (sym c.as_str-path.ensures.value) c.in_ok-version.ensures.path in
+    let v = subst (λ b. IsNewVersion origin c.args.now_ms kept c.args.commit.now b next) (sym c.as_slice.ensures.value) c.in_ok-version.ensures.is in
+    alone_staged store old new told staged name bytes kept.commits is_staged named _ (c.in_ok-stage_and_publish.ensures.left told) c.in_ok-stage_and_publish.ensures.any_moment
+
+pub returns-clause-counted : goal.returns-clause-counted
+returns-clause-counted g c told =
+    let store = g.S.Store in
+    let kept = c.args.kept.now in
+    let next = c.new_version.new.kept in
+    let old = c.args.store.now in
+    let new = c.stage_and_publish.new.store in
+    let staged = c.as_str-staged.result.now in
+    let name = c.as_str-path.result.now in
+    let bytes = c.as_slice.result.now in
+    let origin : Origin = record { source = c.args.source; table = option_copied c.args.table } in
+    let is_staged = subst (λ p. IsStagedPath p kept.commits) (sym c.as_str-staged.ensures.value) c.in_ok-version.ensures.staged in
+    let named = subst (λ p. IsVersionPath p kept.commits) (sym c.as_str-path.ensures.value) c.in_ok-version.ensures.path in
+    let v = subst (λ b. IsNewVersion origin c.args.now_ms kept c.args.commit.now b next) (sym c.as_slice.ensures.value) c.in_ok-version.ensures.is in
+    let count : suc kept.commits ≡ next.commits = omega (arith, ap (λ (e : LogEnd). e.version) v.end) in
+    subst (λ (n : ℕ). HasVersions (store.disk new).files n) count (counted_now store old new told staged name bytes kept.commits is_staged named _ (c.in_ok-stage_and_publish.ensures.left told) c.in_ok-stage_and_publish.ensures.any_moment (c.requires.counted told) v.within bytes (c.in_ok-stage_and_publish.ensures.published told).file)
+
+pub returns-clause-fits : goal.returns-clause-fits
+returns-clause-fits g c =
+    let store = g.S.Store in
+    let kept = c.args.kept.now in
+    let next = c.new_version.new.kept in
+    let old = c.args.store.now in
+    let new = c.stage_and_publish.new.store in
+    let staged = c.as_str-staged.result.now in
+    let name = c.as_str-path.result.now in
+    let bytes = c.as_slice.result.now in
+    let origin : Origin = record { source = c.args.source; table = option_copied c.args.table } in
+    let is_staged = subst (λ p. IsStagedPath p kept.commits) (sym c.as_str-staged.ensures.value) c.in_ok-version.ensures.staged in
+    let named = subst (λ p. IsVersionPath p kept.commits) (sym c.as_str-path.ensures.value) c.in_ok-version.ensures.path in
+    let v = subst (λ b. IsNewVersion origin c.args.now_ms kept c.args.commit.now b next) (sym c.as_slice.ensures.value) c.in_ok-version.ensures.is in
+    fits_behind origin c.args.now_ms kept next c.args.commit.now bytes v
 
 pub returns-clause-stands : goal.returns-clause-stands
-returns-clause-stands g c told stands settled come = c.publish_commit.ensures.stands told c.args.self.now.id stands settled come
+returns-clause-stands g c told stands settled come =
+    let id = c.args.self.now.id in
+    let store = g.S.Store in
+    let kept = c.args.kept.now in
+    let next = c.new_version.new.kept in
+    let old = c.args.store.now in
+    let new = c.stage_and_publish.new.store in
+    let staged = c.as_str-staged.result.now in
+    let name = c.as_str-path.result.now in
+    let bytes = c.as_slice.result.now in
+    let origin : Origin = record { source = c.args.source; table = option_copied c.args.table } in
+    let is_staged = subst (λ p. IsStagedPath p kept.commits) (sym c.as_str-staged.ensures.value) c.in_ok-version.ensures.staged in
+    let named = subst (λ p. IsVersionPath p kept.commits) (sym c.as_str-path.ensures.value) c.in_ok-version.ensures.path in
+    let v = subst (λ b. IsNewVersion origin c.args.now_ms kept c.args.commit.now b next) (sym c.as_slice.ensures.value) c.in_ok-version.ensures.is in
+    stands_now origin c.args.now_ms kept next c.args.commit.now bytes v c.requires.can c.requires.fits id (store.disk old).files stands name named (store.disk new).files
+    (beside_now store old new told staged name bytes kept.commits is_staged named _ (c.in_ok-stage_and_publish.ensures.left told) c.in_ok-stage_and_publish.ensures.any_moment (c.requires.counted told)) (c.in_ok-stage_and_publish.ensures.published told).file
+
+pub returns-clause-publishes : goal.returns-clause-publishes
+returns-clause-publishes g c told stands settled =
+    let id = c.args.self.now.id in
+    let store = g.S.Store in
+    let kept = c.args.kept.now in
+    let next = c.new_version.new.kept in
+    let old = c.args.store.now in
+    let new = c.stage_and_publish.new.store in
+    let staged = c.as_str-staged.result.now in
+    let name = c.as_str-path.result.now in
+    let bytes = c.as_slice.result.now in
+    let origin : Origin = record { source = c.args.source; table = option_copied c.args.table } in
+    let is_staged = subst (λ p. IsStagedPath p kept.commits) (sym c.as_str-staged.ensures.value) c.in_ok-version.ensures.staged in
+    let named = subst (λ p. IsVersionPath p kept.commits) (sym c.as_str-path.ensures.value) c.in_ok-version.ensures.path in
+    let v = subst (λ b. IsNewVersion origin c.args.now_ms kept c.args.commit.now b next) (sym c.as_slice.ensures.value) c.in_ok-version.ensures.is in
+    publishes_staged store old new told staged name bytes kept.commits is_staged named _ (c.in_ok-stage_and_publish.ensures.left told) c.in_ok-stage_and_publish.ensures.any_moment id origin c.args.now_ms kept next c.args.commit.now refl v c.requires.can c.requires.fits stands settled
+    _ (λ u taken. ok_taken _ _ taken) true (λ ok. (c.in_ok-stage_and_publish.ensures.published told).file)
+
+pub returns-clause-writes : goal.returns-clause-writes
+returns-clause-writes g c told stands =
+    let store = g.S.Store in
+    let kept = c.args.kept.now in
+    let next = c.new_version.new.kept in
+    let old = c.args.store.now in
+    let new = c.stage_and_publish.new.store in
+    let staged = c.as_str-staged.result.now in
+    let name = c.as_str-path.result.now in
+    let bytes = c.as_slice.result.now in
+    let origin : Origin = record { source = c.args.source; table = option_copied c.args.table } in
+    let is_staged = subst (λ p. IsStagedPath p kept.commits) (sym c.as_str-staged.ensures.value) c.in_ok-version.ensures.staged in
+    let named = subst (λ p. IsVersionPath p kept.commits) (sym c.as_str-path.ensures.value) c.in_ok-version.ensures.path in
+    let v = subst (λ b. IsNewVersion origin c.args.now_ms kept c.args.commit.now b next) (sym c.as_slice.ensures.value) c.in_ok-version.ensures.is in
+    writes_now (store.disk old) (store.disk new) staged name bytes kept.commits (end_of kept) origin c.args.now_ms c.args.commit.now v.written is_staged named refl (c.in_ok-stage_and_publish.ensures.published told) v.is v.text
 
 pub returns-clause-came : goal.returns-clause-came
-returns-clause-came g c told stands settled come = c.publish_commit.ensures.came told c.args.self.now.id stands settled come
+returns-clause-came g c told stands settled come =
+    let id = c.args.self.now.id in
+    let store = g.S.Store in
+    let kept = c.args.kept.now in
+    let next = c.new_version.new.kept in
+    let old = c.args.store.now in
+    let new = c.stage_and_publish.new.store in
+    let staged = c.as_str-staged.result.now in
+    let name = c.as_str-path.result.now in
+    let bytes = c.as_slice.result.now in
+    let origin : Origin = record { source = c.args.source; table = option_copied c.args.table } in
+    let is_staged = subst (λ p. IsStagedPath p kept.commits) (sym c.as_str-staged.ensures.value) c.in_ok-version.ensures.staged in
+    let named = subst (λ p. IsVersionPath p kept.commits) (sym c.as_str-path.ensures.value) c.in_ok-version.ensures.path in
+    let v = subst (λ b. IsNewVersion origin c.args.now_ms kept c.args.commit.now b next) (sym c.as_slice.ensures.value) c.in_ok-version.ensures.is in
+    as_left store old new told staged name bytes kept.commits is_staged named _ (c.in_ok-stage_and_publish.ensures.left told) c.in_ok-stage_and_publish.ensures.any_moment id origin c.args.now_ms kept next c.args.commit.now refl v c.requires.can c.requires.fits stands settled
+    (c.in_ok-stage_and_publish.ensures.published told).file
 
-pub returns-clause-untouched : goal.returns-clause-untouched
-returns-clause-untouched g c told which number is other = c.publish_commit.ensures.limited told which number is
+pub returns-in_err-version-clause-short : goal.returns-in_err-version-clause-short
+returns-in_err-version-clause-short g c told =
+    let files = (g.S.Store.disk c.args.store.now).files in
+    short_same MAX_FILE_BYTES files files refl
+
+pub returns-in_err-stage_and_publish-clause-short : goal.returns-in_err-stage_and_publish-clause-short
+returns-in_err-stage_and_publish-clause-short g c told = c.in_err-stage_and_publish.ensures.short told (subst (λ (b : List ℕ). length b ≤ MAX_FILE_BYTES) (sym c.as_slice.ensures.value) c.in_ok-version.ensures.short)
+
+pub returns-clause-short : goal.returns-clause-short
+returns-clause-short g c told = c.in_ok-stage_and_publish.ensures.short told (subst (λ (b : List ℕ). length b ≤ MAX_FILE_BYTES) (sym c.as_slice.ensures.value) c.in_ok-version.ensures.short)
