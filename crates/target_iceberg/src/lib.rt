@@ -2,7 +2,6 @@
 //! the calls that inspect it and publish commits.
 #![tactic(auto)]
 
-mod commit;
 mod fitting;
 mod form;
 mod inspect;

@@ -4,9 +4,10 @@ ghost use Rattle.std.specs.Prelude.{◌≡◌, ◌∷◌, ◌++◌, ℕ, List, [
 ghost use Rattle.target_core.specs.declared.target.TargetError.TheVariants.{Memory};
 ghost use Rattle.target_iceberg.specs.TableId.{id_name, table_id};
 
-use crate::commit::publish_commit;
 use crate::fitting::fits;
 use crate::inspect::inspect;
+use crate::publish::publish_version;
+use iceberg_commit::next_version;
 use iceberg_version::{IcebergKept, fresh_kept};
 use lake_basics::Text;
 use lake_store::Store;
@@ -149,6 +150,9 @@ impl Target for IcebergTarget {
         fits(alloc, kept, partition, commits)
     }
 
+    /// Publishes a commit as the next version (Iceberg specification, "File System Tables"): its
+    /// manifests, its list and its staged metadata are made durable, and the metadata is renamed in
+    /// one step. All texts are made before the first write.
     fn commit<S: Store>(
         &self,
         alloc: Global,
@@ -159,7 +163,16 @@ impl Target for IcebergTarget {
         table: Option<&Text>,
         now_ms: u64,
     ) -> Result<(), TargetError> {
-        publish_commit(alloc, store, kept, commit, source, table, now_ms)
+        let new = next_version(alloc, kept, commit, source, table, now_ms)?;
+        let manifests = new.manifests.as_slice();
+        publish_version(
+            alloc,
+            store,
+            new.version,
+            manifests,
+            &new.list,
+            &new.metadata,
+        )
     }
 
     ghost one_view = { λ t files v w a b. one_view files v w a b };
