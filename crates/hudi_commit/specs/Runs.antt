@@ -1,7 +1,8 @@
 -- What a run of store calls makes of a timeline.
-use Rattle.std.specs.Prelude.{◌≡◌, ◌≢◌, ◌⊎◌, ℕ, List, [], Option, None, Some, Result, Ok, Err, IsSome}
+use Rattle.std.specs.Prelude.{◌≡◌, ◌≢◌, ◌⊎◌, ◌<◌, ℕ, List, length, [], Option, None, Some, Result, Ok, Err, IsSome}
 use Rattle.std.specs.FinMap as map
-use Rattle.lake_store.specs.Disk.{Disk, Files, IsClean, IsName, moved, removed, synced, with_file, written}
+use Rattle.lake_basics.specs.declared.limits.TheConstants.{MAX_NAMES}
+use Rattle.lake_store.specs.Disk.{Disk, Files, IsClean, IsName, moved, names_in, removed, synced, with_file, written}
 use Rattle.lake_store.specs.Runs.{IsEachMoment, IsIn}
 use Rattle.lake_store.specs.declared.store.Store.{Ghosts}
 use Rattle.lake_store.specs.declared.store.StoreError.{StoreError}
@@ -28,6 +29,17 @@ abbrev pub HasNotGrown : List ℕ → Files → Files → Type 0
 HasNotGrown folder old new = (path : List ℕ) → IsIn folder path → IsThere new path → IsThere old path
 
 -- ---- the commit as a whole
+
+-- What a refusal for so many claims says. Nothing is published then.
+pub record HasManyClaims {S : Type 0} (store : Ghosts S) (instant : List ℕ) (n : ℕ) (old new : S) : Type 0 where
+  -- They are more than a folder may have.
+  pub many : MAX_NAMES < n
+  -- That is how many the folder of claims had.
+  pub names : store.tells → n ≡ length (names_in (store.disk old).files claims_folder)
+  -- The instant's completed file isn't there.
+  pub unpublished : store.tells → map.get (store.disk new).files (completed_path instant) ≡ None
+  -- Orderly files stand as before.
+  pub unmoved : store.tells → IsOrderly (store.disk old).files → Stands (store.disk old).files (store.disk new)
 
 -- Properties are given before the first commit, where no completed instant is there. Without any the table's properties are there.
 abbrev pub IsReady : Option (List ℕ) → Files → Type 0

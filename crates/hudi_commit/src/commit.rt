@@ -1,15 +1,15 @@
 //! One commit, with the recovery before it.
-ghost use Rattle.std.specs.Prelude.{◌≡◌, ◌<◌, ◌≤◌, ℕ, List, IfSome, IsErrOf, IsSome, None, OnOk, Some, codes, length};
+ghost use Rattle.std.specs.Prelude.{◌≡◌, ◌≤◌, ℕ, List, IfSome, IsErrOf, IsSome, None, OnOk, Some, length};
 ghost use Rattle.std.specs.Option.{option_copied};
 ghost use Rattle.std.specs.FinMap as map;
-ghost use Rattle.lake_basics.specs.declared.limits.TheConstants.{MAX_FILE_BYTES, MAX_NAMES};
+ghost use Rattle.lake_basics.specs.declared.limits.TheConstants.{MAX_FILE_BYTES};
 ghost use Rattle.lake_store.specs.Cause.{IsNotTooLong};
-ghost use Rattle.lake_store.specs.Disk.{AddsShort, Files, names_in};
+ghost use Rattle.lake_store.specs.Disk.{AddsShort, Files};
 ghost use Rattle.lake_store.specs.Runs.{ChangesOnlyIn, FailsBy, IsContestedBy, IsEachMoment, LeavesAlone};
 ghost use Rattle.hudi_names.specs.Time.{IsSomeTime};
-ghost use Rattle.hudi_commit.specs.Names.{IsThere, StaysOrGoes, claims_folder, completed_path, properties_path, staged_properties_path, timeline_folder};
+ghost use Rattle.hudi_commit.specs.Names.{IsThere, StaysOrGoes, completed_path, properties_path, staged_properties_path, timeline_folder};
 ghost use Rattle.hudi_commit.specs.Orderly.{IsOrderly};
-ghost use Rattle.hudi_commit.specs.Runs.{HasCome, HasCompleted, IsIdle, IsKept, IsKeptBut, IsOneStep, IsPrepared, IsReady, IsTakenBy, IsUncontested, LacksOrIs, NotGiven, StaysBefore};
+ghost use Rattle.hudi_commit.specs.Runs.{HasCome, HasCompleted, HasManyClaims, IsIdle, IsKept, IsKeptBut, IsOneStep, IsPrepared, IsReady, IsTakenBy, IsUncontested, LacksOrIs, NotGiven, StaysBefore};
 ghost use Rattle.hudi_commit.specs.Settled.{IsSettled, Stands};
 
 use crate::paths::InstantPaths;
@@ -102,15 +102,8 @@ pub fn publish_commit<S: Store>(
     ensures cause { FailsBy ⟦<S as Store>⟧ store.old store.new (IsErrOf result StoreError.Failed) }
     ensures contest { IsContestedBy ⟦<S as Store>⟧ store.old store.new
         (IsErrOf result StoreError.Taken) }
-    ensures too_long { (n : ℕ) → IsErrOf result (StoreError.TooLong n) → (MAX_NAMES < n)
-        × (S.tells → n ≡ length (names_in (S.disk store.old).files claims_folder)) }
-
-    // Where the claims are too many nothing is published.
-    ensures unpublished { S.tells → (n : ℕ) → IsErrOf result (StoreError.TooLong n)
-        → map.get (S.disk store.new).files (completed_path instant.now) ≡ None }
-    ensures unmoved { S.tells → IsOrderly (S.disk store.old).files → (n : ℕ)
-        → IsErrOf result (StoreError.TooLong n)
-        → Stands (S.disk store.old).files (S.disk store.new) }
+    ensures too_long { (n : ℕ) → IsErrOf result (StoreError.TooLong n)
+        → HasManyClaims ⟦<S as Store>⟧ instant.now n store.old store.new }
 {
     let paths = InstantPaths::new(alloc, instant)?;
     store.sync()?;

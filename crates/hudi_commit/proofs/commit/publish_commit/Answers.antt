@@ -1,4 +1,4 @@
-use Rattle.std.proofs.Common.{◌≡◌, refl, ap, sym, ◌∙◌, subst}
+use Rattle.std.proofs.Common.{◌≡◌, refl, ap, sym, ◌∙◌, subst, rules}
 use Rattle.std.specs.Prelude.{Some}
 use Rattle.std.specs.Option.{option_copied}
 use Rattle.std.specs.FinMap as map
@@ -220,19 +220,19 @@ returns-clause-comes g c told come_now =
       not_grown = others_not_grown props t is entry (disk s4).files others;
     }
 
-pub returns-in_err-clear_claims-clause-unpublished : goal.returns-in_err-clear_claims-clause-unpublished
-returns-in_err-clear_claims-clause-unpublished g c told n long =
+pub returns-in_err-clear_claims-clause-too_long : goal.returns-in_err-clear_claims-clause-too_long
+returns-in_err-clear_claims-clause-too_long g c n long =
     let disk = g.S.Store.disk in
     let t = c.args.instant.now in
-    (c.clear_claims.ensures.alone told).disk.files (completed_path t) (completed_not_open (disk c.sync.new.self).files t c.requires.real.1.digits)
-    ∙ ap (λ (d : Disk). map.get d.files (completed_path t)) (c.in_ok-sync.ensures.ok told) ∙ c.requires.free told
-
-pub returns-in_err-clear_claims-clause-unmoved : goal.returns-in_err-clear_claims-clause-unmoved
-returns-in_err-clear_claims-clause-unmoved g c told orderly n long =
-    let disk = g.S.Store.disk in
     let s0 = c.args.store.now in
     let s1 = c.sync.new.self in
-    (c.clear_claims.ensures.keeps told (disk s0).files (synced_stands (disk s0) (disk s1) (c.in_ok-sync.ensures.ok told) orderly)).disk
+    record {
+      many = search rules;
+      names = λ told. search rules;
+      unpublished = λ told. (c.clear_claims.ensures.alone told).disk.files (completed_path t) (completed_not_open (disk s1).files t c.requires.real.1.digits)
+          ∙ ap (λ (d : Disk). map.get d.files (completed_path t)) (c.in_ok-sync.ensures.ok told) ∙ c.requires.free told;
+      unmoved = λ told orderly. (c.clear_claims.ensures.keeps told (disk s0).files (synced_stands (disk s0) (disk s1) (c.in_ok-sync.ensures.ok told) orderly)).disk;
+    }
 
 pub returns-in_err-paths-clause-kept : goal.returns-in_err-paths-clause-kept
 returns-in_err-paths-clause-kept g c told =

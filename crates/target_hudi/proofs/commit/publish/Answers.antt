@@ -310,7 +310,7 @@ returns-clause-limited g c told stands settled which number limited =
     let alone = c.in-Err.ensures.kept told in
     let whole = orderly_before store old new told name origin now kept next commit instant properties text v counted alone stands in
     let long = limited_by c.in-Err.error c.of_list.result c.of_list.ensures which number limited in
-    reads_unmoved store old new told name origin now kept next commit instant properties text v counted alone stands (c.in-Err.ensures.unmoved told whole long.0 long.1)
+    reads_unmoved store old new told name origin now kept next commit instant properties text v counted alone stands ((c.in-Err.ensures.too_long long.0 long.1).unmoved told whole)
 
 pub returns-clause-untouched : goal.returns-clause-untouched
 returns-clause-untouched g c told which number limited other = absurd (other (only_names c.in-Err.error c.of_list.result c.of_list.ensures which number limited))
@@ -353,7 +353,7 @@ pub returns-clause-refusal : goal.returns-clause-refusal
 returns-clause-refusal g c told =
     let origin : Origin = record { source = c.args.source; table = option_copied c.args.table } in
     refused_by c.in-Err.error c.of_list.result c.of_list.ensures (g.S.Store.disk c.args.store.now).files (end_of c.args.name.now c.args.kept.now) origin c.args.now_ms c.args.commit.now
-    (λ n long. let is = c.in-Err.ensures.too_long n long in (is.0, is.1 told))
+    (λ n long. let is = c.in-Err.ensures.too_long n long in (is.many, is.names told))
 
 pub returns-clause-contest : goal.returns-clause-contest
 returns-clause-contest g c =
