@@ -1,28 +1,23 @@
 -- The list of a new version isn't too long.
-use Rattle.std.proofs.Common.{◌≡◌, ◌≢◌, inl, inr, ⊎_elim, ℕ, zero, suc, pos, ◌+◌, ◌*◌, ◌<◌, ◌≤◌, List, [], ◌∷◌, ◌++◌, map, length, drop, Bool, true, false, cond, ltb, nat_eq, Contains, Some, refl, sym, ap, subst, ◌∙◌, arith}
-use Rattle.std.specs.Coded.{le_prop}
-use Rattle.std.specs.List.{AllByRecursion, IsDistinct, filter, list_all}
+use Rattle.std.proofs.Common.{◌≡◌, ◌≢◌, ⊎_elim, ℕ, suc, ◌+◌, ◌≤◌, List, [], ◌∷◌, ◌++◌, map, length, Bool, true, false, cond, ltb, nat_eq, Contains, refl, sym, ap, subst, ◌∙◌, arith}
+use Rattle.std.specs.List.{AllByRecursion, IsDistinct, filter}
 use Rattle.std.specs.Str.{bytes_eq}
-use Rattle.std.proofs.Math.Logic.{∥∥₁_elim}
 use Rattle.std.proofs.lemmas.Bool.{cases_Bool, false≢true, lt-ltb}
 use Rattle.std.proofs.lemmas.Bool.Decides.{Decides-eqb}
-use Rattle.std.proofs.lemmas.List.{length-append, length-map}
 use Rattle.std.proofs.lemmas.Map.Keys.{IsDistinct-cons, IsDistinct-head, IsDistinct-tail}
 use Rattle.std.proofs.lemmas.Slice.Eq.{bytes_eq-Decides}
-use Rattle.lake_basics.specs.declared.limits.TheConstants.{MAX_AVRO_VALUES, MAX_LIVE_FILES}
-use Rattle.file_links.specs.Rows.{Entry, OwnedRows, Owns, rows_of}
+use Rattle.file_links.specs.Rows.{Entry, OwnedRows, Owns}
 use Rattle.file_links.specs.declared.slots.Held.{Held}
 use Rattle.table_history.specs.Row.{Row}
 use Rattle.table_history.specs.Rows.{paths_of}
 use Rattle.table_history.proofs.RowListLemmas.{Contains-cases, Contains-head, Contains-none, Contains-paths, Contains-tail, all_at}
-use Rattle.target_core.proofs.HeldRows.{held_few}
-use Rattle.iceberg_version.specs.KeptEnd.{held_rows, live_manifest, manifests_of}
+use Rattle.iceberg_version.specs.KeptEnd.{held_rows, live_manifest}
 use Rattle.iceberg_version.specs.Manifests.{LiveManifest, has_rows}
 use Rattle.iceberg_version.specs.Sound.{AreRowsOf, OwnEachPath}
 use Rattle.iceberg_version.specs.declared.kept.IcebergKept.{IcebergKept}
 use Rattle.iceberg_version.specs.declared.kept.KeptManifest.{KeptManifest}
 use Rattle.iceberg_version.proofs.BehindLemmas.{fewer, rows_length}
-use Rattle.iceberg_version.proofs.HeldLemmas.{in_map, of_map}
+use Rattle.iceberg_version.proofs.HeldLemmas.{in_map}
 
 -- the path of the first row, if there is one
 first_path : List Held → List (List ℕ)

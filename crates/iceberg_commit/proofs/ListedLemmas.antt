@@ -1,5 +1,5 @@
 -- What is kept of the manifests of a new version's list is what the list has.
-use Rattle.std.proofs.Common.{◌≡◌, ◌++◌, ◌||◌, ◌&&◌, Bool, true, List, [], ◌∷◌, ℕ, ℤ, pos, map, filter, length, drop, Contains, refl, sym, ap, subst, ◌∙◌, ◌+◌}
+use Rattle.std.proofs.Common.{◌≡◌, ◌++◌, ◌&&◌, Bool, true, List, [], ◌∷◌, ℕ, map, filter, length, drop, Contains, refl, sym, ap, subst, ◌∙◌, ◌+◌}
 use Rattle.std.specs.List.{list_all}
 use Rattle.lake_basics.specs.declared.limits.TheConstants.{MAX_MANIFEST_ENTRIES}
 use Rattle.table_history.specs.Row.{Row}
@@ -8,7 +8,6 @@ use Rattle.table_history.specs.declared.table.Change.{Change}
 use Rattle.table_history.proofs.Laws.{in_order_same}
 use Rattle.table_history.proofs.RowListLemmas.{Contains-head, Contains-tail}
 use Rattle.file_links.specs.Rows.{OwnedRows}
-use Rattle.file_links.specs.declared.slots.Held.{Held}
 use Rattle.iceberg_manifest.specs.Entry.{EntryData}
 use Rattle.iceberg_manifest.specs.declared.info.ManifestInfo.{ManifestInfo}
 use Rattle.iceberg_version.specs.Advance.{Advances, live_rows}

@@ -1,6 +1,6 @@
 -- The metadata of a new version can be written, and a version behind it goes on from it.
-use Rattle.std.proofs.Common.{◌≡◌, ◌≢◌, ◌⊎◌, inl, inr, ⊎_elim, ℕ, zero, suc, ℤ, pos, negsuc, ◌+◌, ◌-◌, ◌<◌, ◌≤◌, ◌^◌, List, [], ◌∷◌, ◌++◌, map, length, drop, Bool, true, false, All, Contains, Option, None, Some, refl, sym, ap, subst, ◌∙◌, arith}
-use Rattle.std.specs.Prelude.{◌≤ℤ◌, flat_map, is_some, IfSome}
+use Rattle.std.proofs.Common.{◌≡◌, ◌≢◌, ◌⊎◌, inl, inr, ⊎_elim, ℕ, zero, suc, ℤ, pos, ◌+◌, ◌-◌, ◌<◌, ◌≤◌, ◌^◌, List, [], ◌∷◌, ◌++◌, map, length, drop, true, false, All, Contains, Option, None, Some, refl, sym, ap, subst, ◌∙◌, arith}
+use Rattle.std.specs.Prelude.{◌≤ℤ◌, is_some, IfSome}
 use Rattle.std.specs.List.{IsDistinct, list_all}
 use Rattle.std.specs.Ordering.{int_eq}
 use Rattle.std.specs.Str.{bytes_eq}
@@ -19,11 +19,10 @@ use Rattle.table_history.specs.Path.{IsPath}
 use Rattle.table_history.specs.TypeTree.{ColumnTrees}
 use Rattle.table_history.specs.declared.table.Change.{Change}
 use Rattle.table_history.proofs.RowListLemmas.{Contains-cases, Contains-head, Contains-none, Contains-tail}
-use Rattle.iceberg_metadata.specs.Grammar.{IsConsistent, snapshot_ids, spec_ids}
+use Rattle.iceberg_metadata.specs.Grammar.{IsConsistent, snapshot_ids}
 use Rattle.iceberg_metadata.specs.Judging.{are_distinct}
 use Rattle.iceberg_metadata.specs.Location.{NamesPath, front_of}
-use Rattle.iceberg_metadata.specs.Paths.{HasOtherPartition, HasOtherTransform, IsRenamed, current_kinds, current_schema, default_fields, held_schema, kinds_of, path_ids, source_kind, sources}
-use Rattle.iceberg_metadata.specs.Reading.{Shows, causes}
+use Rattle.iceberg_metadata.specs.Paths.{HasOtherPartition, HasOtherTransform, IsRenamed, current_kinds, current_schema, default_fields, kinds_of, path_ids, source_kind, sources}
 use Rattle.iceberg_metadata.specs.Schemas.{HeldSchema}
 use Rattle.iceberg_metadata.specs.Writing.{CanBeHeld, HaveOwnNames, IsWritable}
 use Rattle.iceberg_metadata.specs.declared.metadata.Metadata.{Metadata}
@@ -34,10 +33,10 @@ use Rattle.iceberg_table.specs.Folder.{path_of}
 use Rattle.target_core.specs.declared.mark.Mark.{Mark}
 use Rattle.iceberg_version.specs.Names.{list_name}
 use Rattle.iceberg_version.specs.Schemas.{AreSpecFields, FIRST_PARTITION_ID, Schemas, with_schemas}
-use Rattle.iceberg_version.specs.Sound.{IsSoundMetadata, have_first_ids, held_schema_ids, is_under}
-use Rattle.iceberg_version.specs.Writing.{MAX_SNAPSHOTS, last_of, list_file, mapping_property, mark_property, properties_of, snapshot_of, with_properties, with_snapshot, with_spec}
+use Rattle.iceberg_version.specs.Sound.{IsSoundMetadata, held_schema_ids, is_under}
+use Rattle.iceberg_version.specs.Writing.{MAX_SNAPSHOTS, last_of, mapping_property, mark_property, snapshot_of, with_properties, with_snapshot, with_spec}
 use Rattle.iceberg_version.proofs.BehindLemmas.{wide_kind}
-use Rattle.iceberg_version.proofs.HeldLemmas.{AreSoundNext, current_there, distinct_push, in_flat, in_map, map_push, of_flat, of_map}
+use Rattle.iceberg_version.proofs.HeldLemmas.{AreSoundNext, current_there, distinct_push, in_flat, in_map, map_push, of_map}
 use Rattle.iceberg_version.proofs.NamePathLemmas.{list_path}
 use Rattle.iceberg_version.proofs.SourceLemmas.{field_of, fields_length, own_sources, source_is}
 

@@ -19,7 +19,7 @@ use Rattle.schema_iceberg.proofs.IcebergSound.{read_again}
 use Rattle.iceberg_metadata.specs.Grammar.{snapshot_ids}
 use Rattle.iceberg_metadata.specs.Judging.{are_distinct, is_among_if_any, is_renamed}
 use Rattle.iceberg_metadata.specs.Location.{front_of, names_path}
-use Rattle.iceberg_metadata.specs.Paths.{IsRenamed, path_ids}
+use Rattle.iceberg_metadata.specs.Paths.{path_ids}
 use Rattle.iceberg_metadata.specs.Schemas.{HeldSchema}
 use Rattle.iceberg_metadata.specs.Writing.{CanBeHeld, schema_data}
 use Rattle.iceberg_metadata.specs.declared.metadata.Metadata.{Metadata}

@@ -1,5 +1,5 @@
 -- The rows of a new list have their places and their contents.
-use Rattle.std.proofs.Common.{◌≡◌, ◌⊎◌, inl, inr, ℕ, ◌+◌, List, [], ◌∷◌, ◌++◌, map, length, Contains, refl, sym, ap, subst, ◌∙◌, pos}
+use Rattle.std.proofs.Common.{inl, ℕ, ◌+◌, List, [], ◌∷◌, map, Contains, sym, ap, subst}
 use Rattle.std.specs.List.{AllByRecursion}
 use Rattle.table_history.proofs.RowListLemmas.{Contains-head, Contains-tail}
 use Rattle.iceberg_manifest.specs.ListWriting.{HasContent, HavePlaces}

@@ -22,7 +22,7 @@ use iceberg_manifest::{Entries, Entry, ManifestInfo};
 use iceberg_manifest_writing::{list_bytes, manifest_bytes};
 use iceberg_metadata::Metadata;
 use iceberg_metadata_writing::metadata_text;
-use iceberg_version::{Before, Layout, Next, added_entries, anew_entries, info_of};
+use iceberg_version::{Before, Layout, Next, added_entries, info_of, rewritten_entries};
 use lake_basics::Blob;
 use lake_basics::limits::MAX_FILE_BYTES;
 use std::alloc::{AllocError, Global};
@@ -135,7 +135,7 @@ fn entries_anew(
         (held_rows before.now.links.now m.owner)) }
 {
     let owner = before.manifests[place].owner;
-    anew_entries(alloc, &layout.front, layout.version, before, owner)
+    rewritten_entries(alloc, &layout.front, layout.version, before, owner)
 }
 
 /// The entries of the part of the added rows at this place.

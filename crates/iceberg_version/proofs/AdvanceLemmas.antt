@@ -4,6 +4,7 @@ use Rattle.std.specs.Prelude.{is_some, option_map}
 use Rattle.std.specs.Bool.{Decides}
 use Rattle.std.specs.List.{AllByRecursion, IsDistinct, zip}
 use Rattle.std.specs.Str.{bytes_eq}
+use Rattle.std.proofs.Math.Bool.{or-false}
 use Rattle.std.proofs.lemmas.Bool.{cases_eq, cond-true, false≢true}
 use Rattle.std.proofs.lemmas.Bool.Decides.{Decides-eqb, same_from_decides}
 use Rattle.std.proofs.lemmas.List.{append-nil, append_assoc, drop_more, get_or-map, get_or-take, length-map, length-take, map-append, map_more, take-map}
@@ -156,12 +157,8 @@ pub loses_more : (removed more : List (List ℕ)) (path : List ℕ) (v w after :
 loses_more removed more path v w after is one before = λ o.
     one o ∙ ap (option_map (remaining (path ∷ []))) (before o) ∙ lost_both removed path (rows_of v o) ∙ ap (λ (ps : List (List ℕ)). option_map (remaining ps) (rows_of v o)) (sym is)
 
-or_false : (b : Bool) → (b || false) ≡ b
-or_false true = refl
-or_false false = refl
-
 pub lost_decides : (path : List ℕ) (held : Held) → Decides (is_lost (path ∷ []) held) (held.row.path ≡ path)
-lost_decides path held = subst (λ (b : Bool). Decides b (held.row.path ≡ path)) (sym (or_false (bytes_eq held.row.path path))) (bytes_eq-Decides held.row.path path)
+lost_decides path held = subst (λ (b : Bool). Decides b (held.row.path ≡ path)) (sym (or-false (bytes_eq held.row.path path))) (bytes_eq-Decides held.row.path path)
 
 not_lost : (b : Bool) → (b ≡ true → ⊥) → not b ≡ true
 not_lost true h = absurd (h refl)

@@ -1,6 +1,6 @@
 -- A table behind a change: it is there, and what may be said of its rows and columns.
-use Rattle.std.proofs.Common.{◌≡◌, ◌≢◌, ◌≤◌, ◌+◌, ℕ, zero, suc, List, [], ◌∷◌, ◌++◌, map, length, Bool, true, false, Contains, Option, Some, None, IsSome, refl, sym, ap, subst, ◌∙◌, arith, cond, inl, inr, ⊎_elim}
-use Rattle.std.specs.Prelude.{not, is_some, option_and_then, option_map, unwrap_or}
+use Rattle.std.proofs.Common.{◌≡◌, ◌≢◌, ◌≤◌, ◌+◌, ℕ, zero, suc, List, [], ◌∷◌, ◌++◌, map, length, Bool, true, false, Contains, Option, Some, None, refl, sym, ap, subst, ◌∙◌, cond, inl, inr, ⊎_elim}
+use Rattle.std.specs.Prelude.{not, is_some, option_and_then, unwrap_or}
 use Rattle.std.specs.List.{AllByRecursion, IsDistinct, filter, list_any}
 use Rattle.std.specs.Str.{bytes_eq}
 use Rattle.std.proofs.lemmas.Bool.{cases_Bool, cond-false, cond-true, false≢true}
@@ -10,9 +10,9 @@ use Rattle.std.proofs.lemmas.List.Elements.{Contains-append_cases, Contains-appe
 use Rattle.std.proofs.lemmas.Map.Keys.{IsDistinct-cons, IsDistinct-head, IsDistinct-tail}
 use Rattle.std.proofs.lemmas.Map.Made.{is_member-Decides, length-le_from_is_member}
 use Rattle.std.proofs.lemmas.Slice.Eq.{bytes_eq-Decides}
-use Rattle.table_history.specs.History.{FitColumns, FitsColumn, IsOfType, column_type}
+use Rattle.table_history.specs.History.{FitsColumn, IsOfType, column_type}
 use Rattle.table_history.specs.Row.{Row}
-use Rattle.table_history.specs.Rows.{HasDistinctPaths, HasPath, paths_of}
+use Rattle.table_history.specs.Rows.{HasDistinctPaths, paths_of}
 use Rattle.table_history.specs.Tables.{CanApply, IsAfter, IsRowAfter}
 use Rattle.table_history.specs.TypeTree as tree
 use Rattle.table_history.specs.TypeTree.{TypeTree, ColumnTrees, no_columns, column}
@@ -20,7 +20,7 @@ use Rattle.table_history.specs.declared.row.PartValue.{PartValue}
 use Rattle.table_history.specs.declared.row.PartValue.TheVariants as value
 use Rattle.table_history.specs.declared.table.Change.{Change}
 use Rattle.table_history.specs.declared.table.Table.{Table}
-use Rattle.table_history.proofs.RowListLemmas.{Contains-cases, Contains-head, Contains-none, Contains-paths, Contains-tail, distinct_filter}
+use Rattle.table_history.proofs.RowListLemmas.{Contains-cases, Contains-head, Contains-none, Contains-tail, distinct_filter}
 use Rattle.table_history.proofs.TableLemmas.{Contains-paths_cases}
 use Rattle.partition_map.specs.Columns.{column_kind}
 use Rattle.partition_map.specs.Kind.{IsOfKind, part_kind_of}

@@ -1,5 +1,5 @@
 -- What is kept before the first commit.
-use Rattle.std.proofs.Common.{◌≡◌, ℕ, List, [], map, length, Bool, true, None, Some, Contains, nat_eq, refl, sym, ap, subst, ◌∙◌, slice_get}
+use Rattle.std.proofs.Common.{◌≡◌, ℕ, List, [], map, Bool, true, None, Some, nat_eq, sym, ap, subst, ◌∙◌, slice_get}
 use Rattle.std.specs.List.{IsDistinct, list_all}
 use Rattle.table_history.specs.History.{IsSoundTable}
 use Rattle.table_history.specs.Row.{Row}

@@ -1,6 +1,6 @@
 -- The schemas that a version holds behind a commit.
-use Rattle.std.proofs.Common.{◌≡◌, ◌≢◌, ◌⊎◌, inl, inr, ⊎_elim, ℕ, ℤ, pos, negsuc, ◌+◌, ◌<◌, ◌≤◌, List, [], ◌∷◌, ◌++◌, map, length, Bool, true, false, not, cond, Contains, IsSome, Option, None, Some, Ok, refl, sym, ap, subst, ◌∙◌, arith}
-use Rattle.std.specs.Prelude.{◌≤ℤ◌, ◌&&◌, ◌||◌, flat_map, fold, is_some}
+use Rattle.std.proofs.Common.{◌≡◌, ◌≢◌, ◌⊎◌, inl, inr, ⊎_elim, ℕ, ℤ, pos, negsuc, ◌+◌, ◌<◌, ◌≤◌, List, [], ◌∷◌, ◌++◌, map, length, Bool, true, false, not, cond, Contains, Option, None, Some, Ok, refl, sym, ap, subst, ◌∙◌, arith}
+use Rattle.std.specs.Prelude.{◌≤ℤ◌, ◌||◌, flat_map, fold, is_some}
 use Rattle.std.specs.Int.{int_max}
 use Rattle.std.specs.List.{list_all, list_any, zip}
 use Rattle.std.specs.Ordering.{int_eq}
@@ -11,9 +11,7 @@ use Rattle.std.proofs.lemmas.List.{append-nil, length-append}
 use Rattle.std.proofs.lemmas.List.Elements.{All-contains, Contains-append_cases, Contains-append_left, Contains-append_right}
 use Rattle.schema_map.specs.IcebergFits.{FitsIceberg}
 use Rattle.schema_map.specs.Paths.{Path, column_paths, known_id}
-use Rattle.iceberg_field_ids.specs.Ids.{ids_for}
 use Rattle.schema_map.specs.Image.{wide_columns}
-use Rattle.schema_iceberg.specs.Iceberg.{iceberg_schema}
 use Rattle.iceberg_field_ids.proofs.IcebergGiven.{column_paths_wide}
 use Rattle.schema_iceberg.proofs.IcebergSound.{given_fits}
 use Rattle.schema_iceberg.proofs.IcebergWritten.{iceberg_reads_back}
@@ -30,7 +28,7 @@ use Rattle.iceberg_metadata.specs.Writing.{CanBeHeld, schema_data}
 use Rattle.iceberg_metadata.specs.declared.metadata.Metadata.{Metadata}
 use Rattle.iceberg_metadata.proofs.ListLemmas.{all_from, both_are, both_true, not_true}
 use Rattle.iceberg_version.specs.Schemas.{AddsSchema, AreNextSchemas, KeepsSchemas, Schemas, known_ids}
-use Rattle.iceberg_version.specs.Sound.{IsSoundMetadata, have_first_ids, held_field_ids, is_under}
+use Rattle.iceberg_version.specs.Sound.{IsSoundMetadata, have_first_ids, is_under}
 use Rattle.iceberg_version.proofs.IdLemmas.{known_there, own_paths, still_agree}
 
 -- ---- tests of lists

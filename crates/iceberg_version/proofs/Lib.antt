@@ -11,12 +11,10 @@ pub mod InfoLemmas
 pub mod KeptLemmas
 pub mod LinkLemmas
 pub mod ListLemmas
-pub mod MarkLemmas
 pub mod NamePathLemmas
 pub mod NextLemmas
 pub mod OwnerLemmas
 pub mod PartLemmas
-pub mod PartingLemmas
 pub mod RemovedLemmas
 pub mod RewritingLemmas
 pub mod RowLemmas

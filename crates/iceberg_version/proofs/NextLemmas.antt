@@ -8,7 +8,7 @@ use Rattle.std.specs.Prelude.{slice_get}
 use Rattle.table_history.specs.Row.{Row}
 use Rattle.iceberg_manifest.specs.Lists.{AreEach}
 use Rattle.iceberg_version.specs.Carrying.{AreCarriedOn, AreNext, IsCarriedOn, IsNextList, IsNextOf}
-use Rattle.iceberg_version.specs.Manifests.{LiveManifest, NextManifest, added_manifest, carried, has_rows, is_lost, left, new, rewritten_entries, stays}
+use Rattle.iceberg_version.specs.Manifests.{LiveManifest, added_manifest, carried, has_rows, is_lost, left, new, rewritten_entries, stays}
 use Rattle.iceberg_version.specs.declared.carrying.Next.{Next}
 use Rattle.iceberg_version.specs.declared.carrying.Next.TheVariants.{Added, Anew, Stays}
 

@@ -1,38 +1,37 @@
--- A set of paths, as they are put in one by one.
-use Rattle.std.proofs.Common.{◌≡◌, ◌+◌, ◌<◌, ◌||◌, ℕ, Bool, true, false, Bor, List, [], ◌∷◌, ◌++◌, cond, take, get_or, length, refl, sym, ap, ◌∙◌}
-use Rattle.std.specs.List.{list_any}
-use Rattle.std.specs.Str.{bytes_eq}
-use Rattle.std.proofs.lemmas.List.{take_more}
+-- The slots of removed rows, as they are marked one by one.
+use Rattle.std.proofs.Common.{◌≡◌, ◌||◌, ℕ, Bool, false, List, [], ◌∷◌, ◌++◌, Some, nat_eq, sym, ap, subst, ◌∙◌}
+use Rattle.std.proofs.Math.Bool.{or-false, or_comm}
+use Rattle.std.proofs.lemmas.Bool.{false_from_ne_true}
+use Rattle.std.proofs.lemmas.Bool.Decides.{Decides-eqb, same_from_decides}
 use Rattle.std.proofs.lemmas.List.Folds.{list_any-append}
-use Rattle.std.proofs.lemmas.Slice.Eq.{bytes_eq-Decides}
-use Rattle.indexmap.specs.IndexSet.{insert_key}
+use Rattle.std.specs.Str.{bytes_eq}
+use Rattle.file_links.specs.Rows.{Finds, FindsEach, Holds, HoldsPath, OwnedRows}
+use Rattle.file_links.specs.declared.slots.Held.{Held}
+use Rattle.iceberg_version.specs.Manifests.{is_lost}
+use Rattle.iceberg_version.specs.Removed.{MarksLost, is_marked}
+use Rattle.iceberg_version.proofs.AdvanceLemmas.{lost_decides}
 
-abbrev Key : Type 0
-Key = Bor (List ℕ)
+pub none_marked : (links : OwnedRows) (marks : List Bool) → marks ≡ [] → MarksLost links [] marks
+none_marked links marks none = λ slot held just. ap (λ (ms : List Bool). is_marked ms slot) none
 
-abbrev is_at : List ℕ → Key → Bool
-is_at path k = bytes_eq path k.now
+lost_more : (removed more : List (List ℕ)) (path : List ℕ) (held : Held) → more ≡ removed ++ path ∷ [] → is_lost more held ≡ (is_lost removed held || is_lost (path ∷ []) held)
+lost_more removed more path held is = ap (λ (ps : List (List ℕ)). is_lost ps held) is ∙ list_any-append (bytes_eq held.row.path) removed (path ∷ [])
 
-abbrev has : List ℕ → List Key → Bool
-has path keys = list_any (is_at path) keys
+pub not_found : (links : OwnedRows) (removed more : List (List ℕ)) (path : List ℕ) (marks after : List Bool) → more ≡ removed ++ path ∷ [] → ¬ HoldsPath links path → after ≡ marks → MarksLost links removed marks → MarksLost links more after
+not_found links removed more path marks after is lacking same before = λ slot held just.
+    let other : is_lost (path ∷ []) held ≡ false = false_from_ne_true (is_lost (path ∷ []) held) (λ lost. lacking (slot, held, just.row, (lost_decides path held).0 lost)) in
+    ap (λ (ms : List Bool). is_marked ms slot) same ∙ before slot held just ∙ sym (lost_more removed more path held is ∙ ap (λ b. is_lost removed held || b) other ∙ or-false (is_lost removed held))
 
-abbrev same_text : Key → Key → Bool
-same_text a b = bytes_eq a.now b.now
-
-absorbed : (a e : Bool) → (e ≡ true → a ≡ true) → a ≡ (a || (e || false))
-absorbed true e h = refl
-absorbed false true h = h refl
-absorbed false false h = refl
-
-inserted_by : (keys : List Key) (k : Key) (path : List ℕ) (b : Bool) → has k.now keys ≡ b → has path (cond b keys (keys ++ k ∷ [])) ≡ (has path keys || (bytes_eq path k.now || false))
-inserted_by keys k path true there = absorbed (has path keys) (bytes_eq path k.now) (λ e. ap (λ (p : List ℕ). has p keys) ((bytes_eq-Decides path k.now).0 e) ∙ there)
-inserted_by keys k path false there = list_any-append (is_at path) keys (k ∷ [])
-
-inserted : (keys : List Key) (k : Key) (path : List ℕ) → has path (insert_key same_text keys k) ≡ (has path keys || (bytes_eq path k.now || false))
-inserted keys k path = inserted_by keys k path (has k.now keys) refl
-
-pub one_more : (paths : List (List ℕ)) (i : ℕ) (path : List ℕ) (keys after : List Key) (k : Key) → i < length paths → path ≡ get_or paths i path → k.now ≡ path → after ≡ insert_key same_text keys k → ((q : List ℕ) → has q keys ≡ list_any (bytes_eq q) (take i paths)) → (q : List ℕ) → has q after ≡ list_any (bytes_eq q) (take (i + 1) paths)
-one_more paths i path keys after k within at is keys_are before q =
-    let more : take (i + 1) paths ≡ take i paths ++ path ∷ [] = take_more paths i path within ∙ ap (λ (p : List ℕ). take i paths ++ p ∷ []) (sym at) in
-    let right : list_any (bytes_eq q) (take (i + 1) paths) ≡ (list_any (bytes_eq q) (take i paths) || (bytes_eq q path || false)) = ap (list_any (bytes_eq q)) more ∙ list_any-append (bytes_eq q) (take i paths) (path ∷ []) in
-    ap (has q) keys_are ∙ inserted keys k q ∙ ap (λ b. b || (bytes_eq q k.now || false)) (before q) ∙ ap (λ (p : List ℕ). list_any (bytes_eq q) (take i paths) || (bytes_eq q p || false)) is ∙ sym right
+pub found : (links : OwnedRows) (removed more : List (List ℕ)) (path : List ℕ) (at : ℕ) (marks after : List Bool) → more ≡ removed ++ path ∷ [] → Finds links path (Some at) → FindsEach links path (Some at) → ((slot : ℕ) → is_marked after slot ≡ (nat_eq slot at || is_marked marks slot)) → MarksLost links removed marks → MarksLost links more after
+found links removed more path at marks after is finds each marks_it before = λ slot held just.
+    let here : nat_eq slot at ≡ is_lost (path ∷ []) held = same_from_decides (nat_eq slot at) (is_lost (path ∷ []) held) (
+      λ same.
+          let mine : finds.0 ≡ held = just.only finds.0 (subst (λ (s : ℕ). Holds links s finds.0) (sym ((Decides-eqb slot at).0 same)) finds.1) in
+          ap (λ (h : Held). h.row.path) (sym mine) ∙ finds.2,
+      λ path_is.
+          let slots : Some at ≡ Some slot = each slot held just.row path_is in
+          let same : slot ≡ at = cc in
+          (Decides-eqb slot at).1 same,
+    )
+    (lost_decides path held) in
+    marks_it slot ∙ ap (λ b. b || is_marked marks slot) here ∙ ap (λ b. is_lost (path ∷ []) held || b) (before slot held just) ∙ or_comm (is_lost (path ∷ []) held) (is_lost removed held) ∙ sym (lost_more removed more path held is)

@@ -5,7 +5,6 @@ pub mod Writing
 pub mod KeptEnd
 pub mod Carrying
 pub mod Removed
-pub mod Marks
 pub mod Sound
 pub mod Touched
 pub mod Advance

@@ -1,5 +1,5 @@
 -- What holds of all that is kept of an Iceberg target, whoever gave it.
-use Rattle.std.specs.Prelude.{◌≡◌, ◌≤ℤ◌, ◌&&◌, ◌||◌, ◌^◌, ℕ, ℤ, pos, negsuc, int_lt, nat_le, nat_lt, not, is_some, Bool, false, true, List, [], length, map, flat_map, Contains, IfSome, Result, Ok, Err, unwrap_or}
+use Rattle.std.specs.Prelude.{◌≡◌, ◌≤ℤ◌, ◌&&◌, ◌||◌, ◌^◌, ℕ, ℤ, pos, negsuc, int_lt, nat_le, nat_lt, not, is_some, Bool, false, List, [], length, map, flat_map, Contains, IfSome, Result, Ok, Err, unwrap_or}
 use Rattle.std.specs.Cmp.Lexicographic.{pointwise}
 use Rattle.std.specs.List.{IsDistinct, list_all, list_any}
 use Rattle.std.specs.Ordering.{int_eq}

@@ -1,6 +1,6 @@
 //! What is kept of the rows and the manifests behind a commit.
 
-ghost use Rattle.std.specs.Prelude.{◌≡◌, ◌≤◌, ◌++◌, ◌∷◌, [], Contains, IfOk, IsSome, List, OnOk, length, map, nat_eq, ℕ};
+ghost use Rattle.std.specs.Prelude.{◌≡◌, ◌≤◌, Contains, IfOk, IsSome, OnOk, length, map, nat_eq};
 ghost use Rattle.std.specs.List.{IsDistinct};
 ghost use Rattle.table_history.specs.Row.{Row};
 ghost use Rattle.table_history.specs.Rows.{HasDistinctPaths};

@@ -1,12 +1,10 @@
 //! The manifests of the list before, and what a commit removes and adds.
 
 ghost use Rattle.std.specs.Prelude.{◌≡◌, IfOk};
-ghost use Rattle.iceberg_version.specs.Marks.{MarksLost};
-ghost use Rattle.iceberg_version.specs.Removed.{HoldsPaths};
+ghost use Rattle.iceberg_version.specs.Removed.{MarksLost};
 
 use crate::kept::KeptManifest;
-use crate::marks::lost_marks;
-use crate::removed::{Paths, path_set};
+use crate::removed::lost_marks;
 use file_links::Links;
 use lake_basics::Text;
 use std::alloc::{AllocError, Global};
@@ -18,16 +16,14 @@ pub struct Before<'a> {
     pub links: &'a Links,
     pub manifests: &'a [KeptManifest],
     pub removed: &'a [Text],
-    pub paths: Paths<'a>,
     /// The slots of the rows that are removed.
     pub marks: Vec<bool>,
     /// The rows that the commit adds, in the parts that the new manifests are of.
     pub parts: &'a [&'a [&'a FileRow]],
-    ghost held: { HoldsPaths paths removed.now },
     ghost marked: { MarksLost links.now removed.now marks.items },
 }
 
-/// These manifests with their live rows, the paths that are removed, and the parts that are added.
+/// These manifests with their live rows, the rows that are removed, and the parts that are added.
 pub fn before_of<'a>(
     alloc: Global,
     links: &'a Links,
@@ -40,13 +36,11 @@ pub fn before_of<'a>(
     ensures removed { IfOk result (λ before. before.removed.now ≡ removed.now) }
     ensures parts { IfOk result (λ before. before.parts.now ≡ parts.now) }
 {
-    let paths = path_set(alloc, removed)?;
     let marks = lost_marks(alloc, links, removed)?;
     Ok(Before {
         links,
         manifests,
         removed,
-        paths,
         marks,
         parts,
     })

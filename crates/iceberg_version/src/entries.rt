@@ -1,6 +1,6 @@
 //! The entries of new manifests.
 
-ghost use Rattle.std.specs.Prelude.{◌≡◌, ◌<◌, ◌^◌, IfOk, pos};
+ghost use Rattle.std.specs.Prelude.{◌≡◌, ◌<◌, ◌^◌, IfOk};
 ghost use Rattle.iceberg_version.specs.Manifests.{added_entry as added_entry_of, deleted_entry as deleted_entry_of, entry_of as entry_data, existing_entry as existing_entry_of};
 
 use crate::names::file_at;

@@ -4,7 +4,6 @@
 
 mod added;
 mod advancing;
-mod anew;
 mod before;
 mod carrying;
 mod columns;
@@ -15,10 +14,8 @@ mod json;
 mod kept;
 mod layout;
 mod mark;
-mod marks;
 mod metadata;
 mod names;
-mod parting;
 mod removed;
 mod rewriting;
 mod rows;
@@ -28,7 +25,6 @@ mod touched;
 
 pub use added::{parts_of, sorted_rows};
 pub use advancing::advance;
-pub use anew::anew_entries;
 pub use before::{Before, before_of};
 pub use carrying::{Next, next_manifests};
 pub use fresh::{fresh_kept, no_version};
@@ -38,8 +34,6 @@ pub use layout::{Layout, layout_of};
 pub use mark::mark_of;
 pub use metadata::{hold_properties, hold_snapshot, hold_spec, snapshot_of};
 pub use names::{list_path, manifest_path, staged_path};
-pub use removed::Paths;
 pub use rewriting::{added_entries, rewritten_entries};
-pub use rows::rows_of;
 pub use schemas::hold_schema;
 pub use spec::spec_fields;

@@ -1,6 +1,6 @@
 //! The names of the files that a commit writes.
 
-ghost use Rattle.std.specs.Prelude.{◌≡◌, ◌++◌, IfOk};
+ghost use Rattle.std.specs.Prelude.{◌≡◌, IfOk};
 ghost use Rattle.iceberg_metadata.specs.Location.{front_of as front_at};
 ghost use Rattle.iceberg_version.specs.Manifests.{file_at as name_of_file};
 ghost use Rattle.iceberg_table.specs.Folder.{path_of};

@@ -1,33 +1,59 @@
-//! The paths that a commit removes.
+//! The rows that a commit removes, by their slots.
 
-ghost use Rattle.std.specs.Prelude.{◌≡◌, IfOk, List, ℕ};
-ghost use Rattle.std.specs.Borrow.{Bor};
-ghost use Rattle.iceberg_version.specs.Manifests.{is_lost as is_lost_by};
-ghost use Rattle.iceberg_version.specs.Removed.{HoldsPaths};
+ghost use Rattle.std.specs.Prelude.{◌≡◌, ◌<◌, ◌^◌, ◌||◌, IfOk, OnOk, length, nat_eq, ℕ};
+ghost use Rattle.iceberg_version.specs.Removed.{MarksLost, is_marked as has_mark};
 
-use file_links::Held;
-use indexmap::IndexSet;
+use file_links::Links;
 use lake_basics::Text;
 use std::alloc::{AllocError, Global};
 
-/// Paths that are looked up.
-pub type Paths<'a> = IndexSet<&'a str>;
-
-/// The set of these paths.
-pub(crate) fn path_set<'a>(alloc: Global, paths: &'a [Text]) -> Result<Paths<'a>, AllocError>
-    ensures { IfOk result (λ set. HoldsPaths set paths.now) }
+/// Makes the marks reach to this place.
+fn reach(marks: &mut Vec<bool>, place: usize) -> Result<(), AllocError>
+    requires { place < 2 ^ 32 }
+    ensures reached { OnOk result (place < length marks.new.items) }
+    ensures same { OnOk result ((slot : ℕ)
+        → has_mark marks.new.items slot ≡ has_mark marks.old.items slot) }
 {
-    let mut set = IndexSet::new(alloc);
-    for path in paths {
-        set.insert(path.as_str())?;
+    if marks.len() <= place {
+        marks.resize(place + 1, false)?;
     }
-    Ok(set)
+    Ok(())
 }
 
-/// Whether the row's path is one of these.
-pub(crate) fn is_lost(removed: &Paths<'_>, held: &Held) -> bool
-    ensures { (paths : List (List ℕ)) → HoldsPaths removed.now paths
-        → result ≡ is_lost_by paths held.now }
+/// Marks a slot.
+fn mark(marks: &mut Vec<bool>, slot: u32) -> Result<(), AllocError>
+    ensures { OnOk result ((s : ℕ)
+        → has_mark marks.new.items s ≡ (nat_eq s slot || has_mark marks.old.items s)) }
 {
-    removed.contains(held.row.path.as_str())
+    let place = slot as usize;
+    reach(marks, place)?;
+    marks[place] = true;
+    Ok(())
+}
+
+/// Whether a slot is marked.
+pub(crate) fn is_marked(marks: &[bool], slot: u32) -> bool
+    ensures { result ≡ has_mark marks.now slot }
+{
+    match marks.get(slot as usize) {
+        Some(mark) => *mark,
+        None => false,
+    }
+}
+
+/// Marks by slot, for the rows of these paths. Each path is looked up once.
+pub(crate) fn lost_marks(
+    alloc: Global,
+    links: &Links,
+    removed: &[Text],
+) -> Result<Vec<bool>, AllocError>
+    ensures { IfOk result (λ marks. MarksLost links.now removed.now marks.items) }
+{
+    let mut marks = Vec::new(alloc);
+    for path in removed {
+        if let Some(slot) = links.find(path.as_bytes()) {
+            mark(&mut marks, slot)?;
+        }
+    }
+    Ok(marks)
 }

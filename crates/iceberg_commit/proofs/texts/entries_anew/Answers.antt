@@ -8,17 +8,17 @@ use Rattle.iceberg_version.specs.declared.kept.KeptManifest.{KeptManifest}
 use Rattle.iceberg_commit.proofs.TextLemmas.{anew_is, born_in, owner_in}
 use Rattle.iceberg_commit.proofs.texts.entries_anew.Goals as goal
 
-pub anew_entries-requires-clause-owner : goal.anew_entries-requires-clause-owner
-anew_entries-requires-clause-owner c =
+pub rewritten_entries-requires-clause-owner : goal.rewritten_entries-requires-clause-owner
+rewritten_entries-requires-clause-owner c =
     subst (λ (m : KeptManifest). IsSome (owned_rows c.args.before.now.links.now m.owner)) c.index-before-place.is
     (owner_in c.args.before.now c.args.place c.index-before-place.result c.requires.owners c.requires.place c.index-before-place.is)
 
-pub anew_entries-requires-clause-born : goal.anew_entries-requires-clause-born
-anew_entries-requires-clause-born c =
+pub rewritten_entries-requires-clause-born : goal.rewritten_entries-requires-clause-born
+rewritten_entries-requires-clause-born c =
     subst (λ (m : KeptManifest). (row : Held) → Contains (held_rows c.args.before.now.links.now m.owner) row → row.born < 2 ^ 63) c.index-before-place.is
     (born_in c.args.before.now c.args.place c.index-before-place.result c.requires.owners c.requires.place c.index-before-place.is)
 
 pub returns : goal.returns
 returns c =
-    anew_is c.anew_entries.result c.args.layout.now c.args.before.now c.args.place c.index-before-place.result c.index-before-place.is
-    (subst (λ (m : KeptManifest). IfOk c.anew_entries.result (λ (entries : List EntryData). entries ≡ anew c.args.layout.now.front c.args.layout.now.version c.args.before.now.removed.now (held_rows c.args.before.now.links.now m.owner))) (sym c.index-before-place.is) c.anew_entries.ensures)
+    anew_is c.rewritten_entries.result c.args.layout.now c.args.before.now c.args.place c.index-before-place.result c.index-before-place.is
+    (subst (λ (m : KeptManifest). IfOk c.rewritten_entries.result (λ (entries : List EntryData). entries ≡ anew c.args.layout.now.front c.args.layout.now.version c.args.before.now.removed.now (held_rows c.args.before.now.links.now m.owner))) (sym c.index-before-place.is) c.rewritten_entries.ensures)

@@ -1,10 +1,10 @@
 use Rattle.std.proofs.Common.{◌≡◌, ◌+◌, ◌++◌, ◌∷◌, [], ℕ, Bool, Global, List, Some, Vec, ap, subst, sym, take, ◌∙◌}
 use Rattle.std.proofs.lemmas.List.{take_all, take_more}
 use Rattle.file_links.specs.Rows.{Finds, FindsEach, HoldsPath}
-use Rattle.iceberg_version.specs.Marks.{MarksLost, is_marked}
-use Rattle.iceberg_version.proofs.MarkLemmas.{found, none_marked, not_found}
-use Rattle.iceberg_version.proofs.marks.lost_marks.Goals.{in-Some+in_ok-mark, in_default}
-use Rattle.iceberg_version.proofs.marks.lost_marks.Goals as goal
+use Rattle.iceberg_version.specs.Removed.{MarksLost, is_marked}
+use Rattle.iceberg_version.proofs.RemovedLemmas.{found, none_marked, not_found}
+use Rattle.iceberg_version.proofs.removed.lost_marks.Goals.{in-Some+in_ok-mark, in_default}
+use Rattle.iceberg_version.proofs.removed.lost_marks.Goals as goal
 
 pub loop-path-init : goal.loop-path-init
 loop-path-init c = none_marked c.args.links.now c.new-marks.result.items c.new-marks.ensures.items

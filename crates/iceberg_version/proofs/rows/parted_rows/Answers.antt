@@ -1,9 +1,9 @@
 use Rattle.std.proofs.Common.{◌≡◌, ◌+◌, Bool, Bor, Global, List, Vec, ap, length, subst, sym, ◌∙◌}
 use Rattle.file_links.specs.declared.slots.Held.{Held}
-use Rattle.iceberg_version.specs.Marks.{MarksLost}
-use Rattle.iceberg_version.proofs.PartingLemmas.{IsParted, fewer, one_left, one_lost, parted_all, parted_first, slot_held}
-use Rattle.iceberg_version.proofs.parting.parted_rows.Goals.{else-is_marked+in_ok-push-2, then-is_marked+in_ok-push}
-use Rattle.iceberg_version.proofs.parting.parted_rows.Goals as goal
+use Rattle.iceberg_version.specs.Removed.{MarksLost}
+use Rattle.iceberg_version.proofs.RowLemmas.{IsParted, fewer, one_left, one_lost, parted_all, parted_first, slot_held}
+use Rattle.iceberg_version.proofs.rows.parted_rows.Goals.{else-is_marked+in_ok-push-2, then-is_marked+in_ok-push}
+use Rattle.iceberg_version.proofs.rows.parted_rows.Goals as goal
 
 pub loop-place-init : goal.loop-place-init
 loop-place-init c = parted_first c.args.before.now.links.now c.args.owner c.args.before.now.removed.now c.new-left.result.items c.new-lost.result.items c.first-place.result c.requires c.new-left.ensures.items c.new-lost.ensures.items c.first-place.ensures

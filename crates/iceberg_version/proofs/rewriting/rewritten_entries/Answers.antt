@@ -4,13 +4,13 @@ use Rattle.iceberg_manifest.specs.Entry.{EntryData}
 use Rattle.iceberg_version.specs.KeptEnd.{held_rows}
 use Rattle.iceberg_version.specs.Manifests.{deleted_entry, existing_entry, is_lost, left, lost}
 use Rattle.iceberg_version.proofs.RewritingLemmas.{of_passing, rows_now}
-use Rattle.iceberg_version.proofs.anew.anew_entries.Goals as goal
+use Rattle.iceberg_version.proofs.rewriting.rewritten_entries.Goals as goal
 
-pub existing_of-requires : goal.existing_of-requires
-existing_of-requires c = of_passing (λ (h : Held). h.born < 2 ^ 63) (λ held. not (is_lost c.args.before.now.removed.now held)) (held_rows c.args.before.now.links.now c.args.owner) c.as_slice.result.now c.requires.born (ap rows_now c.as_slice.ensures.value ∙ c.in_ok-rows.ensures.left)
+pub existing_entries-requires : goal.existing_entries-requires
+existing_entries-requires c = of_passing (λ (h : Held). h.born < 2 ^ 63) (λ held. not (is_lost c.args.before.now.removed.now held)) (held_rows c.args.before.now.links.now c.args.owner) c.as_slice.result.now c.requires.born (ap rows_now c.as_slice.ensures.value ∙ c.in_ok-rows.ensures.left)
 
-pub deleted_of-requires : goal.deleted_of-requires
-deleted_of-requires c = of_passing (λ (h : Held). h.born < 2 ^ 63) (is_lost c.args.before.now.removed.now) (held_rows c.args.before.now.links.now c.args.owner) c.as_slice-2.result.now c.requires.born (ap rows_now c.as_slice-2.ensures.value ∙ c.in_ok-rows.ensures.lost)
+pub deleted_entries-requires : goal.deleted_entries-requires
+deleted_entries-requires c = of_passing (λ (h : Held). h.born < 2 ^ 63) (is_lost c.args.before.now.removed.now) (held_rows c.args.before.now.links.now c.args.owner) c.as_slice-2.result.now c.requires.born (ap rows_now c.as_slice-2.ensures.value ∙ c.in_ok-rows.ensures.lost)
 
 pub returns : goal.returns
 returns c =

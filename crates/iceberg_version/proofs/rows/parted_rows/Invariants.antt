@@ -1,7 +1,6 @@
 use Rattle.std.proofs.Common.{◌+◌, ◌-◌, length}
-use Rattle.iceberg_version.proofs.PartingLemmas.{IsParted}
-use Rattle.iceberg_version.proofs.RowLemmas.{entries_of}
-use Rattle.iceberg_version.proofs.parting.parted_rows.Given as goal
+use Rattle.iceberg_version.proofs.RowLemmas.{IsParted, entries_of}
+use Rattle.iceberg_version.proofs.rows.parted_rows.Given as goal
 
 abbrev pub invariant-loop-place : goal.invariant-loop-place
 invariant-loop-place l = IsParted l.links l.owner l.before.removed.now l.left.items l.lost.items l.place

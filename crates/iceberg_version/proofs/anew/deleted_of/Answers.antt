@@ -1,7 +1,0 @@
-use Rattle.std.proofs.Common.{◌<◌, ◌^◌}
-use Rattle.file_links.specs.declared.slots.Held.{Held}
-use Rattle.iceberg_version.proofs.RewritingLemmas.{of_row}
-use Rattle.iceberg_version.proofs.anew.deleted_of.Goals as goal
-
-pub deleted_entry-requires : goal.deleted_entry-requires
-deleted_entry-requires c = of_row (λ (h : Held). h.born < 2 ^ 63) c.args.rows.now c.loop-row.row-index c.row-item.result c.requires c.loop-row-test.true c.row-item.is

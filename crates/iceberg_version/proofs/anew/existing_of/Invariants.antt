@@ -1,6 +1,0 @@
-use Rattle.std.proofs.Common.{◌≡◌, ◌++◌, drop, map}
-use Rattle.iceberg_version.specs.Manifests.{existing_entry}
-use Rattle.iceberg_version.proofs.anew.existing_of.Given as goal
-
-abbrev pub invariant-loop-row : goal.invariant-loop-row
-invariant-loop-row l = l.entries.items ++ map (existing_entry l.front) (map (λ r. r.now) (drop l.row-index l.rows)) ≡ map (existing_entry l.front) (map (λ r. r.now) l.rows)
