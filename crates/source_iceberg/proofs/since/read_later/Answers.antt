@@ -1,12 +1,11 @@
 use Rattle.std.proofs.Common.{◌≡◌, ◌++◌, ◌+◌, ◌∷◌, [], List, Option, Result, drop, take, refl, sym, ap, subst, ◌∙◌, arith}
 use Rattle.std.specs.Prelude.{IfErr}
-use Rattle.std.proofs.lemmas.List.{drop_more, take_all, take_more}
+use Rattle.std.proofs.lemmas.List.{drop_more, take-append-drop, take_all, take_more}
 use Rattle.std.proofs.lemmas.Result.{err_from_is_err_and}
 use Rattle.lake_store.specs.Disk.{Disk}
 use Rattle.lake_store.proofs.RunLaws.{reading_begins, reading_further}
 use Rattle.table_history.specs.declared.table.Commit.{Commit}
 use Rattle.iceberg_metadata.specs.declared.metadata.Snapshot.{Snapshot}
-use Rattle.iceberg_table.proofs.RowLaws.{split_at}
 use Rattle.iceberg_table.proofs.Runs.{fails_never, uncontested_further}
 use Rattle.source_core.specs.Answers.{IsReadRefusal}
 use Rattle.source_core.specs.declared.error.SourceError.{SourceError}
@@ -46,7 +45,7 @@ returns-in_err-later-2-clause-refused g c told =
     let so_far = c.loop-snapshot.invariant in
     let e = c.in_err-later-2.field-0.0 in
     let at : drop i xs ≡ x ∷ drop (i + 1) xs = drop_more xs i x c.loop-snapshot-test.true ∙ ap (λ (y : Snapshot). y ∷ drop (i + 1) xs) (sym c.snapshot-item.is) in
-    let split = split_at xs i x c.loop-snapshot-test.true at in
+    let split : xs ≡ take i xs ++ x ∷ drop (i + 1) xs = sym (take-append-drop i xs) ∙ ap (λ (l : List Snapshot). take i xs ++ l) at in
     let P : SourceError → Type 0 = StopsBehind files c.args.version m c.args.base.now xs in
     let made = so_far.made told in
     let step = subst (λ (d : Disk). IsReadRefusal (IsRefusedBehind d.files c.args.version m later.table made.0 x) e) (so_far.reads told).disk (c.in_err-later-2.ensures.refused told (subst (λ (d : Disk). IsListed d.files m.location later.listed) (sym (so_far.reads told).disk) (so_far.listed told)) made.0 made.1) in
