@@ -45,9 +45,6 @@ pub struct Links {
     owners: Chains,
 }
 
-// So many slots are added at once at least.
-const LEAST_GROWTH: u32 = 16;
-
 const FREE: u32 = 0;
 
 const IN_USE: u32 = 1;
@@ -118,8 +115,7 @@ fn free_count(chains: &Chains) -> u32
 }
 
 // How many slots to add for so many free ones: none where they are there already, and else half as
-// many as there are at least, and `LEAST_GROWTH`, so that many small reservations cost no more than a
-// few large ones.
+// many as there are at least, so that many small reservations cost no more than a few large ones.
 fn growth(chains: &Chains, wanted: u32) -> u32
     requires { AreSound chains.now }
     ensures enough { wanted ≤ length (slots_in chains.now 0) → result ≡ 0 }
@@ -130,7 +126,7 @@ fn growth(chains: &Chains, wanted: u32) -> u32
         return 0;
     }
     let slots = chains.slot_count() as u32;
-    missing.max((slots / 2).max(LEAST_GROWTH).min(END - slots))
+    missing.max((slots / 2).min(END - slots))
 }
 
 // A copy with this many chains at least, and with more free slots.
