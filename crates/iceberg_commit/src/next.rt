@@ -9,6 +9,7 @@ ghost use Rattle.iceberg_version.specs.Writing.{PassesAt};
 ghost use Rattle.iceberg_commit.specs.NewVersion.{ChangesKinds, IsVersionRefusal};
 ghost use Rattle.iceberg_commit.specs.NextVersion.{AreListedBehind, HasCurrent, IsKeptBehind, IsNextVersion};
 ghost use Rattle.target_core.specs.Conditions.{CanPublish};
+ghost use Rattle.target_core.specs.Views.{origin_of};
 
 use crate::behind::kept_behind;
 use crate::version::new_version;
@@ -103,7 +104,7 @@ pub fn next_version(
     requires can { CanPublish (view_of kept.old) commit.now }
     requires kinds { ¬ ChangesKinds kept.old commit.now.change }
     ensures is { IfOk result (λ new. IsNextVersion kept.old
-        (record { source = source; table = option_copied table.entry }) now_ms commit.now
+        (origin_of source (option_copied table.entry)) now_ms commit.now
         (record {
           version = new.version;
           manifests = new.manifests.items;
@@ -111,7 +112,7 @@ pub fn next_version(
           metadata = new.metadata;
         }) kept.new) }
     ensures refusal { IfErr result (IsVersionRefusal (PassesAt (end_of kept.old)
-        (record { source = source; table = option_copied table.entry }) now_ms commit.now)) }
+        (origin_of source (option_copied table.entry)) now_ms commit.now)) }
 {
     let written = new_version(alloc, kept, commit, source, table, now_ms)?;
     let version = kept.version;

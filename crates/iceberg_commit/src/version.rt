@@ -15,6 +15,7 @@ ghost use Rattle.iceberg_version.specs.Writing.{PassesAt};
 ghost use Rattle.lake_basics.specs.declared.limits.TheConstants.{MAX_AVRO_VALUES, MAX_ICEBERG_VERSION as LAST_VERSION, MAX_PARTITION_COLUMNS};
 ghost use Rattle.target_core.specs.Conditions.{CanPublish};
 ghost use Rattle.target_core.specs.declared.target.TargetError.TheVariants.{Limit};
+ghost use Rattle.target_core.specs.Views.{origin_of};
 ghost use Rattle.table_history.specs.declared.limit.LimitKind.TheVariants.{Versions};
 
 use crate::new_list::NewList;
@@ -190,11 +191,11 @@ pub(crate) fn new_version(
     requires can { CanPublish (view_of kept.old) commit.now }
     requires kinds { ¬ ChangesKinds kept.old commit.now.change }
     ensures written { IfOk result (λ written. IsNewVersion kept.old
-        (record { source = source; table = option_copied table.entry }) now_ms commit.now
+        (origin_of source (option_copied table.entry)) now_ms commit.now
         written kept.new) }
     ensures rest { KeepsRest kept.old kept.new }
     ensures refusal { IfErr result (IsVersionRefusal (PassesAt (end_of kept.old)
-        (record { source = source; table = option_copied table.entry }) now_ms commit.now)) }
+        (origin_of source (option_copied table.entry)) now_ms commit.now)) }
 {
     let version = version_behind(kept.version)?;
     let mark = mark_of(alloc, version, &commit.position, source, table)?;

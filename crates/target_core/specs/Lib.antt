@@ -15,3 +15,5 @@ pub mod Step
 pub mod Progress
 pub mod Held
 pub mod Written
+pub mod OneCommit
+pub mod Following

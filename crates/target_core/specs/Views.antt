@@ -14,13 +14,16 @@ pub record Origin : Type 0 where
   pub source : Kind
   pub table : Option (List ℕ)
 
+abbrev pub origin_of : Kind → Option (List ℕ) → Origin
+origin_of source table = record { source = source; table = table }
+
 -- What a mark says, but for the commit that it stands in.
 pub record Standing : Type 0 where
   pub origin : Origin
   pub to : List ℕ
 
 abbrev pub standing_of : Mark → Standing
-standing_of m = record { origin = record { source = m.source; table = m.table }; to = m.to }
+standing_of m = record { origin = origin_of m.source m.table; to = m.to }
 
 abbrev pub standing_at : Origin → List ℕ → Standing
 standing_at origin position = record { origin = origin; to = position }

@@ -1,12 +1,11 @@
 //! A target, by what its files stand for and what a commit makes of them.
 
-ghost use Rattle.std.specs.Prelude.{◌≡◌, ◌≢◌, ◌+◌, ◌<◌, ◌≤◌, ◌^◌, ◌↔◌, ◌⊎◌, ℕ, List, [], ◌∷◌, None, Option, Some, IfErr, IfOk, IsErrOf, OnOk, is_ok, option_map};
+ghost use Rattle.std.specs.Prelude.{◌≡◌, ◌<◌, ◌≤◌, ◌^◌, ◌↔◌, ◌⊎◌, ℕ, List, [], ◌∷◌, None, Option, Some, IfErr, IfOk, IsErrOf, OnOk, option_map};
 ghost use Rattle.std.specs.Option.{option_copied};
 ghost use Rattle.std.specs.FinMap as map;
-ghost use Rattle.lake_store.specs.Disk.{AddsShort, Disk, Files, IsClean};
-ghost use Rattle.lake_store.specs.Runs.{ChangesOnlyIn, FailsBy, IsContestedBy, IsEachMoment, IsIn, IsUncontestedBy, OnlyReads};
+ghost use Rattle.lake_store.specs.Disk.{Disk, Files, IsClean};
+ghost use Rattle.lake_store.specs.Runs.{FailsBy, IsIn, IsUncontestedBy, OnlyReads};
 ghost use Rattle.table_history.specs.History.{FitsColumn, column_type};
-ghost use Rattle.table_history.specs.Rows.{HasPath, SameRows};
 ghost use Rattle.table_history.specs.TypeTree.{ColumnTrees};
 ghost use Rattle.table_history.specs.declared.kind.Kind.{Kind};
 ghost use Rattle.table_history.specs.declared.limit.LimitKind.{LimitKind};
@@ -16,15 +15,13 @@ ghost use Rattle.table_history.specs.declared.table.Commit.{Commit};
 ghost use Rattle.table_history.specs.declared.table.Table.{Table};
 ghost use Rattle.target_core.specs.Conditions.{CanPublish, Fits, GoesOn, IsPublishable};
 ghost use Rattle.target_core.specs.Changes.{SameRowChange};
-ghost use Rattle.target_core.specs.Gained.{CarriesAll};
 ghost use Rattle.target_core.specs.Folders.{MayLeaveIn, SameIn, after_crash, folder_of};
 ghost use Rattle.target_core.specs.Meaning.{meaning_of};
-ghost use Rattle.target_core.specs.Outcome.{HasCome, Uncontested, answer_of};
-ghost use Rattle.target_core.specs.Publishing.{Publishes};
-ghost use Rattle.target_core.specs.Refusals.{IsCommitRefusal, IsFitsRefusal, IsInspectRefusal, IsOfCommit, IsOfInspect};
+ghost use Rattle.target_core.specs.OneCommit.{GoesOnBy, PublishesOne, Refuses, StaysIn};
+ghost use Rattle.target_core.specs.Outcome.{answer_of};
+ghost use Rattle.target_core.specs.Refusals.{IsFitsRefusal, IsInspectRefusal, IsOfInspect};
 ghost use Rattle.target_core.specs.SeenView.{IsSeen, IsSeenSound};
-ghost use Rattle.target_core.specs.Views.{IsAdvanced, IsOfSource, IsPublished, IsUnpublished, Origin, SameView, Standing, View, absent, standing_of};
-ghost use Rattle.target_core.specs.Written.{IsAsLeft};
+ghost use Rattle.target_core.specs.Views.{IsOfSource, IsPublished, IsUnpublished, Origin, SameView, Standing, View, absent, origin_of, standing_of};
 ghost use Rattle.target_core.specs.declared.target.TargetError.{TargetError};
 ghost use Rattle.table_history.specs.declared.limit.LimitKind.TheVariants.{File, Names};
 ghost use Rattle.lake_basics.specs.declared.limits.TheConstants.{MAX_FILE_BYTES, MAX_NAMES};
@@ -251,101 +248,36 @@ pub trait Target {
         requires fits { Fits (unfit self.now kept.old) (view self.now kept.old).table.partition
             (commit.now ∷ []) }
 
-        // It touches its own folder alone, at each moment and whatever it answers.
-        ensures alone { S.tells
-            → ChangesOnlyIn ⟦<S as Store>⟧ (folder_of (kind self.now)) store.old store.new }
+        // It touches its own folder alone.
+        ensures folder { S.tells
+            → StaysIn ⟦<S as Store>⟧ (folder_of (kind self.now)) store.old store.new }
 
-        // Each file is as before, or can be read whole, whatever it answers.
-        ensures short { S.tells
-            → AddsShort MAX_FILE_BYTES (S.disk store.old).files (S.disk store.new).files }
+        // At `Ok` what is kept goes on by the commit.
+        ensures goes_on { OnOk result (GoesOnBy S.tells (image self.now) (view self.now)
+            (unfit self.now) (counted self.now) (passes self.now)
+            (origin_of source (option_copied table.entry)) now_ms
+            kept.old (S.disk store.old).files commit.now kept.new (S.disk store.new).files) }
 
-        // What is kept goes on by the commit.
-        ensures view { OnOk result (IsAdvanced (image self.now)
-            (record { source = source; table = option_copied table.entry })
-            (view self.now kept.old) commit.now (view self.now kept.new)) }
-        ensures counted { S.tells → OnOk result
-            (counted self.now kept.new (S.disk store.new).files) }
-
-        // Of a list that fitted, the rest fits what is kept now.
-        ensures fits { OnOk result ((commits : List Commit)
-            → Fits (unfit self.now kept.old) (view self.now kept.old).table.partition
-            (commit.now ∷ commits)
-            → Fits (unfit self.now kept.new) (view self.now kept.new).table.partition commits) }
-
-        // Once it has come, nothing is left to do that could fail: what is kept stands for the
-        // files, where it did before and these were settled, whatever is answered then.
-        ensures stands { S.tells → stands_for self.now kept.old (S.disk store.old).files
-            → settled self.now (S.disk store.old)
-            → HasCome result (view self.now kept.old).commits
-            (commits_in self.now (S.disk store.new).files)
-            → stands_for self.now kept.new (S.disk store.new).files }
+        // What it leaves of files that what is kept stood for, whatever it answers.
         ensures publishes { S.tells → stands_for self.now kept.old (S.disk store.old).files
-            → settled self.now (S.disk store.old)
-            → Publishes ⟦<S as Store>⟧
+            → settled self.now (S.disk store.old) → PublishesOne ⟦<S as Store>⟧
             (meaning_of (kind self.now) (image self.now) (reads self.now)
             (commits_in self.now) (carries self.now) (reached self.now) (settled self.now))
-            (record { source = source; table = option_copied table.entry })
-            (view self.now kept.old) (commit.now ∷ [])
-            (Uncontested result) (is_ok result) store.old store.new }
+            (stands_for self.now kept.new) (writes self.now kept.old (S.disk store.old).files
+            (origin_of source (option_copied table.entry)) now_ms commit.now)
+            (origin_of source (option_copied table.entry)) (view self.now kept.old) commit.now
+            result store.old store.new }
 
-        // At `Ok` just what it writes has come. Where it has come and is refused all the same, what
-        // commits reach is just that.
+        // At `Ok` just what it writes has come.
         ensures writes { S.tells → stands_for self.now kept.old (S.disk store.old).files
             → OnOk result (writes self.now kept.old (S.disk store.old).files
-            (record { source = source; table = option_copied table.entry }) now_ms commit.now
+            (origin_of source (option_copied table.entry)) now_ms commit.now
             (S.disk store.new).files) }
-        ensures came { S.tells → stands_for self.now kept.old (S.disk store.old).files
-            → settled self.now (S.disk store.old)
-            → HasCome result (view self.now kept.old).commits
-            (commits_in self.now (S.disk store.new).files)
-            → IsAsLeft (reached self.now) (λ left. writes self.now kept.old
-            (S.disk store.old).files
-            (record { source = source; table = option_copied table.entry }) now_ms commit.now left
-            × stands_for self.now kept.new left) (S.disk store.new).files }
 
-        // Behind another writer's commit nothing is published.
-        ensures contested { S.tells → stands_for self.now kept.old (S.disk store.old).files
-            → settled self.now (S.disk store.old) → IsErrOf result TargetError.Contested
-            → commits_in self.now (S.disk store.new).files
-            ≤ (view self.now kept.old).commits + 1 }
-
-        // And what a crash since entry would have shown as published stays.
-        ensures kept { S.tells → stands_for self.now kept.old (S.disk store.old).files
-            → settled self.now (S.disk store.old) → IsErrOf result TargetError.Contested
-            → IsEachMoment ⟦<S as Store>⟧ store.old store.new (λ shown. CarriesAll
-            (meaning_of (kind self.now) (image self.now) (reads self.now)
-            (commits_in self.now) (carries self.now) (reached self.now) (settled self.now))
-            shown (S.disk store.new).files) }
-
-        // A number is passed at this commit, before it publishes anything, and what is passed later
-        // was passed from here on.
-        ensures refusal { S.tells → IfErr result (IsCommitRefusal
-            (passes self.now kept.old (S.disk store.old).files
-            (record { source = source; table = option_copied table.entry }) now_ms
-            (commit.now ∷ []))) }
-        ensures limited { S.tells → stands_for self.now kept.old (S.disk store.old).files
-            → settled self.now (S.disk store.old) → (which : LimitKind) (number : ℕ)
-            → IsErrOf result (TargetError.Limit which number)
-            → reads self.now (S.disk store.new).files (view self.now kept.old) }
-
-        // Its texts are built, and its time is drawn, before anything is written. Names are listed
-        // behind the first sync.
-        ensures untouched { S.tells → (which : LimitKind) (number : ℕ)
-            → IsErrOf result (TargetError.Limit which number) → which ≢ Names
-            → OnlyReads ⟦<S as Store>⟧ store.old store.new }
-        ensures few { IfErr result IsOfCommit }
-        ensures ahead { S.tells → OnOk result
-            ((commits : List Commit) (which : LimitKind) (number : ℕ)
-            → passes self.now kept.new (S.disk store.new).files
-            (record { source = source; table = option_copied table.entry }) now_ms
-            commits which number
-            → passes self.now kept.old (S.disk store.old).files
-            (record { source = source; table = option_copied table.entry }) now_ms
-            (commit.now ∷ commits) which number) }
-        ensures cause { FailsBy ⟦<S as Store>⟧ store.old store.new
-            (IsErrOf result TargetError.StoreFault) }
-        ensures contest { IsContestedBy ⟦<S as Store>⟧ store.old store.new
-            (IsErrOf result TargetError.Contested) };
+        // It is refused for a cause of its own, and before it writes where a number is passed.
+        ensures refuses { Refuses ⟦<S as Store>⟧ (passes self.now kept.old
+            (S.disk store.old).files (origin_of source (option_copied table.entry)) now_ms
+            (commit.now ∷ [])) result store.old store.new };
 
     /// Files stand for one view at most, and for absent with any partition columns or with none.
     ghost one_view: { (t : Self) (files : Files) (v w : View) → reads t files v → reads t files w

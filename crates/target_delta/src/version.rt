@@ -16,6 +16,7 @@ ghost use Rattle.delta_log.specs.declared.commit.DeltaCommit.{DeltaCommit};
 ghost use Rattle.delta_table.specs.Versions.{IsVersionPath};
 ghost use Rattle.target_core.specs.Conditions.{CanPublish, Fits};
 ghost use Rattle.target_core.specs.declared.target.TargetError.TheVariants.{Limit};
+ghost use Rattle.target_core.specs.Views.{origin_of};
 ghost use Rattle.target_delta.specs.Fitting.{Unfit};
 ghost use Rattle.target_delta.specs.Kept.{end_of, view_of};
 ghost use Rattle.target_delta.specs.Names.{IsStagedPath};
@@ -139,11 +140,11 @@ pub(crate) fn new_version(
     ensures staged { IfOk result (λ version. IsStagedPath version.staged kept.old.commits) }
     ensures path { IfOk result (λ version. IsVersionPath version.path kept.old.commits) }
     ensures is { IfOk result (λ version. IsNewVersion
-        (record { source = source; table = option_copied table.entry }) now_ms kept.old commit.now
+        (origin_of source (option_copied table.entry)) now_ms kept.old commit.now
         version.bytes kept.new) }
     ensures short { IfOk result (λ version. length version.bytes ≤ MOST_BYTES) }
     ensures refusal { IfErr result (IsVersionRefusal (Passes (end_of kept.old)
-        (record { source = source; table = option_copied table.entry }) now_ms
+        (origin_of source (option_copied table.entry)) now_ms
         (commit.now ∷ []))) }
     ensures many { MAX_DELTA_VERSION < kept.old.commits
         → IsErrOf result (Limit Versions MAX_DELTA_VERSION) }

@@ -17,6 +17,7 @@ ghost use Rattle.hudi_instant.specs.Instants.{json_instant};
 ghost use Rattle.hudi_names.specs.Next.{IsNext};
 ghost use Rattle.schema_map.specs.Image.{wide_columns};
 ghost use Rattle.target_core.specs.Conditions.{CanPublish, Fits};
+ghost use Rattle.target_core.specs.Views.{origin_of};
 ghost use Rattle.target_hudi.specs.Fitting.{Unfit};
 ghost use Rattle.target_hudi.specs.Kept.{end_of, held_of, view_of};
 ghost use Rattle.target_hudi.specs.NewInstant.{AreGiven, IsFileRefusal, IsInstantRefusal, IsNewInstant, IsTextAt, IsTimeRefusal, IsTooLongAt};
@@ -229,11 +230,11 @@ fn text_at(
     requires real { IsSomeTime time.now }
     requires later { time_rank kept.old.newest < time_rank (Some time.now) }
     ensures is { IfOk result (λ text. IsTextAt
-        (record { source = source; table = option_copied table.entry }) kept.old commit.now
+        (origin_of source (option_copied table.entry)) kept.old commit.now
         time.now text kept.new) }
     ensures short { IfOk result (λ text. length text ≤ MAX_FILE_BYTES) }
     ensures refusal { IfErr result (IsFileRefusal (IsTooLongAt
-        (record { source = source; table = option_copied table.entry }) kept.old commit.now
+        (origin_of source (option_copied table.entry)) kept.old commit.now
         time.now)) }
 {
     let mark = mark_of(alloc, time, &commit.position, source, table)?;
@@ -257,13 +258,13 @@ pub(crate) fn new_instant(
     requires can { CanPublish (view_of kept.old) commit.now }
     requires fits { Fits (Unfit (held_of kept.old)) kept.old.table.partition (commit.now ∷ []) }
     ensures is { IfOk result (λ new. IsNewInstant (end_of name.now kept.old)
-        (record { source = source; table = option_copied table.entry }) now_ms kept.old commit.now
+        (origin_of source (option_copied table.entry)) now_ms kept.old commit.now
         new.time new.properties new.text kept.new) }
     ensures short { IfOk result (λ new. length new.text ≤ MAX_FILE_BYTES) }
     ensures short_properties { IfOk result
         (λ new. IfSome new.properties (λ bytes. length bytes ≤ MAX_FILE_BYTES)) }
     ensures refusal { IfErr result (IsInstantRefusal (PassesLast (end_of name.now kept.old)
-        (record { source = source; table = option_copied table.entry }) now_ms
+        (origin_of source (option_copied table.entry)) now_ms
         (commit.now ∷ []))) }
 {
     let time = next_time(alloc, kept, now_ms)?;

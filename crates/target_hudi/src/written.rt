@@ -12,6 +12,7 @@ ghost use Rattle.table_history.specs.Rows.{HasDistinctPaths};
 ghost use Rattle.hudi_names.specs.Time.{IsDigits};
 ghost use Rattle.hudi_instant.specs.InstantText.{IsWritable};
 ghost use Rattle.target_core.specs.Mark.{IsMarkText, mark_data};
+ghost use Rattle.target_core.specs.Views.{origin_of};
 ghost use Rattle.target_hudi.specs.Writing.{IsReadBack, IsStatedText, IsWrittenOver, LeavesAdded, LosesRemoved, mark_of};
 
 use crate::replaced::replaced_ids;
@@ -34,7 +35,7 @@ pub(crate) fn mark_of(
     table: Option<&Text>,
 ) -> Result<Mark, AllocError>
     ensures { IfOk result (λ mark. mark ≡ mark_of instant.now
-        (record { source = source; table = option_copied table.entry }) position.now) }
+        (origin_of source (option_copied table.entry)) position.now) }
 {
     let table = match table {
         None => None,
@@ -57,9 +58,9 @@ fn mark_text_of(
     table: Option<&Text>,
 ) -> Result<Text, AllocError>
     ensures text { IfOk result (λ text. text ≡ compact_text (mark_data (mark_of instant.now
-        (record { source = source; table = option_copied table.entry }) position.now))) }
+        (origin_of source (option_copied table.entry)) position.now))) }
     ensures reads_back { IfOk result (λ text. IsMarkText text (mark_of instant.now
-        (record { source = source; table = option_copied table.entry }) position.now)) }
+        (origin_of source (option_copied table.entry)) position.now)) }
 {
     let mark = mark_of(alloc, instant, position, source, table)?;
     mark_text(alloc, &mark)
@@ -98,12 +99,12 @@ pub(crate) fn written_of(
     requires few { length commit.now.change.added + length commit.now.change.removed
         ≤ MAX_ACTIONS }
     ensures is { IfOk result (IsWrittenOver schema.now
-        (record { source = source; table = option_copied table.entry }) instant.now commit.now) }
+        (origin_of source (option_copied table.entry)) instant.now commit.now) }
     ensures writable { IfOk result IsWritable }
     ensures read_back { IfOk result (λ written. IsReadBack schema.now written.schema) }
     ensures reads_back { OnOk result (IsMarkText (compact_text (mark_data (mark_of instant.now
-        (record { source = source; table = option_copied table.entry }) commit.now.position)))
-        (mark_of instant.now (record { source = source; table = option_copied table.entry })
+        (origin_of source (option_copied table.entry)) commit.now.position)))
+        (mark_of instant.now (origin_of source (option_copied table.entry))
         commit.now.position)) }
 {
     let change = &commit.change;

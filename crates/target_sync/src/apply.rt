@@ -2,6 +2,7 @@
 ghost use Rattle.std.specs.Prelude.{◌≡◌, ◌<◌, ◌^◌, IfOk, Result};
 ghost use Rattle.target_core.specs.TargetMeanings.{meaning};
 ghost use Rattle.target_core.specs.declared.target.TargetError.{TargetError};
+ghost use Rattle.target_core.specs.Views.{origin_of};
 ghost use Rattle.target_sync.specs.Applied.{Applies, CanApplyPlan, IsReportOf, answer_of_target, position_at};
 ghost use Rattle.target_sync.specs.Targets.{HaveWritten};
 ghost use Rattle.target_sync.specs.declared.apply.Report.{Report};
@@ -68,15 +69,15 @@ fn publish_plan<T: Target, S: Store>(
     requires now { now_ms < 2 ^ 63 }
     requires counted { S.tells → T.counted target.now plan.old.kept (S.disk store.old).files }
     requires can { CanApplyPlan (T.image target.now) source
-        (record { source = source; table = plan.old.table }) plan.old.partition plan.old.commits
+        (origin_of source plan.old.table) plan.old.partition plan.old.commits
         (T.view target.now plan.old.kept) }
     ensures { Applies ⟦<S as Store>⟧ (meaning ⟦<T as Target>⟧ target.now)
         (T.unfit target.now plan.old.kept plan.old.partition plan.old.commits)
         (T.passes target.now plan.old.kept (S.disk store.old).files
-        (record { source = source; table = plan.old.table }) now_ms)
+        (origin_of source plan.old.table) now_ms)
         (HaveWritten ⟦<T as Target>⟧ target.now plan.old.kept (S.disk store.old).files
-        (record { source = source; table = plan.old.table }) now_ms)
-        (record { source = source; table = plan.old.table }) (T.view target.now plan.old.kept)
+        (origin_of source plan.old.table) now_ms)
+        (origin_of source plan.old.table) (T.view target.now plan.old.kept)
         plan.old.partition plan.old.commits plan.old.full
         (T.stands_for target.now plan.old.kept (S.disk store.old).files
         × T.settled target.now (S.disk store.old)) store.old store.new result }
@@ -108,17 +109,17 @@ pub fn apply_one<T: Target, S: Store>(
     requires now { now_ms < 2 ^ 63 }
     requires counted { S.tells → T.counted target.now plan.kept (S.disk store.old).files }
     requires can { CanApplyPlan (T.image target.now) source
-        (record { source = source; table = plan.table }) plan.partition plan.commits
+        (origin_of source plan.table) plan.partition plan.commits
         (T.view target.now plan.kept) }
     ensures { (answer : Result Report TargetError)
         × (result ≡ answer_of_target (T.kind target.now) answer)
         × Applies ⟦<S as Store>⟧ (meaning ⟦<T as Target>⟧ target.now)
         (T.unfit target.now plan.kept plan.partition plan.commits)
         (T.passes target.now plan.kept (S.disk store.old).files
-        (record { source = source; table = plan.table }) now_ms)
+        (origin_of source plan.table) now_ms)
         (HaveWritten ⟦<T as Target>⟧ target.now plan.kept (S.disk store.old).files
-        (record { source = source; table = plan.table }) now_ms)
-        (record { source = source; table = plan.table }) (T.view target.now plan.kept)
+        (origin_of source plan.table) now_ms)
+        (origin_of source plan.table) (T.view target.now plan.kept)
         plan.partition plan.commits plan.full
         (T.stands_for target.now plan.kept (S.disk store.old).files
         × T.settled target.now (S.disk store.old)) store.old store.new answer }

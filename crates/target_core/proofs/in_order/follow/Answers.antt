@@ -1,25 +1,24 @@
-use Rattle.std.proofs.Common.{◌≡◌, ◌≤◌, ℕ, ◌+◌, true, false, Some, Err, Result, List, [], ◌∷◌, append-nil, length, take, drop, inr, ⊎_elim, refl, sym, ◌∙◌, ap, subst, arith}
+use Rattle.std.proofs.Common.{◌≡◌, ◌≤◌, ℕ, ◌+◌, true, false, Some, Err, Result, List, [], ◌∷◌, append-nil, length, take, drop, inr, ⊎_elim, refl, sym, ◌∙◌, ap, subst, arith, rules}
 use Rattle.std.proofs.lemmas.List.{take_all}
 use Rattle.std.proofs.lemmas.Option.{slice_get-get_or}
 use Rattle.std.proofs.lemmas.Result.{err_from_is_err_and}
-use Rattle.std.specs.Prelude.{IfErr, is_ok, slice_get}
+use Rattle.std.specs.Prelude.{IfErr, slice_get}
 use Rattle.std.specs.Option.{option_copied}
 use Rattle.lake_basics.specs.declared.limits.TheConstants.{MAX_FILE_BYTES}
 use Rattle.lake_store.specs.Disk.{Disk, Files}
-use Rattle.lake_store.specs.Runs.{IsEachMoment, IsOutside}
-use Rattle.lake_store.proofs.ShortLaws.{short_same, short_then}
-use Rattle.lake_store.proofs.RunLaws.{alone_by_reading, alone_further, reading_begins, reading_further}
+use Rattle.lake_store.specs.Runs.{IsOutside}
+use Rattle.lake_store.proofs.ShortLaws.{short_same}
+use Rattle.lake_store.proofs.RunLaws.{alone_by_reading, reading_begins, reading_further}
 use Rattle.table_history.specs.declared.table.Commit.{Commit}
 use Rattle.target_core.specs.Folders.{folder_of}
-use Rattle.target_core.specs.Outcome.{Uncontested}
-use Rattle.target_core.specs.Progress.{IsRefusedAt, KeepsShown}
-use Rattle.target_core.specs.Publishing.{Publishes}
+use Rattle.target_core.specs.Following.{Follows}
+use Rattle.target_core.specs.Progress.{IsRefusedAt}
 use Rattle.target_core.specs.Refusals.{IsCommitRefusal}
 use Rattle.target_core.specs.TargetMeanings.{meaning}
-use Rattle.target_core.specs.Views.{Origin, standing_at}
+use Rattle.target_core.specs.Views.{Origin, origin_of, standing_at}
 use Rattle.target_core.specs.Written.{AreWritten, HaveLeft}
 use Rattle.target_core.specs.declared.target.TargetError.{TargetError}
-use Rattle.target_core.proofs.Along.{can_here, fits_here, fails_further, more_before, refused_in, uncontested_further}
+use Rattle.target_core.proofs.Along.{can_here, fits_here, fails_further, more_before, refused_in, stays_further, uncontested_further}
 use Rattle.target_core.proofs.Same.{same_refl}
 use Rattle.target_core.proofs.Steps.{gained_on, stopped_on, advanced_take, all_on, before_on, count_taken, kept_on, refused_on, under_way_more, under_way_none}
 use Rattle.target_core.proofs.Writing.{written_take}
@@ -34,12 +33,11 @@ loop-commit-init g c =
     let t = c.args.target.now in
     let s = c.args.store.now in
     let start = target.view t c.args.kept.now in
-    let origin : Origin = record { source = c.args.source; table = option_copied c.args.table } in
+    let origin : Origin = origin_of c.args.source (option_copied c.args.table) in
     let reading = reading_begins store g.met.S.Store.only_now s in
     record {
-      alone = λ told. alone_by_reading store (IsOutside (folder_of (target.kind t))) s s (reading told);
+      folder = λ told. record { alone = alone_by_reading store (IsOutside (folder_of (target.kind t))) s s (reading told); short = short_same MAX_FILE_BYTES (store.disk s).files (store.disk s).files refl };
       none = λ told none. reading told;
-      short = λ told. short_same MAX_FILE_BYTES (store.disk s).files (store.disk s).files refl;
       view = same_refl start;
       source = c.requires.source;
       can = c.requires.can;
@@ -65,7 +63,7 @@ commit-requires-clause-can g c =
     let t = c.args.target.now in
     let i = c.loop-commit.commit-index in
     let commit : Commit = c.commit-item.result in
-    let origin : Origin = record { source = c.args.source; table = option_copied c.args.table } in
+    let origin : Origin = origin_of c.args.source (option_copied c.args.table) in
     let at : slice_get c.args.commits.now i ≡ Some commit = slice_get-get_or c.args.commits.now i commit c.loop-commit-test.true ∙ ap (λ (x : Commit). Some x) (sym c.commit-item.is) in
     (can_here (target.image t) origin (target.view t c.loop-commit.kept) c.args.commits.now i commit at c.loop-commit.invariant.can).0
 
@@ -96,42 +94,35 @@ loop-commit-preserved g c =
     let step = c.in_ok-commit.ensures in
     let commit : Commit = c.commit-item.result in
     let commits : List Commit = c.args.commits.now in
-    let origin : Origin = record { source = c.args.source; table = option_copied c.args.table } in
+    let origin : Origin = origin_of c.args.source (option_copied c.args.table) in
     let at : slice_get commits i ≡ Some commit = slice_get-get_or commits i commit c.loop-commit-test.true ∙ ap (λ (x : Commit). Some x) (sym c.commit-item.is) in
     record {
-      alone = alone_further store (IsOutside (folder_of (target.kind t))) s mid c.commit.new.store so_far.alone step.alone;
+      folder = stays_further store (folder_of (target.kind t)) s mid c.commit.new.store so_far.folder step.folder;
       none = λ told none. absurd (omega (arith, none));
-      short = λ told. short_then MAX_FILE_BYTES (store.disk s).files (store.disk mid).files (store.disk c.commit.new.store).files (so_far.short told) (step.short told);
-      view = advanced_take (target.image t) origin start commits i here commit next at so_far.view step.view;
-      can = (can_here (target.image t) origin here commits i commit at so_far.can).1 next step.view;
-      source = inr (standing_at origin commit.position, step.view.mark, refl);
-      fits = step.fits (drop (i + 1) commits) (fits_here (target.unfit t c.loop-commit.kept) here.table.partition commits i commit at so_far.fits);
-      counted = step.counted;
-      stands = λ told was settled. step.stands told (so_far.stands told was settled) (so_far.under_way told was settled).settled tt;
+      view = advanced_take (target.image t) origin start commits i here commit next at so_far.view step.goes_on.advanced;
+      can = (can_here (target.image t) origin here commits i commit at so_far.can).1 next step.goes_on.advanced;
+      source = inr (standing_at origin commit.position, step.goes_on.advanced.mark, refl);
+      fits = step.goes_on.fits (drop (i + 1) commits) (fits_here (target.unfit t c.loop-commit.kept) here.table.partition commits i commit at so_far.fits);
+      counted = step.goes_on.counts;
+      stands = λ told was settled. (step.publishes told (so_far.stands told was settled) (so_far.under_way told was settled).settled).stands tt;
       under_way = λ told was settled.
           let way = so_far.under_way told was settled in
           under_way_more store (meaning target t) origin start commits i here s mid c.commit.new.store way commit at (Unit {0}) true
-          (step.publishes told (so_far.stands told was settled) way.settled) told (law.reached_stays t) tt refl next step.view;
+          (step.publishes told (so_far.stands told was settled) way.settled).publishes told (law.reached_stays t) tt refl next step.goes_on.advanced;
       written = λ told was settled.
           let settled_here = (so_far.under_way told was settled).settled in
           let stands_here = so_far.stands told was settled in
           written_take (target.stands_for t) (λ kept before commit after. target.writes t kept before origin c.args.now_ms commit after) c.args.kept.now (store.disk s).files commits i c.loop-commit.kept (store.disk mid).files commit
-          c.commit.new.kept (store.disk c.commit.new.store).files at (so_far.written told was settled) (step.writes told stands_here) (step.stands told stands_here settled_here tt);
+          c.commit.new.kept (store.disk c.commit.new.store).files at (so_far.written told was settled) (step.writes told stands_here) ((step.publishes told stands_here settled_here).stands tt);
       ahead = λ told cs which number was.
           subst (λ (xs : List Commit). target.passes t c.args.kept.now (store.disk s).files origin c.args.now_ms xs which number) (more_before commits i commit at cs)
-          (so_far.ahead told (commit ∷ cs) which number (step.ahead told cs which number was));
-      cause = fails_further store.faults store.may_fail s mid c.commit.new.store _ so_far.cause step.cause;
-      contest = uncontested_further store.contests store.may_contest s mid c.commit.new.store _ so_far.contest step.contest (λ contested. cc);
+          (so_far.ahead told (commit ∷ cs) which number (step.goes_on.ahead told cs which number was));
+      cause = fails_further store.faults store.may_fail s mid c.commit.new.store _ so_far.cause step.refuses.cause;
+      contest = uncontested_further store.contests store.may_contest s mid c.commit.new.store _ so_far.contest step.refuses.contest (λ contested. cc);
     }
 
-pub returns-in_err-commit-clause-alone : goal.returns-in_err-commit-clause-alone
-returns-in_err-commit-clause-alone g c =
-    alone_further g.S.Store (IsOutside (folder_of (g.T.Target.kind c.args.target.now))) c.args.store.now c.loop-commit.store c.commit.new.store c.loop-commit.invariant.alone c.in_err-commit.ensures.alone
-
-pub returns-in_err-commit-clause-short : goal.returns-in_err-commit-clause-short
-returns-in_err-commit-clause-short g c told =
-    let disk = g.S.Store.disk in
-    short_then MAX_FILE_BYTES (disk c.args.store.now).files (disk c.loop-commit.store).files (disk c.commit.new.store).files (c.loop-commit.invariant.short told) (c.in_err-commit.ensures.short told)
+pub returns-in_err-commit-clause-folder : goal.returns-in_err-commit-clause-folder
+returns-in_err-commit-clause-folder g c = stays_further g.S.Store (folder_of (g.T.Target.kind c.args.target.now)) c.args.store.now c.loop-commit.store c.commit.new.store c.loop-commit.invariant.folder c.in_err-commit.ensures.folder
 
 pub returns-in_err-commit-clause-publishes : goal.returns-in_err-commit-clause-publishes
 returns-in_err-commit-clause-publishes g c told was settled =
@@ -144,35 +135,21 @@ returns-in_err-commit-clause-publishes g c told was settled =
     let i = c.loop-commit.commit-index in
     let commit : Commit = c.commit-item.result in
     let commits : List Commit = c.args.commits.now in
-    let origin : Origin = record { source = c.args.source; table = option_copied c.args.table } in
+    let origin : Origin = origin_of c.args.source (option_copied c.args.table) in
     let at : slice_get commits i ≡ Some commit = slice_get-get_or commits i commit c.loop-commit-test.true ∙ ap (λ (x : Commit). Some x) (sym c.commit-item.is) in
     let exit = err_from_is_err_and c.from_residual.result c.from_residual.ensures.1 in
     let way = so_far.under_way told was settled in
-    subst (λ (r : Result ℕ TargetError). Publishes store (meaning target t) origin start commits (Uncontested r) (is_ok r) s c.commit.new.store) (sym exit.1)
-    (refused_on store (meaning target t) origin start commits i (target.view t c.loop-commit.kept) s c.loop-commit.store c.commit.new.store way commit at _ false
-    (c.in_err-commit.ensures.publishes told (so_far.stands told was settled) way.settled) told (g.met.T.Target.reached_stays t) _
-    (λ uncontested e. uncontested (exit.2 ∙ e)))
-
-pub returns-in_err-commit-clause-kept : goal.returns-in_err-commit-clause-kept
-returns-in_err-commit-clause-kept g c told was settled =
-    let target = g.T.Target in
-    let store = g.S.Store in
-    let t = c.args.target.now in
-    let s = c.args.store.now in
-    let so_far = c.loop-commit.invariant in
-    let start = target.view t c.args.kept.now in
-    let i = c.loop-commit.commit-index in
-    let commit : Commit = c.commit-item.result in
-    let commits : List Commit = c.args.commits.now in
-    let origin : Origin = record { source = c.args.source; table = option_copied c.args.table } in
-    let at : slice_get commits i ≡ Some commit = slice_get-get_or commits i commit c.loop-commit-test.true ∙ ap (λ (x : Commit). Some x) (sym c.commit-item.is) in
-    let exit = err_from_is_err_and c.from_residual.result c.from_residual.ensures.1 in
-    let way = so_far.under_way told was settled in
-    subst (λ (r : Result ℕ TargetError). IfErr r (λ e. IsEachMoment store s c.commit.new.store (KeepsShown (meaning target t) origin start commits (store.disk c.commit.new.store).files e))) (sym exit.1)
-    (kept_on store (meaning target t) origin start commits i (target.view t c.loop-commit.kept) s c.loop-commit.store c.commit.new.store way commit at _ false
-    (c.in_err-commit.ensures.publishes told (so_far.stands told was settled) way.settled) told (g.met.T.Target.reached_stays t) (g.met.T.Target.carries_within t)
-    exit.0 (λ free e. free (exit.2 ∙ e))
-    (λ is. c.in_err-commit.ensures.kept told (so_far.stands told was settled) way.settled (ap (λ (e : TargetError). Err e) (sym exit.2 ∙ is))))
+    let one = c.in_err-commit.ensures.publishes told (so_far.stands told was settled) way.settled in
+    subst (λ (r : Result ℕ TargetError). Follows target t store origin c.args.now_ms c.args.kept.now commits c.commit.new.kept r s c.commit.new.store) (sym exit.1)
+    (record {
+      stands = tt;
+      publishes = refused_on store (meaning target t) origin start commits i (target.view t c.loop-commit.kept) s c.loop-commit.store c.commit.new.store way commit at _ false
+          one.publishes told (g.met.T.Target.reached_stays t) _ (λ uncontested e. uncontested (exit.2 ∙ e));
+      written = tt;
+      shown = kept_on store (meaning target t) origin start commits i (target.view t c.loop-commit.kept) s c.loop-commit.store c.commit.new.store way commit at _ false
+          one.publishes told (g.met.T.Target.reached_stays t) (g.met.T.Target.carries_within t)
+          exit.0 (λ free e. free (exit.2 ∙ e)) (λ is. one.kept (ap (λ (e : TargetError). Err e) (sym exit.2 ∙ is)));
+    })
 
 pub returns-in_err-commit-clause-refusal : goal.returns-in_err-commit-clause-refusal
 returns-in_err-commit-clause-refusal g c told =
@@ -186,7 +163,7 @@ returns-in_err-commit-clause-refusal g c told =
     let i = c.loop-commit.commit-index in
     let commit : Commit = c.commit-item.result in
     let commits : List Commit = c.args.commits.now in
-    let origin : Origin = record { source = c.args.source; table = option_copied c.args.table } in
+    let origin : Origin = origin_of c.args.source (option_copied c.args.table) in
     let at : slice_get commits i ≡ Some commit = slice_get-get_or commits i commit c.loop-commit-test.true ∙ ap (λ (x : Commit). Some x) (sym c.commit-item.is) in
     let exit = err_from_is_err_and c.from_residual.result c.from_residual.ensures.1 in
     let files = (store.disk s).files in
@@ -201,20 +178,19 @@ returns-in_err-commit-clause-refusal g c told =
           (refused_in (target.passes t c.loop-commit.kept (store.disk c.loop-commit.store).files origin c.args.now_ms (commit ∷ [])) (target.passes t c.args.kept.now files origin c.args.now_ms (take (i + 1) commits)) _
           (λ which number passed. subst (λ (cs : List Commit). target.passes t c.args.kept.now files origin c.args.now_ms cs which number) (more_before commits i commit at [] ∙ append-nil (take (i + 1) commits))
           (so_far.ahead told (commit ∷ []) which number passed))
-          (c.in_err-commit.ensures.refusal told));
+          (c.in_err-commit.ensures.refuses.refusal told));
       before = λ was.
           let way = so_far.under_way told was.0 was.1 in
           before_on store (meaning target t) origin start commits i here s c.loop-commit.store c.commit.new.store way commit at _ false
-          (c.in_err-commit.ensures.publishes told (so_far.stands told was.0 was.1) way.settled) told (g.met.T.Target.reached_stays t);
+          (c.in_err-commit.ensures.publishes told (so_far.stands told was.0 was.1) way.settled).publishes told (g.met.T.Target.reached_stays t);
       stay = λ was. record {
         middle = c.loop-commit.store;
         left = (c.loop-commit.kept, so_far.written told was.0 was.1);
-        stay = (c.in_err-commit.ensures.publishes told (so_far.stands told was.0 was.1) (so_far.under_way told was.0 was.1).settled).bytes;
+        stay = (c.in_err-commit.ensures.publishes told (so_far.stands told was.0 was.1) (so_far.under_way told was.0 was.1).settled).publishes.bytes;
       };
       gained = λ was uncontested.
           let way = so_far.under_way told was.0 was.1 in
-          let step = c.in_err-commit.ensures in
-          let stands_here = so_far.stands told was.0 was.1 in
+          let step = c.in_err-commit.ensures.publishes told (so_far.stands told was.0 was.1) way.settled in
           ⊎_elim
           (λ before. (
             i,
@@ -224,11 +200,11 @@ returns-in_err-commit-clause-refusal g c told =
             (
               (store.disk c.loop-commit.store).files,
               (c.loop-commit.kept, so_far.written told was.0 was.1),
-              λ path reached. (step.publishes told stands_here way.settled).bytes.disk.files path reached,
+              λ path reached. step.publishes.bytes.disk.files path reached,
             ),
           ))
           (λ after.
-          let like = step.came told stands_here way.settled ((λ e. uncontested (exit.2 ∙ e)), after.1) in (
+          let like = step.came ((λ e. uncontested (exit.2 ∙ e)), after.1) in (
             i + 1,
             omega arith,
             omega arith,
@@ -244,19 +220,19 @@ returns-in_err-commit-clause-refusal g c told =
             ),
           ))
           (gained_on store (meaning target t) origin start commits i here s c.loop-commit.store c.commit.new.store way commit at _ false
-          (step.publishes told stands_here way.settled) told (g.met.T.Target.reached_stays t) (g.met.T.Target.commits_read t) (λ e. uncontested (exit.2 ∙ e)));
+          step.publishes told (g.met.T.Target.reached_stays t) (g.met.T.Target.commits_read t) (λ e. uncontested (exit.2 ∙ e)));
       contested = λ was is.
           let way = so_far.under_way told was.0 was.1 in
-          let few : target.commits_in t (store.disk c.commit.new.store).files ≤ here.commits + 1 = c.in_err-commit.ensures.contested told (so_far.stands told was.0 was.1) way.settled (ap (λ (e : TargetError). Err e) (sym exit.2 ∙ is)) in
+          let few : target.commits_in t (store.disk c.commit.new.store).files ≤ here.commits + 1 = (c.in_err-commit.ensures.publishes told (so_far.stands told was.0 was.1) way.settled).contested (ap (λ (e : TargetError). Err e) (sym exit.2 ∙ is)) in
           let here_is : here.commits ≡ start.commits + i = count_taken (target.image t) origin start commits i here so_far.view way.within in
           omega (arith, few, here_is);
       limited = λ was which number is.
           let way = so_far.under_way told was.0 was.1 in
           stopped_on store (meaning target t) origin start commits i here s c.loop-commit.store c.commit.new.store way commit at _ false
-          (c.in_err-commit.ensures.publishes told (so_far.stands told was.0 was.1) way.settled) told (g.met.T.Target.reached_stays t)
-          (c.in_err-commit.ensures.limited told (so_far.stands told was.0 was.1) way.settled which number (ap (λ (e : TargetError). Err e) (sym exit.2 ∙ is)));
+          (c.in_err-commit.ensures.publishes told (so_far.stands told was.0 was.1) way.settled).publishes told (g.met.T.Target.reached_stays t)
+          ((c.in_err-commit.ensures.publishes told (so_far.stands told was.0 was.1) way.settled).limited which number (ap (λ (e : TargetError). Err e) (sym exit.2 ∙ is)));
       untouched = λ was which number is other.
-          let reads = c.in_err-commit.ensures.untouched told which number (ap (λ (e : TargetError). Err e) (sym exit.2 ∙ is)) other in (
+          let reads = c.in_err-commit.ensures.refuses.untouched told which number (ap (λ (e : TargetError). Err e) (sym exit.2 ∙ is)) other in (
             c.loop-commit.kept,
             subst
                 (λ (d : Disk).
@@ -265,8 +241,14 @@ returns-in_err-commit-clause-refusal g c told =
           );
       unmoved = λ which number is other none.
           reading_further store s c.loop-commit.store c.commit.new.store (λ told. so_far.none told none)
-          (λ told. c.in_err-commit.ensures.untouched told which number (ap (λ (e : TargetError). Err e) (sym exit.2 ∙ is)) other) told;
+          (λ told. c.in_err-commit.ensures.refuses.untouched told which number (ap (λ (e : TargetError). Err e) (sym exit.2 ∙ is)) other) told;
     })
+
+pub returns-in_err-commit-clause-cause : goal.returns-in_err-commit-clause-cause
+returns-in_err-commit-clause-cause g c = let run = c.loop-commit.invariant.cause in let call = c.in_err-commit.ensures.refuses.cause in search rules
+
+pub returns-in_err-commit-clause-contest : goal.returns-in_err-commit-clause-contest
+returns-in_err-commit-clause-contest g c = let run = c.loop-commit.invariant.contest in let call = c.in_err-commit.ensures.refuses.contest in search rules
 
 pub returns-clause-publishes : goal.returns-clause-publishes
 returns-clause-publishes g c told was settled =
@@ -275,18 +257,15 @@ returns-clause-publishes g c told was settled =
     let t = c.args.target.now in
     let so_far = c.loop-commit.invariant in
     let start = target.view t c.args.kept.now in
-    let origin : Origin = record { source = c.args.source; table = option_copied c.args.table } in
+    let origin : Origin = origin_of c.args.source (option_copied c.args.table) in
+    let stands = so_far.stands told was settled in
     let whole : c.loop-commit.commit-index ≡ length c.args.commits.now = omega arith in
-    all_on store (meaning target t) origin start c.args.commits.now told c.loop-commit.commit-index (target.view t c.loop-commit.kept) c.args.store.now c.loop-commit.store whole (so_far.under_way told was settled)
-    (g.met.T.Target.kept_view t c.loop-commit.kept (store.disk c.loop-commit.store).files (so_far.stands told was settled)) (Unit {0})
-
-pub returns-clause-written : goal.returns-clause-written
-returns-clause-written g c told was settled =
-    let target = g.T.Target in
-    let store = g.S.Store in
-    let t = c.args.target.now in
-    let origin : Origin = record { source = c.args.source; table = option_copied c.args.table } in
     let end : length c.args.commits.now ≤ c.loop-commit.commit-index = omega arith in
-    subst (λ (cs : List Commit). AreWritten (target.stands_for t) (λ kept before commit after. target.writes t kept before origin c.args.now_ms commit after) c.args.kept.now (store.disk c.args.store.now).files cs
-    c.loop-commit.kept (store.disk c.loop-commit.store).files) (take_all c.loop-commit.commit-index c.args.commits.now end)
-    (c.loop-commit.invariant.written told was settled)
+    record {
+      stands = stands;
+      publishes = all_on store (meaning target t) origin start c.args.commits.now told c.loop-commit.commit-index (target.view t c.loop-commit.kept) c.args.store.now c.loop-commit.store whole (so_far.under_way told was settled)
+          (g.met.T.Target.kept_view t c.loop-commit.kept (store.disk c.loop-commit.store).files stands) (Unit {0});
+      written = subst (λ (cs : List Commit). AreWritten (target.stands_for t) (λ kept before commit after. target.writes t kept before origin c.args.now_ms commit after) c.args.kept.now (store.disk c.args.store.now).files cs
+          c.loop-commit.kept (store.disk c.loop-commit.store).files) (take_all c.loop-commit.commit-index c.args.commits.now end) (so_far.written told was settled);
+      shown = tt;
+    }

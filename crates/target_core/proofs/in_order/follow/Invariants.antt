@@ -1,14 +1,13 @@
 use Rattle.std.proofs.Common.{◌≡◌, ℕ, take, drop, List, ◌++◌}
 use Rattle.std.specs.Option.{option_copied}
-use Rattle.lake_basics.specs.declared.limits.TheConstants.{MAX_FILE_BYTES}
-use Rattle.lake_store.specs.Disk.{AddsShort}
-use Rattle.lake_store.specs.Runs.{ChangesOnlyIn, FailsBy, IsUncontestedBy, OnlyReads}
+use Rattle.lake_store.specs.Runs.{FailsBy, IsUncontestedBy, OnlyReads}
 use Rattle.table_history.specs.declared.limit.LimitKind.{LimitKind}
 use Rattle.table_history.specs.declared.table.Commit.{Commit}
 use Rattle.target_core.specs.Conditions.{CanPublishAll, Fits, GoesOn}
 use Rattle.target_core.specs.Folders.{folder_of}
+use Rattle.target_core.specs.OneCommit.{StaysIn}
 use Rattle.target_core.specs.TargetMeanings.{meaning}
-use Rattle.target_core.specs.Views.{IsAdvancedAll, Origin}
+use Rattle.target_core.specs.Views.{IsAdvancedAll, Origin, origin_of}
 use Rattle.target_core.specs.Written.{AreWritten}
 use Rattle.target_core.proofs.Underway.{IsUnderWay}
 use Rattle.target_core.proofs.in_order.follow.Given as goal
@@ -19,12 +18,11 @@ invariant-loop-commit g l =
     let store = g.S.Store in
     let t = l.target in
     let start = target.view t l.fn.kept in
-    let origin : Origin = record { source = l.source; table = option_copied l.table } in
+    let origin : Origin = origin_of l.source (option_copied l.table) in
     let i = l.commit-index in
     record {
-      alone : store.tells → ChangesOnlyIn store (folder_of (target.kind t)) l.fn.store l.store;
+      folder : store.tells → StaysIn store (folder_of (target.kind t)) l.fn.store l.store;
       none : store.tells → i ≡ 0 → OnlyReads store l.fn.store l.store;
-      short : store.tells → AddsShort MAX_FILE_BYTES (store.disk l.fn.store).files (store.disk l.store).files;
       view : IsAdvancedAll (target.image t) origin start (take i l.commits) (target.view t l.kept);
       source : GoesOn l.source (target.view t l.kept);
       can : CanPublishAll (target.image t) origin (target.view t l.kept) (drop i l.commits);

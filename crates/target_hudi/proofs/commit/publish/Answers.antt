@@ -1,14 +1,16 @@
-use Rattle.std.proofs.Common.{◌≡◌, ◌≤◌, ℕ, List, refl, Bool, true, false, [], ◌∷◌, sym, ap, subst, ◌∙◌, arith}
+use Rattle.std.proofs.Common.{◌≡◌, ◌<◌, ◌≤◌, ℕ, List, refl, Bool, true, false, [], ◌∷◌, sym, ap, subst, ◌∙◌, arith, rules}
 use Rattle.std.specs.Prelude.{IfSome, Option, is_ok, length}
 use Rattle.std.specs.Option.{option_copied}
 use Rattle.std.proofs.lemmas.Result.{err_from_is_err_and}
+use Rattle.hudi_commit.specs.Names.{timeline_folder}
 use Rattle.lake_basics.specs.declared.limits.TheConstants.{MAX_FILE_BYTES, MAX_NAMES}
 use Rattle.lake_store.proofs.ShortLaws.{short_same}
-use Rattle.lake_store.proofs.RunLaws.{reading_begins}
+use Rattle.lake_store.specs.Runs.{IsOutside}
+use Rattle.lake_store.proofs.RunLaws.{alone_by_reading, reading_begins}
 use Rattle.table_history.specs.declared.limit.LimitKind.TheVariants.{Names}
 use Rattle.target_core.specs.Outcome.{Uncontested, answer_of}
 use Rattle.target_core.specs.Publishing.{Publishes}
-use Rattle.target_core.specs.Views.{Origin}
+use Rattle.target_core.specs.Views.{Origin, origin_of}
 use Rattle.target_core.specs.declared.target.TargetError.TheVariants.{Contested}
 use Rattle.target_core.proofs.Come.{never_come}
 use Rattle.target_hudi.specs.HudiMeaning.{hudi_meaning}
@@ -20,31 +22,39 @@ use Rattle.target_hudi.proofs.PublishLemmas.{earlier}
 use Rattle.target_hudi.proofs.StoreLemmas.{as_left, come_there, contest_too, contested_error, counted_now, few_now, kept_taken, limited_by, only_names, orderly_before, passes_ahead, publishes_instant, publishes_nothing, reads_unmoved, ready, refused_by, same_instant, stands_behind, taken_answer, taken_now, writes}
 use Rattle.target_hudi.proofs.commit.publish.Goals as goal
 
+pub returns-in_err-new-clause-folder : goal.returns-in_err-new-clause-folder
+returns-in_err-new-clause-folder g c told =
+    let store = g.S.Store in
+    let s = c.args.store.now in
+    record { alone = alone_by_reading store (IsOutside timeline_folder) s s (reading_begins store g.met.S.Store.only_now s told); short = short_same MAX_FILE_BYTES (store.disk s).files (store.disk s).files refl }
+
 pub returns-in_err-new-clause-publishes : goal.returns-in_err-new-clause-publishes
 returns-in_err-new-clause-publishes g c told stands settled =
     let kept = c.args.kept.now in
     let s = c.args.store.now in
-    let origin : Origin = record { source = c.args.source; table = option_copied c.args.table } in
-    let exit = err_from_is_err_and c.from_residual.result c.from_residual.ensures.1 in
-    subst (λ (done : Bool). Publishes g.S.Store hudi_meaning origin (view_of kept) (c.args.commit.now ∷ []) (Uncontested c.from_residual.result) done s s) (sym (ap is_ok exit.1))
-    (publishes_nothing g.S.Store g.met.S.Store.only_now s told origin kept c.args.commit.now stands settled (Uncontested c.from_residual.result))
-
-pub returns-in_err-new-clause-stands : goal.returns-in_err-new-clause-stands
-returns-in_err-new-clause-stands g c told stands settled come =
-    let files = (g.S.Store.disk c.args.store.now).files in
-    let exit = err_from_is_err_and c.from_residual.result c.from_residual.ensures.1 in
+    let files = (g.S.Store.disk s).files in
+    let origin : Origin = origin_of c.args.source (option_copied c.args.table) in
+    let result = c.from_residual.result in
+    let exit = err_from_is_err_and result c.from_residual.ensures.1 in
     let count = (c.requires.counted told).commits in
-    never_come c.from_residual.result exit.0 c.args.kept.now.commits (commits_in files) exit.1 (omega (arith, count)) come
+    record {
+      stands = never_come result exit.0 kept.commits (commits_in files) exit.1 (omega (arith, count));
+      publishes = subst (λ (done : Bool). Publishes g.S.Store hudi_meaning origin (view_of kept) (c.args.commit.now ∷ []) (Uncontested result) done s s) (sym (ap is_ok exit.1))
+          (publishes_nothing g.S.Store g.met.S.Store.only_now s told origin kept c.args.commit.now stands settled (Uncontested result));
+      came = never_come result exit.0 kept.commits (commits_in files) exit.1 (omega (arith, count));
+      contested = λ is. omega (arith, count);
+      kept = λ is. search rules;
+      limited = λ which number is. search rules;
+    }
 
-pub returns-in_err-new-clause-came : goal.returns-in_err-new-clause-came
-returns-in_err-new-clause-came g c told stands settled come =
-    let files = (g.S.Store.disk c.args.store.now).files in
-    let exit = err_from_is_err_and c.from_residual.result c.from_residual.ensures.1 in
-    let count = (c.requires.counted told).commits in
-    never_come c.from_residual.result exit.0 c.args.kept.now.commits (commits_in files) exit.1 (omega (arith, count)) come
-
-pub returns-in_err-new-clause-untouched : goal.returns-in_err-new-clause-untouched
-returns-in_err-new-clause-untouched g c told which number limited other = reading_begins g.S.Store g.met.S.Store.only_now c.args.store.now told
+pub returns-in_err-new-clause-refuses : goal.returns-in_err-new-clause-refuses
+returns-in_err-new-clause-refuses g c = record {
+  refusal = search rules;
+  few = search rules;
+  untouched = λ told which number limited other. reading_begins g.S.Store g.met.S.Store.only_now c.args.store.now told;
+  cause = search rules;
+  contest = search rules;
+}
 
 pub publish_commit-requires-clause-free : goal.publish_commit-requires-clause-free
 publish_commit-requires-clause-free g c told =
@@ -58,27 +68,21 @@ publish_commit-requires-clause-free g c told =
     let instant = c.as_str.result.now in
     let properties = option_copied c.bytes_of-properties.result in
     let text = c.as_slice.result.now in
-    let origin : Origin = record { source = c.args.source; table = option_copied c.args.table } in
+    let origin : Origin = origin_of c.args.source (option_copied c.args.table) in
     let v = same_instant (end_of name kept) origin now kept next commit c.in_ok-new.new.time instant c.in_ok-new.new.text text c.in_ok-new.new.properties properties c.as_str.ensures.value c.bytes_of-properties.ensures c.as_slice.ensures.value c.in_ok-new.ensures.is in
     let files = (store.disk old).files in
     free instant v.real files (earlier name origin now kept next commit instant properties text v files (c.requires.counted told).newest)
 
-pub returns-in-Ok-clause-view : goal.returns-in-Ok-clause-view
-returns-in-Ok-clause-view g c =
-    let name = c.args.name.now in
-    let kept = c.args.kept.now in
-    let next = c.new_instant.new.kept in
-    let commit = c.args.commit.now in
-    let now = c.args.now_ms in
-    let instant = c.as_str.result.now in
-    let properties = option_copied c.bytes_of-properties.result in
-    let text = c.as_slice.result.now in
-    let origin : Origin = record { source = c.args.source; table = option_copied c.args.table } in
-    let v = same_instant (end_of name kept) origin now kept next commit c.in_ok-new.new.time instant c.in_ok-new.new.text text c.in_ok-new.new.properties properties c.as_str.ensures.value c.bytes_of-properties.ensures c.as_slice.ensures.value c.in_ok-new.ensures.is in
-    advanced name origin now kept next commit instant properties text v c.requires.can c.requires.fits
+pub returns-in-Ok-clause-folder : goal.returns-in-Ok-clause-folder
+returns-in-Ok-clause-folder g c told = record {
+  alone = c.publish_commit.ensures.folder told;
+  short = c.publish_commit.ensures.short told
+      (subst (λ (o : Option (List ℕ)). IfSome o (λ bytes. length bytes ≤ MAX_FILE_BYTES)) (sym c.bytes_of-properties.ensures) c.in_ok-new.ensures.short_properties)
+      (subst (λ (bytes : List ℕ). length bytes ≤ MAX_FILE_BYTES) (sym c.as_slice.ensures.value) c.in_ok-new.ensures.short);
+}
 
-pub returns-in-Ok-clause-counted : goal.returns-in-Ok-clause-counted
-returns-in-Ok-clause-counted g c told =
+pub returns-in-Ok-clause-goes_on : goal.returns-in-Ok-clause-goes_on
+returns-in-Ok-clause-goes_on g c =
     let store = g.S.Store in
     let name = c.args.name.now in
     let kept = c.args.kept.now in
@@ -90,63 +94,14 @@ returns-in-Ok-clause-counted g c told =
     let instant = c.as_str.result.now in
     let properties = option_copied c.bytes_of-properties.result in
     let text = c.as_slice.result.now in
-    let origin : Origin = record { source = c.args.source; table = option_copied c.args.table } in
+    let origin : Origin = origin_of c.args.source (option_copied c.args.table) in
     let v = same_instant (end_of name kept) origin now kept next commit c.in_ok-new.new.time instant c.in_ok-new.new.text text c.in_ok-new.new.properties properties c.as_str.ensures.value c.bytes_of-properties.ensures c.as_slice.ensures.value c.in_ok-new.ensures.is in
-    counted_now store old new told name origin now kept next commit instant properties text v (c.requires.counted told) (c.in-Ok.ensures.kept told) (c.in-Ok.ensures.comes told tt).completed
-
-pub returns-in-Ok-clause-fits : goal.returns-in-Ok-clause-fits
-returns-in-Ok-clause-fits g c =
-    let name = c.args.name.now in
-    let kept = c.args.kept.now in
-    let next = c.new_instant.new.kept in
-    let commit = c.args.commit.now in
-    let now = c.args.now_ms in
-    let instant = c.as_str.result.now in
-    let properties = option_copied c.bytes_of-properties.result in
-    let text = c.as_slice.result.now in
-    let origin : Origin = record { source = c.args.source; table = option_copied c.args.table } in
-    let v = same_instant (end_of name kept) origin now kept next commit c.in_ok-new.new.time instant c.in_ok-new.new.text text c.in_ok-new.new.properties properties c.as_str.ensures.value c.bytes_of-properties.ensures c.as_slice.ensures.value c.in_ok-new.ensures.is in
-    fits_behind name origin now kept next commit instant properties text v c.requires.can
-
-pub returns-in-Ok-clause-stands : goal.returns-in-Ok-clause-stands
-returns-in-Ok-clause-stands g c told stands settled come =
-    let store = g.S.Store in
-    let name = c.args.name.now in
-    let kept = c.args.kept.now in
-    let next = c.new_instant.new.kept in
-    let commit = c.args.commit.now in
-    let old = c.args.store.now in
-    let new = c.publish_commit.new.store in
-    let now = c.args.now_ms in
-    let instant = c.as_str.result.now in
-    let properties = option_copied c.bytes_of-properties.result in
-    let text = c.as_slice.result.now in
-    let origin : Origin = record { source = c.args.source; table = option_copied c.args.table } in
-    let v = same_instant (end_of name kept) origin now kept next commit c.in_ok-new.new.time instant c.in_ok-new.new.text text c.in_ok-new.new.properties properties c.as_str.ensures.value c.bytes_of-properties.ensures c.as_slice.ensures.value c.in_ok-new.ensures.is in
-    let counted = c.requires.counted told in
-    let alone = c.in-Ok.ensures.kept told in
-    let whole = orderly_before store old new told name origin now kept next commit instant properties text v counted alone stands in
-    let is_ready = ready store old new told name origin now kept next commit instant properties text v counted alone stands in
-    stands_behind store old new told name origin now kept next commit instant properties text v counted alone stands c.requires.can c.requires.fits c.requires.source settled ((c.in-Ok.ensures.comes told tt).committed whole is_ready)
-
-pub returns-in-Ok-clause-came : goal.returns-in-Ok-clause-came
-returns-in-Ok-clause-came g c told stands settled come =
-    let store = g.S.Store in
-    let name = c.args.name.now in
-    let kept = c.args.kept.now in
-    let next = c.new_instant.new.kept in
-    let commit = c.args.commit.now in
-    let old = c.args.store.now in
-    let new = c.publish_commit.new.store in
-    let now = c.args.now_ms in
-    let instant = c.as_str.result.now in
-    let properties = option_copied c.bytes_of-properties.result in
-    let text = c.as_slice.result.now in
-    let origin : Origin = record { source = c.args.source; table = option_copied c.args.table } in
-    let v = same_instant (end_of name kept) origin now kept next commit c.in_ok-new.new.time instant c.in_ok-new.new.text text c.in_ok-new.new.properties properties c.as_str.ensures.value c.bytes_of-properties.ensures c.as_slice.ensures.value c.in_ok-new.ensures.is in
-    let counted = c.requires.counted told in
-    let alone = c.in-Ok.ensures.kept told in
-    as_left store old new told name origin now kept next commit instant properties text v counted alone stands c.requires.can c.requires.fits c.requires.source settled (c.in-Ok.ensures.comes told tt)
+    record {
+      advanced = advanced name origin now kept next commit instant properties text v c.requires.can c.requires.fits;
+      fits = fits_behind name origin now kept next commit instant properties text v c.requires.can;
+      counts = λ told. counted_now store old new told name origin now kept next commit instant properties text v (c.requires.counted told) (c.in-Ok.ensures.kept told) (c.in-Ok.ensures.comes told tt).completed;
+      ahead = λ told. passes_ahead name origin now kept next commit instant properties text v (store.disk old).files (store.disk new).files (c.in-Ok.ensures.comes told tt).not_grown;
+    }
 
 pub returns-in-Ok-clause-publishes : goal.returns-in-Ok-clause-publishes
 returns-in-Ok-clause-publishes g c told stands settled =
@@ -161,14 +116,22 @@ returns-in-Ok-clause-publishes g c told stands settled =
     let instant = c.as_str.result.now in
     let properties = option_copied c.bytes_of-properties.result in
     let text = c.as_slice.result.now in
-    let origin : Origin = record { source = c.args.source; table = option_copied c.args.table } in
+    let origin : Origin = origin_of c.args.source (option_copied c.args.table) in
     let v = same_instant (end_of name kept) origin now kept next commit c.in_ok-new.new.time instant c.in_ok-new.new.text text c.in_ok-new.new.properties properties c.as_str.ensures.value c.bytes_of-properties.ensures c.as_slice.ensures.value c.in_ok-new.ensures.is in
     let counted = c.requires.counted told in
     let alone = c.in-Ok.ensures.kept told in
     let whole = orderly_before store old new told name origin now kept next commit instant properties text v counted alone stands in
     let is_ready = ready store old new told name origin now kept next commit instant properties text v counted alone stands in
-    publishes_instant store old new told name origin now kept next commit instant properties text v counted alone stands c.requires.can c.requires.fits c.requires.source settled _ true
-    (λ done. (c.in-Ok.ensures.comes told tt).committed whole is_ready) (λ u. c.in-Ok.ensures.one_step told tt whole settled.timeline is_ready)
+    let came = c.in-Ok.ensures.comes told tt in
+    record {
+      stands = λ come. stands_behind store old new told name origin now kept next commit instant properties text v counted alone stands c.requires.can c.requires.fits c.requires.source settled (came.committed whole is_ready);
+      publishes = publishes_instant store old new told name origin now kept next commit instant properties text v counted alone stands c.requires.can c.requires.fits c.requires.source settled _ true
+          (λ done. came.committed whole is_ready) (λ u. c.in-Ok.ensures.one_step told tt whole settled.timeline is_ready);
+      came = λ come. as_left store old new told name origin now kept next commit instant properties text v counted alone stands c.requires.can c.requires.fits c.requires.source settled came;
+      contested = λ is. absurd cc;
+      kept = λ is. absurd cc;
+      limited = λ which number is. absurd cc;
+    }
 
 pub returns-in-Ok-clause-writes : goal.returns-in-Ok-clause-writes
 returns-in-Ok-clause-writes g c told stands =
@@ -183,7 +146,7 @@ returns-in-Ok-clause-writes g c told stands =
     let instant = c.as_str.result.now in
     let properties = option_copied c.bytes_of-properties.result in
     let text = c.as_slice.result.now in
-    let origin : Origin = record { source = c.args.source; table = option_copied c.args.table } in
+    let origin : Origin = origin_of c.args.source (option_copied c.args.table) in
     let v = same_instant (end_of name kept) origin now kept next commit c.in_ok-new.new.time instant c.in_ok-new.new.text text c.in_ok-new.new.properties properties c.as_str.ensures.value c.bytes_of-properties.ensures c.as_slice.ensures.value c.in_ok-new.ensures.is in
     let counted = c.requires.counted told in
     let alone = c.in-Ok.ensures.kept told in
@@ -191,22 +154,13 @@ returns-in-Ok-clause-writes g c told stands =
     let is_ready = ready store old new told name origin now kept next commit instant properties text v counted alone stands in
     writes store old new told name origin now kept next commit instant properties text v counted alone stands ((c.in-Ok.ensures.comes told tt).committed whole is_ready) (c.in-Ok.ensures.comes told tt).staged (c.in-Ok.ensures.comes told tt).others
 
-pub returns-in-Ok-clause-ahead : goal.returns-in-Ok-clause-ahead
-returns-in-Ok-clause-ahead g c told =
-    let store = g.S.Store in
-    let name = c.args.name.now in
-    let kept = c.args.kept.now in
-    let next = c.new_instant.new.kept in
-    let commit = c.args.commit.now in
-    let old = c.args.store.now in
-    let new = c.publish_commit.new.store in
-    let now = c.args.now_ms in
-    let instant = c.as_str.result.now in
-    let properties = option_copied c.bytes_of-properties.result in
-    let text = c.as_slice.result.now in
-    let origin : Origin = record { source = c.args.source; table = option_copied c.args.table } in
-    let v = same_instant (end_of name kept) origin now kept next commit c.in_ok-new.new.time instant c.in_ok-new.new.text text c.in_ok-new.new.properties properties c.as_str.ensures.value c.bytes_of-properties.ensures c.as_slice.ensures.value c.in_ok-new.ensures.is in
-    passes_ahead name origin now kept next commit instant properties text v (store.disk old).files (store.disk new).files (c.in-Ok.ensures.comes told tt).not_grown
+pub returns-clause-folder : goal.returns-clause-folder
+returns-clause-folder g c told = record {
+  alone = c.publish_commit.ensures.folder told;
+  short = c.publish_commit.ensures.short told
+      (subst (λ (o : Option (List ℕ)). IfSome o (λ bytes. length bytes ≤ MAX_FILE_BYTES)) (sym c.bytes_of-properties.ensures) c.in_ok-new.ensures.short_properties)
+      (subst (λ (bytes : List ℕ). length bytes ≤ MAX_FILE_BYTES) (sym c.as_slice.ensures.value) c.in_ok-new.ensures.short);
+}
 
 pub returns-clause-publishes : goal.returns-clause-publishes
 returns-clause-publishes g c told stands settled =
@@ -221,99 +175,26 @@ returns-clause-publishes g c told stands settled =
     let instant = c.as_str.result.now in
     let properties = option_copied c.bytes_of-properties.result in
     let text = c.as_slice.result.now in
-    let origin : Origin = record { source = c.args.source; table = option_copied c.args.table } in
+    let origin : Origin = origin_of c.args.source (option_copied c.args.table) in
     let v = same_instant (end_of name kept) origin now kept next commit c.in_ok-new.new.time instant c.in_ok-new.new.text text c.in_ok-new.new.properties properties c.as_str.ensures.value c.bytes_of-properties.ensures c.as_slice.ensures.value c.in_ok-new.ensures.is in
     let counted = c.requires.counted told in
     let alone = c.in-Err.ensures.kept told in
     let whole = orderly_before store old new told name origin now kept next commit instant properties text v counted alone stands in
     let is_ready = ready store old new told name origin now kept next commit instant properties text v counted alone stands in
-    publishes_instant store old new told name origin now kept next commit instant properties text v counted alone stands c.requires.can c.requires.fits c.requires.source settled (c.of_list.result ≡ Contested → ⊥) false
-    (λ done. absurd (cc)) (λ u. c.in-Err.ensures.one_step told (λ taken. u (c.of_list.ensures ∙ ap (answer_of Names MAX_NAMES) taken)) whole settled.timeline is_ready)
-
-pub returns-clause-stands : goal.returns-clause-stands
-returns-clause-stands g c told stands settled come =
-    let store = g.S.Store in
-    let name = c.args.name.now in
-    let kept = c.args.kept.now in
-    let next = c.new_instant.new.kept in
-    let commit = c.args.commit.now in
-    let old = c.args.store.now in
-    let new = c.publish_commit.new.store in
-    let now = c.args.now_ms in
-    let instant = c.as_str.result.now in
-    let properties = option_copied c.bytes_of-properties.result in
-    let text = c.as_slice.result.now in
-    let origin : Origin = record { source = c.args.source; table = option_copied c.args.table } in
-    let v = same_instant (end_of name kept) origin now kept next commit c.in_ok-new.new.time instant c.in_ok-new.new.text text c.in_ok-new.new.properties properties c.as_str.ensures.value c.bytes_of-properties.ensures c.as_slice.ensures.value c.in_ok-new.ensures.is in
-    let counted = c.requires.counted told in
-    let alone = c.in-Err.ensures.kept told in
-    let whole = orderly_before store old new told name origin now kept next commit instant properties text v counted alone stands in
-    let is_ready = ready store old new told name origin now kept next commit instant properties text v counted alone stands in
-    let there = come_there store old new told name origin now kept next commit instant properties text v counted alone come.1 in
-    let came = c.in-Err.ensures.comes told ((λ taken. come.0 (c.of_list.ensures ∙ ap (answer_of Names MAX_NAMES) taken)), there) in
-    stands_behind store old new told name origin now kept next commit instant properties text v counted alone stands c.requires.can c.requires.fits c.requires.source settled (came.committed whole is_ready)
-
-pub returns-clause-came : goal.returns-clause-came
-returns-clause-came g c told stands settled come =
-    let store = g.S.Store in
-    let name = c.args.name.now in
-    let kept = c.args.kept.now in
-    let next = c.new_instant.new.kept in
-    let commit = c.args.commit.now in
-    let old = c.args.store.now in
-    let new = c.publish_commit.new.store in
-    let now = c.args.now_ms in
-    let instant = c.as_str.result.now in
-    let properties = option_copied c.bytes_of-properties.result in
-    let text = c.as_slice.result.now in
-    let origin : Origin = record { source = c.args.source; table = option_copied c.args.table } in
-    let v = same_instant (end_of name kept) origin now kept next commit c.in_ok-new.new.time instant c.in_ok-new.new.text text c.in_ok-new.new.properties properties c.as_str.ensures.value c.bytes_of-properties.ensures c.as_slice.ensures.value c.in_ok-new.ensures.is in
-    let counted = c.requires.counted told in
-    let alone = c.in-Err.ensures.kept told in
-    let there = come_there store old new told name origin now kept next commit instant properties text v counted alone come.1 in
-    let came = c.in-Err.ensures.comes told ((λ taken. come.0 (c.of_list.ensures ∙ ap (answer_of Names MAX_NAMES) taken)), there) in
-    as_left store old new told name origin now kept next commit instant properties text v counted alone stands c.requires.can c.requires.fits c.requires.source settled came
-
-pub returns-clause-contested : goal.returns-clause-contested
-returns-clause-contested g c told stands settled contested =
-    let store = g.S.Store in
-    let name = c.args.name.now in
-    let kept = c.args.kept.now in
-    let next = c.new_instant.new.kept in
-    let commit = c.args.commit.now in
-    let old = c.args.store.now in
-    let new = c.publish_commit.new.store in
-    let now = c.args.now_ms in
-    let instant = c.as_str.result.now in
-    let properties = option_copied c.bytes_of-properties.result in
-    let text = c.as_slice.result.now in
-    let origin : Origin = record { source = c.args.source; table = option_copied c.args.table } in
-    let v = same_instant (end_of name kept) origin now kept next commit c.in_ok-new.new.time instant c.in_ok-new.new.text text c.in_ok-new.new.properties properties c.as_str.ensures.value c.bytes_of-properties.ensures c.as_slice.ensures.value c.in_ok-new.ensures.is in
-    few_now store old new told name origin now kept next commit instant properties text v (c.requires.counted told) (c.in-Err.ensures.kept told)
-
-pub returns-clause-limited : goal.returns-clause-limited
-returns-clause-limited g c told stands settled which number limited =
-    let store = g.S.Store in
-    let name = c.args.name.now in
-    let kept = c.args.kept.now in
-    let next = c.new_instant.new.kept in
-    let commit = c.args.commit.now in
-    let old = c.args.store.now in
-    let new = c.publish_commit.new.store in
-    let now = c.args.now_ms in
-    let instant = c.as_str.result.now in
-    let properties = option_copied c.bytes_of-properties.result in
-    let text = c.as_slice.result.now in
-    let origin : Origin = record { source = c.args.source; table = option_copied c.args.table } in
-    let v = same_instant (end_of name kept) origin now kept next commit c.in_ok-new.new.time instant c.in_ok-new.new.text text c.in_ok-new.new.properties properties c.as_str.ensures.value c.bytes_of-properties.ensures c.as_slice.ensures.value c.in_ok-new.ensures.is in
-    let counted = c.requires.counted told in
-    let alone = c.in-Err.ensures.kept told in
-    let whole = orderly_before store old new told name origin now kept next commit instant properties text v counted alone stands in
-    let long = limited_by c.in-Err.error c.of_list.result c.of_list.ensures which number limited in
-    reads_unmoved store old new told name origin now kept next commit instant properties text v counted alone stands ((c.in-Err.ensures.too_long long.0 long.1).unmoved told whole)
-
-pub returns-clause-untouched : goal.returns-clause-untouched
-returns-clause-untouched g c told which number limited other = absurd (other (only_names c.in-Err.error c.of_list.result c.of_list.ensures which number limited))
+    let gives : c.of_list.result ≡ answer_of Names MAX_NAMES c.in-Err.error = c.of_list.ensures in
+    let came = λ (come : (c.of_list.result ≡ Contested → ⊥) × (kept.commits < commits_in (store.disk new).files)).
+    c.in-Err.ensures.comes told ((λ taken. come.0 (gives ∙ ap (answer_of Names MAX_NAMES) taken)), come_there store old new told name origin now kept next commit instant properties text v counted alone come.1) in
+    record {
+      stands = λ come. stands_behind store old new told name origin now kept next commit instant properties text v counted alone stands c.requires.can c.requires.fits c.requires.source settled ((came come).committed whole is_ready);
+      publishes = publishes_instant store old new told name origin now kept next commit instant properties text v counted alone stands c.requires.can c.requires.fits c.requires.source settled (c.of_list.result ≡ Contested → ⊥) false
+          (λ done. absurd (cc)) (λ u. c.in-Err.ensures.one_step told (λ taken. u (gives ∙ ap (answer_of Names MAX_NAMES) taken)) whole settled.timeline is_ready);
+      came = λ come. as_left store old new told name origin now kept next commit instant properties text v counted alone stands c.requires.can c.requires.fits c.requires.source settled (came come);
+      contested = λ contested. few_now store old new told name origin now kept next commit instant properties text v counted alone;
+      kept = λ contested. kept_taken store old new told name origin now kept next commit instant properties text v counted alone settled (c.in-Err.ensures.theirs told (taken_answer c.in-Err.error c.of_list.result gives contested));
+      limited = λ which number limited.
+          let long = limited_by c.in-Err.error c.of_list.result gives which number limited in
+          reads_unmoved store old new told name origin now kept next commit instant properties text v counted alone stands ((c.in-Err.ensures.too_long long.0 long.1).unmoved told whole);
+    }
 
 pub returns-clause-taken : goal.returns-clause-taken
 returns-clause-taken g c told contested =
@@ -328,51 +209,19 @@ returns-clause-taken g c told contested =
     let instant = c.as_str.result.now in
     let properties = option_copied c.bytes_of-properties.result in
     let text = c.as_slice.result.now in
-    let origin : Origin = record { source = c.args.source; table = option_copied c.args.table } in
+    let origin : Origin = origin_of c.args.source (option_copied c.args.table) in
     let v = same_instant (end_of name kept) origin now kept next commit c.in_ok-new.new.time instant c.in_ok-new.new.text text c.in_ok-new.new.properties properties c.as_str.ensures.value c.bytes_of-properties.ensures c.as_slice.ensures.value c.in_ok-new.ensures.is in
     taken_now store old new told name origin now kept next commit instant properties text v (c.requires.counted told) (c.in-Err.ensures.kept told) (c.in-Err.ensures.taken told (taken_answer c.in-Err.error c.of_list.result c.of_list.ensures contested))
 
-pub returns-clause-kept : goal.returns-clause-kept
-returns-clause-kept g c told stands settled contested =
-    let store = g.S.Store in
-    let name = c.args.name.now in
-    let kept = c.args.kept.now in
-    let next = c.new_instant.new.kept in
-    let commit = c.args.commit.now in
-    let old = c.args.store.now in
-    let new = c.publish_commit.new.store in
-    let now = c.args.now_ms in
-    let instant = c.as_str.result.now in
-    let properties = option_copied c.bytes_of-properties.result in
-    let text = c.as_slice.result.now in
-    let origin : Origin = record { source = c.args.source; table = option_copied c.args.table } in
-    let v = same_instant (end_of name kept) origin now kept next commit c.in_ok-new.new.time instant c.in_ok-new.new.text text c.in_ok-new.new.properties properties c.as_str.ensures.value c.bytes_of-properties.ensures c.as_slice.ensures.value c.in_ok-new.ensures.is in
-    kept_taken store old new told name origin now kept next commit instant properties text v (c.requires.counted told) (c.in-Err.ensures.kept told) settled (c.in-Err.ensures.theirs told (taken_answer c.in-Err.error c.of_list.result c.of_list.ensures contested))
-
-pub returns-clause-refusal : goal.returns-clause-refusal
-returns-clause-refusal g c told =
-    let origin : Origin = record { source = c.args.source; table = option_copied c.args.table } in
-    refused_by c.in-Err.error c.of_list.result c.of_list.ensures (g.S.Store.disk c.args.store.now).files (end_of c.args.name.now c.args.kept.now) origin c.args.now_ms c.args.commit.now
-    (λ n long. let is = c.in-Err.ensures.too_long n long in (is.many, is.names told))
-
-pub returns-clause-contest : goal.returns-clause-contest
-returns-clause-contest g c =
-    contest_too g.S.Store.contests g.S.Store.may_contest c.args.store.now c.publish_commit.new.store _ _
-    (λ taken. contested_error c.in-Err.error c.of_list.result c.of_list.ensures taken) (λ contested. taken_answer c.in-Err.error c.of_list.result c.of_list.ensures contested) c.in-Err.ensures.contest
-
-pub returns-in_err-new-clause-short : goal.returns-in_err-new-clause-short
-returns-in_err-new-clause-short g c told =
-    let files = (g.S.Store.disk c.args.store.now).files in
-    short_same MAX_FILE_BYTES files files refl
-
-pub returns-in-Ok-clause-short : goal.returns-in-Ok-clause-short
-returns-in-Ok-clause-short g c told =
-    c.publish_commit.ensures.short told
-    (subst (λ (o : Option (List ℕ)). IfSome o (λ bytes. length bytes ≤ MAX_FILE_BYTES)) (sym c.bytes_of-properties.ensures) c.in_ok-new.ensures.short_properties)
-    (subst (λ (bytes : List ℕ). length bytes ≤ MAX_FILE_BYTES) (sym c.as_slice.ensures.value) c.in_ok-new.ensures.short)
-
-pub returns-clause-short : goal.returns-clause-short
-returns-clause-short g c told =
-    c.publish_commit.ensures.short told
-    (subst (λ (o : Option (List ℕ)). IfSome o (λ bytes. length bytes ≤ MAX_FILE_BYTES)) (sym c.bytes_of-properties.ensures) c.in_ok-new.ensures.short_properties)
-    (subst (λ (bytes : List ℕ). length bytes ≤ MAX_FILE_BYTES) (sym c.as_slice.ensures.value) c.in_ok-new.ensures.short)
+pub returns-clause-refuses : goal.returns-clause-refuses
+returns-clause-refuses g c =
+    let origin : Origin = origin_of c.args.source (option_copied c.args.table) in
+    record {
+      refusal = λ told. refused_by c.in-Err.error c.of_list.result c.of_list.ensures (g.S.Store.disk c.args.store.now).files (end_of c.args.name.now c.args.kept.now) origin c.args.now_ms c.args.commit.now
+          (λ n long. let is = c.in-Err.ensures.too_long n long in (is.many, is.names told));
+      few = search rules;
+      untouched = λ told which number limited other. absurd (other (only_names c.in-Err.error c.of_list.result c.of_list.ensures which number limited));
+      cause = search rules;
+      contest = contest_too g.S.Store.contests g.S.Store.may_contest c.args.store.now c.publish_commit.new.store _ _
+          (λ taken. contested_error c.in-Err.error c.of_list.result c.of_list.ensures taken) (λ contested. taken_answer c.in-Err.error c.of_list.result c.of_list.ensures contested) c.in-Err.ensures.contest;
+    }

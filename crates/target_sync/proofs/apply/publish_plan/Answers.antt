@@ -107,11 +107,11 @@ returns-in_err-published g c =
     subst (λ (r : Result Report TargetError). Applies store (meaning g.T.Target t) (unfit partition commits) (passes_at c.args.plan.now.table) (written_at c.args.plan.now.table) (origin_at c.args.plan.now.table) view partition commits c.args.plan.now.full Stands old new r)
     (sym (exit.1 ∙ ap (λ (x : TargetError). Err x) exit.2))
     (applies_refused store (meaning g.T.Target t) (origin_at c.args.plan.now.table) view commits (unfit partition commits) (passes_at c.args.plan.now.table) (written_at c.args.plan.now.table) partition c.args.plan.now.full Stands old new columns (λ told none. c.in_err-published.ensures.none told (commits_is ∙ none))
-    c.in_err-published.ensures.alone c.in_err-published.ensures.short e
+    (λ told. (c.in_err-published.ensures.folder told).alone) (λ told. (c.in_err-published.ensures.folder told).short) e
     (λ told stands.
     subst (λ (cs : List Commit). Publishes store (meaning g.T.Target t) (origin_at c.args.plan.now.table) view cs (e ≡ Contested → ⊥) false old new) commits_is
     (subst (λ (id : Option (List ℕ)). Publishes store (meaning g.T.Target t) (origin_at id) view c.as_slice-commits.result.now (e ≡ Contested → ⊥) false old new) id_is
-    (c.in_err-published.ensures.publishes told stands.0 stands.1)))
+    (c.in_err-published.ensures.publishes told stands.0 stands.1).publishes))
     (λ told.
     subst (λ (cs : List Commit). IsRefusedAt store (meaning g.T.Target t) (passes_at c.args.plan.now.table) (written_at c.args.plan.now.table) Stands (origin_at c.args.plan.now.table) view cs old new e) commits_is
     (subst (λ (id : Option (List ℕ)). IsRefusedAt store (meaning g.T.Target t) (passes_at id) (written_at id) Stands (origin_at id) view c.as_slice-commits.result.now old new e) id_is
@@ -119,7 +119,7 @@ returns-in_err-published g c =
     (λ told stands.
     subst (λ (cs : List Commit). IsEachMoment store old new (KeepsShown (meaning g.T.Target t) (origin_at c.args.plan.now.table) view cs (store.disk new).files e)) commits_is
     (subst (λ (id : Option (List ℕ)). IsEachMoment store old new (KeepsShown (meaning g.T.Target t) (origin_at id) view c.as_slice-commits.result.now (store.disk new).files e)) id_is
-    (c.in_err-published.ensures.kept told stands.0 stands.1)))
+    (c.in_err-published.ensures.publishes told stands.0 stands.1).shown))
     c.in_err-published.ensures.cause c.in_err-published.ensures.contest)
 
 pub returns-in_err-report_of : goal.returns-in_err-report_of
@@ -147,16 +147,16 @@ returns-in_err-report_of g c =
     subst (λ (r : Result Report TargetError). Applies store (meaning g.T.Target t) (unfit partition commits) (passes_at c.args.plan.now.table) (written_at c.args.plan.now.table) (origin_at c.args.plan.now.table) view partition commits c.args.plan.now.full Stands old new r)
     (sym (exit.1 ∙ ap (λ (x : TargetError). Err x) exit.2))
     (applies_untold store (meaning g.T.Target t) (origin_at c.args.plan.now.table) view commits (unfit partition commits) (passes_at c.args.plan.now.table) (written_at c.args.plan.now.table) partition c.args.plan.now.full Stands old new columns (λ told none. c.in_ok-published.ensures.none told (commits_is ∙ none))
-    c.in_ok-published.ensures.alone c.in_ok-published.ensures.short c.in_ok-published.published
+    (λ told. (c.in_ok-published.ensures.folder told).alone) (λ told. (c.in_ok-published.ensures.folder told).short) c.in_ok-published.published
     (λ told stands.
     subst (λ (cs : List Commit). Publishes store (meaning g.T.Target t) (origin_at c.args.plan.now.table) view cs (Unit {0}) true old new) commits_is
     (subst (λ (id : Option (List ℕ)). Publishes store (meaning g.T.Target t) (origin_at id) view c.as_slice-commits.result.now (Unit {0}) true old new) id_is
-    (c.in_ok-published.ensures.publishes told stands.0 stands.1)))
+    (c.in_ok-published.ensures.publishes told stands.0 stands.1).publishes))
     c.in_ok-published.ensures.cause c.in_ok-published.ensures.contest g.met.S.Store.only_now
     (λ told stands.
     subst (λ (cs : List Commit). written_at c.args.plan.now.table cs (store.disk new).files) commits_is
     (subst (λ (id : Option (List ℕ)). written_at id c.as_slice-commits.result.now (store.disk new).files) id_is
-    (c.follow.new.kept, c.in_ok-published.ensures.written told stands.0 stands.1))))
+    (c.follow.new.kept, (c.in_ok-published.ensures.publishes told stands.0 stands.1).written))))
 
 pub returns : goal.returns
 returns g c =
@@ -182,21 +182,21 @@ returns g c =
     let last = g.T.Target.view t c.follow.new.kept in
     let count = c.in_ok-published.ensures.count ∙ ap (λ (cs : List Commit). length cs) commits_is in
     applies_all store (meaning g.T.Target t) (origin_at c.args.plan.now.table) view commits (unfit partition commits) (passes_at c.args.plan.now.table) (written_at c.args.plan.now.table) partition c.args.plan.now.full Stands old new columns (λ told none. c.in_ok-published.ensures.none told (commits_is ∙ none))
-    c.in_ok-published.ensures.alone c.in_ok-published.ensures.short c.in_ok-published.published
+    (λ told. (c.in_ok-published.ensures.folder told).alone) (λ told. (c.in_ok-published.ensures.folder told).short) c.in_ok-published.published
     (λ told stands.
     subst (λ (cs : List Commit). Publishes store (meaning g.T.Target t) (origin_at c.args.plan.now.table) view cs (Unit {0}) true old new) commits_is
     (subst (λ (id : Option (List ℕ)). Publishes store (meaning g.T.Target t) (origin_at id) view c.as_slice-commits.result.now (Unit {0}) true old new) id_is
-    (c.in_ok-published.ensures.publishes told stands.0 stands.1)))
+    (c.in_ok-published.ensures.publishes told stands.0 stands.1).publishes))
     c.in_ok-published.ensures.cause c.in_ok-published.ensures.contest
     (λ told stands.
     subst (λ (cs : List Commit). written_at c.args.plan.now.table cs (store.disk new).files) commits_is
     (subst (λ (id : Option (List ℕ)). written_at id c.as_slice-commits.result.now (store.disk new).files) id_is
-    (c.follow.new.kept, c.in_ok-published.ensures.written told stands.0 stands.1)))
+    (c.follow.new.kept, (c.in_ok-published.ensures.publishes told stands.0 stands.1).written)))
     c.in_ok-report_of.field-0
     (record {
       last = last;
       leads = subst (λ (cs : List Commit). IsAdvancedAll (g.T.Target.image t) (origin_at c.args.plan.now.table) view cs last) commits_is
           (subst (λ (id : Option (List ℕ)). IsAdvancedAll (g.T.Target.image t) (origin_at id) view c.as_slice-commits.result.now last) id_is c.in_ok-published.ensures.view);
       is = subst (λ (n : ℕ). IsReportOf n c.args.plan.now.full last c.in_ok-report_of.field-0) count c.in_ok-report_of.ensures;
-      reads = λ all. g.met.T.Target.kept_view t c.follow.new.kept (store.disk new).files (c.in_ok-published.ensures.stands all.0 all.1.0 all.1.1);
+      reads = λ all. g.met.T.Target.kept_view t c.follow.new.kept (store.disk new).files (c.in_ok-published.ensures.publishes all.0 all.1.0 all.1.1).stands;
     })

@@ -1,15 +1,16 @@
-use Rattle.std.proofs.Common.{◌≡◌, ◌∙◌, ℕ, suc, Bool, true, List, [], ◌∷◌, Err, refl, sym, ap, subst, arith}
+use Rattle.std.proofs.Common.{◌≡◌, ◌∙◌, ℕ, suc, Bool, true, List, [], ◌∷◌, Err, refl, sym, ap, subst, arith, rules}
 use Rattle.std.specs.Prelude.{IsErrOf, is_ok, length, ◌≤◌}
 use Rattle.std.specs.Option.{option_copied}
 use Rattle.std.proofs.lemmas.Result.{err_from_is_err_and}
 use Rattle.lake_basics.specs.declared.limits.TheConstants.{MAX_FILE_BYTES}
-use Rattle.lake_store.proofs.RunLaws.{reading_begins}
+use Rattle.lake_store.specs.Runs.{IsOutside}
+use Rattle.lake_store.proofs.RunLaws.{alone_by_reading, reading_begins}
 use Rattle.lake_store.proofs.ShortLaws.{short_same}
-use Rattle.delta_table.specs.Versions.{IsVersionPath}
+use Rattle.delta_table.specs.Versions.{IsVersionPath, log_folder}
 use Rattle.table_history.specs.declared.limit.LimitKind.TheVariants.{File}
 use Rattle.target_core.specs.Outcome.{Uncontested, answer_of}
 use Rattle.target_core.specs.Publishing.{Publishes}
-use Rattle.target_core.specs.Views.{Origin}
+use Rattle.target_core.specs.Views.{Origin, origin_of}
 use Rattle.target_core.specs.declared.target.TargetError.TheVariants.{Contested}
 use Rattle.target_core.proofs.Come.{come_later, come_uncontested, never_come}
 use Rattle.target_delta.specs.CountLemmas.{count_is}
@@ -24,39 +25,40 @@ use Rattle.target_delta.proofs.CommitLemmas.{fits_behind, free_path, stands_now}
 use Rattle.target_delta.proofs.StoreLemmas.{alone_staged, as_left, as_left_come, beside_now, contested_by, count_taken, counted_now, err_same, kept_taken, not_ok, ok_taken, publishes_nothing, publishes_staged, stands_come, unlimited_by, untaken_by, writes_now}
 use Rattle.target_delta.proofs.target.DeltaTargetTarget.commit.Goals as goal
 
+pub returns-in_err-version-clause-folder : goal.returns-in_err-version-clause-folder
+returns-in_err-version-clause-folder g c told =
+    let store = g.S.Store in
+    let s = c.args.store.now in
+    record { alone = alone_by_reading store (IsOutside log_folder) s s (reading_begins store g.met.S.Store.only_now s told); short = short_same MAX_FILE_BYTES (store.disk s).files (store.disk s).files refl }
+
 pub returns-in_err-version-clause-publishes : goal.returns-in_err-version-clause-publishes
 returns-in_err-version-clause-publishes g c told stands settled =
     let id = c.args.self.now.id in
     let kept = c.args.kept.now in
     let s = c.args.store.now in
-    let origin : Origin = record { source = c.args.source; table = option_copied c.args.table } in
-    let exit = err_from_is_err_and c.from_residual.result c.from_residual.ensures.1 in
-    subst (λ (done : Bool). Publishes g.S.Store (delta_meaning id) origin (view_of kept) (c.args.commit.now ∷ []) (Uncontested c.from_residual.result) done s s) (sym (ap is_ok exit.1))
-    (publishes_nothing g.S.Store g.met.S.Store.only_now s told id origin kept c.args.commit.now stands settled (Uncontested c.from_residual.result))
-
-pub returns-in_err-version-clause-stands : goal.returns-in_err-version-clause-stands
-returns-in_err-version-clause-stands g c told stands settled come =
-    let id = c.args.self.now.id in
-    let exit = err_from_is_err_and c.from_residual.result c.from_residual.ensures.1 in
-    let kept = c.args.kept.now in
-    let files = (g.S.Store.disk c.args.store.now).files in
+    let files = (g.S.Store.disk s).files in
+    let origin : Origin = origin_of c.args.source (option_copied c.args.table) in
+    let result = c.from_residual.result in
+    let exit = err_from_is_err_and result c.from_residual.ensures.1 in
     let count = count_is files kept.commits (versions_of_reads files (view_of kept) stands.reads) in
-    never_come c.from_residual.result exit.0 kept.commits (commits_in files) exit.1 (omega (arith, count)) come
+    record {
+      stands = never_come result exit.0 kept.commits (commits_in files) exit.1 (omega (arith, count));
+      publishes = subst (λ (done : Bool). Publishes g.S.Store (delta_meaning id) origin (view_of kept) (c.args.commit.now ∷ []) (Uncontested result) done s s) (sym (ap is_ok exit.1))
+          (publishes_nothing g.S.Store g.met.S.Store.only_now s told id origin kept c.args.commit.now stands settled (Uncontested result));
+      came = never_come result exit.0 kept.commits (commits_in files) exit.1 (omega (arith, count));
+      contested = λ is. omega (arith, count);
+      kept = λ is. search rules;
+      limited = λ which number is. stands.reads;
+    }
 
-pub returns-in_err-version-clause-came : goal.returns-in_err-version-clause-came
-returns-in_err-version-clause-came g c told stands settled come =
-    let id = c.args.self.now.id in
-    let exit = err_from_is_err_and c.from_residual.result c.from_residual.ensures.1 in
-    let kept = c.args.kept.now in
-    let files = (g.S.Store.disk c.args.store.now).files in
-    let count = count_is files kept.commits (versions_of_reads files (view_of kept) stands.reads) in
-    never_come c.from_residual.result exit.0 kept.commits (commits_in files) exit.1 (omega (arith, count)) come
-
-pub returns-in_err-version-clause-limited : goal.returns-in_err-version-clause-limited
-returns-in_err-version-clause-limited g c told stands settled which number is = stands.reads
-
-pub returns-in_err-version-clause-untouched : goal.returns-in_err-version-clause-untouched
-returns-in_err-version-clause-untouched g c told which number is other = reading_begins g.S.Store g.met.S.Store.only_now c.args.store.now told
+pub returns-in_err-version-clause-refuses : goal.returns-in_err-version-clause-refuses
+returns-in_err-version-clause-refuses g c = record {
+  refusal = search rules;
+  few = search rules;
+  untouched = λ told which number is other. reading_begins g.S.Store g.met.S.Store.only_now c.args.store.now told;
+  cause = search rules;
+  contest = search rules;
+}
 
 pub stage_and_publish-requires-clause-free : goal.stage_and_publish-requires-clause-free
 stage_and_publish-requires-clause-free g c told =
@@ -64,8 +66,8 @@ stage_and_publish-requires-clause-free g c told =
     let named = subst (λ p. IsVersionPath p kept.commits) (sym c.as_str-path.ensures.value) c.in_ok-version.ensures.path in
     free_path (g.S.Store.disk c.args.store.now).files c.as_str-path.result.now kept.commits named (c.requires.counted told)
 
-pub returns-in_err-stage_and_publish-clause-alone : goal.returns-in_err-stage_and_publish-clause-alone
-returns-in_err-stage_and_publish-clause-alone g c told =
+pub returns-in_err-stage_and_publish-clause-folder : goal.returns-in_err-stage_and_publish-clause-folder
+returns-in_err-stage_and_publish-clause-folder g c told =
     let store = g.S.Store in
     let kept = c.args.kept.now in
     let next = c.new_version.new.kept in
@@ -74,11 +76,14 @@ returns-in_err-stage_and_publish-clause-alone g c told =
     let staged = c.as_str-staged.result.now in
     let name = c.as_str-path.result.now in
     let bytes = c.as_slice.result.now in
-    let origin : Origin = record { source = c.args.source; table = option_copied c.args.table } in
+    let origin : Origin = origin_of c.args.source (option_copied c.args.table) in
     let is_staged = subst (λ p. IsStagedPath p kept.commits) (sym c.as_str-staged.ensures.value) c.in_ok-version.ensures.staged in
     let named = subst (λ p. IsVersionPath p kept.commits) (sym c.as_str-path.ensures.value) c.in_ok-version.ensures.path in
     let v = subst (λ b. IsNewVersion origin c.args.now_ms kept c.args.commit.now b next) (sym c.as_slice.ensures.value) c.in_ok-version.ensures.is in
-    alone_staged store old new told staged name bytes kept.commits is_staged named _ (c.in_err-stage_and_publish.ensures.left told) c.in_err-stage_and_publish.ensures.any_moment
+    record {
+      alone = alone_staged store old new told staged name bytes kept.commits is_staged named _ (c.in_err-stage_and_publish.ensures.left told) c.in_err-stage_and_publish.ensures.any_moment;
+      short = c.in_err-stage_and_publish.ensures.short told (subst (λ (b : List ℕ). length b ≤ MAX_FILE_BYTES) (sym c.as_slice.ensures.value) c.in_ok-version.ensures.short);
+    }
 
 pub returns-in_err-stage_and_publish-clause-publishes : goal.returns-in_err-stage_and_publish-clause-publishes
 returns-in_err-stage_and_publish-clause-publishes g c told stands settled =
@@ -91,92 +96,51 @@ returns-in_err-stage_and_publish-clause-publishes g c told stands settled =
     let staged = c.as_str-staged.result.now in
     let name = c.as_str-path.result.now in
     let bytes = c.as_slice.result.now in
-    let origin : Origin = record { source = c.args.source; table = option_copied c.args.table } in
+    let origin : Origin = origin_of c.args.source (option_copied c.args.table) in
     let is_staged = subst (λ p. IsStagedPath p kept.commits) (sym c.as_str-staged.ensures.value) c.in_ok-version.ensures.staged in
     let named = subst (λ p. IsVersionPath p kept.commits) (sym c.as_str-path.ensures.value) c.in_ok-version.ensures.path in
     let v = subst (λ b. IsNewVersion origin c.args.now_ms kept c.args.commit.now b next) (sym c.as_slice.ensures.value) c.in_ok-version.ensures.is in
-    let exit = err_from_is_err_and c.from_residual-in_err-stage_and_publish.result c.from_residual-in_err-stage_and_publish.ensures.1 in
-    let result = c.from_residual-in_err-stage_and_publish.result in
-    let error = c.in_err-stage_and_publish.field-0.0 in
-    publishes_staged store old new told staged name bytes kept.commits is_staged named _ (c.in_err-stage_and_publish.ensures.left told) c.in_err-stage_and_publish.ensures.any_moment id origin c.args.now_ms kept next c.args.commit.now refl v c.requires.can c.requires.fits stands settled
-    (Uncontested result) (λ u taken. untaken_by result exit.0 error exit.1 exit.2 u (err_same error taken)) (is_ok result) (λ ok. absurd (not_ok result exit.0 exit.1 ok))
-
-pub returns-in_err-stage_and_publish-clause-stands : goal.returns-in_err-stage_and_publish-clause-stands
-returns-in_err-stage_and_publish-clause-stands g c told stands settled come =
-    let id = c.args.self.now.id in
-    let store = g.S.Store in
-    let kept = c.args.kept.now in
-    let next = c.new_version.new.kept in
-    let old = c.args.store.now in
-    let new = c.stage_and_publish.new.store in
-    let staged = c.as_str-staged.result.now in
-    let name = c.as_str-path.result.now in
-    let bytes = c.as_slice.result.now in
-    let origin : Origin = record { source = c.args.source; table = option_copied c.args.table } in
-    let is_staged = subst (λ p. IsStagedPath p kept.commits) (sym c.as_str-staged.ensures.value) c.in_ok-version.ensures.staged in
-    let named = subst (λ p. IsVersionPath p kept.commits) (sym c.as_str-path.ensures.value) c.in_ok-version.ensures.path in
-    let v = subst (λ b. IsNewVersion origin c.args.now_ms kept c.args.commit.now b next) (sym c.as_slice.ensures.value) c.in_ok-version.ensures.is in
-    let exit = err_from_is_err_and c.from_residual-in_err-stage_and_publish.result c.from_residual-in_err-stage_and_publish.ensures.1 in
-    let result = c.from_residual-in_err-stage_and_publish.result in
-    let error = c.in_err-stage_and_publish.field-0.0 in
-    let later = come_later result exit.0 kept.commits (commits_in (store.disk new).files) exit.1 come in
-    stands_come store old new told staged name bytes kept.commits is_staged named _ (c.in_err-stage_and_publish.ensures.left told) c.in_err-stage_and_publish.ensures.any_moment id origin c.args.now_ms kept next c.args.commit.now refl v c.requires.can c.requires.fits stands settled
-    (λ taken. untaken_by result exit.0 error exit.1 exit.2 (come_uncontested result kept.commits (commits_in (store.disk new).files) come) (err_same error taken)) later
-
-pub returns-in_err-stage_and_publish-clause-came : goal.returns-in_err-stage_and_publish-clause-came
-returns-in_err-stage_and_publish-clause-came g c told stands settled come =
-    let id = c.args.self.now.id in
-    let store = g.S.Store in
-    let kept = c.args.kept.now in
-    let next = c.new_version.new.kept in
-    let old = c.args.store.now in
-    let new = c.stage_and_publish.new.store in
-    let staged = c.as_str-staged.result.now in
-    let name = c.as_str-path.result.now in
-    let bytes = c.as_slice.result.now in
-    let origin : Origin = record { source = c.args.source; table = option_copied c.args.table } in
-    let is_staged = subst (λ p. IsStagedPath p kept.commits) (sym c.as_str-staged.ensures.value) c.in_ok-version.ensures.staged in
-    let named = subst (λ p. IsVersionPath p kept.commits) (sym c.as_str-path.ensures.value) c.in_ok-version.ensures.path in
-    let v = subst (λ b. IsNewVersion origin c.args.now_ms kept c.args.commit.now b next) (sym c.as_slice.ensures.value) c.in_ok-version.ensures.is in
-    let exit = err_from_is_err_and c.from_residual-in_err-stage_and_publish.result c.from_residual-in_err-stage_and_publish.ensures.1 in
-    let result = c.from_residual-in_err-stage_and_publish.result in
-    let error = c.in_err-stage_and_publish.field-0.0 in
-    let later = come_later result exit.0 kept.commits (commits_in (store.disk new).files) exit.1 come in
-    as_left_come store old new told staged name bytes kept.commits is_staged named _ (c.in_err-stage_and_publish.ensures.left told) c.in_err-stage_and_publish.ensures.any_moment id origin c.args.now_ms kept next c.args.commit.now refl v c.requires.can c.requires.fits stands settled
-    (λ taken. untaken_by result exit.0 error exit.1 exit.2 (come_uncontested result kept.commits (commits_in (store.disk new).files) come) (err_same error taken)) later
-
-pub returns-in_err-stage_and_publish-clause-limited : goal.returns-in_err-stage_and_publish-clause-limited
-returns-in_err-stage_and_publish-clause-limited g c told stands settled which number is =
     let result = c.from_residual-in_err-stage_and_publish.result in
     let exit = err_from_is_err_and result c.from_residual-in_err-stage_and_publish.ensures.1 in
     let error = c.in_err-stage_and_publish.field-0.0 in
-    absurd (unlimited_by result exit.0 error which number exit.1 exit.2 (λ n long. c.in_err-stage_and_publish.ensures.not_too_long n (ap (λ e. Err e) long)) is)
+    let count = commits_in (store.disk new).files in
+    let is_taken = λ (is : IsErrOf result Contested). c.in_err-stage_and_publish.ensures.taken told (ap (λ e. Err e) (contested_by result exit.0 error exit.1 exit.2 is)) in
+    record {
+      stands = λ come. stands_come store old new told staged name bytes kept.commits is_staged named _ (c.in_err-stage_and_publish.ensures.left told) c.in_err-stage_and_publish.ensures.any_moment id origin c.args.now_ms kept next c.args.commit.now refl v c.requires.can c.requires.fits stands settled
+          (λ taken. untaken_by result exit.0 error exit.1 exit.2 (come_uncontested result kept.commits count come) (err_same error taken)) (come_later result exit.0 kept.commits count exit.1 come);
+      publishes = publishes_staged store old new told staged name bytes kept.commits is_staged named _ (c.in_err-stage_and_publish.ensures.left told) c.in_err-stage_and_publish.ensures.any_moment id origin c.args.now_ms kept next c.args.commit.now refl v c.requires.can c.requires.fits stands settled
+          (Uncontested result) (λ u taken. untaken_by result exit.0 error exit.1 exit.2 u (err_same error taken)) (is_ok result) (λ ok. absurd (not_ok result exit.0 exit.1 ok));
+      came = λ come. as_left_come store old new told staged name bytes kept.commits is_staged named _ (c.in_err-stage_and_publish.ensures.left told) c.in_err-stage_and_publish.ensures.any_moment id origin c.args.now_ms kept next c.args.commit.now refl v c.requires.can c.requires.fits stands settled
+          (λ taken. untaken_by result exit.0 error exit.1 exit.2 (come_uncontested result kept.commits count come) (err_same error taken)) (come_later result exit.0 kept.commits count exit.1 come);
+      contested = λ is. count_taken store old new told staged name bytes kept.commits is_staged named _ (c.in_err-stage_and_publish.ensures.left told) c.in_err-stage_and_publish.ensures.any_moment (c.requires.counted told) v.within (is_taken is).theirs (is_taken is).file;
+      kept = λ is. kept_taken store old new told staged name bytes kept.commits is_staged named _ (c.in_err-stage_and_publish.ensures.left told) c.in_err-stage_and_publish.ensures.any_moment id origin c.args.now_ms kept next c.args.commit.now refl v c.requires.can c.requires.fits stands settled
+          (is_taken is).theirs (is_taken is).file (is_taken is).moments;
+      limited = λ which number is. absurd (unlimited_by result exit.0 error which number exit.1 exit.2 (λ n long. c.in_err-stage_and_publish.ensures.not_too_long n (ap (λ e. Err e) long)) is);
+    }
 
-pub returns-in_err-stage_and_publish-clause-untouched : goal.returns-in_err-stage_and_publish-clause-untouched
-returns-in_err-stage_and_publish-clause-untouched g c told which number is other =
-    let result = c.from_residual-in_err-stage_and_publish.result in
-    let exit = err_from_is_err_and result c.from_residual-in_err-stage_and_publish.ensures.1 in
-    let error = c.in_err-stage_and_publish.field-0.0 in
-    absurd (unlimited_by result exit.0 error which number exit.1 exit.2 (λ n long. c.in_err-stage_and_publish.ensures.not_too_long n (ap (λ e. Err e) long)) is)
-
-pub returns-in_err-stage_and_publish-clause-contest : goal.returns-in_err-stage_and_publish-clause-contest
-returns-in_err-stage_and_publish-clause-contest g c =
+pub returns-in_err-stage_and_publish-clause-refuses : goal.returns-in_err-stage_and_publish-clause-refuses
+returns-in_err-stage_and_publish-clause-refuses g c =
     let result = c.from_residual-in_err-stage_and_publish.result in
     let exit = err_from_is_err_and result c.from_residual-in_err-stage_and_publish.ensures.1 in
     let error = c.in_err-stage_and_publish.field-0.0 in
     let contest = c.in_err-stage_and_publish.ensures.contest in
     let taken_by = λ (is : IsErrOf result Contested). ap (λ e. Err e) (contested_by result exit.0 error exit.1 exit.2 is) in
     record {
-      later = contest.later;
-      still = contest.still;
-      rose = λ is. contest.rose (taken_by is);
-      allowed = λ is. contest.allowed (taken_by is);
-      same = λ never. contest.same (λ taken. never (exit.1 ∙ ap (λ e. Err e) (exit.2 ∙ ap (answer_of File MAX_FILE_BYTES) (err_same error taken))));
+      refusal = search rules;
+      few = search rules;
+      untouched = λ told which number is other. absurd (unlimited_by result exit.0 error which number exit.1 exit.2 (λ n long. c.in_err-stage_and_publish.ensures.not_too_long n (ap (λ e. Err e) long)) is);
+      cause = search rules;
+      contest = record {
+        later = contest.later;
+        still = contest.still;
+        rose = λ is. contest.rose (taken_by is);
+        allowed = λ is. contest.allowed (taken_by is);
+        same = λ never. contest.same (λ taken. never (exit.1 ∙ ap (λ e. Err e) (exit.2 ∙ ap (answer_of File MAX_FILE_BYTES) (err_same error taken))));
+      };
     }
 
-pub returns-in_err-stage_and_publish-clause-contested : goal.returns-in_err-stage_and_publish-clause-contested
-returns-in_err-stage_and_publish-clause-contested g c told stands settled contested =
-    let id = c.args.self.now.id in
+pub returns-clause-folder : goal.returns-clause-folder
+returns-clause-folder g c told =
     let store = g.S.Store in
     let kept = c.args.kept.now in
     let next = c.new_version.new.kept in
@@ -185,19 +149,17 @@ returns-in_err-stage_and_publish-clause-contested g c told stands settled contes
     let staged = c.as_str-staged.result.now in
     let name = c.as_str-path.result.now in
     let bytes = c.as_slice.result.now in
-    let origin : Origin = record { source = c.args.source; table = option_copied c.args.table } in
+    let origin : Origin = origin_of c.args.source (option_copied c.args.table) in
     let is_staged = subst (λ p. IsStagedPath p kept.commits) (sym c.as_str-staged.ensures.value) c.in_ok-version.ensures.staged in
     let named = subst (λ p. IsVersionPath p kept.commits) (sym c.as_str-path.ensures.value) c.in_ok-version.ensures.path in
     let v = subst (λ b. IsNewVersion origin c.args.now_ms kept c.args.commit.now b next) (sym c.as_slice.ensures.value) c.in_ok-version.ensures.is in
-    let exit = err_from_is_err_and c.from_residual-in_err-stage_and_publish.result c.from_residual-in_err-stage_and_publish.ensures.1 in
-    let result = c.from_residual-in_err-stage_and_publish.result in
-    let error = c.in_err-stage_and_publish.field-0.0 in
-    let taken = c.in_err-stage_and_publish.ensures.taken told (ap (λ e. Err e) (contested_by result exit.0 error exit.1 exit.2 contested)) in
-    count_taken store old new told staged name bytes kept.commits is_staged named _ (c.in_err-stage_and_publish.ensures.left told) c.in_err-stage_and_publish.ensures.any_moment (c.requires.counted told) v.within taken.theirs taken.file
+    record {
+      alone = alone_staged store old new told staged name bytes kept.commits is_staged named _ (c.in_ok-stage_and_publish.ensures.left told) c.in_ok-stage_and_publish.ensures.any_moment;
+      short = c.in_ok-stage_and_publish.ensures.short told (subst (λ (b : List ℕ). length b ≤ MAX_FILE_BYTES) (sym c.as_slice.ensures.value) c.in_ok-version.ensures.short);
+    }
 
-pub returns-in_err-stage_and_publish-clause-kept : goal.returns-in_err-stage_and_publish-clause-kept
-returns-in_err-stage_and_publish-clause-kept g c told stands settled contested =
-    let id = c.args.self.now.id in
+pub returns-clause-goes_on : goal.returns-clause-goes_on
+returns-clause-goes_on g c =
     let store = g.S.Store in
     let kept = c.args.kept.now in
     let next = c.new_version.new.kept in
@@ -206,83 +168,18 @@ returns-in_err-stage_and_publish-clause-kept g c told stands settled contested =
     let staged = c.as_str-staged.result.now in
     let name = c.as_str-path.result.now in
     let bytes = c.as_slice.result.now in
-    let origin : Origin = record { source = c.args.source; table = option_copied c.args.table } in
-    let is_staged = subst (λ p. IsStagedPath p kept.commits) (sym c.as_str-staged.ensures.value) c.in_ok-version.ensures.staged in
-    let named = subst (λ p. IsVersionPath p kept.commits) (sym c.as_str-path.ensures.value) c.in_ok-version.ensures.path in
-    let v = subst (λ b. IsNewVersion origin c.args.now_ms kept c.args.commit.now b next) (sym c.as_slice.ensures.value) c.in_ok-version.ensures.is in
-    let exit = err_from_is_err_and c.from_residual-in_err-stage_and_publish.result c.from_residual-in_err-stage_and_publish.ensures.1 in
-    let result = c.from_residual-in_err-stage_and_publish.result in
-    let error = c.in_err-stage_and_publish.field-0.0 in
-    let taken = c.in_err-stage_and_publish.ensures.taken told (ap (λ e. Err e) (contested_by result exit.0 error exit.1 exit.2 contested)) in
-    kept_taken store old new told staged name bytes kept.commits is_staged named _ (c.in_err-stage_and_publish.ensures.left told) c.in_err-stage_and_publish.ensures.any_moment id origin c.args.now_ms kept next c.args.commit.now refl v c.requires.can c.requires.fits stands settled
-    taken.theirs taken.file taken.moments
-
-pub returns-clause-alone : goal.returns-clause-alone
-returns-clause-alone g c told =
-    let store = g.S.Store in
-    let kept = c.args.kept.now in
-    let next = c.new_version.new.kept in
-    let old = c.args.store.now in
-    let new = c.stage_and_publish.new.store in
-    let staged = c.as_str-staged.result.now in
-    let name = c.as_str-path.result.now in
-    let bytes = c.as_slice.result.now in
-    let origin : Origin = record { source = c.args.source; table = option_copied c.args.table } in
-    let is_staged = subst (λ p. IsStagedPath p kept.commits) (sym c.as_str-staged.ensures.value) c.in_ok-version.ensures.staged in
-    let named = subst (λ p. IsVersionPath p kept.commits) (sym c.as_str-path.ensures.value) c.in_ok-version.ensures.path in
-    let v = subst (λ b. IsNewVersion origin c.args.now_ms kept c.args.commit.now b next) (sym c.as_slice.ensures.value) c.in_ok-version.ensures.is in
-    alone_staged store old new told staged name bytes kept.commits is_staged named _ (c.in_ok-stage_and_publish.ensures.left told) c.in_ok-stage_and_publish.ensures.any_moment
-
-pub returns-clause-counted : goal.returns-clause-counted
-returns-clause-counted g c told =
-    let store = g.S.Store in
-    let kept = c.args.kept.now in
-    let next = c.new_version.new.kept in
-    let old = c.args.store.now in
-    let new = c.stage_and_publish.new.store in
-    let staged = c.as_str-staged.result.now in
-    let name = c.as_str-path.result.now in
-    let bytes = c.as_slice.result.now in
-    let origin : Origin = record { source = c.args.source; table = option_copied c.args.table } in
+    let origin : Origin = origin_of c.args.source (option_copied c.args.table) in
     let is_staged = subst (λ p. IsStagedPath p kept.commits) (sym c.as_str-staged.ensures.value) c.in_ok-version.ensures.staged in
     let named = subst (λ p. IsVersionPath p kept.commits) (sym c.as_str-path.ensures.value) c.in_ok-version.ensures.path in
     let v = subst (λ b. IsNewVersion origin c.args.now_ms kept c.args.commit.now b next) (sym c.as_slice.ensures.value) c.in_ok-version.ensures.is in
     let count : suc kept.commits ≡ next.commits = omega (arith, ap (λ (e : LogEnd). e.version) v.end) in
-    subst (λ (n : ℕ). HasVersions (store.disk new).files n) count (counted_now store old new told staged name bytes kept.commits is_staged named _ (c.in_ok-stage_and_publish.ensures.left told) c.in_ok-stage_and_publish.ensures.any_moment (c.requires.counted told) v.within bytes (c.in_ok-stage_and_publish.ensures.published told).file)
-
-pub returns-clause-fits : goal.returns-clause-fits
-returns-clause-fits g c =
-    let store = g.S.Store in
-    let kept = c.args.kept.now in
-    let next = c.new_version.new.kept in
-    let old = c.args.store.now in
-    let new = c.stage_and_publish.new.store in
-    let staged = c.as_str-staged.result.now in
-    let name = c.as_str-path.result.now in
-    let bytes = c.as_slice.result.now in
-    let origin : Origin = record { source = c.args.source; table = option_copied c.args.table } in
-    let is_staged = subst (λ p. IsStagedPath p kept.commits) (sym c.as_str-staged.ensures.value) c.in_ok-version.ensures.staged in
-    let named = subst (λ p. IsVersionPath p kept.commits) (sym c.as_str-path.ensures.value) c.in_ok-version.ensures.path in
-    let v = subst (λ b. IsNewVersion origin c.args.now_ms kept c.args.commit.now b next) (sym c.as_slice.ensures.value) c.in_ok-version.ensures.is in
-    fits_behind origin c.args.now_ms kept next c.args.commit.now bytes v
-
-pub returns-clause-stands : goal.returns-clause-stands
-returns-clause-stands g c told stands settled come =
-    let id = c.args.self.now.id in
-    let store = g.S.Store in
-    let kept = c.args.kept.now in
-    let next = c.new_version.new.kept in
-    let old = c.args.store.now in
-    let new = c.stage_and_publish.new.store in
-    let staged = c.as_str-staged.result.now in
-    let name = c.as_str-path.result.now in
-    let bytes = c.as_slice.result.now in
-    let origin : Origin = record { source = c.args.source; table = option_copied c.args.table } in
-    let is_staged = subst (λ p. IsStagedPath p kept.commits) (sym c.as_str-staged.ensures.value) c.in_ok-version.ensures.staged in
-    let named = subst (λ p. IsVersionPath p kept.commits) (sym c.as_str-path.ensures.value) c.in_ok-version.ensures.path in
-    let v = subst (λ b. IsNewVersion origin c.args.now_ms kept c.args.commit.now b next) (sym c.as_slice.ensures.value) c.in_ok-version.ensures.is in
-    stands_now origin c.args.now_ms kept next c.args.commit.now bytes v c.requires.can c.requires.fits id (store.disk old).files stands name named (store.disk new).files
-    (beside_now store old new told staged name bytes kept.commits is_staged named _ (c.in_ok-stage_and_publish.ensures.left told) c.in_ok-stage_and_publish.ensures.any_moment (c.requires.counted told)) (c.in_ok-stage_and_publish.ensures.published told).file
+    record {
+      advanced = search rules;
+      fits = fits_behind origin c.args.now_ms kept next c.args.commit.now bytes v;
+      counts = λ told. subst (λ (n : ℕ). HasVersions (store.disk new).files n) count
+          (counted_now store old new told staged name bytes kept.commits is_staged named _ (c.in_ok-stage_and_publish.ensures.left told) c.in_ok-stage_and_publish.ensures.any_moment (c.requires.counted told) v.within bytes (c.in_ok-stage_and_publish.ensures.published told).file);
+      ahead = λ told. search rules;
+    }
 
 pub returns-clause-publishes : goal.returns-clause-publishes
 returns-clause-publishes g c told stands settled =
@@ -295,12 +192,21 @@ returns-clause-publishes g c told stands settled =
     let staged = c.as_str-staged.result.now in
     let name = c.as_str-path.result.now in
     let bytes = c.as_slice.result.now in
-    let origin : Origin = record { source = c.args.source; table = option_copied c.args.table } in
+    let origin : Origin = origin_of c.args.source (option_copied c.args.table) in
     let is_staged = subst (λ p. IsStagedPath p kept.commits) (sym c.as_str-staged.ensures.value) c.in_ok-version.ensures.staged in
     let named = subst (λ p. IsVersionPath p kept.commits) (sym c.as_str-path.ensures.value) c.in_ok-version.ensures.path in
     let v = subst (λ b. IsNewVersion origin c.args.now_ms kept c.args.commit.now b next) (sym c.as_slice.ensures.value) c.in_ok-version.ensures.is in
-    publishes_staged store old new told staged name bytes kept.commits is_staged named _ (c.in_ok-stage_and_publish.ensures.left told) c.in_ok-stage_and_publish.ensures.any_moment id origin c.args.now_ms kept next c.args.commit.now refl v c.requires.can c.requires.fits stands settled
-    _ (λ u taken. ok_taken _ _ taken) true (λ ok. (c.in_ok-stage_and_publish.ensures.published told).file)
+    let file = (c.in_ok-stage_and_publish.ensures.published told).file in
+    record {
+      stands = λ come. stands_now origin c.args.now_ms kept next c.args.commit.now bytes v c.requires.can c.requires.fits id (store.disk old).files stands name named (store.disk new).files
+          (beside_now store old new told staged name bytes kept.commits is_staged named _ (c.in_ok-stage_and_publish.ensures.left told) c.in_ok-stage_and_publish.ensures.any_moment (c.requires.counted told)) file;
+      publishes = publishes_staged store old new told staged name bytes kept.commits is_staged named _ (c.in_ok-stage_and_publish.ensures.left told) c.in_ok-stage_and_publish.ensures.any_moment id origin c.args.now_ms kept next c.args.commit.now refl v c.requires.can c.requires.fits stands settled
+          _ (λ u taken. ok_taken _ _ taken) true (λ ok. file);
+      came = λ come. as_left store old new told staged name bytes kept.commits is_staged named _ (c.in_ok-stage_and_publish.ensures.left told) c.in_ok-stage_and_publish.ensures.any_moment id origin c.args.now_ms kept next c.args.commit.now refl v c.requires.can c.requires.fits stands settled file;
+      contested = λ is. absurd cc;
+      kept = λ is. absurd cc;
+      limited = λ which number is. absurd cc;
+    }
 
 pub returns-clause-writes : goal.returns-clause-writes
 returns-clause-writes g c told stands =
@@ -312,37 +218,8 @@ returns-clause-writes g c told stands =
     let staged = c.as_str-staged.result.now in
     let name = c.as_str-path.result.now in
     let bytes = c.as_slice.result.now in
-    let origin : Origin = record { source = c.args.source; table = option_copied c.args.table } in
+    let origin : Origin = origin_of c.args.source (option_copied c.args.table) in
     let is_staged = subst (λ p. IsStagedPath p kept.commits) (sym c.as_str-staged.ensures.value) c.in_ok-version.ensures.staged in
     let named = subst (λ p. IsVersionPath p kept.commits) (sym c.as_str-path.ensures.value) c.in_ok-version.ensures.path in
     let v = subst (λ b. IsNewVersion origin c.args.now_ms kept c.args.commit.now b next) (sym c.as_slice.ensures.value) c.in_ok-version.ensures.is in
     writes_now (store.disk old) (store.disk new) staged name bytes kept.commits (end_of kept) origin c.args.now_ms c.args.commit.now v.written is_staged named refl (c.in_ok-stage_and_publish.ensures.published told) v.is v.text
-
-pub returns-clause-came : goal.returns-clause-came
-returns-clause-came g c told stands settled come =
-    let id = c.args.self.now.id in
-    let store = g.S.Store in
-    let kept = c.args.kept.now in
-    let next = c.new_version.new.kept in
-    let old = c.args.store.now in
-    let new = c.stage_and_publish.new.store in
-    let staged = c.as_str-staged.result.now in
-    let name = c.as_str-path.result.now in
-    let bytes = c.as_slice.result.now in
-    let origin : Origin = record { source = c.args.source; table = option_copied c.args.table } in
-    let is_staged = subst (λ p. IsStagedPath p kept.commits) (sym c.as_str-staged.ensures.value) c.in_ok-version.ensures.staged in
-    let named = subst (λ p. IsVersionPath p kept.commits) (sym c.as_str-path.ensures.value) c.in_ok-version.ensures.path in
-    let v = subst (λ b. IsNewVersion origin c.args.now_ms kept c.args.commit.now b next) (sym c.as_slice.ensures.value) c.in_ok-version.ensures.is in
-    as_left store old new told staged name bytes kept.commits is_staged named _ (c.in_ok-stage_and_publish.ensures.left told) c.in_ok-stage_and_publish.ensures.any_moment id origin c.args.now_ms kept next c.args.commit.now refl v c.requires.can c.requires.fits stands settled
-    (c.in_ok-stage_and_publish.ensures.published told).file
-
-pub returns-in_err-version-clause-short : goal.returns-in_err-version-clause-short
-returns-in_err-version-clause-short g c told =
-    let files = (g.S.Store.disk c.args.store.now).files in
-    short_same MAX_FILE_BYTES files files refl
-
-pub returns-in_err-stage_and_publish-clause-short : goal.returns-in_err-stage_and_publish-clause-short
-returns-in_err-stage_and_publish-clause-short g c told = c.in_err-stage_and_publish.ensures.short told (subst (λ (b : List ℕ). length b ≤ MAX_FILE_BYTES) (sym c.as_slice.ensures.value) c.in_ok-version.ensures.short)
-
-pub returns-clause-short : goal.returns-clause-short
-returns-clause-short g c told = c.in_ok-stage_and_publish.ensures.short told (subst (λ (b : List ℕ). length b ≤ MAX_FILE_BYTES) (sym c.as_slice.ensures.value) c.in_ok-version.ensures.short)
