@@ -1,5 +1,4 @@
 //! The file of a batch in its store.
-ghost use Rattle.std.specs.Prelude.{◌≡◌};
 ghost use Rattle.lake_batch.specs.Whole.{ReadsFile};
 
 use crate::batch::{Batch, Why, read_tables};

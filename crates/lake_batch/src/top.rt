@@ -1,5 +1,5 @@
 //! The top call over all words.
-ghost use Rattle.std.specs.Prelude.{◌≡◌, List, ℕ, MatchOption};
+ghost use Rattle.std.specs.Prelude.{◌≡◌, MatchOption};
 ghost use Rattle.lake_batch.specs.Whole.{IsBatchCommand, IsNoBatch, RunsAll, RunsFile, TellsWhy, batch_number};
 
 use crate::batch::Why;

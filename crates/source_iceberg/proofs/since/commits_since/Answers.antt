@@ -1,4 +1,4 @@
-use Rattle.std.proofs.Common.{List, Result, sym, subst}
+use Rattle.std.proofs.Common.{Result, sym, subst}
 use Rattle.std.specs.Prelude.{IfErr, IfOk}
 use Rattle.std.proofs.lemmas.Result.{err_from_is_err_and}
 use Rattle.lake_store.specs.Disk.{Disk}
