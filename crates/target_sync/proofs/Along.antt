@@ -2,7 +2,7 @@
 use Rattle.std.proofs.Common.{◌≡◌, ◌↔◌, ◌⊎◌, inl, inr, ⊎_elim, ℕ, zero, suc, ◌+◌, ◌≤◌, ◌<◌, Bool, true, false, List, [], ◌∷◌, ◌++◌, length, take, drop, All, Contains, Option, Some, refl, sym, ap, subst, ◌∙◌, arith}
 use Rattle.std.specs.Prelude.{slice_get}
 use Rattle.std.proofs.lemmas.List.Elements.{All-get_or}
-use Rattle.std.proofs.lemmas.Option.{get_or_from_slice_get, slice_get_within}
+use Rattle.std.proofs.lemmas.Option.{get_or_from_slice_get, same_Some, slice_get_within}
 use Rattle.lake_store.specs.Disk.{Files}
 use Rattle.lake_store.specs.declared.store.Store.{Ghosts}
 use Rattle.lake_store.proofs.MomentLaws.{weaker}
@@ -40,14 +40,11 @@ at_place [] k x is = cc is
 at_place (y ∷ xs) zero x is = let one : y ≡ x = cc is in ap (λ z. z ∷ xs) one
 at_place (y ∷ xs) (suc k) x is = ap (λ zs. y ∷ zs) (at_place xs k x is)
 
-some_same : {X : Type 0} (a b : X) → Some a ≡ Some b → a ≡ b
-some_same a b e = cc e
-
 behind_place : {X : Type 0} (xs : List X) (k n m : ℕ) (x : X) → m ≡ k + n → slice_get xs k ≡ Some x → slice_get (x ∷ drop (suc k) xs) n ≡ slice_get xs m
 behind_place [] k n m x at is = cc is
 behind_place (y ∷ xs) zero n m x at is =
     let here : m ≡ n = omega (arith, at) in
-    ap (λ z. slice_get (z ∷ xs) n) (some_same x y (sym is)) ∙ ap (λ (i : ℕ). slice_get (y ∷ xs) i) (sym here)
+    ap (λ z. slice_get (z ∷ xs) n) (same_Some x y (sym is)) ∙ ap (λ (i : ℕ). slice_get (y ∷ xs) i) (sym here)
 behind_place (y ∷ xs) (suc k) n zero x at is = absurd (omega (arith, at))
 behind_place (y ∷ xs) (suc k) n (suc m) x at is = behind_place xs k n m x (omega (arith, at)) is
 
@@ -178,7 +175,7 @@ module _ (source : SourceMeaning) (laws : HistoryLaws source) (target : Meaning)
       let many : length history ≡ suc (length front) = ap (λ (h : History). length h) last.1.1 ∙ last_length front last.0 in
       let place : j ≡ length front = omega (arith, all, many) in
       let there : slice_get history (length front) ≡ Some last.0 = ap (λ (h : History). slice_get h (length front)) last.1.1 ∙ last_place front last.0 in
-      let one : at.shows.0 ≡ last.0 = some_same at.shows.0 last.0 (sym at.shows.1 ∙ ap (λ (i : ℕ). slice_get history i) place ∙ there) in
+      let one : at.shows.0 ≡ last.0 = same_Some at.shows.0 last.0 (sym at.shows.1 ∙ ap (λ (i : ℕ). slice_get history i) place ∙ there) in
       let same : SameTable table last.0.1 = last.3 table is_table in
       let shows : ShowsEntry source.kind target.image last.0 at.view = subst (λ (e : List ℕ × Table). ShowsEntry source.kind target.image e at.view) one at.shows.2 in (
         λ row. (λ held. (same.rows row).1 ((shows.rows row).0 held), λ held. (shows.rows row).1 ((same.rows row).0 held)),

@@ -1,12 +1,10 @@
 -- How the counts of a store go on from one run to the next.
 use Rattle.std.proofs.Common.{◌≡◌, ◌≤◌, ◌∙◌, ℕ, refl, arith}
 use Rattle.lake_store.specs.Cause.{HasContest, HasFault, HasNoContest, Rose}
+pub use Rattle.source_core.proofs.Runs.{fails_as}
 
 module _ {S : Type 0} (count : S → ℕ) (may : S → Type 0) where
   -- the same run, of another answer
-  pub fails_as : (old new : S) (A B : Type 0) → (B → A) → HasFault count may old new A → HasFault count may old new B
-  fails_as old new A B from run = record { later = run.later; still = run.still; rose = λ b. run.rose (from b); allowed = λ b. run.allowed (from b) }
-
   pub contested_as : (old new : S) (A B : Type 0) → (B → A) → (A → B) → HasContest count may old new A → HasContest count may old new B
   contested_as old new A B from back run = record { later = run.later; still = run.still; rose = λ b. run.rose (from b); allowed = λ b. run.allowed (from b); same = λ never. run.same (λ a. never (back a)) }
 

@@ -1,5 +1,5 @@
 -- What is said of a source and of a target is the same of files that differ outside of their folders alone.
-use Rattle.std.proofs.Common.{◌≡◌, ◌⊎◌, inl, inr, ⊎_elim, ℕ, ◌+◌, ◌≤◌, Bool, List, length, take, Option, Some, None, sym}
+use Rattle.std.proofs.Common.{◌≡◌, ◌⊎◌, inl, inr, ⊎_elim, ℕ, ◌+◌, ◌≤◌, Bool, List, length, take, Option, Some, None}
 use Rattle.std.specs.Prelude.{Ok, Err}
 use Rattle.std.specs.FinMap as map
 use Rattle.lake_store.specs.Disk.{Disk, Files, IsClean}
@@ -12,6 +12,7 @@ use Rattle.table_history.specs.declared.limit.LimitKind.{LimitKind}
 use Rattle.table_history.specs.declared.table.Change.{Change}
 use Rattle.table_history.specs.declared.table.Commit.{Commit}
 use Rattle.table_history.specs.declared.table.Table.{Table}
+pub use Rattle.target_core.specs.FolderLemmas.{same_back}
 use Rattle.target_core.specs.Folders.{SameIn, folder_of}
 use Rattle.target_core.specs.Gained.{Gained}
 use Rattle.target_core.specs.Views.{Origin, Standing, View, standing_at}
@@ -50,9 +51,6 @@ pub record OwnLaws (target : TargetFacts) : Type 0 where
   pub unfit : (a b : Files) (partition : List (List ℕ)) (commits : List Commit) (e : TargetError) → SameIn (folder_of target.files.kind) a b → target.unfit a partition commits e → target.unfit b partition commits e
   pub passes : (a b : Files) (partition : List (List ℕ)) (origin : Origin) (now : ℕ) (commits : List Commit) (which : LimitKind) (number : ℕ) → SameIn (folder_of target.files.kind) a b
       → target.passes a partition origin now commits which number → target.passes b partition origin now commits which number
-
-pub same_back : (folder : List ℕ) (a b : Files) → SameIn folder a b → SameIn folder b a
-same_back folder a b same path own = sym (same path own)
 
 -- ---- where the source's folder is the same
 

@@ -8,7 +8,6 @@ use Rattle.lake_store.specs.Disk.{Files}
 use Rattle.source_core.specs.Answers.{IsReadRefusal}
 use Rattle.source_core.specs.Since.{CanApplyAll}
 use Rattle.source_core.specs.declared.error.SourceError.{SourceError}
-use Rattle.source_core.specs.declared.error.SourceError.TheVariants as source_error
 use Rattle.source_core.specs.declared.head.Head.{Head}
 use Rattle.source_core.specs.declared.since.Since.TheVariants.{Commits}
 use Rattle.table_history.specs.History.{FitColumns}
@@ -87,14 +86,6 @@ module _ {K : Type 0} (view : K → View) (reads : Files → View → Type 0) (s
 -- ---- refusals
 
 -- another cause
-pub read_refusal_as : (P Q : SourceError → Type 0) → ((e : SourceError) → P e → Q e) → (e : SourceError) → IsReadRefusal P e → IsReadRefusal Q e
-read_refusal_as P Q from source_error.Memory is = tt
-read_refusal_as P Q from source_error.Absent is = is
-read_refusal_as P Q from (source_error.Malformed path) is = from (source_error.Malformed path) is
-read_refusal_as P Q from (source_error.Unsupported feature path) is = from (source_error.Unsupported feature path) is
-read_refusal_as P Q from (source_error.Limit which number) is = from (source_error.Limit which number) is
-read_refusal_as P Q from source_error.StoreFault is = tt
-
 pub if_err_as : {X : Type 0} (P Q : SourceError → Type 0) → ((e : SourceError) → P e → Q e) → (r : Result X SourceError) → IfErr r P → IfErr r Q
 if_err_as P Q from (Ok value) is = is
 if_err_as P Q from (Err e) is = from e is

@@ -7,6 +7,7 @@ use Rattle.source_core.specs.Answers.{IsReadRefusal}
 use Rattle.source_core.specs.Since.{CanApplySince}
 use Rattle.source_core.specs.declared.error.SourceError.{SourceError}
 use Rattle.source_core.specs.declared.since.Since.{Since}
+use Rattle.source_core.proofs.Answers.{weaker}
 use Rattle.target_sync.specs.Answered.{IsReadFault}
 use Rattle.target_sync.specs.Dues.{IsSinceFault, TakesCommits}
 use Rattle.target_sync.specs.Plans.{IsSinceMark}
@@ -14,7 +15,7 @@ use Rattle.target_sync.specs.Sources.{source_meaning}
 use Rattle.target_sync.specs.Targets.{target_facts}
 use Rattle.target_sync.specs.declared.plan.Mode.TheVariants as modes
 use Rattle.target_sync.specs.declared.plan.Plan.{Plan}
-use Rattle.target_sync.proofs.Planning.{full_fault, if_err_as, read_refusal_as, since_due, since_fault, since_sound}
+use Rattle.target_sync.proofs.Planning.{full_fault, if_err_as, since_due, since_fault, since_sound}
 use Rattle.target_sync.proofs.plan.plan_sync.Goals as goal
 
 pub returns-in_err-commits-clause-refused : goal.returns-in_err-commits-clause-refused
@@ -26,7 +27,7 @@ returns-in_err-commits-clause-refused g c told =
     let exit = err_from_is_err_and c.from_residual.result c.from_residual.ensures.1 in
     let e : SourceError = c.in_err-commits.field-0.0 in
     subst (λ (r : Result (Plan _) SourceError). IfErr r (IsReadRefusal (IsReadFault source target modes.Sync files))) (sym (exit.1 ∙ ap (λ (x : SourceError). Err x) exit.2))
-    (read_refusal_as (IsSinceFault source files view) (IsReadFault source target modes.Sync files)
+    (weaker (IsSinceFault source files view) (IsReadFault source target modes.Sync files)
     (since_fault source target files view (c.args.head.now, c.requires.head told) (g.met.T.Target.kept_view c.args.target.now c.args.kept files (c.requires.stands told)) (inr (c.requires.ours told))) e (c.in_err-commits.ensures.refused told))
 
 pub returns-in_ok-plan_since-in-Commits-clause-sound : goal.returns-in_ok-plan_since-in-Commits-clause-sound
@@ -56,7 +57,7 @@ returns-in-NotReached-clause-refused g c told =
     = λ takes. subst (λ (s : Since). IsSinceMark source files view s) c.in-NotReached.is (c.in_ok-commits.ensures.since told) takes.1 in
     let Fault : SourceError → Type 0 = source.from_scratch files in
     if_err_as (IsReadRefusal Fault) (IsReadRefusal (IsReadFault source target modes.Sync files))
-    (read_refusal_as Fault (IsReadFault source target modes.Sync files)
+    (weaker Fault (IsReadFault source target modes.Sync files)
     (full_fault source target modes.Sync files view (c.args.head.now, c.requires.head told) (g.met.T.Target.kept_view c.args.target.now c.args.kept files (c.requires.stands told)) (inr (c.requires.ours told)) not))
     c.plan_full.result
     (subst (λ (d : Disk). IfErr c.plan_full.result (IsReadRefusal (source.from_scratch d.files))) (c.in_ok-commits.ensures.only_reads told).disk (c.plan_full.ensures.refused told))

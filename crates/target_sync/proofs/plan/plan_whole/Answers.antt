@@ -3,10 +3,11 @@ use Rattle.std.specs.Prelude.{IfErr}
 use Rattle.std.proofs.lemmas.Result.{err_from_is_err_and}
 use Rattle.source_core.specs.Answers.{IsReadRefusal}
 use Rattle.source_core.specs.declared.error.SourceError.{SourceError}
+use Rattle.source_core.proofs.Answers.{weaker}
 use Rattle.target_sync.specs.Sources.{source_meaning}
 use Rattle.target_sync.specs.Targets.{IsStart}
 use Rattle.target_sync.specs.declared.plan.Plan.{Plan}
-use Rattle.target_sync.proofs.Planning.{full_due, full_sound, goes_on_found, not_taken_found, read_refusal_as, stands_found, start_found}
+use Rattle.target_sync.proofs.Planning.{full_due, full_sound, goes_on_found, not_taken_found, stands_found, start_found}
 use Rattle.target_sync.proofs.plan.plan_whole.Goals as goal
 
 pub id_behind-requires-clause-goes_on : goal.id_behind-requires-clause-goes_on
@@ -20,7 +21,7 @@ returns-in_err-id-clause-refused g c told =
     let Fault : SourceError → Type 0 = g.F.Source.from_scratch c.args.source.now (g.S.Store.disk c.args.store.now).files in
     let exit = err_from_is_err_and c.from_residual-in_err-id.result c.from_residual-in_err-id.ensures.1 in
     let e : SourceError = c.in_err-id.field-0.0 in
-    subst (λ (r : Result (Plan _) SourceError). IfErr r (IsReadRefusal Fault)) (sym (exit.1 ∙ ap (λ (x : SourceError). Err x) exit.2)) (read_refusal_as (λ e. ⊥) Fault (λ e never. absurd never) e c.in_err-id.ensures.refused)
+    subst (λ (r : Result (Plan _) SourceError). IfErr r (IsReadRefusal Fault)) (sym (exit.1 ∙ ap (λ (x : SourceError). Err x) exit.2)) (weaker (λ e. ⊥) Fault (λ e never. absurd never) e c.in_err-id.ensures.refused)
 
 pub returns-clause-sound : goal.returns-clause-sound
 returns-clause-sound g c ours =

@@ -2,6 +2,7 @@ use Rattle.std.proofs.Common.{inr, List, Option, subst}
 use Rattle.lake_store.proofs.RunLaws.{reading_begins}
 use Rattle.source_core.specs.Answers.{IsReadRefusal}
 use Rattle.source_core.specs.declared.error.SourceError.{SourceError}
+use Rattle.source_core.proofs.Answers.{weaker}
 use Rattle.target_sync.specs.Answered.{IsReadFault}
 use Rattle.target_sync.specs.Dues.{TakesCommits}
 use Rattle.target_sync.specs.Plans.{IsFound, IsFoundOfSource, IsFoundOurs, IsSincePlan}
@@ -11,7 +12,7 @@ use Rattle.target_sync.specs.Targets.{target_facts}
 use Rattle.target_sync.specs.declared.sharing.Alike.{Alike}
 use Rattle.table_history.specs.declared.table.Commit.{Commit}
 use Rattle.target_sync.proofs.DueToo.{not_taken_too, shared_due, shared_sound}
-use Rattle.target_sync.proofs.Planning.{full_fault, if_err_as, read_refusal_as}
+use Rattle.target_sync.proofs.Planning.{full_fault, if_err_as}
 use Rattle.target_sync.proofs.sharing.plan_shared.Goals as goal
 
 pub returns-in_ok-plan_since-in-Commits-clause-sound : goal.returns-in_ok-plan_since-in-Commits-clause-sound
@@ -79,7 +80,7 @@ returns-in-Whole-clause-refused g c told =
     let ours = subst (λ (f : Option _). IsFoundOfSource (second.view u) source.kind f) c.in-Some.is (c.requires.ours told) in
     let Fault : SourceError → Type 0 = source.from_scratch files in
     if_err_as (IsReadRefusal Fault) (IsReadRefusal (IsReadFault source target c.args.mode files))
-    (read_refusal_as Fault (IsReadFault source target c.args.mode files) (full_fault source target c.args.mode files view (c.args.head.now, c.requires.head told) (g.met.U.Target.kept_view u kept files stands) (inr ours) not)) c.plan_full.result
+    (weaker Fault (IsReadFault source target c.args.mode files) (full_fault source target c.args.mode files view (c.args.head.now, c.requires.head told) (g.met.U.Target.kept_view u kept files stands) (inr ours) not)) c.plan_full.result
     (c.plan_full.ensures.refused told)
 
 pub returns-in_err-plan_since-in-Commits-clause-only_reads : goal.returns-in_err-plan_since-in-Commits-clause-only_reads
