@@ -1,9 +1,8 @@
 -- A sync of one target behind or before the changes of another one in its own folder.
-use Rattle.std.proofs.Common.{◌≡◌, ◌⊎◌, inl, inr, ⊎_elim, ℕ, ◌+◌, ◌≤◌, List, length, take, Option, Some, None, refl, sym, ap, subst, ◌∙◌, arith}
+use Rattle.std.proofs.Common.{◌≡◌, ◌⊎◌, inl, inr, ℕ, ◌+◌, ◌≤◌, List, length, take, Some, None, refl, sym, subst, ◌∙◌, arith}
 use Rattle.std.specs.Prelude.{Ok, Err}
-use Rattle.std.specs.FinMap as map
 use Rattle.lake_store.specs.Cause.{HasFault, Rose}
-use Rattle.lake_store.specs.Disk.{Disk, Files, IsClean, MayLeave}
+use Rattle.lake_store.specs.Disk.{Disk, Files, MayLeave}
 use Rattle.lake_store.specs.Runs.{ChangesOnlyIn, IsEachMoment, IsIn, IsOutside, KeepsImage, LeavesAlone, OnlyReads}
 use Rattle.lake_store.specs.declared.store.Store.{Ghosts}
 use Rattle.lake_store.proofs.MomentLaws.{goes_further, weaker}
@@ -12,14 +11,14 @@ use Rattle.table_history.specs.declared.kind.Kind.{Kind}
 use Rattle.table_history.specs.declared.limit.LimitKind.{LimitKind}
 use Rattle.table_history.specs.declared.table.Commit.{Commit}
 use Rattle.target_core.specs.Folders.{MayLeaveIn, SameIn, after_crash, folder_of}
-use Rattle.target_core.specs.Gained.{CarriesAt, Gained, StillCarries}
+use Rattle.target_core.specs.Gained.{Gained}
 use Rattle.target_core.specs.Meaning.{Meaning}
 use Rattle.target_core.specs.Views.{Origin, View, standing_at}
 use Rattle.target_core.specs.Written.{IsAsLeft, StayAfter}
 use Rattle.target_core.proofs.Apart.{folders_apart}
 use Rattle.target_core.proofs.Same.{same_refl}
 use Rattle.target_core.proofs.Steps.{count_taken}
-use Rattle.target_sync.specs.Answered.{Answer, IsDone, IsOverAtFirst, IsReady, IsReported, IsSync, IsUndisturbed, StandsAtHead, Leaves, StopsSo}
+use Rattle.target_sync.specs.Answered.{Answer, IsDone, IsOverAtFirst, IsReady, IsReported, IsSync, IsUndisturbed, Leaves, StopsSo}
 use Rattle.target_sync.specs.Applied.{StayShown}
 use Rattle.target_sync.specs.Dues.{origin_of}
 use Rattle.target_sync.specs.Others.{IsOutsideBoth}
@@ -32,7 +31,7 @@ use Rattle.target_sync.proofs.Applying.{CrashLaws}
 use Rattle.target_sync.proofs.Counting.{fails_then}
 use Rattle.target_sync.proofs.Following.{caused_as, source_of_others}
 use Rattle.target_sync.proofs.Mixing.{whole_image, whole_may_leave, whole_same}
-use Rattle.target_sync.proofs.Owning.{FaultLaws, OwnLaws, absent_of_two, absent_own, as_before_own, at_head_own, at_head_since, can_own, caused_own, due_own, either_own, either_since, gained_own, gained_since, over_own, same_back, stands_at_head, status_own}
+use Rattle.target_sync.proofs.Owning.{FaultLaws, OwnLaws, absent_of_two, absent_own, at_head_own, at_head_since, can_own, caused_own, due_own, either_own, either_since, gained_own, gained_since, over_own, same_back, stands_at_head, status_own}
 use Rattle.target_sync.proofs.Sizes.{StaysShort, short_further}
 use Rattle.target_sync.proofs.Standing.{SourceLaws}
 

@@ -19,7 +19,6 @@ use Rattle.target_sync.specs.Shared.{IsDueToo, IsNotReachedToo}
 use Rattle.target_sync.specs.Sources.{SourceMeaning}
 use Rattle.target_sync.specs.Targets.{IsStart}
 use Rattle.target_sync.specs.declared.plan.Mode.{Mode}
-use Rattle.target_sync.specs.declared.plan.Mode.TheVariants as modes
 use Rattle.target_sync.specs.declared.plan.Plan.{Plan}
 use Rattle.target_sync.proofs.Histories.{id_whole, one_standing, unmarked}
 use Rattle.target_sync.proofs.Planning.{since_sound}

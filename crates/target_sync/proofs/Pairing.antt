@@ -1,14 +1,11 @@
 -- The syncs of two targets, one behind the other.
-use Rattle.std.proofs.Common.{◌≡◌, ◌⊎◌, inl, inr, ⊎_elim, ◌+◌, ◌-◌, ◌^◌, ◌≤◌, ℕ, List, Option, Some, None, refl, ◌∙◌, arith}
+use Rattle.std.proofs.Common.{◌≡◌, ◌⊎◌, ⊎_elim, ◌+◌, ◌-◌, ◌^◌, ◌≤◌, ℕ, Some, None, ◌∙◌, arith}
 use Rattle.std.specs.Prelude.{Err, min}
-use Rattle.lake_store.specs.Cause.{HasContest, HasFault, HasNoContest, Rose}
-use Rattle.lake_store.specs.Disk.{Files}
-use Rattle.lake_store.specs.Runs.{ChangesOnlyIn, FailsBy, IsContestedBy, IsOutside, IsUncontestedBy, OnlyReads}
+use Rattle.lake_store.specs.Cause.{HasContest, HasFault, Rose}
+use Rattle.lake_store.specs.Runs.{ChangesOnlyIn, FailsBy, IsOutside, IsUncontestedBy, OnlyReads}
 use Rattle.lake_store.specs.declared.store.Store.{Ghosts}
 use Rattle.lake_store.proofs.RunLaws.{NowOnly, alone_by_reading}
 use Rattle.target_core.specs.Folders.{folder_of}
-use Rattle.target_core.specs.TargetMeanings.{meaning}
-use Rattle.target_core.specs.declared.target.Target as targets
 use Rattle.target_sync.specs.Answered.{Answer, IsSync}
 use Rattle.target_sync.specs.Sources.{SourceMeaning}
 use Rattle.target_sync.specs.Targets.{TargetFacts}

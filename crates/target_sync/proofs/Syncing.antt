@@ -7,7 +7,6 @@ use Rattle.lake_store.specs.declared.store.Store.{Ghosts}
 use Rattle.lake_store.proofs.RunLaws.{NowOnly, alone_by_reading, alone_further, reading_further}
 use Rattle.source_core.specs.declared.head.Head.{Head}
 use Rattle.source_core.specs.declared.source.Source as sources
-use Rattle.table_history.specs.Rows.{HasDistinctPaths}
 use Rattle.table_history.specs.declared.kind.Kind.{Kind}
 use Rattle.table_history.specs.declared.limit.LimitKind.{LimitKind}
 use Rattle.table_history.specs.declared.table.Commit.{Commit}
@@ -22,7 +21,7 @@ use Rattle.target_core.specs.declared.target.Target as targets
 use Rattle.target_core.specs.declared.target.TargetError.{TargetError}
 use Rattle.target_core.specs.declared.target.TargetError.TheVariants as target_error
 use Rattle.target_sync.specs.Answered.{CameBefore, CanSync, IsAbsence, IsCaused, IsComplete, IsContest, IsDone, IsFew, IsLate, IsOfSync, IsOneInFull, IsOverAtFirst, IsPassed, IsPassedAtFirst, IsReady, IsRefusal, IsReport, IsReported, IsSync, IsUndisturbed, IsUnfit, Leaves, StandsAtHead, StopsSo}
-use Rattle.target_sync.specs.Applied.{Applies, IsContestedAt, IsLimitedAt, IsStoppedAt, PassesAtFirst, PassesIn, answer_of_target, position_at, status_of_target}
+use Rattle.target_sync.specs.Applied.{Applies, IsContestedAt, IsLimitedAt, IsStoppedAt, PassesAtFirst, PassesIn, answer_of_target, status_of_target}
 use Rattle.target_sync.specs.Dues.{AreSinceMark, Due, IsIdBehind, IsInFull, origin_of}
 use Rattle.target_sync.specs.Sources.{source_meaning}
 use Rattle.target_sync.specs.Synced.{IsContested, IsLimited, Synced}

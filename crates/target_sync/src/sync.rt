@@ -1,5 +1,5 @@
 //! A sync of one target.
-ghost use Rattle.std.specs.Prelude.{◌≡◌, ◌<◌, ◌^◌, IfErr, IfOk, IsErrOf, None, Some};
+ghost use Rattle.std.specs.Prelude.{◌<◌, ◌^◌, IfErr, IfOk, IsErrOf, None, Some};
 ghost use Rattle.lake_store.specs.Runs.{FailsBy, IsUncontestedBy, OnlyReads};
 ghost use Rattle.target_core.specs.SeenView.{IsSeen, IsSeenSound};
 ghost use Rattle.target_sync.specs.Along.{IsWholeSync};

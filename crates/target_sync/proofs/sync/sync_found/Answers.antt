@@ -1,11 +1,10 @@
-use Rattle.std.proofs.Common.{◌≡◌, inr, None, Some, Result, Err, refl, sym, ap, subst}
+use Rattle.std.proofs.Common.{None, Some, Result, Err, sym, subst}
 use Rattle.std.specs.Prelude.{IfErr}
 use Rattle.lake_store.specs.Disk.{Disk}
 use Rattle.lake_store.proofs.RunLaws.{reading_begins}
-use Rattle.source_core.specs.declared.error.SourceError.{SourceError}
 use Rattle.table_history.specs.declared.kind.Kind.{Kind}
 use Rattle.target_sync.specs.Answered.{IsLate, IsNotForeign, IsSync}
-use Rattle.target_sync.specs.Applied.{CanApplyPlan, status_of_source}
+use Rattle.target_sync.specs.Applied.{CanApplyPlan}
 use Rattle.target_sync.specs.Sources.{source_meaning}
 use Rattle.target_sync.specs.Targets.{target_facts}
 use Rattle.target_sync.specs.declared.apply.Report.{Report}

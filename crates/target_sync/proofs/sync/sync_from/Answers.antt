@@ -1,4 +1,4 @@
-use Rattle.std.proofs.Common.{None, Some, Err, sym, subst}
+use Rattle.std.proofs.Common.{None, Some, sym, subst}
 use Rattle.lake_store.specs.Disk.{Disk}
 use Rattle.target_sync.specs.Plans.{IsFound}
 use Rattle.target_sync.specs.Sources.{source_meaning}
