@@ -23,7 +23,8 @@ use Rattle.table_history.proofs.RowListLemmas.{Contains-none, Contains-head, Con
 use Rattle.hudi_groups.specs.declared.form.Form.TheVariants.{Base}
 use Rattle.hudi_groups.specs.Files.{group_name}
 use Rattle.hudi_groups.specs.GroupSets.{Groups, has_group, row_in_group}
-use Rattle.hudi_groups.specs.GroupIndex.{Index, IsIndexOf, has_path, is_path_of, is_row_of, keys_in, paths_at, rows_among, rows_by_index}
+use Rattle.hudi_groups.specs.declared.index.Paths.{Paths}
+use Rattle.hudi_groups.specs.GroupIndex.{Index, IsIndexOf, has_path, is_among, is_path_of, is_row_of, paths_at, rows_among, rows_by_index}
 use Rattle.hudi_groups.proofs.AnyLemmas.{any_from, any_to, any_none}
 use Rattle.hudi_groups.proofs.GroupChangeLemmas.{distinct_append, distinct_none}
 use Rattle.hudi_groups.proofs.GroupPathLemmas.{row_in_group-is, row_in_group-has, row_in_group-distinct}
@@ -87,14 +88,14 @@ has_group-remove path old new h p =
     (cases_Bool (bytes_eq path p))
 
 -- ---- a change at one group
-abbrev pub at : Index → List ℕ → Option Groups
+abbrev pub at : Index → List ℕ → Option Paths
 at index q = get_by (λ k. bytes_eq q k.items) index
 
 others : (g : List ℕ) (old new : Index) → KeepsOthers key_eq (λ k. bytes_eq g k.items) old.entries new.entries → (q : List ℕ) → bytes_eq g q ≡ false → at new q ≡ at old q
 unfolding KeepsOthers
 others g old new h q n = h (λ k. bytes_eq q k.items) (λ x y. nat_list_eq_equiv.congr q x.items y.items) (λ k. apart g q k.items n)
 
-pub at_update : (g : List ℕ) (old new : Index) (w : Option Groups) → at new g ≡ w → KeepsOthers key_eq (λ k. bytes_eq g k.items) old.entries new.entries
+pub at_update : (g : List ℕ) (old new : Index) (w : Option Paths) → at new g ≡ w → KeepsOthers key_eq (λ k. bytes_eq g k.items) old.entries new.entries
     → (q : List ℕ) → at new q ≡ cond (bytes_eq g q) w (at old q)
 at_update g old new w here rest q =
     ⊎_elim
@@ -102,52 +103,39 @@ at_update g old new w here rest q =
     (λ n. others g old new rest q n ∙ sym (cond-false (bytes_eq g q) w (at old q) n))
     (cases_Bool (bytes_eq g q))
 
-abbrev pub in_keys : List ℕ → Option Groups → Bool
-in_keys p o = list_any (λ k. bytes_eq p k.items) (keys_in o)
-
 -- the group is put where there is none
-pub group_put : (g : List ℕ) (old new : Index) (paths : Groups) → at new g ≡ Some paths → KeepsOthers key_eq (λ k. bytes_eq g k.items) old.entries new.entries
-    → (q p : List ℕ) → has_path new q p ≡ cond (bytes_eq g q) (has_group paths p) (has_path old q p)
+pub group_put : (g : List ℕ) (old new : Index) (paths : Paths) → at new g ≡ Some paths → KeepsOthers key_eq (λ k. bytes_eq g k.items) old.entries new.entries
+    → (q p : List ℕ) → has_path new q p ≡ cond (bytes_eq g q) (is_among p (Some paths)) (has_path old q p)
 group_put g old new paths puts rest q p =
     ⊎_elim
-    (λ y. ap (in_keys p) (at_update g old new (Some paths) puts rest q ∙ cond-true (bytes_eq g q) (Some paths) (at old q) y) ∙ sym (cond-true (bytes_eq g q) (has_group paths p) (has_path old q p) y))
-    (λ n. ap (in_keys p) (at_update g old new (Some paths) puts rest q ∙ cond-false (bytes_eq g q) (Some paths) (at old q) n) ∙ sym (cond-false (bytes_eq g q) (has_group paths p) (has_path old q p) n))
+    (λ y. ap (is_among p) (at_update g old new (Some paths) puts rest q ∙ cond-true (bytes_eq g q) (Some paths) (at old q) y) ∙ sym (cond-true (bytes_eq g q) (is_among p (Some paths)) (has_path old q p) y))
+    (λ n. ap (is_among p) (at_update g old new (Some paths) puts rest q ∙ cond-false (bytes_eq g q) (Some paths) (at old q) n) ∙ sym (cond-false (bytes_eq g q) (is_among p (Some paths)) (has_path old q p) n))
     (cases_Bool (bytes_eq g q))
 
-pub none_put : (g : List ℕ) (old : Index) (paths : Groups) → at old g ≡ None → paths.keys ≡ []
-    → (q p : List ℕ) → has_path old q p ≡ cond (bytes_eq g q) (has_group paths p) (has_path old q p)
-none_put g old paths none empty q p =
-    ⊎_elim
-    (λ y.
-    ap (in_keys p) (ap (at old) (sym ((bytes_eq-Decides g q).0 y)) ∙ none) ∙ sym (ap (list_any (λ k. bytes_eq p k.items)) empty)
-    ∙ sym (cond-true (bytes_eq g q) (has_group paths p) (has_path old q p) y))
-    (λ n. sym (cond-false (bytes_eq g q) (has_group paths p) (has_path old q p) n))
-    (cases_Bool (bytes_eq g q))
-
-module _ (g path : List ℕ) (old mid new : Index) (paths : Groups) (named : g ≡ group_name Base path) (gone : at mid g ≡ None) (rest : KeepsOthers key_eq (λ k. bytes_eq g k.items) old.entries mid.entries)
-    (puts : (q p : List ℕ) → has_path new q p ≡ cond (bytes_eq g q) (has_group paths p) (has_path mid q p)) where
-  here : (q p : List ℕ) → bytes_eq g q ≡ true → has_path new q p ≡ has_group paths p
-  here q p y = puts q p ∙ cond-true (bytes_eq g q) (has_group paths p) (has_path mid q p) y
+module _ (g path : List ℕ) (old mid new : Index) (paths : Option Paths) (named : g ≡ group_name Base path) (gone : at mid g ≡ None) (rest : KeepsOthers key_eq (λ k. bytes_eq g k.items) old.entries mid.entries)
+    (puts : (q p : List ℕ) → has_path new q p ≡ cond (bytes_eq g q) (is_among p paths) (has_path mid q p)) where
+  here : (q p : List ℕ) → bytes_eq g q ≡ true → has_path new q p ≡ is_among p paths
+  here q p y = puts q p ∙ cond-true (bytes_eq g q) (is_among p paths) (has_path mid q p) y
 
   elsewhere : (q p : List ℕ) → bytes_eq g q ≡ false → has_path new q p ≡ has_path old q p
   elsewhere q p n =
-      puts q p ∙ cond-false (bytes_eq g q) (has_group paths p) (has_path mid q p) n
-      ∙ ap (in_keys p) (at_update g old mid None gone rest q ∙ cond-false (bytes_eq g q) None (at old q) n)
+      puts q p ∙ cond-false (bytes_eq g q) (is_among p paths) (has_path mid q p) n
+      ∙ ap (is_among p) (at_update g old mid None gone rest q ∙ cond-false (bytes_eq g q) None (at old q) n)
 
   in_group : (q : List ℕ) (b : Bool) → bytes_eq g q ≡ b → bytes_eq q (group_name Base path) ≡ b
   in_group q b is = ap (bytes_eq q) (sym named) ∙ nat_list_eq_equiv.symm q g ∙ is
 
-  was_here : (q p : List ℕ) → bytes_eq g q ≡ true → in_keys p (at old g) ≡ has_path old q p
-  was_here q p y = ap (λ l. in_keys p (at old l)) ((bytes_eq-Decides g q).0 y)
+  was_here : (q p : List ℕ) → bytes_eq g q ≡ true → is_among p (at old g) ≡ has_path old q p
+  was_here q p y = ap (λ l. is_among p (at old l)) ((bytes_eq-Decides g q).0 y)
 
-  pub has_path-with : ((p : List ℕ) → has_group paths p ≡ (bytes_eq p path || in_keys p (at old g))) → (q p : List ℕ) → has_path new q p ≡ (is_path_of q p path || has_path old q p)
+  pub has_path-with : ((p : List ℕ) → is_among p paths ≡ (bytes_eq p path || is_among p (at old g))) → (q p : List ℕ) → has_path new q p ≡ (is_path_of q p path || has_path old q p)
   has_path-with has q p =
       ⊎_elim
       (λ y. here q p y ∙ has p ∙ ap (λ b. bytes_eq p path || b) (was_here q p y) ∙ ap (λ b. (b && bytes_eq p path) || has_path old q p) (sym (in_group q true y)))
       (λ n. elsewhere q p n ∙ ap (λ b. (b && bytes_eq p path) || has_path old q p) (sym (in_group q false n)))
       (cases_Bool (bytes_eq g q))
 
-  pub has_path-without : ((p : List ℕ) → has_group paths p ≡ (not (bytes_eq p path) && in_keys p (at old g))) → (q p : List ℕ) → has_path new q p ≡ (not (is_path_of q p path) && has_path old q p)
+  pub has_path-without : ((p : List ℕ) → is_among p paths ≡ (not (bytes_eq p path) && is_among p (at old g))) → (q p : List ℕ) → has_path new q p ≡ (not (is_path_of q p path) && has_path old q p)
   has_path-without has q p =
       ⊎_elim
       (λ y. here q p y ∙ has p ∙ ap (λ b. not (bytes_eq p path) && b) (was_here q p y) ∙ ap (λ b. not (b && bytes_eq p path) && has_path old q p) (sym (in_group q true y)))

@@ -8,17 +8,27 @@ use Rattle.std.specs.declared.hash.BuildHasherDefault.{BuildHasherDefault}
 use Rattle.table_history.specs.Row.{Row}
 use Rattle.table_history.specs.RowMap.{Key}
 use Rattle.hudi_groups.specs.declared.form.Form.TheVariants.{Base}
+use Rattle.hudi_groups.specs.declared.index.Paths.{Paths}
+use Rattle.hudi_groups.specs.declared.index.Paths.TheVariants.{One, Many}
 use Rattle.hudi_groups.specs.Files.{group_name}
-use Rattle.hudi_groups.specs.GroupSets.{Groups, row_in_group}
+use Rattle.hudi_groups.specs.GroupSets.{row_in_group}
 
 abbrev pub Index : Type 0
-Index = HashMap Key Groups (BuildHasherDefault FoldHasher)
+Index = HashMap Key Paths (BuildHasherDefault FoldHasher)
 
 -- ---- what the index has
 
-abbrev pub keys_in : Option Groups → List Key
+abbrev pub keys_of : Paths → List Key
+keys_of (One path) = path ∷ []
+keys_of (Many paths) = paths.value.keys
+
+abbrev pub keys_in : Option Paths → List Key
 keys_in None = []
-keys_in (Some paths) = paths.keys
+keys_in (Some paths) = keys_of paths
+
+-- p is one of these paths
+abbrev pub is_among : List ℕ → Option Paths → Bool
+is_among p paths = list_any (λ k. bytes_eq p k.items) (keys_in paths)
 
 -- the paths of the group q
 abbrev pub paths_at : Index → List ℕ → List Key
@@ -26,7 +36,7 @@ paths_at index q = keys_in (get_by (λ k. bytes_eq q k.items) index)
 
 -- The index has the path p in the group q.
 abbrev pub has_path : Index → List ℕ → List ℕ → Bool
-has_path index q p = list_any (λ k. bytes_eq p k.items) (paths_at index q)
+has_path index q p = is_among p (get_by (λ k. bytes_eq q k.items) index)
 
 -- p is this path, and q its group
 abbrev pub is_path_of : List ℕ → List ℕ → List ℕ → Bool

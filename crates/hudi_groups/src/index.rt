@@ -1,13 +1,13 @@
 //! The paths of a table's rows, by the file groups that they are named by file ids.
 
-ghost use Rattle.std.specs.Prelude.{◌≡◌, ◌&&◌, ◌||◌, ◌++◌, ℕ, List, None, cond, not, Contains, IfOk};
+ghost use Rattle.std.specs.Prelude.{◌≡◌, ◌&&◌, ◌||◌, ◌++◌, ℕ, List, None, Some, cond, not, Contains, IfOk};
 ghost use Rattle.std.specs.HashMap.{get_by};
 ghost use Rattle.std.specs.List.{list_any, IsDistinct};
 ghost use Rattle.std.specs.Str.{bytes_eq};
 ghost use Rattle.table_history.specs.RowMap.{Key, key_eq};
 ghost use Rattle.hudi_groups.specs.declared.form.Form.TheVariants.{Base};
-ghost use Rattle.hudi_groups.specs.GroupSets.{has_group};
-ghost use Rattle.hudi_groups.specs.GroupIndex.{IsIndexOf, has_path, is_path_of, is_row_of, keys_in, paths_at, rows_among, rows_by_index};
+ghost use Rattle.hudi_groups.specs.declared.index.Paths.TheVariants.{One, Many};
+ghost use Rattle.hudi_groups.specs.GroupIndex.{IsIndexOf, has_path, is_among, is_path_of, is_row_of, paths_at, rows_among, rows_by_index};
 
 use crate::form::Form;
 use crate::group::path_to_file_id;
@@ -17,33 +17,98 @@ use std::alloc::{AllocError, Global};
 use std::collections::{HashMap, HashSet};
 use table_history::{FileRow, FileRows};
 
-/// Paths, as a set.
-pub(crate) type Paths = HashSet<Vec<u8>>;
+/// The paths of a group, as a set. Most groups have a lone path, which needs no table.
+#[derive(Drop)]
+pub(crate) enum Paths {
+    One(Vec<u8>),
+    Many(Box<HashSet<Vec<u8>>>),
+}
 
 /// The paths of each group, by the group's name.
 pub(crate) type Index = HashMap<Vec<u8>, Paths>;
 
-// ---- one path
+// ---- the paths of one group
 
-/// The paths of a group, which are none where it isn't there.
-fn or_empty(alloc: Global, paths: Option<Paths>) -> Paths
-    ensures { result.keys ≡ keys_in paths }
+/// The two paths, as a set.
+fn two_paths(alloc: Global, path: Vec<u8>, other: Vec<u8>) -> Result<Paths, AllocError>
+    ensures { IfOk result (λ both. (p : List ℕ) → is_among p (Some both)
+        ≡ (bytes_eq p other.items || is_among p (Some (One path)))) }
+{
+    let mut paths = HashSet::new(alloc);
+    drop(paths.insert(path)?);
+    drop(paths.insert(other)?);
+    Ok(Paths::Many(Box::new(alloc, paths)?))
+}
+
+/// The set, and this path.
+fn one_more(held: Box<HashSet<Vec<u8>>>, path: Vec<u8>) -> Result<Paths, AllocError>
+    ensures { IfOk result (λ all. (p : List ℕ) → is_among p (Some all)
+        ≡ (bytes_eq p path.items || is_among p (Some (Many held)))) }
+{
+    let mut paths = held;
+    drop(paths.insert(path)?);
+    Ok(Paths::Many(paths))
+}
+
+/// The paths of a group, and this one.
+fn paths_with(alloc: Global, paths: Option<Paths>, path: Vec<u8>) -> Result<Paths, AllocError>
+    ensures { IfOk result (λ all. (p : List ℕ) → is_among p (Some all)
+        ≡ (bytes_eq p path.items || is_among p paths)) }
 {
     match paths {
-        Some(paths) => paths,
-        None => HashSet::new(alloc),
+        None => Ok(Paths::One(path)),
+        Some(Paths::One(held)) => two_paths(alloc, held, path),
+        Some(Paths::Many(held)) => one_more(held, path),
     }
 }
 
+/// The path that is held, where it is another than this one.
+fn other_path(held: Vec<u8>, path: &[u8]) -> Option<Paths>
+    ensures { (p : List ℕ) → is_among p result
+        ≡ (not (bytes_eq p path.now) && is_among p (Some (One held))) }
+{
+    if held.as_slice() == path {
+        return None;
+    }
+    Some(Paths::One(held))
+}
+
+/// The set without this path, or `None` where none is left.
+fn one_less(held: Box<HashSet<Vec<u8>>>, path: &[u8]) -> Option<Paths>
+    ensures { (p : List ℕ) → is_among p result
+        ≡ (not (bytes_eq p path.now) && is_among p (Some (Many held))) }
+{
+    let mut paths = held;
+    paths.remove(path);
+    if paths.is_empty() {
+        return None;
+    }
+    Some(Paths::Many(paths))
+}
+
+/// The paths of a group without this one, or `None` where none is left.
+fn paths_without(paths: Option<Paths>, path: &[u8]) -> Option<Paths>
+    ensures { (p : List ℕ) → is_among p result
+        ≡ (not (bytes_eq p path.now) && is_among p paths) }
+{
+    match paths {
+        None => None,
+        Some(Paths::One(held)) => other_path(held, path),
+        Some(Paths::Many(held)) => one_less(held, path),
+    }
+}
+
+// ---- one path
+
 /// The index with these paths of a group that isn't there. A group without a path is left out.
-fn put_group(index: Index, group: Vec<u8>, paths: Paths) -> Result<Index, AllocError>
+fn put_group(index: Index, group: Vec<u8>, paths: Option<Paths>) -> Result<Index, AllocError>
     requires { get_by (λ k. bytes_eq group.items k.items) index ≡ None }
     ensures { IfOk result (λ all. (q p : List ℕ) → has_path all q p
-        ≡ cond (bytes_eq group.items q) (has_group paths p) (has_path index q p)) }
+        ≡ cond (bytes_eq group.items q) (is_among p paths) (has_path index q p)) }
 {
-    if paths.is_empty() {
+    let Some(paths) = paths else {
         return Ok(index);
-    }
+    };
     let mut all = index;
     drop(all.insert(group, paths)?);
     Ok(all)
@@ -57,9 +122,8 @@ fn with_path(alloc: Global, index: Index, path: &[u8]) -> Result<Index, AllocErr
     let group = Vec::from_slice(alloc, path_to_file_id(path))?;
     let key = Vec::from_slice(alloc, path)?;
     let mut rest = index;
-    let mut paths = or_empty(alloc, rest.remove(group.as_slice()));
-    drop(paths.insert(key)?);
-    put_group(rest, group, paths)
+    let paths = paths_with(alloc, rest.remove(group.as_slice()), key)?;
+    put_group(rest, group, Some(paths))
 }
 
 /// The index without this path.
@@ -69,8 +133,7 @@ fn without_path(alloc: Global, index: Index, path: &[u8]) -> Result<Index, Alloc
 {
     let group = Vec::from_slice(alloc, path_to_file_id(path))?;
     let mut rest = index;
-    let mut paths = or_empty(alloc, rest.remove(group.as_slice()));
-    paths.remove(path);
+    let paths = paths_without(rest.remove(group.as_slice()), path);
     put_group(rest, group, paths)
 }
 
@@ -133,7 +196,7 @@ pub(crate) fn index_of(alloc: Global, rows: &FileRows) -> Result<Index, AllocErr
 fn with_rows_at(
     alloc: Global,
     group: &[u8],
-    paths: &Paths,
+    paths: &HashSet<Vec<u8>>,
     rows: &FileRows,
     found: Vec<FileRow>,
 ) -> Result<Vec<FileRow>, AllocError>
@@ -161,8 +224,9 @@ fn with_group_of(
     ensures unique { IfOk result (λ _. IsDistinct key_eq (paths_at index.now group.now)) }
 {
     match index.get(group) {
-        Some(paths) => with_rows_at(alloc, group, paths, rows, found),
         None => Ok(found),
+        Some(Paths::One(path)) => with_row_at(alloc, &Form::Base, group, path, rows, found),
+        Some(Paths::Many(paths)) => with_rows_at(alloc, group, paths, rows, found),
     }
 }
 

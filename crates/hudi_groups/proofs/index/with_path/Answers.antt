@@ -1,13 +1,12 @@
-use Rattle.std.proofs.Common.{◌≡◌, ℕ, List, ◌||◌, None, ap, sym, subst, ◌∙◌}
-use Rattle.std.specs.List.{list_any}
+use Rattle.std.proofs.Common.{◌≡◌, ℕ, List, ◌||◌, None, Some, ap, sym, subst, ◌∙◌}
 use Rattle.std.proofs.lemmas.Result.{IfOk-weaker}
 use Rattle.std.specs.Map.{KeepsOthers}
 use Rattle.std.specs.Str.{bytes_eq}
 use Rattle.table_history.specs.RowMap.{key_eq}
 use Rattle.hudi_groups.specs.declared.form.Form.TheVariants.{Base}
 use Rattle.hudi_groups.specs.Files.{group_name}
-use Rattle.hudi_groups.proofs.GroupSetLemmas.{has_group-insert}
-use Rattle.hudi_groups.proofs.GroupIndexLemmas.{at, has_path-with, in_keys}
+use Rattle.hudi_groups.specs.GroupIndex.{is_among}
+use Rattle.hudi_groups.proofs.GroupIndexLemmas.{at, has_path-with}
 use Rattle.hudi_groups.proofs.index.with_path.Goals as goal
 
 pub put_group-requires : goal.put_group-requires
@@ -24,8 +23,6 @@ returns c =
     let gone : at mid g ≡ None = ap (at mid) (sym bytes) ∙ c.remove.ensures.updates.1 in
     let rest : KeepsOthers key_eq (λ k. bytes_eq g k.items) old.entries mid.entries = subst (λ (l : List ℕ). KeepsOthers key_eq (λ k. bytes_eq l k.items) old.entries mid.entries) bytes c.remove.ensures.updates.3 in
     IfOk-weaker c.put_group.result _ _
-    (λ all puts. has_path-with g path old mid all c.insert.new.self named gone rest puts
-    (λ r. has_group-insert c.in_ok-key.key c.or_empty-paths.result c.insert.new.self c.in_ok-insert.ensures.updates r
-    ∙ (λ i. bytes_eq r (c.in_ok-key.ensures.items i) || list_any (λ k. bytes_eq r k.items) (c.or_empty-paths.ensures i))
-    ∙ ap (λ o. bytes_eq r path || in_keys r o) (c.remove.ensures.value ∙ ap (at old) bytes)))
+    (λ all puts. has_path-with g path old mid all (Some c.in_ok-paths.paths) named gone rest puts
+    (λ r. c.in_ok-paths.ensures r ∙ ap (λ k. bytes_eq r k || is_among r c.remove.result) c.in_ok-key.ensures.items ∙ ap (λ o. bytes_eq r path || is_among r o) (c.remove.ensures.value ∙ ap (at old) bytes)))
     c.put_group.ensures

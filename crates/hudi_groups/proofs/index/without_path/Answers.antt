@@ -1,12 +1,12 @@
 use Rattle.std.proofs.Common.{◌≡◌, ℕ, List, ◌&&◌, not, None, ap, sym, subst, ◌∙◌}
-use Rattle.std.specs.List.{list_any}
 use Rattle.std.proofs.lemmas.Result.{IfOk-weaker}
 use Rattle.std.specs.Map.{KeepsOthers}
 use Rattle.std.specs.Str.{bytes_eq}
 use Rattle.table_history.specs.RowMap.{key_eq}
 use Rattle.hudi_groups.specs.declared.form.Form.TheVariants.{Base}
 use Rattle.hudi_groups.specs.Files.{group_name}
-use Rattle.hudi_groups.proofs.GroupIndexLemmas.{at, has_group-remove, has_path-without, in_keys}
+use Rattle.hudi_groups.specs.GroupIndex.{is_among}
+use Rattle.hudi_groups.proofs.GroupIndexLemmas.{at, has_path-without}
 use Rattle.hudi_groups.proofs.index.without_path.Goals as goal
 
 pub put_group-requires : goal.put_group-requires
@@ -23,8 +23,6 @@ returns c =
     let gone : at mid g ≡ None = ap (at mid) (sym bytes) ∙ c.remove.ensures.updates.1 in
     let rest : KeepsOthers key_eq (λ k. bytes_eq g k.items) old.entries mid.entries = subst (λ (l : List ℕ). KeepsOthers key_eq (λ k. bytes_eq l k.items) old.entries mid.entries) bytes c.remove.ensures.updates.3 in
     IfOk-weaker c.put_group.result _ _
-    (λ all puts. has_path-without g path old mid all c.remove-2.new.self named gone rest puts
-    (λ r. has_group-remove path c.or_empty-paths.result c.remove-2.new.self c.remove-2.ensures.updates r
-    ∙ ap (λ l. not (bytes_eq r path) && list_any (λ k. bytes_eq r k.items) l) c.or_empty-paths.ensures
-    ∙ ap (λ o. not (bytes_eq r path) && in_keys r o) (c.remove.ensures.value ∙ ap (at old) bytes)))
+    (λ all puts. has_path-without g path old mid all c.paths_without-paths.result named gone rest puts
+    (λ r. c.paths_without-paths.ensures r ∙ ap (λ o. not (bytes_eq r path) && is_among r o) (c.remove.ensures.value ∙ ap (at old) bytes)))
     c.put_group.ensures
