@@ -13,7 +13,7 @@ use Rattle.source_core.specs.declared.error.SourceError.TheVariants as source_er
 use Rattle.source_core.specs.declared.head.Head.{Head}
 use Rattle.table_history.specs.declared.kind.Kind.{Kind}
 use Rattle.target_core.specs.Folders.{folder_of}
-use Rattle.target_sync.specs.Answered.{Answer, CanSync, IsAbsent, IsCaused, IsComplete, IsDone, IsFew, IsOfSync, IsReadFault, IsRefusal, IsSourceFault, IsSync}
+use Rattle.target_sync.specs.Answered.{Answer, CanSync, IsAbsent, IsCaused, IsComplete, IsDone, IsFew, IsOfSync, IsReadFault, IsRefusal, IsSync}
 use Rattle.target_sync.specs.Applied.{status_of_source}
 use Rattle.target_sync.specs.Sources.{SourceMeaning}
 use Rattle.target_sync.specs.Targets.{TargetFacts}
@@ -31,7 +31,7 @@ use Rattle.target_sync.proofs.Refusing.{absence_of_head}
 use Rattle.target_sync.proofs.Sizes.{short_reading}
 use Rattle.target_sync.proofs.Standing.{SourceLaws, synced_idle}
 use Rattle.sync_driver.specs.Both.{AreSynced, GoesBoth, InPhases, IsContested, IsCut, IsDoneBut, IsEnd, IsRefused, SyncsBoth, both_lines, both_status, first_refusal, status_behind}
-use Rattle.sync_driver.specs.Commands.{IsPending, answer_line, answer_status}
+use Rattle.sync_driver.specs.Commands.{IsPending, answer_status}
 use Rattle.sync_driver.specs.Lines.{pending_line, refusal_line}
 use Rattle.sync_driver.specs.Tellings.{Tells}
 use Rattle.sync_driver.proofs.PairExits.{end_of_source}

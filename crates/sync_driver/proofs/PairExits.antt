@@ -1,6 +1,5 @@
 -- A sync of two targets, by where it ends.
-use Rattle.std.proofs.Common.{◌≡◌, ◌⊎◌, ◌++◌, ℕ, Bool, true, false, List, [], Option, Some, None, inl, inr, ⊎_elim, refl, sym, ap, subst, ◌∙◌}
-use Rattle.std.proofs.lemmas.List.{append-nil}
+use Rattle.std.proofs.Common.{◌≡◌, ℕ, Bool, true, false, List, [], Option, Some, None, inl, inr, ⊎_elim, refl, sym, subst, ◌∙◌}
 use Rattle.std.specs.Prelude.{IfErr, Result, Ok, Err}
 use Rattle.lake_store.specs.Disk.{Disk, Files}
 use Rattle.lake_store.specs.Runs.{ChangesOnlyIn, OnlyReads}
@@ -35,7 +34,7 @@ use Rattle.target_sync.proofs.Owning.{due_plan_own, passed_own, same_back, unfit
 use Rattle.target_sync.proofs.Standing.{SourceLaws}
 use Rattle.target_sync.proofs.Pairing.{sync_none}
 use Rattle.target_sync.proofs.Refusing.{known_of_apply, known_of_source, late_of_source}
-use Rattle.sync_driver.specs.Both.{AreInOrder, CameEarly, CameLate, GoesBoth, IsAtOnce, IsCut, IsEnd, IsOfSource, IsRefused, IsToldLate, TellsBehind, status_behind}
+use Rattle.sync_driver.specs.Both.{CameLate, GoesBoth, IsAtOnce, IsCut, IsEnd, IsOfSource, IsRefused, IsToldLate, TellsBehind, status_behind}
 use Rattle.sync_driver.specs.Commands.{answer_line, answer_status}
 use Rattle.sync_driver.specs.Lines.{refusal_line}
 use Rattle.sync_driver.specs.Tellings.{Tells}

@@ -1,24 +1,20 @@
 -- What a sync of two targets tells, by how each of the two ends.
-use Rattle.std.proofs.Common.{◌≡◌, ◌⊎◌, ◌++◌, ◌+◌, ◌-◌, ◌^◌, ◌≤◌, ℕ, Bool, true, false, List, [], Option, Some, None, inl, inr, ⊎_elim, refl, sym, ap, subst, ◌∙◌, append_assoc, arith}
+use Rattle.std.proofs.Common.{◌≡◌, ◌⊎◌, ◌++◌, ℕ, Bool, true, false, List, [], Some, None, inl, inr, ⊎_elim, refl, sym, ap, subst, ◌∙◌, append_assoc}
 use Rattle.std.proofs.lemmas.List.{append-nil}
-use Rattle.std.specs.Prelude.{Ok, Err, min}
-use Rattle.lake_store.specs.Cause.{HasFault, Rose}
-use Rattle.lake_store.specs.Disk.{Disk, Files}
+use Rattle.std.specs.Prelude.{Ok, Err}
+use Rattle.lake_store.specs.Disk.{Disk}
 use Rattle.lake_store.specs.Runs.{ChangesOnlyIn, FailsBy, IsUncontestedBy, OnlyReads}
 use Rattle.lake_store.specs.declared.sink.Sink as sinks
 use Rattle.lake_store.specs.declared.store.Store.{Ghosts}
 use Rattle.lake_store.proofs.RunLaws.{NowOnly, reading_further}
-use Rattle.source_core.specs.declared.error.SourceError.{SourceError}
-use Rattle.source_core.specs.declared.error.SourceError.TheVariants as source_error
 use Rattle.table_history.specs.declared.kind.Kind.{Kind}
 use Rattle.target_core.specs.Conditions.{GoesOn}
 use Rattle.target_core.specs.Folders.{SameIn, folder_of}
 use Rattle.target_core.proofs.Apart.{folders_apart}
-use Rattle.target_sync.specs.Answered.{Answer, CanSync, IsCaused, IsComplete, IsDone, IsFew, IsOfSync, IsReadFault, IsSourceFault, IsSync, StandsAt}
+use Rattle.target_sync.specs.Answered.{Answer, IsSync, StandsAt}
 use Rattle.target_sync.specs.Sources.{SourceMeaning}
 use Rattle.target_sync.specs.Targets.{TargetFacts}
 use Rattle.target_sync.specs.declared.plan.Mode.{Mode}
-use Rattle.target_sync.specs.declared.status.Side.TheVariants as side
 use Rattle.target_sync.specs.declared.status.Status.{Status}
 use Rattle.target_sync.specs.declared.status.Status.TheVariants as status
 use Rattle.target_sync.proofs.Applying.{CrashLaws}
@@ -28,7 +24,7 @@ use Rattle.target_sync.proofs.Following.{sync_behind}
 use Rattle.target_sync.proofs.Owning.{FaultLaws, OwnLaws, same_back}
 use Rattle.target_sync.proofs.Pairing.{both_contested, both_fault, first_turn, none_contested, second_turn}
 use Rattle.target_sync.proofs.Standing.{SourceLaws}
-use Rattle.sync_driver.specs.Both.{AreInOrder, AreSynced, AreToldInOrder, CameEarly, GoesBoth, InPhases, IsAtOnce, IsContested, IsCut, IsDoneBut, IsEnd, IsLeft, IsOfHead, IsOfSource, IsRefused, RoseTwice, TellsBehind, both_lines, both_status, first_line, status_behind}
+use Rattle.sync_driver.specs.Both.{AreInOrder, AreSynced, AreToldInOrder, CameEarly, GoesBoth, InPhases, IsAtOnce, IsCut, IsEnd, IsLeft, IsOfHead, IsRefused, RoseTwice, TellsBehind, first_line, status_behind}
 use Rattle.sync_driver.specs.Commands.{answer_line, answer_status}
 use Rattle.sync_driver.specs.Tellings.{IsSaid, Tells}
 use Rattle.sync_driver.proofs.Saying.{first_behind, nothing_put, told_behind}

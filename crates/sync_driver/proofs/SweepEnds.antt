@@ -1,19 +1,16 @@
 -- What a sweep and a compaction tell, by how they end.
-use Rattle.std.proofs.Common.{◌≡◌, ◌⊎◌, ◌≢◌, ◌++◌, ◌∷◌, ℕ, List, [], map, inl, inr, ⊎_elim, refl, sym, ap, ◌∙◌, append_assoc}
-use Rattle.std.specs.List.{concat}
+use Rattle.std.proofs.Common.{◌≡◌, ◌⊎◌, ◌++◌, ◌∷◌, ℕ, List, [], inl, inr, ⊎_elim, refl}
 use Rattle.std.specs.Prelude.{IfErr, IsErrOf, Ok, Err}
 use Rattle.lake_store.specs.Cause.{Rose}
 use Rattle.lake_store.specs.Disk.{Files}
 use Rattle.lake_store.specs.declared.sink.Sink.{Ghosts}
 use Rattle.delta_compact.specs.Refusals as compaction
-use Rattle.delta_compact.specs.declared.compacting.Compacted.{Compacted}
 use Rattle.delta_compact.specs.declared.error.CompactFault.{CompactFault}
 use Rattle.delta_compact.specs.declared.error.CompactFault.TheVariants as fault
 use Rattle.lake_sweep.specs.Plan.{IsKnown, IsKnownFor, first_source, second_source}
 use Rattle.lake_sweep.specs.Refusals.{HasCause, IsCrowdedForOne, IsReadingRefused, IsSweepRefused, IsUnknown}
 use Rattle.lake_sweep.specs.declared.error.SweepError.{SweepError}
 use Rattle.lake_sweep.specs.declared.error.SweepError.TheVariants as error
-use Rattle.lake_sweep.specs.declared.plan.Swept.{Swept}
 use Rattle.table_history.specs.declared.kind.Kind.{Kind}
 use Rattle.table_history.specs.declared.limit.LimitKind.{LimitKind}
 use Rattle.target_core.specs.Views.{IsOfSource, IsUnpublished, View}
@@ -21,7 +18,7 @@ use Rattle.target_sync.specs.Targets.{TargetFacts}
 use Rattle.target_sync.specs.declared.status.Status.{Status}
 use Rattle.target_sync.specs.declared.status.Status.TheVariants as status
 use Rattle.sync_driver.specs.Compacted.{CompactionAnswer, compacted_status}
-use Rattle.sync_driver.specs.Lines.{swept_line, swept_lines}
+use Rattle.sync_driver.specs.Lines.{swept_lines}
 use Rattle.sync_driver.specs.Swept.{SweepAnswer, swept_status}
 use Rattle.sync_driver.specs.Tellings.{Tells}
 use Rattle.sync_driver.proofs.Saying.{line_is_there}

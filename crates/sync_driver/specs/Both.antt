@@ -1,5 +1,5 @@
 -- What a sync of two targets tells.
-use Rattle.std.specs.Prelude.{◌≡◌, ◌⊎◌, ◌++◌, ◌+◌, ◌-◌, ◌^◌, ◌≤◌, ℕ, Bool, true, false, List, [], Option, Some, None, Result, Ok, Err, min}
+use Rattle.std.specs.Prelude.{◌≡◌, ◌⊎◌, ◌++◌, ◌+◌, ◌-◌, ◌^◌, ◌≤◌, ℕ, Bool, true, false, List, [], Option, Some, None, Ok, Err, min}
 use Rattle.lake_store.specs.Cause.{Rose}
 use Rattle.lake_store.specs.Disk.{Files}
 use Rattle.lake_store.specs.Runs.{FailsBy, OnlyReads}

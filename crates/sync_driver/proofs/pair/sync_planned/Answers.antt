@@ -1,4 +1,4 @@
-use Rattle.std.proofs.Common.{◌≡◌, sym, subst, inl, inr}
+use Rattle.std.proofs.Common.{◌≡◌, sym, subst}
 use Rattle.lake_store.specs.Disk.{Disk}
 use Rattle.target_sync.specs.Sources.{source_meaning}
 use Rattle.target_sync.specs.Targets.{target_facts}
@@ -6,11 +6,8 @@ use Rattle.target_sync.proofs.Owning.{own_laws}
 use Rattle.target_sync.proofs.Standing.{SourceLaws}
 use Rattle.target_sync.proofs.Syncing.{Laws}
 use Rattle.sync_driver.proofs.Pairs.{PairLaws}
-use Rattle.lake_store.specs.Runs.{ChangesOnlyIn}
-use Rattle.target_core.specs.Folders.{SameIn, folder_of}
 use Rattle.table_history.specs.declared.kind.Kind.{Kind}
 use Rattle.target_sync.specs.Applied.{CanApplyPlan}
-use Rattle.target_sync.specs.Plans.{IsDuePlan}
 use Rattle.target_sync.proofs.Finding.{found_of_source, plan_applied, read_refused}
 use Rattle.lake_store.proofs.RunLaws.{reading_begins}
 use Rattle.target_sync.proofs.Counting.{fails_never, uncontested_never}

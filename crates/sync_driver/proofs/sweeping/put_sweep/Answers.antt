@@ -1,5 +1,4 @@
 use Rattle.std.proofs.Common.{List, ℕ, Result, sym, subst}
-use Rattle.std.specs.Prelude.{Ok}
 use Rattle.lake_sweep.specs.declared.error.SweepError.{SweepError}
 use Rattle.lake_sweep.specs.declared.plan.Swept.{Swept}
 use Rattle.sync_driver.specs.Lines.{swept_lines}
