@@ -45,6 +45,9 @@ pub struct Links {
     owners: Chains,
 }
 
+// So many owners' numbers are added at once at least, since all chains are built anew for one more.
+const LEAST_OWNERS: u32 = 16;
+
 const FREE: u32 = 0;
 
 const IN_USE: u32 = 1;
@@ -114,9 +117,10 @@ fn free_count(chains: &Chains) -> u32
     }
 }
 
-// How many slots to add for so many free ones: none where they are there already, and else half as
-// many as there are at least, so that many small reservations cost no more than a few large ones.
-fn growth(chains: &Chains, wanted: u32) -> u32
+// How many slots to add for so many free ones: none where they are there already, and else so many at
+// least, and half as many as there are, so that many small reservations cost no more than a few large
+// ones.
+fn growth(chains: &Chains, wanted: u32, least: u32) -> u32
     requires { AreSound chains.now }
     ensures enough { wanted ≤ length (slots_in chains.now 0) → result ≡ 0 }
     ensures room { wanted ≤ result + length (slots_in chains.now 0) }
@@ -126,7 +130,7 @@ fn growth(chains: &Chains, wanted: u32) -> u32
         return 0;
     }
     let slots = chains.slot_count() as u32;
-    missing.max((slots / 2).min(END - slots))
+    missing.max((slots / 2).max(least).min(END - slots))
 }
 
 // A copy with this many chains at least, and with more free slots.
@@ -227,8 +231,8 @@ impl Links {
         ensures ok { OnOk result (Reserves self.old self.new owners rows) }
         ensures err { OnErr result (self.new ≡ self.old) }
     {
-        let more_owners = growth(&self.owners, owners);
-        let more_rows = growth(&self.rows, rows);
+        let more_owners = growth(&self.owners, owners, LEAST_OWNERS);
+        let more_rows = growth(&self.rows, rows, 0);
         if more_owners == 0 && more_rows == 0 {
             return Ok(());
         }
