@@ -1,11 +1,11 @@
 //! Commands that are run over a store in memory.
-use crate::files::{no_trouble, text_of};
 use crate::setting::{PLACE, Setting};
 use lake_batch::run_all;
 use lake_store::{Clock, FuseStore, MemorySink, MemoryStore};
 use source_hudi::HudiSource;
 use std::alloc::{AllocError, Global};
 use std::mem;
+use store_rows::{no_trouble, text_of};
 use sync_driver::{Mode, Report, sync_one};
 use target_delta::DeltaTarget;
 

@@ -1,5 +1,6 @@
 //! How commands are run.
 use lake_store::FixedClock;
+use rows::numbers_of;
 use std::alloc::{AllocError, Global};
 
 /// 2024-01-05 12:00:00 UTC.
@@ -41,18 +42,6 @@ pub(crate) fn clock_at(milliseconds: &str) -> Option<FixedClock> {
         Ok(milliseconds) if milliseconds < 1 << 63 => Some(FixedClock::new(milliseconds)),
         _ => None,
     }
-}
-
-/// The numbers, if the words are numbers.
-pub(crate) fn numbers_of(alloc: Global, words: &str) -> Result<Option<Vec<u64>>, AllocError> {
-    let mut numbers = Vec::new(alloc);
-    for word in words.split_whitespace() {
-        let Ok(number) = word.parse::<u64>() else {
-            return Ok(None);
-        };
-        numbers.push(number)?;
-    }
-    Ok(Some(numbers))
 }
 
 /// The numbers behind `fail`, if the words are these.

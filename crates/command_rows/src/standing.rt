@@ -1,8 +1,8 @@
 //! What a target stands at.
-use crate::files::text_of;
 use crate::setting::PLACE;
 use lake_store::{FuseStore, MemorySink, Text};
 use std::alloc::{AllocError, Global};
+use store_rows::text_of;
 use table_history::{Kind, Table};
 use table_lines::{put_lines, rows_in_order};
 use target_core::{Mark, Seen, Target};

@@ -1,10 +1,11 @@
 //! Commands with a trouble at each of their calls of the store.
-use crate::files::{copy_of, no_trouble};
 use crate::running::answer;
-use crate::setting::{Setting, numbers_of};
+use crate::setting::Setting;
 use crate::standing::{kinds_of, standing};
 use lake_store::{FuseStore, Script};
+use rows::numbers_of;
 use std::alloc::{AllocError, Global};
+use store_rows::{copy_of, no_trouble};
 
 /// The most calls of a command at which troubles are tried.
 const MOST_CALLS: u64 = 1000;

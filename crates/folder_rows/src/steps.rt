@@ -6,18 +6,10 @@ use crate::system::{put_out, show_clock, show_clock_at, show_held, show_system_c
 use crate::watch::{Call, Told, Watch, error_number};
 use crate::watched::Watched;
 use lake_system::{Access, FolderStore};
-use rows::{Step, Steps, bytes_of_hex};
+use rows::{Step, Steps, bytes_of_hex, first_of};
 use std::alloc::{AllocError, Global};
 use std::cell::RefCell;
 use std::{fs, io};
-
-/// The first of the words, and those behind it.
-pub(crate) fn first_of(words: &str) -> (&str, &str) {
-    match words.split_once(' ') {
-        Some(parts) => parts,
-        None => (words, ""),
-    }
-}
 
 /// What a row has made so far.
 #[derive(Drop)]

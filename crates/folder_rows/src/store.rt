@@ -1,8 +1,8 @@
 //! Steps on the store.
 use crate::shown::{show_done, show_line, show_no_step, show_refusal, show_text};
-use crate::steps::{FolderSteps, first_of};
+use crate::steps::FolderSteps;
 use lake_store::{Blob, Names, Store, StoreError, Text};
-use rows::Step;
+use rows::{Step, first_of};
 use std::alloc::{AllocError, Global};
 
 impl<'a> FolderSteps<'a> {

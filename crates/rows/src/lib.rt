@@ -11,9 +11,11 @@ mod hexadecimal;
 mod playing;
 mod script;
 mod shown;
+mod words;
 
 pub use files::play_files;
 pub use hexadecimal::{bytes_given, bytes_of_hex, hex_of};
 pub use playing::{Steps, play};
 pub use script::{Step, unended};
 pub use shown::{show_answer, show_error, show_no_step, show_refused};
+pub use words::{first_of, numbers_of};

@@ -5,7 +5,7 @@ use lake_store::{Blob, FuseStore, MemoryStore, Names, Script, Store, Text};
 use std::alloc::{AllocError, Global};
 
 /// The folders in which tables have metadata, and that of staged log compactions.
-pub(crate) const FOLDERS: &[&str] = &[
+const FOLDERS: &[&str] = &[
     "_delta_log",
     ".hoodie",
     ".hoodie/.lakebridge",
@@ -15,7 +15,7 @@ pub(crate) const FOLDERS: &[&str] = &[
 ];
 
 /// A script by which no call goes wrong.
-pub(crate) fn no_trouble(alloc: Global) -> Script {
+pub fn no_trouble(alloc: Global) -> Script {
     Script {
         failing: Vec::new(alloc),
         stop: None,
@@ -38,7 +38,7 @@ fn read(alloc: Global, store: &mut MemoryStore, path: &str) -> Result<Option<Blo
 }
 
 /// A store with the same files, all durable, whose calls go wrong as the script says.
-pub(crate) fn copy_of(
+pub fn copy_of(
     alloc: Global,
     store: &mut FuseStore,
     script: Script,
@@ -77,7 +77,7 @@ fn copy_between(
 }
 
 /// The bytes as a text, if they are one.
-pub(crate) fn text_of(alloc: Global, bytes: &[u8]) -> Result<String, AllocError> {
+pub fn text_of(alloc: Global, bytes: &[u8]) -> Result<String, AllocError> {
     match str::from_utf8(bytes) {
         Ok(text) => String::from_str(alloc, text),
         Err(_) => String::from_str(alloc, "no text"),

@@ -1,8 +1,7 @@
 //! Samples and events, shown.
-use crate::commands::first_of;
 use conformance::{Event, events, vector};
 use lake_basics::Items;
-use rows::hex_of;
+use rows::{first_of, hex_of};
 use std::alloc::{AllocError, Global};
 
 /// Shows a sample in hexadecimal digits.

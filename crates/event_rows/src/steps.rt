@@ -1,22 +1,22 @@
 //! The steps of rows of events.
-use crate::commands::{first_of, show_no_step};
 use crate::counts::show_counts;
 use crate::playing::{event_of, show_drill, show_play};
 use crate::samples::{show_event, show_vector};
 use conformance::Event;
-use rows::{Step, Steps};
+use rows::{Step, Steps, first_of, show_no_step};
 use std::alloc::{AllocError, Global};
 
 /// The events of a row so far.
 #[derive(Drop)]
-pub(crate) struct Lists {
+pub struct EventSteps {
     alloc: Global,
     events: Vec<Event>,
 }
 
-impl Lists {
-    pub(crate) fn new(alloc: Global) -> Lists {
-        Lists {
+impl EventSteps {
+    /// No events yet.
+    pub fn new(alloc: Global) -> EventSteps {
+        EventSteps {
             alloc,
             events: Vec::new(alloc),
         }
@@ -29,12 +29,12 @@ impl Lists {
                 self.events.push(event)?;
                 Ok(())
             }
-            None => show_no_step(step, shown),
+            None => show_no_step(shown, step),
         }
     }
 }
 
-impl Steps for Lists {
+impl Steps for EventSteps {
     fn begin(&mut self) -> Result<(), AllocError> {
         self.events = Vec::new(self.alloc);
         Ok(())

@@ -1,13 +1,11 @@
 //! Lists of events, played over a store without files, and drills.
-use crate::commands::first_of;
-use crate::files::no_trouble;
-use crate::setting::numbers_of;
 use conformance::Event;
 use lake_basics::{Blob, Items};
 use lake_play::{drill, play};
 use lake_store::{FuseStore, MemorySink, MemoryStore};
-use rows::Step;
+use rows::{Step, first_of, numbers_of};
 use std::alloc::{AllocError, Global};
+use store_rows::no_trouble;
 use table_history::{FileRows, Kind};
 use table_lines::rows_in_order;
 use target_core::{Seen, Target};
