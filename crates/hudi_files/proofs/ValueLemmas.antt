@@ -1,5 +1,5 @@
 -- A folder spells one list of values at most.
-use Rattle.std.proofs.Common.{◌≡◌, ℕ, zero, suc, ◌+◌, ◌<◌, List, [], ◌∷◌, ◌++◌, length, take, drop, get_or, map, Option, Some, None, Bor, refl, sym, ap, subst, ◌∙◌, arith}
+use Rattle.std.proofs.Common.{◌≡◌, ℕ, zero, suc, ◌+◌, ◌<◌, List, [], ◌∷◌, ◌++◌, length, take, drop, get_or, map, zip, Option, Some, None, Bor, refl, sym, ap, subst, ◌∙◌, arith}
 use Rattle.std.specs.Option.{option_map, option_and_then}
 use Rattle.std.proofs.lemmas.List.{append_assoc, take_more, drop_more, length-take, length-map, get_or-map}
 use Rattle.table_history.specs.declared.row.FileRow.{FileRow}
@@ -11,7 +11,7 @@ use Rattle.partition_map.proofs.StandsLemmas.{hive_same}
 use Rattle.partition_map.specs.Folder.{value_part, last_components}
 use Rattle.hudi_names.specs.declared.error.HudiError.{HudiError}
 use Rattle.hudi_names.specs.declared.error.HudiError.TheVariants.{Memory, Malformed, Unsupported, Limit}
-use Rattle.hudi_files.specs.Values.{PartStands, PartsStand, HasValues, HaveValues, ShowsNoValue, component_parts, value_parts}
+use Rattle.hudi_files.specs.Values.{PartStands, PartsStand, HasValues, HaveValues, ShowsNoValue, component_parts, value_parts, with_values}
 
 pub part_same : (style : FolderStyle) (kind : PartKind) (part : List ℕ) (v w : PartValue) → PartStands style kind part v → PartStands style kind part w → v ≡ w
 part_same style kind part v w h k =
@@ -52,6 +52,13 @@ pub row_pushed : (style : FolderStyle) (names : List (List ℕ)) (kinds : List P
     → HaveValues style names kinds files rows → HasValues style names kinds file row → HaveValues style names kinds (files ++ file ∷ []) (rows ++ row ∷ [])
 row_pushed style names kinds [] rows file row h has = (row, [], has, refl, ap (λ l. l ++ row ∷ []) h)
 row_pushed style names kinds (f ∷ fs) rows file row h has = (h.0, h.1 ++ row ∷ [], h.2, row_pushed style names kinds fs h.1 file row h.3 has, ap (λ l. l ++ row ∷ []) h.4)
+
+pub values_pushed : (files : List FileRow) (values : List (List PartValue)) (file : FileRow) (vs : List PartValue) → length files ≡ length values
+    → map with_values (zip files values) ++ with_values (file, vs) ∷ [] ≡ map with_values (zip (files ++ file ∷ []) (values ++ vs ∷ []))
+values_pushed [] [] file vs same = refl
+values_pushed [] (w ∷ ws) file vs same = absurd (omega (arith, same))
+values_pushed (f ∷ fs) [] file vs same = absurd (omega (arith, same))
+values_pushed (f ∷ fs) (w ∷ ws) file vs same = ap (λ l. with_values (f, w) ∷ l) (values_pushed fs ws file vs (omega (arith, same)))
 
 -- ---- the same by places of the lists
 abbrev pub now_of : Bor (List ℕ) → List ℕ
@@ -142,7 +149,11 @@ value_parts-length style names path parts h = by (last_components (length names)
     by None e = absurd cc
     by (Some components) e = component_parts-length style names components parts e
 
-pub rows_more : (style : FolderStyle) (names : List (List ℕ)) (kinds : List PartKind) (files rows : List FileRow) (i : ℕ) (file row : FileRow) → i < length files → file ≡ get_or files i file
-    → HaveValues style names kinds (take i files) rows → HasValues style names kinds file row → HaveValues style names kinds (take (i + 1) files) (rows ++ row ∷ [])
-rows_more style names kinds files rows i file row within is h has =
-    subst (λ l. HaveValues style names kinds l (rows ++ row ∷ [])) (ap (λ f. take i files ++ f ∷ []) is ∙ take_both files i file within) (row_pushed style names kinds (take i files) rows file row h has)
+pub values_more : (style : FolderStyle) (names : List (List ℕ)) (kinds : List PartKind) (files : List FileRow) (values : List (List PartValue)) (i : ℕ) (file : FileRow) (vs : List PartValue)
+    → i < length files → file ≡ get_or files i file → length values ≡ i → HaveValues style names kinds (take i files) (map with_values (zip (take i files) values))
+    → HasValues style names kinds file (with_values (file, vs)) → HaveValues style names kinds (take (i + 1) files) (map with_values (zip (take (i + 1) files) (values ++ vs ∷ [])))
+values_more style names kinds files values i file vs within is counted h has =
+    let front = take i files in
+    subst (λ l. HaveValues style names kinds l (map with_values (zip l (values ++ vs ∷ [])))) (ap (λ f. front ++ f ∷ []) is ∙ take_both files i file within)
+    (subst (HaveValues style names kinds (front ++ file ∷ [])) (values_pushed front values file vs (omega (arith, length-take i files)))
+    (row_pushed style names kinds front (map with_values (zip front values)) file (with_values (file, vs)) h has))

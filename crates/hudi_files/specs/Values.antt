@@ -44,6 +44,10 @@ PartsStand style (kind ∷ kinds) [] vs = ⊥
 PartsStand style (kind ∷ kinds) (part ∷ parts) vs =
     (first : PartValue) × (rest : List PartValue) × PartStands style kind part first × PartsStand style kinds parts rest × (vs ≡ first ∷ rest)
 
+-- the row of a file, with these values
+abbrev pub with_values : Row × List PartValue → Row
+with_values p = record { path = p.0.path; values = p.1; count = p.0.count; size = p.0.size }
+
 -- the row of a file, with the values that its folder spells
 pub record HasValues (style : FolderStyle) (names : List (List ℕ)) (kinds : List PartKind) (bare row : Row) : Type 0 where
   pub parts : List (List ℕ)

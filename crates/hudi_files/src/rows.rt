@@ -1,7 +1,7 @@
 //! The rows that the write stats of an instant make.
 
 ghost use Rattle.std.specs.Prelude.{◌≡◌, [], ℕ, List, length, map, option_map, true, Contains, IfOk, IfErr, IfSome, IsTrue, vec_len, Ok};
-ghost use Rattle.std.specs.List.{list_any};
+ghost use Rattle.std.specs.List.{list_any, zip};
 ghost use Rattle.std.specs.Str.{is_utf8};
 ghost use Rattle.std.specs.Borrow.{Bor};
 ghost use Rattle.lake_basics.specs.Outcome.{each};
@@ -12,7 +12,7 @@ ghost use Rattle.hudi_names.specs.Errors.{Gives};
 ghost use Rattle.hudi_groups.specs.Files.{suffix_of, without_end};
 ghost use Rattle.hudi_files.specs.Stats.{bare_row, is_external, has_other_id, is_other_file, name_fault};
 ghost use Rattle.hudi_files.specs.FileFaults.{OnlyFeature, IsFileFault, IsFolderFault, IsRowFault, IsSomeRowFault};
-ghost use Rattle.hudi_files.specs.Values.{style_of, component_parts, value_parts, is_in_folder, are_in_folders, PartStands, PartsStand, HasValues, HaveValues, ShowsNoValue, SpellsNoValues};
+ghost use Rattle.hudi_files.specs.Values.{style_of, component_parts, value_parts, is_in_folder, are_in_folders, with_values, PartStands, PartsStand, HasValues, HaveValues, ShowsNoValue, SpellsNoValues};
 
 use hudi_groups::{Form, file_id_in, folder_of, suffix_of, without_end};
 use hudi_instant::Stat;
@@ -326,52 +326,71 @@ fn part_values(
     Ok(values)
 }
 
-fn row_with_values(
+/// The values of the file whose folder has these parts.
+fn values_of(
     alloc: Global,
     style: FolderStyle,
     kinds: &[PartKind],
     parts: &Option<Vec<&str>>,
     file: &FileRow,
-) -> Result<FileRow, HudiError>
+) -> Result<Values, HudiError>
     requires counted { IfSome parts.now (λ found. length kinds.now ≡ length found.items) }
     ensures ok { (names : List (List ℕ))
         → option_map texts_of parts.now ≡ value_parts style names file.now.path
-        → IfOk result (HasValues style names kinds.now file.now) }
+        → IfOk result (λ values. HasValues style names kinds.now file.now
+        (with_values (file.now, values))) }
     ensures refused { (names : List (List ℕ))
         → option_map texts_of parts.now ≡ value_parts style names file.now.path
         → IfErr result (OnlyFeature (IsRowFault style names kinds.now file.now)) }
 {
     let parts = parts.as_ref().ok_or(PARTITION_PATH)?;
-    let values = part_values(alloc, style, kinds, parts.as_slice())?;
-    Ok(FileRow {
-        path: file.path.copy(alloc)?,
-        values,
-        count: file.count,
-        size: file.size,
-    })
+    part_values(alloc, style, kinds, parts.as_slice())
 }
 
-/// The rows of the files, each with the values that its folder spells. A folder is read once for
-/// all its files that stand one behind another.
-fn rows_with_values(
+/// The values of the files, which their folders spell. A folder is read once for all its files that
+/// stand one behind another.
+fn all_values(
     alloc: Global,
     style: FolderStyle,
     names: &[Text],
     kinds: &[PartKind],
     files: &[FileRow],
-) -> Result<Items<FileRow>, HudiError>
+) -> Result<Vec<Values>, HudiError>
     requires { length kinds.now ≡ length names.now }
-    ensures ok { IfOk result (HaveValues style names.now kinds.now files.now) }
+    ensures ok { IfOk result (λ values. HaveValues style names.now kinds.now files.now
+        (map with_values (zip files.now values.items))) }
     ensures refused { IfErr result
         (OnlyFeature (IsSomeRowFault style names.now kinds.now files.now)) }
 {
-    let mut rows = Items::new(alloc);
+    let mut all = Vec::with_capacity(alloc, files.len())?;
     let mut folder = folder_parts(alloc, style, names, "")?;
     for file in files {
         folder = next_parts(alloc, style, names, folder, file.path.as_str())?;
-        rows.push(row_with_values(alloc, style, kinds, &folder.parts, file)?)?;
+        all.push(values_of(alloc, style, kinds, &folder.parts, file)?)?;
     }
-    Ok(rows)
+    Ok(all)
+}
+
+/// The files with these values, each with those in its place.
+fn with_values(
+    alloc: Global,
+    files: Items<FileRow>,
+    values: Vec<Values>,
+) -> Result<Items<FileRow>, AllocError>
+    ensures { IfOk result (λ rows. rows ≡ map with_values (zip files values.items)) }
+{
+    let rows = files
+        .into_vec()
+        .into_iter()
+        .zip(values)
+        .map(|(file, values)| FileRow {
+            path: file.path,
+            values,
+            count: file.count,
+            size: file.size,
+        })
+        .collect(alloc)?;
+    Ok(Items::from_vec(rows))
 }
 
 // ---- both
@@ -394,17 +413,17 @@ pub fn rows_of(
     table: &HudiTable,
     kinds: &[PartKind],
     stats: &[Stat],
-    files: &[FileRow],
+    files: Items<FileRow>,
 ) -> Result<Items<FileRow>, HudiError>
     requires counted { length kinds.now ≡ length table.now.partition }
     ensures names { IfOk result (λ _. name_fault form.now (suffix_of form.now) stats.now ≡ None) }
     ensures inside { IfOk result
-        (λ _. are_in_folders (style_of table.now) table.now.partition files.now ≡ true) }
+        (λ _. are_in_folders (style_of table.now) table.now.partition files ≡ true) }
     ensures values { IfOk result
-        (HaveValues (style_of table.now) table.now.partition kinds.now files.now) }
+        (HaveValues (style_of table.now) table.now.partition kinds.now files) }
     ensures refused { IfErr result (OnlyFeature
         (IsFileFault (name_fault form.now (suffix_of form.now) stats.now)
-        (style_of table.now) table.now.partition kinds.now files.now)) }
+        (style_of table.now) table.now.partition kinds.now files)) }
 {
     let suffix = suffix_of(alloc, form)?;
     if let Some(feature) = name_fault(form, suffix.as_slice(), stats) {
@@ -424,17 +443,36 @@ fn rows_in_folders(
     style: FolderStyle,
     names: &[Text],
     kinds: &[PartKind],
-    files: &[FileRow],
+    files: Items<FileRow>,
 ) -> Result<Items<FileRow>, HudiError>
     requires counted { length kinds.now ≡ length names.now }
+    ensures inside { IfOk result (λ _. are_in_folders style names.now files ≡ true) }
+    ensures values { IfOk result (HaveValues style names.now kinds.now files) }
+    ensures refused { IfErr result (OnlyFeature (IsFolderFault style names.now kinds.now files)) }
+{
+    let values = values_in_folders(alloc, style, names, kinds, files.as_slice())?;
+    Ok(with_values(alloc, files, values)?)
+}
+
+/// The values of the files in these folders. That a file isn't in a folder of the partition columns
+/// is told first.
+fn values_in_folders(
+    alloc: Global,
+    style: FolderStyle,
+    names: &[Text],
+    kinds: &[PartKind],
+    files: &[FileRow],
+) -> Result<Vec<Values>, HudiError>
+    requires counted { length kinds.now ≡ length names.now }
     ensures inside { IfOk result (λ _. are_in_folders style names.now files.now ≡ true) }
-    ensures values { IfOk result (HaveValues style names.now kinds.now files.now) }
+    ensures values { IfOk result (λ values. HaveValues style names.now kinds.now files.now
+        (map with_values (zip files.now values.items))) }
     ensures refused { IfErr result
         (OnlyFeature (IsFolderFault style names.now kinds.now files.now)) }
 {
-    let rows = rows_with_values(alloc, style, names, kinds, files);
-    if rows.is_err() && !are_in_folders(alloc, style, names, files)? {
+    let values = all_values(alloc, style, names, kinds, files);
+    if values.is_err() && !are_in_folders(alloc, style, names, files)? {
         return Err(PARTITION_PATH);
     }
-    rows
+    values
 }

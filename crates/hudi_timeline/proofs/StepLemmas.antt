@@ -56,29 +56,25 @@ module _ (form : Form) (instant : Instant) (table : HudiTable) (base : Option Ta
       pub kinds_counted : length kinds ≡ length table.partition
       kinds_counted = sym (length-map kinds Some) ∙ ap length (sym all_are) ∙ length-map table.partition (column_kind schema)
 
-      module _ (kind_slice : List PartKind) (kind_slice_is : kind_slice ≡ kinds) (file_slice : List FileRow) (file_slice_is : file_slice ≡ files) where
-        pub rows_refused : (e : HudiError) → OnlyFeature (IsFileFault (name_fault form (suffix_of form) stats) (style_of table) table.partition kind_slice file_slice) e → IsRefusalOf u table base e
+      module _ (kind_slice : List PartKind) (kind_slice_is : kind_slice ≡ kinds) where
+        pub rows_refused : (e : HudiError) → OnlyFeature (IsFileFault (name_fault form (suffix_of form) stats) (style_of table) table.partition kind_slice files) e → IsRefusalOf u table base e
         rows_refused e h =
             file_refusal u table base files read_all stated states schema after kinds all_distinct all_are all_kept e
             (subst (λ l. OnlyFeature (IsFileFault (name_fault form (suffix_of form) l) (style_of table) table.partition kinds files) e) stats_is
-            (subst (λ l. OnlyFeature (IsFileFault (name_fault form (suffix_of form) stats) (style_of table) table.partition l files) e) kind_slice_is
-            (subst (λ l. OnlyFeature (IsFileFault (name_fault form (suffix_of form) stats) (style_of table) table.partition kind_slice l) e) file_slice_is h)))
+            (subst (λ l. OnlyFeature (IsFileFault (name_fault form (suffix_of form) stats) (style_of table) table.partition l files) e) kind_slice_is h))
 
-        module _ (rows : List FileRow) (named : name_fault form (suffix_of form) stats ≡ None) (inside : are_in_folders (style_of table) table.partition file_slice ≡ true)
-            (have : HaveValues (style_of table) table.partition kind_slice file_slice rows) (replaced : List (List ℕ × List ℕ)) (replaced_is : replaced ≡ instant.replaced)
+        module _ (rows : List FileRow) (named : name_fault form (suffix_of form) stats ≡ None) (inside : are_in_folders (style_of table) table.partition files ≡ true)
+            (have : HaveValues (style_of table) table.partition kind_slice files rows) (replaced : List (List ℕ × List ℕ)) (replaced_is : replaced ≡ instant.replaced)
             (before : List FileRow) (before_is : before ≡ rows_before base) where
           all_named : name_fault form (suffix_of form) instant.stats ≡ None
           all_named = subst (λ l. name_fault form (suffix_of form) l ≡ None) stats_is named
 
-          all_inside : are_in_folders (style_of table) table.partition files ≡ true
-          all_inside = subst (λ l. are_in_folders (style_of table) table.partition l ≡ true) file_slice_is inside
-
           all_have : HaveValues (style_of table) table.partition kinds files rows
-          all_have = subst (λ l. HaveValues (style_of table) table.partition l files rows) kind_slice_is (subst (λ l. HaveValues (style_of table) table.partition kind_slice l rows) file_slice_is have)
+          all_have = subst (λ l. HaveValues (style_of table) table.partition l files rows) kind_slice_is have
 
           pub change_refused : (e : HudiError) → PassesLimitAfter form table schema replaced before rows e → IsRefusalOf u table base e
           change_refused e h =
-              limit_refusal u table base files read_all stated states schema after kinds all_distinct all_are all_kept rows all_named all_inside all_have e
+              limit_refusal u table base files read_all stated states schema after kinds all_distinct all_are all_kept rows all_named inside all_have e
               (subst (λ l. PassesLimitAfter form table schema l (rows_before base) rows e) replaced_is (subst (λ l. PassesLimitAfter form table schema replaced l rows e) before_is h))
 
           module _ (sound : (s : ColumnTrees) → stated ≡ Some s → IsSound s) (group : Change) (is : IsGroupChange form table schema replaced before rows group) where
@@ -89,10 +85,10 @@ module _ (form : Form) (instant : Instant) (table : HudiTable) (base : Option Ta
             change = record { schema = stated; removed = group.removed; added = group.added }
 
             pub found : IsChangeOf u table base change
-            found = is_change u table base files read_all stated states schema after kinds all_distinct all_are all_kept rows all_named all_inside all_have sound group all_is
+            found = is_change u table base files read_all stated states schema after kinds all_distinct all_are all_kept rows all_named inside all_have sound group all_is
 
             pub live : LeavesLive u table base change
             live = leaves_live u table base change found
 
             pub goes_on : GoesOn table base change
-            goes_on = made_goes_on u table base files read_all stated states schema after kinds all_distinct all_are all_kept rows all_named all_inside all_have sound group all_is
+            goes_on = made_goes_on u table base files read_all stated states schema after kinds all_distinct all_are all_kept rows all_named inside all_have sound group all_is

@@ -45,14 +45,7 @@ pub fn change_of(
     let stated = stated_schema(alloc, &instant.schema)?;
     let schema = schema_after(&stated, base)?;
     let kinds = partition_kinds(alloc, schema, table.partition.as_slice(), base)?;
-    let rows = rows_of(
-        alloc,
-        form,
-        table,
-        kinds.as_slice(),
-        stats,
-        files.as_slice(),
-    )?;
+    let rows = rows_of(alloc, form, table, kinds.as_slice(), stats, files)?;
     let change = group_change(
         alloc,
         form,

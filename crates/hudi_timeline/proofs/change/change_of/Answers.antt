@@ -92,7 +92,7 @@ returns-in_err-rows-clause-refused c =
     rw (p.1, p.2) (rows_refused c.args.form.now c.args.instant.now c.args.table.now (option_copied c.args.base) c.as_slice-stats.result.now c.as_slice-stats.ensures c.in_ok-files.files c.in_ok-files.ensures
     c.in_ok-stated.stated c.in_ok-stated.ensures.ok c.in_ok-schema.schema.now c.in_ok-schema.ensures.found c.as_slice.result.now c.as_slice.ensures
     c.in_ok-kinds.kinds.items c.in_ok-kinds.ensures.distinct c.in_ok-kinds.ensures.kinds c.in_ok-kinds.ensures.kept
-    c.as_slice-2.result.now c.as_slice-2.ensures.value c.as_slice-3.result.now c.as_slice-3.ensures c.in_err-rows.field-0.0 c.in_err-rows.ensures.refused)
+    c.as_slice-2.result.now c.as_slice-2.ensures.value c.in_err-rows.field-0.0 c.in_err-rows.ensures.refused)
 
 pub returns-in_err-rows-clause-goes_on : goal.returns-in_err-rows-clause-goes_on
 returns-in_err-rows-clause-goes_on c = let p = err_from_is_err_and c.from_residual-in_err-rows.result c.from_residual-in_err-rows.ensures.1 in rw p.1 tt
@@ -109,8 +109,8 @@ returns-in_err-change-clause-refused c =
     rw (p.1, p.2) (change_refused c.args.form.now c.args.instant.now c.args.table.now (option_copied c.args.base) c.as_slice-stats.result.now c.as_slice-stats.ensures c.in_ok-files.files c.in_ok-files.ensures
     c.in_ok-stated.stated c.in_ok-stated.ensures.ok c.in_ok-schema.schema.now c.in_ok-schema.ensures.found c.as_slice.result.now c.as_slice.ensures
     c.in_ok-kinds.kinds.items c.in_ok-kinds.ensures.distinct c.in_ok-kinds.ensures.kinds c.in_ok-kinds.ensures.kept
-    c.as_slice-2.result.now c.as_slice-2.ensures.value c.as_slice-3.result.now c.as_slice-3.ensures
-    c.in_ok-rows.rows c.in_ok-rows.ensures.names c.in_ok-rows.ensures.inside c.in_ok-rows.ensures.values c.as_slice-4.result.now c.as_slice-4.ensures (rows_before (option_copied c.args.base)) refl
+    c.as_slice-2.result.now c.as_slice-2.ensures.value
+    c.in_ok-rows.rows c.in_ok-rows.ensures.names c.in_ok-rows.ensures.inside c.in_ok-rows.ensures.values c.as_slice-3.result.now c.as_slice-3.ensures (rows_before (option_copied c.args.base)) refl
     c.in_err-change.field-0.0 c.in_err-change.ensures.refused)
 
 pub returns-in_err-change-clause-goes_on : goal.returns-in_err-change-clause-goes_on
@@ -121,8 +121,8 @@ returns-clause-found c =
     found c.args.form.now c.args.instant.now c.args.table.now (option_copied c.args.base) c.as_slice-stats.result.now c.as_slice-stats.ensures c.in_ok-files.files c.in_ok-files.ensures
     c.in_ok-stated.stated c.in_ok-stated.ensures.ok c.in_ok-schema.schema.now c.in_ok-schema.ensures.found c.as_slice.result.now c.as_slice.ensures
     c.in_ok-kinds.kinds.items c.in_ok-kinds.ensures.distinct c.in_ok-kinds.ensures.kinds c.in_ok-kinds.ensures.kept
-    c.as_slice-2.result.now c.as_slice-2.ensures.value c.as_slice-3.result.now c.as_slice-3.ensures
-    c.in_ok-rows.rows c.in_ok-rows.ensures.names c.in_ok-rows.ensures.inside c.in_ok-rows.ensures.values c.as_slice-4.result.now c.as_slice-4.ensures (rows_before (option_copied c.args.base)) refl
+    c.as_slice-2.result.now c.as_slice-2.ensures.value
+    c.in_ok-rows.rows c.in_ok-rows.ensures.names c.in_ok-rows.ensures.inside c.in_ok-rows.ensures.values c.as_slice-3.result.now c.as_slice-3.ensures (rows_before (option_copied c.args.base)) refl
     c.in_ok-stated.ensures.sound c.in_ok-change.change c.in_ok-change.ensures.change
 
 pub returns-clause-live : goal.returns-clause-live
@@ -130,8 +130,8 @@ returns-clause-live c =
     live c.args.form.now c.args.instant.now c.args.table.now (option_copied c.args.base) c.as_slice-stats.result.now c.as_slice-stats.ensures c.in_ok-files.files c.in_ok-files.ensures
     c.in_ok-stated.stated c.in_ok-stated.ensures.ok c.in_ok-schema.schema.now c.in_ok-schema.ensures.found c.as_slice.result.now c.as_slice.ensures
     c.in_ok-kinds.kinds.items c.in_ok-kinds.ensures.distinct c.in_ok-kinds.ensures.kinds c.in_ok-kinds.ensures.kept
-    c.as_slice-2.result.now c.as_slice-2.ensures.value c.as_slice-3.result.now c.as_slice-3.ensures
-    c.in_ok-rows.rows c.in_ok-rows.ensures.names c.in_ok-rows.ensures.inside c.in_ok-rows.ensures.values c.as_slice-4.result.now c.as_slice-4.ensures (rows_before (option_copied c.args.base)) refl
+    c.as_slice-2.result.now c.as_slice-2.ensures.value
+    c.in_ok-rows.rows c.in_ok-rows.ensures.names c.in_ok-rows.ensures.inside c.in_ok-rows.ensures.values c.as_slice-3.result.now c.as_slice-3.ensures (rows_before (option_copied c.args.base)) refl
     c.in_ok-stated.ensures.sound c.in_ok-change.change c.in_ok-change.ensures.change
 
 pub returns-clause-goes_on : goal.returns-clause-goes_on
@@ -139,6 +139,6 @@ returns-clause-goes_on c =
     goes_on c.args.form.now c.args.instant.now c.args.table.now (option_copied c.args.base) c.as_slice-stats.result.now c.as_slice-stats.ensures c.in_ok-files.files c.in_ok-files.ensures
     c.in_ok-stated.stated c.in_ok-stated.ensures.ok c.in_ok-schema.schema.now c.in_ok-schema.ensures.found c.as_slice.result.now c.as_slice.ensures
     c.in_ok-kinds.kinds.items c.in_ok-kinds.ensures.distinct c.in_ok-kinds.ensures.kinds c.in_ok-kinds.ensures.kept
-    c.as_slice-2.result.now c.as_slice-2.ensures.value c.as_slice-3.result.now c.as_slice-3.ensures
-    c.in_ok-rows.rows c.in_ok-rows.ensures.names c.in_ok-rows.ensures.inside c.in_ok-rows.ensures.values c.as_slice-4.result.now c.as_slice-4.ensures (rows_before (option_copied c.args.base)) refl
+    c.as_slice-2.result.now c.as_slice-2.ensures.value
+    c.in_ok-rows.rows c.in_ok-rows.ensures.names c.in_ok-rows.ensures.inside c.in_ok-rows.ensures.values c.as_slice-3.result.now c.as_slice-3.ensures (rows_before (option_copied c.args.base)) refl
     c.in_ok-stated.ensures.sound c.in_ok-change.change c.in_ok-change.ensures.change
