@@ -1,6 +1,6 @@
 //! The instant that a commit is written as.
 
-ghost use Rattle.std.specs.Prelude.{◌≡◌, ◌<◌, ◌≤◌, ◌+◌, ◌∷◌, [], IfErr, IfOk, IfSome, IsErrOf, IsSome, List, OnOk, Ok, Some, ℕ, ℤ, length};
+ghost use Rattle.std.specs.Prelude.{◌≡◌, ◌<◌, ◌≤◌, ◌+◌, ◌∷◌, [], IfErr, IfOk, IfSome, IsErrOf, OnOk, Ok, Some, ℤ, length};
 ghost use Rattle.std.specs.Cmp.Lexicographic.{slice_cmp};
 ghost use Rattle.std.specs.Option.{option_copied};
 ghost use Rattle.std.specs.Ordering.{nat_cmp};
