@@ -1,11 +1,10 @@
 -- The list of a new version isn't too long.
 use Rattle.std.proofs.Common.{◌≡◌, ◌≢◌, ⊎_elim, ℕ, suc, ◌+◌, ◌≤◌, List, [], ◌∷◌, ◌++◌, map, length, Bool, true, false, cond, ltb, nat_eq, Contains, refl, sym, ap, subst, ◌∙◌, arith}
-use Rattle.std.specs.List.{AllByRecursion, IsDistinct, filter}
+use Rattle.std.specs.List.{IsDistinct, filter}
 use Rattle.std.specs.Str.{bytes_eq}
-use Rattle.std.proofs.lemmas.Bool.{cases_Bool, false≢true, lt-ltb}
+use Rattle.std.proofs.lemmas.Bool.{false≢true, lt-ltb}
 use Rattle.std.proofs.lemmas.Bool.Decides.{Decides-eqb}
 use Rattle.std.proofs.lemmas.Map.Keys.{IsDistinct-cons, IsDistinct-head, IsDistinct-tail}
-use Rattle.std.proofs.lemmas.Slice.Eq.{bytes_eq-Decides}
 use Rattle.file_links.specs.Rows.{Entry, OwnedRows, Owns}
 use Rattle.file_links.specs.declared.slots.Held.{Held}
 use Rattle.table_history.specs.Row.{Row}
@@ -14,10 +13,9 @@ use Rattle.table_history.proofs.RowListLemmas.{Contains-cases, Contains-head, Co
 use Rattle.iceberg_version.specs.KeptEnd.{held_rows, live_manifest}
 use Rattle.iceberg_version.specs.Manifests.{LiveManifest, has_rows}
 use Rattle.iceberg_version.specs.Sound.{AreRowsOf, OwnEachPath}
-use Rattle.iceberg_version.specs.declared.kept.IcebergKept.{IcebergKept}
 use Rattle.iceberg_version.specs.declared.kept.KeptManifest.{KeptManifest}
-use Rattle.iceberg_version.proofs.BehindLemmas.{fewer, rows_length}
-use Rattle.iceberg_version.proofs.HeldLemmas.{in_map}
+use Rattle.iceberg_version.proofs.BehindLemmas.{apart_all, fewer, rows_length}
+use Rattle.iceberg_version.proofs.Shared.{in_map}
 
 -- the path of the first row, if there is one
 first_path : List Held → List (List ℕ)
@@ -62,13 +60,6 @@ first_of links (m ∷ ms) path there = by (held_rows links m.owner) refl there (
         (λ same. record { m = m; in_list = Contains-head m ms; held = h; is = subst (λ l. Contains l h) (sym are) (Contains-head h rows); at = same })
         (λ more. later (rest more))
         (Contains-cases h.row.path (first_paths links ms) path here)
-
-apart_all : (x : List ℕ) (ys : List (List ℕ)) → (Contains ys x → ⊥) → AllByRecursion (λ y. bytes_eq x y ≡ false) ys
-apart_all x [] none = tt
-apart_all x (y ∷ ys) none = (
-  ⊎_elim (λ yes. absurd (none (subst (λ z. Contains (y ∷ ys) z) (sym ((bytes_eq-Decides x y).0 yes)) (Contains-head y ys)))) (λ no. no) (cases_Bool (bytes_eq x y)),
-  apart_all x ys (λ there. none (Contains-tail y ys x there)),
-)
 
 module _ (links : OwnedRows) (own : OwnEachPath links) (owned : (m : KeptManifest) (held : Held) → Contains (held_rows links m.owner) held → (e : Entry) × Owns links m.owner e × (e.held ≡ held)) where
   own_firsts : (ms : List KeptManifest) → IsDistinct nat_eq (map (λ m. m.owner) ms) → IsDistinct bytes_eq (first_paths links ms)

@@ -1,15 +1,14 @@
 -- What holds of all that is kept behind a commit.
-use Rattle.std.proofs.Common.{◌≡◌, Bor, inl, inr, ⊎_elim, ℕ, ◌<◌, ◌≤◌, ◌^◌, ◌&&◌, Bool, true, false, cond, nat_eq, nat_le, nat_lt, List, [], ◌∷◌, ◌++◌, map, filter, length, drop, not, Contains, Option, Some, None, IsSome, refl, sym, ap, subst, ◌∙◌, arith}
+use Rattle.std.proofs.Common.{◌≡◌, Bor, inl, inr, ⊎_elim, ℕ, ◌<◌, ◌≤◌, ◌^◌, ◌&&◌, Bool, true, false, cond, nat_eq, nat_le, List, [], ◌∷◌, ◌++◌, map, filter, length, not, Contains, Option, Some, None, IsSome, refl, sym, ap, subst, ◌∙◌, arith}
 use Rattle.std.specs.Prelude.{is_some, slice_get, unwrap_or}
 use Rattle.std.specs.List.{IsDistinct, list_all, list_any}
 use Rattle.std.specs.Str.{bytes_eq}
 use Rattle.std.proofs.Math.Logic.{∥∥₁_elim, ∥∥₁_map}
-use Rattle.std.proofs.lemmas.Bool.Decides.{nat_tests}
-use Rattle.std.proofs.lemmas.List.{length-map, length-take}
+use Rattle.std.proofs.lemmas.List.{length-map}
 use Rattle.std.proofs.lemmas.List.Elements.{Contains-append_cases}
 use Rattle.std.proofs.lemmas.List.Folds.{list_all-map}
 use Rattle.std.proofs.lemmas.Map.Keys.{IsDistinct-prop}
-use Rattle.std.proofs.lemmas.Option.{slice_get-get_or, slice_get_cases}
+use Rattle.std.proofs.lemmas.Option.{slice_get-get_or}
 use Rattle.std.proofs.lemmas.Slice.Eq.{bytes_eq-Decides}
 use Rattle.lake_basics.specs.declared.limits.TheConstants.{MAX_LIVE_FILES, MAX_MANIFEST_ENTRIES}
 use Rattle.schema_map.specs.Image.{wide_columns}
@@ -23,7 +22,7 @@ use Rattle.table_history.specs.TypeTree.{ColumnTrees}
 use Rattle.table_history.specs.declared.table.Change.{Change}
 use Rattle.table_history.specs.declared.table.Commit.{Commit}
 use Rattle.table_history.specs.declared.table.Table.{Table}
-use Rattle.table_history.proofs.RowListLemmas.{Contains-cases, Contains-filter, Contains-head, Contains-none, Contains-tail}
+use Rattle.table_history.proofs.RowListLemmas.{Contains-filter}
 use Rattle.table_history.proofs.TableLemmas.{distinct_order}
 use Rattle.file_links.specs.Rows.{Entry, HoldsPath, OwnedRows, Owns, joined, rows_of}
 use Rattle.file_links.specs.declared.slots.Held.{Held}
@@ -36,14 +35,15 @@ use Rattle.iceberg_version.specs.Advance.{Advances, HoldsJustBehind, IsPlaced, a
 use Rattle.iceberg_commit.specs.Behind.{AreAddedParts, IsTableBehind}
 use Rattle.iceberg_version.specs.Carrying.{IsNextList, parts_at, rows_at}
 use Rattle.iceberg_version.specs.KeptEnd.{held_rows, live_manifest, manifests_of, view_of}
-use Rattle.iceberg_version.specs.Manifests.{AreParts, LiveManifest, NextManifest, added_manifest, born_at, carried, has_rows, is_lost, left, new, rewritten_entries, stays}
+use Rattle.iceberg_version.specs.Manifests.{LiveManifest, NextManifest, added_manifest, born_at, carried, has_rows, is_lost, left, new, rewritten_entries, stays}
 use Rattle.iceberg_version.specs.Sound.{AreRowsOf, are_of, has_content, is_born, is_of, is_own_image, is_sound_owner}
 use Rattle.iceberg_version.specs.declared.carrying.Next.{Next}
 use Rattle.iceberg_version.specs.declared.kept.IcebergKept.{IcebergKept}
 use Rattle.iceberg_version.specs.declared.kept.KeptManifest.{KeptManifest}
-use Rattle.iceberg_version.proofs.LinkLemmas.{mapped_from, mapped_there}
 use Rattle.iceberg_version.proofs.ListLemmas.{next_added, next_placed, parts_joined}
 use Rattle.iceberg_version.proofs.NextLemmas.{all_next}
+use Rattle.iceberg_version.proofs.Shared.{all_tested, in_map, le_by, le_test, lt_by, lt_test, of_map, slice_there}
+use Rattle.iceberg_commit.proofs.MadeLemmas.{part_short}
 use Rattle.iceberg_commit.proofs.WideLemmas.{values_fit}
 
 -- ---- the table
@@ -65,13 +65,6 @@ module _ (old table : Table) (change : Change) (behind : IsTableBehind old chang
 
 -- ---- rows by owner
 
-slice_there : {X : Type 0} (xs : List X) (i : ℕ) (x : X) → slice_get xs i ≡ Some x → Contains xs x
-slice_there xs i x is =
-    ⊎_elim
-    (λ h. let same : h.0 ≡ x = let both : Some h.0 ≡ Some x = sym h.2 ∙ is in cc in subst (Contains xs) same (i, h.1, h.3))
-    (λ past. let no : None ≡ Some x = sym past.1 ∙ is in absurd (cc))
-    (slice_get_cases xs i).1
-
 owner_there : (o : Option (Option (List Entry))) (rows : List Entry) → joined o ≡ Some rows → o ≡ Some (Some rows)
 owner_there None rows is = absurd (cc)
 owner_there (Some o) rows is = ap (λ (p : Option (List Entry)). Some p) is
@@ -84,20 +77,16 @@ of_path rows links are owner e owns =
     let found = any_to (λ (row : Row). bytes_eq row.path e.held.row.path) rows (all_from (is_of rows) owns.0 e here owns.2) in
     (found.0, found.1, (bytes_eq-Decides found.0.path e.held.row.path).0 found.2)
 
-all_by : {X : Type 0} (p : X → Bool) (xs : List X) → ((x : X) → Contains xs x → p x ≡ true) → list_all p xs ≡ true
-all_by p [] all = refl
-all_by p (x ∷ xs) all = both_are (p x) (list_all p xs) (all x (Contains-head x xs)) (all_by p xs (λ y there. all y (Contains-tail x xs y there)))
-
 paths_by : (rows : List Row) (links : OwnedRows) → ((owner : ℕ) (e : Entry) → Owns links owner e → HasPath rows e.held.row.path) → (owned : Option (List Entry)) → Contains links.owners owned → list_all (is_of rows) (unwrap_or owned []) ≡ true
 paths_by rows links all None there = refl
 paths_by rows links all (Some entries) there =
     let at : rows_of links there.0 ≡ Some entries = ap joined (slice_get-get_or links.owners there.0 (Some entries) there.1 ∙ ap (λ (o : Option (List Entry)). Some o) there.2) in
-    all_by (is_of rows) entries (λ e within.
+    all_tested (is_of rows) entries (λ e within.
     let path = all there.0 e (entries, at, within) in
     any_from (λ (row : Row). bytes_eq row.path e.held.row.path) rows path.0 path.1 ((bytes_eq-Decides path.0.path e.held.row.path).1 path.2))
 
 pub of_all : (rows : List Row) (links : OwnedRows) → ((owner : ℕ) (e : Entry) → Owns links owner e → HasPath rows e.held.row.path) → are_of rows links ≡ true
-of_all rows links all = all_by (λ (owned : Option (List Entry)). list_all (is_of rows) (unwrap_or owned [])) links.owners (paths_by rows links all)
+of_all rows links all = all_tested (λ (owned : Option (List Entry)). list_all (is_of rows) (unwrap_or owned [])) links.owners (paths_by rows links all)
 
 -- ---- sound owners
 
@@ -106,25 +95,13 @@ record AreFew (rows : List Held) : Type 0 where
   pub count : length rows ≤ MAX_LIVE_FILES
   pub born : (h : Held) → Contains rows h → h.born < 2 ^ 63
 
-le_by : (n m : ℕ) → nat_le n m ≡ true → n ≤ m
-le_by n m is = grind (arith, nat_tests)
-
-le_test : (n m : ℕ) → n ≤ m → nat_le n m ≡ true
-le_test n m is = grind (arith, nat_tests)
-
-lt_by : (n m : ℕ) → nat_lt n m ≡ true → n < m
-lt_by n m is = grind (arith, nat_tests)
-
-lt_test : (n m : ℕ) → n < m → nat_lt n m ≡ true
-lt_test n m is = grind (arith, nat_tests)
-
 few_by : (o : Option (List Entry)) → (is_some o && (nat_le (length (unwrap_or o [])) MAX_LIVE_FILES && list_all is_born (unwrap_or o []))) ≡ true → AreFew (map (λ e. e.held) (unwrap_or o []))
 few_by o is =
     let rest = (both_true (is_some o) _ is).1 in
     let parts = both_true (nat_le (length (unwrap_or o [])) MAX_LIVE_FILES) (list_all is_born (unwrap_or o [])) rest in
     record {
       count = let long = length-map (unwrap_or o []) (λ (e : Entry). e.held) in let few = le_by (length (unwrap_or o [])) MAX_LIVE_FILES parts.0 in omega (arith, long, few);
-      born = λ h there. let e = mapped_from (λ (x : Entry). x.held) (unwrap_or o []) h there in subst (λ (x : Held). x.born < 2 ^ 63) e.2 (lt_by e.0.held.born (2 ^ 63) (all_from is_born (unwrap_or o []) e.0 parts.1 e.1));
+      born = λ h there. let e = of_map (λ (x : Entry). x.held) (unwrap_or o []) h there in subst (λ (x : Held). x.born < 2 ^ 63) e.2 (lt_by e.0.held.born (2 ^ 63) (all_from is_born (unwrap_or o []) e.0 parts.1 e.1));
     }
 
 sound_by : (o : Option (List Entry)) → IsSome o → AreFew (map (λ e. e.held) (unwrap_or o [])) → (is_some o && (nat_le (length (unwrap_or o [])) MAX_LIVE_FILES && list_all is_born (unwrap_or o []))) ≡ true
@@ -132,7 +109,7 @@ sound_by o some few =
     let long = length-map (unwrap_or o []) (λ (e : Entry). e.held) in
     let count = few.count in
     both_are (is_some o) _ some (both_are (nat_le (length (unwrap_or o [])) MAX_LIVE_FILES) (list_all is_born (unwrap_or o [])) (le_test (length (unwrap_or o [])) MAX_LIVE_FILES (omega (arith, long, count)))
-    (all_by is_born (unwrap_or o []) (λ e there. lt_test e.held.born (2 ^ 63) (few.born e.held (mapped_there (λ (x : Entry). x.held) (unwrap_or o []) e there)))))
+    (all_tested is_born (unwrap_or o []) (λ e there. lt_test e.held.born (2 ^ 63) (few.born e.held (in_map (λ (x : Entry). x.held) (unwrap_or o []) e there)))))
 
 filter_few : (p : Held → Bool) (rows : List Held) → length (filter p rows) ≤ length rows
 filter_few p [] = omega arith
@@ -155,18 +132,10 @@ carried_few front version removed m few = by (list_any (is_lost removed) m.rows)
     by true = left_few removed m.rows few
     by false = few
 
-part_few : {A : Type 0} (size : ℕ) (xs : List A) (parts : List (List A)) (part : List A) → AreParts size xs parts → Contains parts part → length part ≤ size
-part_few size xs [] part cut there = absurd (Contains-none part there)
-part_few size xs (p ∷ parts) part cut there =
-    ⊎_elim
-    (λ (same : p ≡ part). let long = length-take size xs in let is = ap length (sym same ∙ cut.1) in omega (arith, long, is))
-    (λ later. part_few size (drop size xs) parts part cut.2 later)
-    (Contains-cases p parts part there)
-
 born_few : (version : ℕ) (part : List Row) → version < 2 ^ 63 → length part ≤ MAX_MANIFEST_ENTRIES → AreFew (map (born_at version) part)
 born_few version part small few = record {
   count = let long = length-map part (born_at version) in omega (arith, long, few);
-  born = λ h there. let r = mapped_from (born_at version) part h there in subst (λ (x : Held). x.born < 2 ^ 63) r.2 small;
+  born = λ h there. let r = of_map (born_at version) part h there in subst (λ (x : Held). x.born < 2 ^ 63) r.2 small;
 }
 
 -- ---- what is kept
@@ -255,23 +224,23 @@ module _ (kept : IcebergKept) (commit : Commit) (can : CanPublish (view_of kept)
     few_made n there =
         ⊎_elim
         (λ old.
-        let m = mapped_from (carried [] kept.version commit.change.removed) (filter has_rows (manifests_of kept)) n old in
-        let k = mapped_from (live_manifest kept.links) kept.manifests m.0 (Contains-filter has_rows (manifests_of kept) m.0 m.1).0 in
+        let m = of_map (carried [] kept.version commit.change.removed) (filter has_rows (manifests_of kept)) n old in
+        let k = of_map (live_manifest kept.links) kept.manifests m.0 (Contains-filter has_rows (manifests_of kept) m.0 m.1).0 in
         let few : AreFew m.0.rows = subst (λ (x : LiveManifest). AreFew x.rows) k.2 (few_by (rows_of kept.links k.0.owner) (sound_owner k.0 k.1)) in
         subst (λ (x : NextManifest). AreFew (live_rows x)) m.2 (carried_few [] kept.version commit.change.removed m.0 few))
         (λ added_part.
-        let part = mapped_from (added_manifest [] kept.version) parts n added_part in
-        subst (λ (x : NextManifest). AreFew (live_rows x)) part.2 (born_few kept.version part.0 small (part_few MAX_MANIFEST_ENTRIES added.added parts part.0 added.cut part.1)))
+        let part = of_map (added_manifest [] kept.version) parts n added_part in
+        subst (λ (x : NextManifest). AreFew (live_rows x)) part.2 (born_few kept.version part.0 small (part_short MAX_MANIFEST_ENTRIES added.added parts part.0 added.cut part.1)))
         (Contains-append_cases (map (carried [] kept.version commit.change.removed) (filter has_rows (manifests_of kept))) (map (added_manifest [] kept.version) parts) n there)
 
     few_kept : (k : KeptManifest) → Contains ks k → AreFew (held_rows links k.owner)
     few_kept k is =
-        let there = mapped_there (λ (m : KeptManifest). held_rows links m.owner) ks k is in
-        let n = mapped_from live_rows made (held_rows links k.owner) (subst (λ (l : List (List Held)). Contains l (held_rows links k.owner)) rows_are there) in
+        let there = in_map (λ (m : KeptManifest). held_rows links m.owner) ks k is in
+        let n = of_map live_rows made (held_rows links k.owner) (subst (λ (l : List (List Held)). Contains l (held_rows links k.owner)) rows_are there) in
         subst AreFew n.2 (few_made n.0 n.1)
 
     pub owners_sound : list_all (λ m. is_sound_owner links m.owner) ks ≡ true
-    owners_sound = all_by (λ (k : KeptManifest). is_sound_owner links k.owner) ks (λ k is. sound_by (rows_of links k.owner) (advances.there k is) (few_kept k is))
+    owners_sound = all_tested (λ (k : KeptManifest). is_sound_owner links k.owner) ks (λ k is. sound_by (rows_of links k.owner) (advances.there k is) (few_kept k is))
 
 pub contents_kept : (ks : List KeptManifest) (infos : List ManifestInfo) → map (λ m. m.info) ks ≡ infos → list_all has_content infos ≡ true → list_all (λ m. has_content m.info) ks ≡ true
 contents_kept ks infos same all = sym (list_all-map has_content (λ (m : KeptManifest). m.info) ks) ∙ ap (list_all has_content) same ∙ all

@@ -1,5 +1,5 @@
 -- What is kept of the manifests of a new version's list is what the list has.
-use Rattle.std.proofs.Common.{◌≡◌, ◌++◌, ◌&&◌, Bool, true, List, [], ◌∷◌, ℕ, map, filter, length, drop, Contains, refl, sym, ap, subst, ◌∙◌, ◌+◌}
+use Rattle.std.proofs.Common.{◌≡◌, ◌++◌, true, List, [], ◌∷◌, ℕ, map, filter, length, drop, Contains, refl, sym, ap, subst, ◌∙◌, ◌+◌}
 use Rattle.std.specs.List.{list_all}
 use Rattle.lake_basics.specs.declared.limits.TheConstants.{MAX_MANIFEST_ENTRIES}
 use Rattle.table_history.specs.Row.{Row}
@@ -8,6 +8,7 @@ use Rattle.table_history.specs.declared.table.Change.{Change}
 use Rattle.table_history.proofs.Laws.{in_order_same}
 use Rattle.table_history.proofs.RowListLemmas.{Contains-head, Contains-tail}
 use Rattle.file_links.specs.Rows.{OwnedRows}
+use Rattle.iceberg_metadata.proofs.ListLemmas.{both_are}
 use Rattle.iceberg_manifest.specs.Entry.{EntryData}
 use Rattle.iceberg_manifest.specs.declared.info.ManifestInfo.{ManifestInfo}
 use Rattle.iceberg_version.specs.Advance.{Advances, live_rows}
@@ -58,9 +59,6 @@ listed_rows front version place number (new entries rows ∷ next) (t ∷ ts) (l
 made_content : (front : List ℕ) (version number : ℕ) (entries : List EntryData) (bytes : List ℕ) (place : ℕ) (info : ManifestInfo) → IsInfoOf front version number entries bytes place info → has_content info ≡ true
 made_content front version number entries bytes place info is = ap has_content is.2
 
-both_true : (a b : Bool) → a ≡ true → b ≡ true → (a && b) ≡ true
-both_true a b p q = ap (λ t. t && b) p ∙ q
-
 -- where the manifests that stay have data or deletes, so have all
 pub listed_contents : (front : List ℕ) (version place number : ℕ) (next : List NextManifest) (texts : List (List ℕ)) (listed : List LiveManifest) → ((m : LiveManifest) → Contains next (stays m) → has_content m.info ≡ true)
     → AreListed front version place number next texts listed → list_all (λ m. has_content m.info) listed ≡ true
@@ -69,12 +67,12 @@ listed_contents front version place number [] [] (l ∷ ls) old are = absurd are
 listed_contents front version place number [] (t ∷ ts) ls old are = absurd are
 listed_contents front version place number (stays m ∷ next) texts [] old are = absurd are
 listed_contents front version place number (stays m ∷ next) texts (l ∷ ls) old are =
-    both_true (has_content l.info) (list_all (λ x. has_content x.info) ls) (ap (λ (x : LiveManifest). has_content x.info) are.0 ∙ old m (Contains-head (stays m) next))
+    both_are (has_content l.info) (list_all (λ x. has_content x.info) ls) (ap (λ (x : LiveManifest). has_content x.info) are.0 ∙ old m (Contains-head (stays m) next))
     (listed_contents front version (place + 1) number next texts ls (λ k there. old k (Contains-tail (stays m) next (stays k) there)) are.1)
 listed_contents front version place number (new entries rows ∷ next) [] ls old are = absurd are
 listed_contents front version place number (new entries rows ∷ next) (t ∷ ts) [] old are = absurd are
 listed_contents front version place number (new entries rows ∷ next) (t ∷ ts) (l ∷ ls) old are =
-    both_true (has_content l.info) (list_all (λ x. has_content x.info) ls) (made_content front version number entries t place l.info are.1)
+    both_are (has_content l.info) (list_all (λ x. has_content x.info) ls) (made_content front version number entries t place l.info are.1)
     (listed_contents front version (place + 1) (number + 1) next ts ls (λ k there. old k (Contains-tail (new entries rows) next (stays k) there)) are.2)
 
 -- ---- what is kept of it

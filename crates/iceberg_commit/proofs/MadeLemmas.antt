@@ -1,5 +1,5 @@
 -- Each new manifest of a version can be written.
-use Rattle.std.proofs.Common.{◌≡◌, ⊎_elim, ℕ, zero, suc, ◌+◌, ◌≤◌, List, [], ◌∷◌, map, length, take, drop, Bool, true, false, not, cond, Contains, refl, sym, ap, subst, ◌∙◌, arith}
+use Rattle.std.proofs.Common.{◌≡◌, ⊎_elim, ℕ, suc, ◌+◌, ◌≤◌, List, [], ◌∷◌, map, length, drop, Bool, true, false, not, cond, Contains, refl, sym, ap, subst, ◌∙◌, arith}
 use Rattle.std.specs.List.{AllByRecursion, filter}
 use Rattle.std.proofs.Math.Logic.{∥∥₁_elim}
 use Rattle.std.proofs.lemmas.List.{length-append, length-map}
@@ -10,7 +10,7 @@ use Rattle.table_history.specs.History.{IsSoundTable}
 use Rattle.table_history.specs.Row.{Row}
 use Rattle.table_history.specs.TypeTree.{ColumnTrees}
 use Rattle.table_history.specs.declared.table.Commit.{Commit}
-use Rattle.table_history.proofs.RowListLemmas.{Contains-cases, Contains-head, Contains-none, Contains-tail}
+use Rattle.table_history.proofs.RowListLemmas.{Contains-cases, Contains-filter, Contains-head, Contains-none, Contains-tail}
 use Rattle.target_core.specs.Conditions.{CanPublish}
 use Rattle.iceberg_manifest.specs.Entry.{EntryData}
 use Rattle.iceberg_manifest.specs.ManifestWriting.{HasValues, IsWritableManifest}
@@ -22,7 +22,8 @@ use Rattle.iceberg_commit.specs.Texts.{IsWritableIn}
 use Rattle.iceberg_version.specs.declared.kept.IcebergKept.{IcebergKept}
 use Rattle.iceberg_version.specs.declared.kept.KeptManifest.{KeptManifest}
 use Rattle.iceberg_version.specs.declared.layout.Layout.{Layout}
-use Rattle.iceberg_version.proofs.BehindLemmas.{all_joined, filter_there, wide_kind}
+use Rattle.iceberg_version.proofs.BehindLemmas.{all_joined, wide_kind}
+use Rattle.iceberg_version.proofs.Shared.{in_drop, in_take, short_take}
 use Rattle.iceberg_commit.proofs.NewListLemmas.{added_fit, few_columns, held_owned, kinds_kept, own_columns, rows_few}
 use Rattle.iceberg_commit.proofs.WritableLemmas.{can_write, entries_prop, values_of_kinds}
 
@@ -39,21 +40,6 @@ filter_split p (x ∷ xs) = by (p x) (filter_split p xs)
 all_mapped : {X Y : Type 0} (P : Y → Type 0) (f : X → Y) (xs : List X) → ((x : X) → Contains xs x → P (f x)) → AllByRecursion P (map f xs)
 all_mapped P f [] each = tt
 all_mapped P f (x ∷ xs) each = (each x (Contains-head x xs), all_mapped P f xs (λ y there. each y (Contains-tail x xs y there)))
-
-in_take : {A : Type 0} (k : ℕ) (xs : List A) (x : A) → Contains (take k xs) x → Contains xs x
-in_take zero xs x there = absurd (Contains-none x there)
-in_take (suc k) [] x there = there
-in_take (suc k) (y ∷ xs) x there = ⊎_elim (λ same. subst (λ z. Contains (y ∷ xs) z) same (Contains-head y xs)) (λ later. Contains-tail y xs x (in_take k xs x later)) (Contains-cases y (take k xs) x there)
-
-in_drop : {A : Type 0} (k : ℕ) (xs : List A) (x : A) → Contains (drop k xs) x → Contains xs x
-in_drop zero xs x there = there
-in_drop (suc k) [] x there = there
-in_drop (suc k) (y ∷ xs) x there = Contains-tail y xs x (in_drop k xs x there)
-
-short_take : {A : Type 0} (k : ℕ) (xs : List A) → length (take k xs) ≤ k
-short_take zero xs = omega arith
-short_take (suc k) [] = omega arith
-short_take (suc k) (y ∷ xs) = let rest = short_take k xs in omega (arith, rest)
 
 pub part_row : {A : Type 0} (size : ℕ) (xs : List A) (parts : List (List A)) (part : List A) (x : A) → AreParts size xs parts → Contains parts part → Contains part x → Contains xs x
 part_row size xs [] part x cut there here = absurd (Contains-none part there)
@@ -105,8 +91,8 @@ module _ (kept : IcebergKept) (commit : Commit) (can : CanPublish (view_of kept)
         ∥∥₁_elim kept.table_sound (entries_prop layout.columns.items entries) (λ (sound : IsSoundTable kept.table).
         ∥∥₁_elim kept.rows_linked (entries_prop layout.columns.items entries) (λ (linked : AreRowsOf kept.table.rows kept.links).
         all_joined (HasValues layout.columns.items) (map (existing_entry front) (left removed rows)) (map (deleted_entry front version) (lost removed rows))
-        (all_mapped (HasValues layout.columns.items) (existing_entry front) (left removed rows) (λ held there. held_values sound linked front (existing_entry front held) held (filter_there (λ (h : Held). not (is_lost removed h)) rows held there).0 refl))
-        (all_mapped (HasValues layout.columns.items) (deleted_entry front version) (lost removed rows) (λ held there. held_values sound linked front (deleted_entry front version held) held (filter_there (is_lost removed) rows held there).0 refl))))
+        (all_mapped (HasValues layout.columns.items) (existing_entry front) (left removed rows) (λ held there. held_values sound linked front (existing_entry front held) held (Contains-filter (λ (h : Held). not (is_lost removed h)) rows held there).0 refl))
+        (all_mapped (HasValues layout.columns.items) (deleted_entry front version) (lost removed rows) (λ held there. held_values sound linked front (deleted_entry front version held) held (Contains-filter (is_lost removed) rows held there).0 refl))))
 
     anew_few : (front : List ℕ) (version : ℕ) → length (rewritten_entries front version commit.change.removed rows) ≤ MAX_LIVE_FILES
     anew_few front version =

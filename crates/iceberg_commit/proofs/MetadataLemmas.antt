@@ -36,21 +36,12 @@ use Rattle.iceberg_version.specs.Schemas.{AreSpecFields, FIRST_PARTITION_ID, Sch
 use Rattle.iceberg_version.specs.Sound.{IsSoundMetadata, held_schema_ids, is_under}
 use Rattle.iceberg_version.specs.Writing.{MAX_SNAPSHOTS, last_of, mapping_property, mark_property, snapshot_of, with_properties, with_snapshot, with_spec}
 use Rattle.iceberg_version.proofs.BehindLemmas.{wide_kind}
-use Rattle.iceberg_version.proofs.HeldLemmas.{AreSoundNext, current_there, distinct_push, in_flat, in_map, map_push, of_map}
+use Rattle.iceberg_version.proofs.HeldLemmas.{AreSoundNext, current_there, distinct_push}
 use Rattle.iceberg_version.proofs.NamePathLemmas.{list_path}
+use Rattle.iceberg_version.proofs.Shared.{drop_push, in_drop, in_flat, in_map, map_push, of_map}
 use Rattle.iceberg_version.proofs.SourceLemmas.{field_of, fields_length, own_sources, source_is}
 
 -- ---- lists
-
-in_drop : {A : Type 0} (k : ℕ) (xs : List A) (x : A) → Contains (drop k xs) x → Contains xs x
-in_drop zero xs x there = there
-in_drop (suc k) [] x there = there
-in_drop (suc k) (y ∷ xs) x there = Contains-tail y xs x (in_drop k xs x there)
-
-drop_push : {A : Type 0} (k : ℕ) (xs : List A) (x : A) → k ≤ length xs → drop k (xs ++ x ∷ []) ≡ drop k xs ++ x ∷ []
-drop_push zero xs x within = refl
-drop_push (suc k) [] x within = absurd (omega (arith, within))
-drop_push (suc k) (y ∷ xs) x within = drop_push k xs x (omega (arith, within))
 
 distinct_drop : (k : ℕ) (xs : List ℤ) → IsDistinct int_eq xs → IsDistinct int_eq (drop k xs)
 distinct_drop zero xs own = own

@@ -31,9 +31,9 @@ use Rattle.iceberg_version.specs.Sound.{is_born, is_sound_owner}
 use Rattle.iceberg_version.specs.declared.kept.IcebergKept.{IcebergKept}
 use Rattle.iceberg_version.specs.declared.kept.KeptManifest.{KeptManifest}
 use Rattle.iceberg_version.proofs.BehindLemmas.{fewer, is_behind, kind_there, rows_length, same_kinds, table_behind}
-use Rattle.iceberg_version.proofs.HeldLemmas.{of_map}
 use Rattle.iceberg_version.proofs.IdLemmas.{top_path}
 use Rattle.iceberg_version.proofs.RowLemmas.{entries_of, there}
+use Rattle.iceberg_version.proofs.Shared.{of_map}
 
 map_same : {A B : Type 0} (f g : A → B) (xs : List A) (x : A) → map f xs ≡ map g xs → Contains xs x → f x ≡ g x
 map_same f g [] x same named = absurd (Contains-none x named)

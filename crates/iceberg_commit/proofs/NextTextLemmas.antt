@@ -1,5 +1,5 @@
 -- The manifests of a new list can be made, and the list can be written.
-use Rattle.std.proofs.Common.{◌≡◌, Bor, inl, inr, ⊎_elim, ℕ, suc, pos, ◌<◌, ◌≤◌, List, [], ◌∷◌, ◌++◌, map, length, drop, Bool, true, false, ◌||◌, cond, Contains, IsSome, Option, None, Some, slice_get, refl, sym, ap, subst, ◌∙◌, arith}
+use Rattle.std.proofs.Common.{◌≡◌, Bor, inl, inr, ⊎_elim, ℕ, pos, ◌<◌, ◌≤◌, List, [], ◌∷◌, ◌++◌, map, length, drop, Bool, true, false, ◌||◌, cond, Contains, IsSome, Option, None, Some, refl, sym, ap, subst, ◌∙◌, arith}
 use Rattle.std.specs.Prelude.{IfErr, IfOk, Result, Ok, Err, is_some, nat_eq, unwrap_or}
 use Rattle.target_core.specs.declared.target.TargetError.{TargetError}
 use Rattle.std.specs.List.{IsDistinct, filter, list_all, list_any}
@@ -9,7 +9,6 @@ use Rattle.std.proofs.lemmas.Bool.Decides.{Decides-int_eq, nat_tests}
 use Rattle.std.proofs.lemmas.List.{length-append, length-drop, length-map}
 use Rattle.std.proofs.lemmas.List.Elements.{Contains-append_cases}
 use Rattle.std.specs.Coded.{le_prop}
-use Rattle.std.proofs.lemmas.Option.{get_or_from_slice_get, slice_get_within}
 use Rattle.lake_basics.specs.declared.limits.TheConstants.{MAX_AVRO_VALUES, MAX_LIVE_FILES, MAX_MANIFEST_ENTRIES}
 use Rattle.file_links.specs.Rows.{Entry, OwnedRows, Owns, rows_of}
 use Rattle.file_links.specs.declared.slots.Held.{Held}
@@ -17,7 +16,7 @@ use Rattle.table_history.specs.Row.{Row}
 use Rattle.table_history.specs.Rows.{IsInPathOrder, SameRows}
 use Rattle.table_history.specs.declared.table.Change.{Change}
 use Rattle.table_history.specs.declared.table.Commit.{Commit}
-use Rattle.table_history.proofs.RowListLemmas.{Contains-cases, Contains-head, Contains-none, Contains-tail}
+use Rattle.table_history.proofs.RowListLemmas.{Contains-cases, Contains-filter, Contains-head, Contains-none, Contains-tail}
 use Rattle.target_core.specs.Conditions.{CanPublish}
 use Rattle.table_history.specs.Path.{is_path}
 use Rattle.iceberg_manifest.specs.Entry.{EntryData}
@@ -39,21 +38,17 @@ use Rattle.iceberg_version.specs.declared.kept.KeptManifest.{KeptManifest}
 use Rattle.iceberg_version.specs.declared.layout.Layout.{Layout}
 use Rattle.iceberg_commit.specs.declared.new_list.NewList.{NewList}
 use Rattle.iceberg_commit.proofs.AddedLemmas.{rows_cut}
-use Rattle.iceberg_version.proofs.BehindLemmas.{filter_there}
 use Rattle.iceberg_commit.proofs.CountRowsLemmas.{few_firsts}
-use Rattle.iceberg_version.proofs.HeldLemmas.{of_map}
 use Rattle.iceberg_version.proofs.ListLemmas.{mapped_at}
 use Rattle.iceberg_commit.proofs.MadeLemmas.{added_written, anew_written, part_row, part_short}
 use Rattle.iceberg_commit.proofs.NewListLemmas.{added_few, owner_there, rows_born}
 use Rattle.iceberg_version.proofs.NextLemmas.{all_next}
 use Rattle.iceberg_version.proofs.RowLemmas.{entries_of, there}
+use Rattle.iceberg_version.proofs.Shared.{each_length, of_map, slice_there}
 use Rattle.iceberg_commit.proofs.TextLemmas.{listed_lengths, one_made, text_refusal}
 use Rattle.iceberg_commit.proofs.WritableListLemmas.{listed_contents, listed_places}
 
 -- ---- lists
-
-contains_at : {A : Type 0} (xs : List A) (p : ℕ) (x : A) → slice_get xs p ≡ Some x → Contains xs x
-contains_at xs p x at = (p, slice_get_within xs p x at, get_or_from_slice_get xs p x x at)
 
 each_of : {A B : Type 0} (P : A → B → Type 0) (xs : List A) (ys : List B) (x : A) → AreEach P xs ys → Contains xs x → (y : B) × P x y
 each_of P [] ys x are named = absurd (Contains-none x named)
@@ -68,12 +63,6 @@ each_there P (z ∷ xs) (y ∷ ys) x are named =
     (λ same. (y, subst (λ w. P w y) same are.0, Contains-head y ys))
     (λ later. let rest = each_there P xs ys x are.1 later in (rest.0, rest.1, Contains-tail y ys rest.0 rest.2))
     (Contains-cases z xs x named)
-
-each_length : {A B : Type 0} (P : A → B → Type 0) (xs : List A) (ys : List B) → AreEach P xs ys → length xs ≡ length ys
-each_length P [] [] are = refl
-each_length P [] (y ∷ ys) are = absurd are
-each_length P (x ∷ xs) [] are = absurd are
-each_length P (x ∷ xs) (y ∷ ys) are = ap suc (each_length P xs ys are.1)
 
 some_length : {A : Type 0} (xs : List A) → (xs ≡ [] → ⊥) → 0 < length xs
 some_length [] some = absurd (some refl)
@@ -130,10 +119,10 @@ module _ (kept : IcebergKept) (commit : Commit) (can : CanPublish (view_of kept)
       let removed = commit.change.removed in
       let k = mapped_at (live_manifest kept.links) kept.manifests place made.0 made.1 in
       let e : entries ≡ rewritten_entries layout.front layout.version removed (held_rows kept.links k.0.owner) = ap entries_in made.2 ∙ ap (λ (x : LiveManifest). rewritten_entries layout.front layout.version removed x.rows) (sym k.2) in
-      subst (IsWritableIn layout) (sym e) (anew_written kept commit can same layout is k.0 (contains_at kept.manifests place k.0 k.1) layout.front layout.version)
+      subst (IsWritableIn layout) (sym e) (anew_written kept commit can same layout is k.0 (slice_there kept.manifests place k.0 k.1) layout.front layout.version)
   written_next rows parts (Added place) entries held among cut made =
       let part : List Row = made.0 in
-      let in_parts : Contains parts part = contains_at parts place part made.1 in
+      let in_parts : Contains parts part = slice_there parts place part made.1 in
       let e : entries ≡ map (added_entry layout.front layout.version) part = ap entries_in made.2 in
       subst (IsWritableIn layout) (sym e)
       (added_written kept commit can same layout is layout.front layout.version part (λ row named. (among row).1 (part_row MAX_MANIFEST_ENTRIES rows parts part row cut in_parts named)) (part_short MAX_MANIFEST_ENTRIES rows parts part cut in_parts))
@@ -201,7 +190,7 @@ module _ (kept : IcebergKept) (commit : Commit) (can : CanPublish (view_of kept)
       (λ old.
       let l = of_map (carried layout.front layout.version commit.change.removed) (filter has_rows (manifests_of kept)) (stays m) old in
       let k : l.0 ≡ m = stays_by (list_any (is_lost commit.change.removed) l.0.rows) _ m l.0 l.2 (λ e. absurd cc) in
-      let x = of_map (live_manifest kept.links) kept.manifests l.0 (filter_there has_rows (manifests_of kept) l.0 l.1).0 in
+      let x = of_map (live_manifest kept.links) kept.manifests l.0 (Contains-filter has_rows (manifests_of kept) l.0 l.1).0 in
       let info : x.0.info ≡ m.info = ap (λ (y : LiveManifest). y.info) (x.2 ∙ k) in
       subst HasContent info (content_of x.0.info (all_from (λ (y : KeptManifest). has_content y.info) kept.manifests x.0 kept.contents x.1)))
       (λ added. let l = of_map (added_manifest layout.front layout.version) parts (stays m) added in let q : added_manifest layout.front layout.version l.0 ≡ stays m = l.2 in absurd cc)

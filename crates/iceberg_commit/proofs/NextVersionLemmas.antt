@@ -1,6 +1,6 @@
 -- The next version's files are what is written for the commit, and what is kept stands behind it.
-use Rattle.std.proofs.Common.{◌≡◌, inl, inr, ⊎_elim, ◌+◌, ◌<◌, ℕ, ℤ, suc, List, [], ◌∷◌, ◌++◌, map, filter, length, Bool, true, false, cond, not, Bor, Contains, Option, Some, None, IsSome, refl, sym, ap, subst, ◌∙◌, arith}
-use Rattle.std.specs.Prelude.{is_some, option_map, unwrap_or}
+use Rattle.std.proofs.Common.{◌≡◌, inl, inr, ⊎_elim, ◌+◌, ◌<◌, ℕ, ℤ, List, [], ◌∷◌, ◌++◌, map, filter, length, Bool, true, false, cond, not, Bor, Contains, Option, Some, None, refl, sym, ap, subst, ◌∙◌, arith}
+use Rattle.std.specs.Prelude.{option_map, unwrap_or}
 use Rattle.std.specs.List.{All, list_all, list_any}
 use Rattle.std.specs.Ordering.{int_eq}
 use Rattle.std.proofs.lemmas.Bool.{false≢true}
@@ -18,8 +18,8 @@ use Rattle.table_history.specs.TypeTree.{ColumnTrees}
 use Rattle.table_history.specs.declared.table.Change.{Change}
 use Rattle.table_history.specs.declared.table.Commit.{Commit}
 use Rattle.table_history.specs.declared.table.Table.{Table}
-use Rattle.table_history.proofs.RowListLemmas.{Contains-cases, Contains-filter, Contains-head, Contains-none, Contains-tail}
-use Rattle.file_links.specs.Rows.{OwnedRows, rows_of}
+use Rattle.table_history.proofs.RowListLemmas.{Contains-cases, Contains-filter, Contains-head, Contains-none}
+use Rattle.file_links.specs.Rows.{OwnedRows}
 use Rattle.iceberg_manifest.specs.Lists.{AreEach}
 use Rattle.iceberg_manifest.specs.declared.info.ManifestInfo.{ManifestInfo}
 use Rattle.iceberg_metadata.specs.Judging.{are_distinct, is_among, metadata_of as read_metadata}
@@ -37,14 +37,15 @@ use Rattle.iceberg_version.specs.Carrying.{IsNextList, IsNextOf, parts_at, rows_
 use Rattle.iceberg_version.specs.KeptEnd.{end_of, live_manifest, manifests_of, view_of}
 use Rattle.iceberg_version.specs.Manifests.{AreListed, AreNextManifests, AreParts, LiveManifest, NextManifest, added_manifest, carried, has_rows, is_lost, new_entries, stays}
 use Rattle.iceberg_version.specs.Schemas.{AreNextSchemas, Schemas}
-use Rattle.iceberg_version.specs.Sound.{has_content, have_first_ids, is_sound_owner, is_under}
+use Rattle.iceberg_version.specs.Sound.{has_content, have_first_ids, is_under}
 use Rattle.iceberg_version.specs.Writing.{front_in, mark_of, stated_behind}
 use Rattle.iceberg_version.specs.Writing as writing
 use Rattle.iceberg_version.specs.declared.carrying.Next.{Next}
 use Rattle.iceberg_version.specs.declared.kept.IcebergKept.{IcebergKept}
 use Rattle.iceberg_version.specs.declared.kept.KeptManifest.{KeptManifest}
-use Rattle.iceberg_version.proofs.LinkLemmas.{mapped_from, mapped_there}
+use Rattle.iceberg_version.proofs.HeldLemmas.{in_schemas}
 use Rattle.iceberg_version.proofs.NextLemmas.{all_next}
+use Rattle.iceberg_version.proofs.Shared.{each_length, in_map, of_map}
 use Rattle.iceberg_commit.specs.Behind.{AreAddedParts, IsTableBehind}
 use Rattle.iceberg_commit.specs.NewVersion.{IsNewVersion, KeepsRest}
 use Rattle.iceberg_commit.specs.NextVersion.{AreListedBehind, HasCurrent, IsKeptBehind, IsNextVersion, OwnEachRow, VersionFiles, image}
@@ -54,14 +55,6 @@ use Rattle.iceberg_commit.proofs.AddedLemmas.{rows_cut}
 use Rattle.iceberg_commit.proofs.ListedLemmas.{kept_are, listed_contents, listed_rows, next_once}
 
 -- ---- the current schema
-
-in_schemas_by : (s : HeldSchema) (ss : List HeldSchema) (id : ℤ) (t : HeldSchema) (b : Bool) → cond b (Some s) (held_schema ss id) ≡ Some t → (held_schema ss id ≡ Some t → Contains ss t) → Contains (s ∷ ss) t
-in_schemas_by s ss id t true is rest = let same : s ≡ t = cc in subst (Contains (s ∷ ss)) same (Contains-head s ss)
-in_schemas_by s ss id t false is rest = Contains-tail s ss t (rest is)
-
-in_schemas : (ss : List HeldSchema) (id : ℤ) (t : HeldSchema) → held_schema ss id ≡ Some t → Contains ss t
-in_schemas [] id t is = absurd (cc)
-in_schemas (s ∷ ss) id t is = in_schemas_by s ss id t (int_eq s.0 id) is (in_schemas ss id t)
 
 found_by : (b : Bool) (s t : HeldSchema) (o : Option HeldSchema) → (b ≡ true → s ≡ t) → (b ≡ false → o ≡ Some t) → cond b (Some s) o ≡ Some t
 found_by true s t o here later = ap (λ (x : HeldSchema). Some x) (here refl)
@@ -78,7 +71,7 @@ held_found (s ∷ ss) t distinct there =
     (λ (later : Contains ss t). found_by (int_eq s.0 t.0) s t (held_schema ss t.0)
     (λ is.
     let id : s.0 ≡ t.0 = (Decides-int_eq s.0 t.0).0 is in
-    let among : is_among ids s.0 ≡ true = (among_Decides ids s.0).1 (subst (λ (i : ℤ). Contains ids i) (sym id) (mapped_there (λ (x : HeldSchema). x.0) ss t later)) in
+    let among : is_among ids s.0 ≡ true = (among_Decides ids s.0).1 (subst (λ (i : ℤ). Contains ids i) (sym id) (in_map (λ (x : HeldSchema). x.0) ss t later)) in
     absurd (false≢true (sym (not_true (is_among ids s.0) parts.0) ∙ among)))
     (λ other. held_found ss t parts.1 later))
     (Contains-cases s ss t there)
@@ -101,15 +94,8 @@ current_kept kept m stated next are held current =
 
 -- ---- what the steps ask for
 
-pub current_some : (o : Option HeldSchema) (schema : ColumnTrees) → option_map (λ s. s.1) o ≡ Some schema → IsSome o
-current_some None schema is = absurd (cc)
-current_some (Some s) schema is = refl
-
 pub one_schema : (o : Option ColumnTrees) (a b : ColumnTrees) → o ≡ Some a → o ≡ Some b → a ≡ b
 one_schema o a b is also = let both : Some a ≡ Some b = sym is ∙ also in cc
-
-pub owner_kept : (kept : IcebergKept) (m : KeptManifest) → Contains kept.manifests m → IsSome (rows_of kept.links m.owner)
-owner_kept kept m there = (both_true (is_some (rows_of kept.links m.owner)) _ (all_from (λ (k : KeptManifest). is_sound_owner kept.links k.owner) kept.manifests m kept.owners there)).0
 
 -- sorted and cut, the rows that a change adds are in its parts
 pub added_parts : (change : Change) (added : List Row) (sorted sorted_slice : List (Bor Row)) (parts parts_slice : List (Bor (List (Bor Row)))) → added ≡ change.added → sorted_slice ≡ sorted → parts_slice ≡ parts
@@ -133,12 +119,6 @@ next_list kept change manifests removed count parts next next_slice manifests_ar
 
 -- ---- the list
 
-each_length : {A B : Type 0} (P : A → B → Type 0) (xs : List A) (ys : List B) → AreEach P xs ys → length xs ≡ length ys
-each_length P [] [] are = refl
-each_length P [] (y ∷ ys) are = absurd are
-each_length P (x ∷ xs) [] are = absurd are
-each_length P (x ∷ xs) (y ∷ ys) are = ap suc (each_length P xs ys are.1)
-
 stays_by : (b : Bool) (n : NextManifest) (m k : LiveManifest) → cond b n (stays k) ≡ stays m → (n ≡ stays m → ⊥) → k ≡ m
 stays_by true n m k is other = absurd (other is)
 stays_by false n m k is other = cc
@@ -148,12 +128,12 @@ stays_content : (kept : IcebergKept) (front : List ℕ) (version : ℕ) (change 
 stays_content kept front version change next are m there =
     ⊎_elim
     (λ old.
-    let from = mapped_from (carried front version change.removed) (filter has_rows (manifests_of kept)) (stays m) old in
+    let from = of_map (carried front version change.removed) (filter has_rows (manifests_of kept)) (stays m) old in
     let same : from.0 ≡ m = stays_by (list_any (is_lost change.removed) from.0.rows) _ m from.0 from.2 (λ e. absurd cc) in
-    let k = mapped_from (live_manifest kept.links) kept.manifests from.0 (Contains-filter has_rows (manifests_of kept) from.0 from.1).0 in
+    let k = of_map (live_manifest kept.links) kept.manifests from.0 (Contains-filter has_rows (manifests_of kept) from.0 from.1).0 in
     let info : k.0.info ≡ m.info = ap (λ (x : LiveManifest). x.info) (k.2 ∙ same) in
     subst (λ (i : ManifestInfo). has_content i ≡ true) info (all_from (λ (x : KeptManifest). has_content x.info) kept.manifests k.0 kept.contents k.1))
-    (λ added. let from = mapped_from (added_manifest front version) are.parts (stays m) added in let is : added_manifest front version from.0 ≡ stays m = from.2 in absurd cc)
+    (λ added. let from = of_map (added_manifest front version) are.parts (stays m) added in let is : added_manifest front version from.0 ≡ stays m = from.2 in absurd cc)
     (Contains-append_cases (map (carried front version change.removed) (filter has_rows (manifests_of kept))) (map (added_manifest front version) are.parts) (stays m) (subst (λ (l : List NextManifest). Contains l (stays m)) are.is there))
 
 module _ (kept : IcebergKept) (change : Change) (infos : List ManifestInfo) (listed : List LiveManifest) (list : AreListedBehind kept change infos listed) where

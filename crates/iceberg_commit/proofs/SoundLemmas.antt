@@ -1,5 +1,5 @@
 -- Sound metadata, as a test and as facts.
-use Rattle.std.proofs.Common.{◌≡◌, ℕ, ℤ, pos, List, [], ◌∷◌, Bool, true, false, not, Contains, Option, Some, None, Result, Ok, Err, refl, sym, ap, ◌∙◌, arith}
+use Rattle.std.proofs.Common.{◌≡◌, ℕ, ℤ, pos, List, Bool, true, false, not, Contains, Option, Some, None, Result, Ok, Err, refl, sym, ap, ◌∙◌, arith}
 use Rattle.std.specs.Prelude.{◌≤ℤ◌, ◌&&◌, int_lt, flat_map, IfSome}
 use Rattle.std.specs.Bool.{Decides}
 use Rattle.std.specs.Cmp.Lexicographic.{pointwise}
@@ -9,7 +9,6 @@ use Rattle.std.proofs.lemmas.Bool.{false≢true}
 use Rattle.std.proofs.lemmas.Bool.Decides.{Decides-int_eq}
 use Rattle.std.proofs.lemmas.Int.{ints}
 use Rattle.std.proofs.lemmas.Slice.Eq.{slice_eq-Decides}
-use Rattle.table_history.proofs.RowListLemmas.{Contains-head, Contains-tail}
 use Rattle.table_history.specs.TypeEq.{columns_eq}
 use Rattle.table_history.specs.TypeEqLaws.{columns_eq-Decides}
 use Rattle.table_history.specs.TypeTree.{ColumnTrees}
@@ -28,18 +27,11 @@ use Rattle.iceberg_metadata.proofs.ListLemmas.{all_from, among_Decides, both_are
 use Rattle.iceberg_metadata.proofs.LocationLemmas.{names_Decides}
 use Rattle.iceberg_metadata.proofs.PathLemmas.{renamed_Decides}
 use Rattle.iceberg_version.specs.Sound.{IsSoundMetadata, held_field_ids, held_schema_ids, is_read_again, is_same_schema, is_sound_metadata, is_sound_snapshot, is_upto}
-
-all_to : {X : Type 0} (p : X → Bool) (xs : List X) → ((x : X) → Contains xs x → p x ≡ true) → list_all p xs ≡ true
-all_to p [] all = refl
-all_to p (x ∷ xs) all = both_are (p x) (list_all p xs) (all x (Contains-head x xs)) (all_to p xs (λ y there. all y (Contains-tail x xs y there)))
+use Rattle.iceberg_version.proofs.Shared.{all_tested, false_by}
 
 not_by : (b : Bool) → b ≡ false → not b ≡ true
 not_by true h = absurd (false≢true (sym h))
 not_by false h = refl
-
-false_by : (b : Bool) → (b ≡ true → ⊥) → b ≡ false
-false_by true h = absurd (h refl)
-false_by false h = refl
 
 -- ---- schemas
 
@@ -117,14 +109,14 @@ module _ (version : ℕ) (m : Metadata) where
   pub sound_to : IsSoundMetadata version m → is_sound_metadata version m ≡ true
   sound_to sound =
       both_are schemas_read (ids_given && (none_renamed && (own_snapshots && snapshots_sound)))
-      (all_to is_read_again m.schemas (λ s there. (read_Decides s).1 (sound.schemas s there)))
+      (all_tested is_read_again m.schemas (λ s there. (read_Decides s).1 (sound.schemas s there)))
       (both_are ids_given (none_renamed && (own_snapshots && snapshots_sound))
-      (all_to (is_upto m.last_column_id) (held_field_ids m) (λ id there. (upto_Decides m.last_column_id id).1 (sound.field_ids id there)))
+      (all_tested (is_upto m.last_column_id) (held_field_ids m) (λ id there. (upto_Decides m.last_column_id id).1 (sound.field_ids id there)))
       (both_are none_renamed (own_snapshots && snapshots_sound)
       (not_by (is_renamed (flat_map path_ids m.schemas)) (false_by (is_renamed (flat_map path_ids m.schemas)) (λ is. sound.renamed ((renamed_Decides (flat_map path_ids m.schemas)).0 is))))
       (both_are own_snapshots snapshots_sound
       ((distinct_Decides (snapshot_ids m)).1 sound.own_snapshots)
-      (all_to (is_sound_snapshot version m) m.snapshots (λ s there.
+      (all_tested (is_sound_snapshot version m) m.snapshots (λ s there.
       both_are (is_upto (pos version) s.id) (is_among_if_any (held_schema_ids m) s.schema_id && names_path (front_of m.location) s.list)
       ((upto_Decides (pos version) s.id).1 (sound.numbers s there))
       (both_are (is_among_if_any (held_schema_ids m) s.schema_id) (names_path (front_of m.location) s.list)

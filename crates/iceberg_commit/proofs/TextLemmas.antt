@@ -1,7 +1,7 @@
 -- The rows of a new list and the texts of its new manifests, one manifest more.
 use Rattle.std.proofs.Common.{◌≡◌, ℕ, Bor, zero, suc, ◌+◌, ◌<◌, List, [], ◌∷◌, ◌++◌, map, length, take, get_or, Contains, refl, sym, ap, subst, ◌∙◌, arith}
 use Rattle.std.specs.List.{All}
-use Rattle.std.proofs.lemmas.List.Elements.{All-nil, All-push}
+use Rattle.std.proofs.lemmas.List.Elements.{All-push}
 use Rattle.std.proofs.lemmas.List.{length-append, length-map, map-append, take_more}
 use Rattle.iceberg_manifest.specs.Entry.{EntryData}
 use Rattle.iceberg_manifest.specs.Lists.{AreEach}
@@ -29,6 +29,7 @@ use Rattle.iceberg_manifest.specs.Scans.{entries_of as entries_by, infos_of as r
 use Rattle.iceberg_manifest.specs.WrittenTypes.{list_type, manifest_type}
 use Rattle.lake_basics.specs.declared.limits.TheConstants.{MAX_AVRO_VALUES, MAX_FILE_BYTES}
 use Rattle.table_history.specs.declared.limit.LimitKind.TheVariants.{File}
+use Rattle.iceberg_table.proofs.EachLaws.{each_push}
 use Rattle.target_core.specs.declared.target.TargetError.{TargetError}
 use Rattle.target_core.specs.declared.target.TargetError.TheVariants.{Contested, Limit, Memory, StoreFault, Unsupported}
 use Rattle.iceberg_version.specs.Writing.{IsLong, spec_json}
@@ -41,12 +42,6 @@ use Rattle.iceberg_version.specs.declared.layout.Layout.{Layout}
 use Rattle.iceberg_commit.specs.declared.new_list.NewList.{NewList}
 
 -- ---- pairs, one by one
-
-each_push : {A B : Type 0} (P : A → B → Type 0) (xs : List A) (ys : List B) (x : A) (y : B) → AreEach P xs ys → P x y → AreEach P (xs ++ x ∷ []) (ys ++ y ∷ [])
-each_push P [] [] x y are is = (is, tt)
-each_push P [] (z ∷ ys) x y are is = absurd are
-each_push P (z ∷ xs) [] x y are is = absurd are
-each_push P (w ∷ xs) (z ∷ ys) x y are is = (are.0, each_push P xs ys x y are.1 is)
 
 -- the last pair and those before it
 pub record Split {A B : Type 0} (P : A → B → Type 0) (xs : List A) (x : A) (zs : List B) : Type 0 where
@@ -116,16 +111,6 @@ entries_new (new fs held ∷ ms) es rows = ap (λ l. fs ∷ l) (entries_new ms e
 
 -- ---- what has come
 
-pub no_texts : (layout : Layout) (list : NewList) (ms : List NextManifest) → list.infos.items ≡ [] → list.manifests.items ≡ [] → ms ≡ [] → AreTexts layout ms list
-no_texts layout list ms infos texts none =
-    subst (λ (ns : List NextManifest). AreTexts layout ns list) (sym none) (record {
-      listed = [];
-      infos = infos;
-      are = subst (λ (ts : List (List ℕ)). AreListed layout.front layout.version 0 0 [] ts []) (sym texts) tt;
-      each = subst (λ (ts : List (List ℕ)). AreEach (IsTextIn layout) [] ts) (sym texts) tt;
-      short = subst (λ (ts : List (List ℕ)). All IsShort ts) (sym texts) (All-nil IsShort);
-    })
-
 infos_of : List LiveManifest → List ManifestInfo
 infos_of ls = map (λ (l : LiveManifest). l.info) ls
 
@@ -167,13 +152,6 @@ one_longer layout (new es rows) old now adds = ap length adds.infos ∙ length-a
 pub record HaveCome (layout : Layout) (before : Before) (next : List Next) (i : ℕ) (list : NewList) : Type 0 where
   pub count : length list.infos.items ≡ i
   pub texts : (ms : List NextManifest) → AreEach (IsMadeOf layout before) (take i next) ms → AreTexts layout ms list
-
-none_made : (P : Next → NextManifest → Type 0) (ms : List NextManifest) → AreEach P [] ms → ms ≡ []
-none_made P [] are = refl
-none_made P (m ∷ ms) are = absurd are
-
-pub none_come : (layout : Layout) (before : Before) (next : List Next) (list : NewList) → list.infos.items ≡ [] → list.manifests.items ≡ [] → HaveCome layout before next 0 list
-none_come layout before next list infos texts = record { count = ap length infos; texts = λ ms are. no_texts layout list ms infos texts (none_made (IsMadeOf layout before) ms are) }
 
 pub more_come : (layout : Layout) (before : Before) (next : List Next) (i : ℕ) (one : Next) (old now : NewList) → i < length next → one ≡ get_or next i one → CanBeMade layout before one → ((m : NextManifest) → IsMadeOf layout before one m → Adds layout m old now) → HaveCome layout before next i old → HaveCome layout before next (i + 1) now
 more_come layout before next i one old now within at can adds come = record {

@@ -12,24 +12,7 @@ use Rattle.partition_map.specs.declared.kind.PartKind.{PartKind}
 use Rattle.partition_map.specs.declared.kind.PartKind.TheVariants as kinds
 use Rattle.partition_map.proofs.Laws.{kind_of_type}
 use Rattle.schema_map.specs.Image.{wide_columns, wide_type}
-
-pub kind_kept : (t : TypeTree) → part_kind_of (wide_type t) ≡ part_kind_of t
-kind_kept tree.boolean = refl
-kind_kept tree.byte = refl
-kind_kept tree.short = refl
-kind_kept tree.int = refl
-kind_kept tree.long = refl
-kind_kept tree.float = refl
-kind_kept tree.double = refl
-kind_kept tree.text = refl
-kind_kept tree.binary = refl
-kind_kept tree.date = refl
-kind_kept tree.timestamp = refl
-kind_kept tree.timestamp_ntz = refl
-kind_kept (tree.decimal p s) = refl
-kind_kept (tree.struct_of cs) = refl
-kind_kept (tree.list_of t b) = refl
-kind_kept (tree.map_of k v b) = refl
+use Rattle.iceberg_version.proofs.BehindLemmas.{wide_part}
 
 found_by : (b : Bool) (t : TypeTree) (wide o : Option TypeTree) → wide ≡ option_map wide_type o → cond b (Some (wide_type t)) wide ≡ option_map wide_type (cond b (Some t) o)
 found_by true t wide o same = refl
@@ -58,7 +41,7 @@ of_same t u (Some k) is also v of = (kind_of_type u k also v).0 ((kind_of_type t
 
 fits_by : (o : Option TypeTree) (v : PartValue) → FitsColumn o v → FitsColumn (option_map wide_type o) v
 fits_by None v fits = fits
-fits_by (Some t) v fits = of_same t (wide_type t) (part_kind_of t) refl (kind_kept t) v fits
+fits_by (Some t) v fits = of_same t (wide_type t) (part_kind_of t) refl (wide_part t) v fits
 
 pub values_fit : (schema : ColumnTrees) (names : List (List ℕ)) (values : List PartValue) → FitColumns schema names values → FitColumns (wide_columns schema) names values
 values_fit schema [] [] fit = tt

@@ -33,6 +33,7 @@ use Rattle.iceberg_metadata.specs.declared.metadata.SpecField.{SpecField}
 use Rattle.iceberg_version.specs.Schemas.{AreSpecFields, FIRST_PARTITION_ID}
 use Rattle.iceberg_version.specs.Writing.{AreColumns}
 use Rattle.iceberg_version.proofs.BehindLemmas.{of_kind}
+use Rattle.iceberg_version.proofs.Shared.{false_by, nothing_twice}
 
 -- ---- the columns
 
@@ -61,10 +62,6 @@ ids_are s k schema (n ∷ names) (f ∷ fields) (c ∷ columns) spec are =
     let rest = ids_are s (k + 1) schema names fields columns spec.1 are.2 in
     (λ i. one i ∷ rest i)
 
-false_by : (b : Bool) → (b ≡ true → ⊥) → b ≡ false
-false_by true h = absurd (h refl)
-false_by false h = refl
-
 apart_numbers : (j k : ℕ) (names : List (List ℕ)) → j < k → AllByRecursion (λ y. int_eq (pos j) y ≡ false) (numbers k names)
 unfolding numbers
 apart_numbers j k [] less = tt
@@ -72,10 +69,6 @@ apart_numbers j k (n ∷ names) less = (
   false_by (int_eq (pos j) (pos k)) (λ is. let same = (Decides-int_eq (pos j) (pos k)).0 is in omega (arith, ints, same, less)),
   apart_numbers j (k + 1) names (omega arith),
 )
-
-nothing_twice : {K : Type 0} (eq : K → K → Bool) → IsDistinct eq []
-unfolding IsDistinct
-nothing_twice eq = tt
 
 own_numbers : (k : ℕ) (names : List (List ℕ)) → IsDistinct int_eq (numbers k names)
 unfolding numbers

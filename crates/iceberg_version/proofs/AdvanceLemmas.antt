@@ -15,14 +15,17 @@ use Rattle.std.proofs.lemmas.Slice.Eq.{bytes_eq-Decides}
 use Rattle.table_history.specs.Row.{Row}
 use Rattle.table_history.specs.Rows.{HasDistinctPaths, paths_of}
 use Rattle.table_history.proofs.RowListLemmas.{Contains-cases, Contains-head, Contains-none, Contains-paths, Contains-tail, all_at}
-use Rattle.file_links.specs.Rows.{AddsOwner, DropsOwner, Entry, Finds, FindsEach, Holds, HoldsJust, HoldsPath, Inserts, IsFirstOf, OwnedRows, Reserves, Unlinks, rows_of, slot_at, without_slot}
+use Rattle.file_links.specs.Rows.{AddsOwner, DropsOwner, Entry, Finds, FindsEach, Holds, HoldsJust, HoldsPath, Inserts, IsFirstOf, OwnedRows, Reserves, Unlinks, rows_of, without_slot}
 use Rattle.file_links.specs.declared.slots.Held.{Held}
+use Rattle.file_links.proofs.SlotLemmas.{the_rows}
 use Rattle.iceberg_manifest.specs.declared.info.ManifestInfo.{ManifestInfo}
 use Rattle.iceberg_version.specs.Advance.{AddsRows, AppendsRows, AreFresh, EndsEmpty, LosesPaths, owners_of}
 use Rattle.iceberg_version.specs.declared.kept.KeptManifest.{KeptManifest}
 use Rattle.iceberg_version.specs.KeptEnd.{held_rows}
 use Rattle.iceberg_version.specs.Manifests.{born_at, is_lost}
-use Rattle.iceberg_version.proofs.LinkLemmas.{mapped_from, none_held, path_from, path_there, same_held, some_held}
+use Rattle.iceberg_version.proofs.CarryingLemmas.{first_none, none_if}
+use Rattle.iceberg_version.proofs.LinkLemmas.{none_held, path_from, path_there, same_held, some_held}
+use Rattle.iceberg_version.proofs.Shared.{is_not, nothing_twice, of_map}
 
 -- ---- owners without rows
 
@@ -46,27 +49,12 @@ kept_new ms i m distinct within at =
 pub kept_more : (ms : List KeptManifest) (i : ℕ) (m : KeptManifest) → i < length ms → m ≡ get_or ms i m → owners_of (take (i + 1) ms) ≡ owners_of (take i ms) ++ m.owner ∷ []
 kept_more ms i m within at = map_more (λ (k : KeptManifest). k.owner) ms i m within ∙ ap (λ (k : KeptManifest). owners_of (take i ms) ++ k.owner ∷ []) (sym at)
 
-pub kept_there : (ms : List KeptManifest) (i : ℕ) (m : KeptManifest) → i < length ms → m ≡ get_or ms i m → Contains ms m
-kept_there ms i m within at = (i, within, sym at)
-
 pub still_there : (owners : List ℕ) (owner : ℕ) (v w : OwnedRows) → ¬ Contains owners owner → IsSome (rows_of v owner) → EndsEmpty owners v w → IsSome (rows_of w owner)
 still_there owners owner v w new there ends = subst (λ (o : Option (List Entry)). IsSome o) (sym (ends.others owner new)) there
 
-first_none : (es : List Entry) → None ≡ slot_at es 0 → es ≡ []
-first_none [] h = refl
-first_none (e ∷ es) h = cc
-
-none_if : (o : Option ℕ) → is_some o ≡ false → o ≡ None
-none_if None h = refl
-none_if (Some n) h = absurd (false≢true (sym h))
-
-there_by : (o : Option (List Entry)) → IsSome o → (rows : List Entry) × (o ≡ Some rows)
-there_by None h = absurd (false≢true h)
-there_by (Some rows) h = (rows, refl)
-
 pub is_empty : (v : OwnedRows) (owner : ℕ) (first : Option ℕ) → IsSome (rows_of v owner) → IsFirstOf v owner first → is_some first ≡ false → rows_of v owner ≡ Some []
 is_empty v owner first there is none =
-    let r = there_by (rows_of v owner) there in
+    let r = the_rows (rows_of v owner) there in
     r.1 ∙ ap Some (first_none r.0 (sym (none_if first none) ∙ is r.0 r.1))
 
 pub is_filled : (v : OwnedRows) (owner : ℕ) (first : Option ℕ) → IsFirstOf v owner first → is_some first ≡ true → rows_of v owner ≢ Some []
@@ -160,10 +148,6 @@ loses_more removed more path v w after is one before = λ o.
 pub lost_decides : (path : List ℕ) (held : Held) → Decides (is_lost (path ∷ []) held) (held.row.path ≡ path)
 lost_decides path held = subst (λ (b : Bool). Decides b (held.row.path ≡ path)) (sym (or-false (bytes_eq held.row.path path))) (bytes_eq-Decides held.row.path path)
 
-not_lost : (b : Bool) → (b ≡ true → ⊥) → not b ≡ true
-not_lost true h = absurd (h refl)
-not_lost false h = refl
-
 holds_entry : (w : OwnedRows) (o : ℕ) (rows : List Entry) (e : Entry) → rows_of w o ≡ Some rows → Contains rows e → Holds w e.slot e.held
 holds_entry w o rows e is there = (o, (rows, is, there))
 
@@ -171,7 +155,7 @@ unfound_by : (w : OwnedRows) (path : List ℕ) (o : ℕ) (rows : Option (List En
 unfound_by w path o None lacking is = refl
 unfound_by w path o (Some rows) lacking is =
     ap Some (sym (filter_whole (λ (e : Entry). not (is_lost (path ∷ []) e.held)) rows
-    (λ e there. not_lost (is_lost (path ∷ []) e.held) (λ lost. lacking (e.slot, e.held, holds_entry w o rows e is there, (lost_decides path e.held).0 lost)))))
+    (λ e there. is_not (is_lost (path ∷ []) e.held) (λ lost. lacking (e.slot, e.held, holds_entry w o rows e is there, (lost_decides path e.held).0 lost)))))
 
 pub loses_unfound : (w : OwnedRows) (path : List ℕ) → ¬ HoldsPath w path → LosesPaths (path ∷ []) w w
 loses_unfound w path lacking = λ o. unfound_by w path o (rows_of w o) lacking refl
@@ -205,12 +189,8 @@ all_front : {X : Type 0} (P : X → Type 0) (xs ys : List X) → AllByRecursion 
 all_front P [] ys all = tt
 all_front P (x ∷ xs) ys all = (all.0, all_front P xs ys all.1)
 
-distinct_nothing : {X : Type 0} (e : X → X → Bool) → IsDistinct e []
-unfolding IsDistinct
-distinct_nothing e = tt
-
 distinct_front : {X : Type 0} (e : X → X → Bool) (xs ys : List X) → IsDistinct e (xs ++ ys) → IsDistinct e xs
-distinct_front e [] ys d = distinct_nothing e
+distinct_front e [] ys d = nothing_twice e
 distinct_front e (x ∷ xs) ys d = IsDistinct-cons e x xs (all_front (λ y. e x y ≡ false) xs ys (IsDistinct-head e x (xs ++ ys) d)) (distinct_front e xs ys (IsDistinct-tail e x (xs ++ ys) d))
 
 distinct_back : {X : Type 0} (e : X → X → Bool) (xs ys : List X) → IsDistinct e (xs ++ ys) → IsDistinct e ys
@@ -236,7 +216,7 @@ rows_apart xs ys x y d cx cy same =
 
 pub inserts_one : (v w : OwnedRows) (owner slot : ℕ) (held : Held) → IsSome (rows_of v owner) → Inserts v w owner slot held → AppendsRows owner (held ∷ []) v w
 inserts_one v w owner slot held there inserts =
-    let r = there_by (rows_of v owner) there in
+    let r = the_rows (rows_of v owner) there in
     let entry : Entry = record { slot = slot; held = held } in
     let is : rows_of w owner ≡ Some (r.0 ++ entry ∷ []) = inserts.here ∙ ap (option_map (λ (rows : List Entry). rows ++ entry ∷ [])) r.1 in
     record {
@@ -289,7 +269,7 @@ fresh_behind owner version v w xs ys fresh a = record {
       ⊎_elim
       (λ before. fresh.unheld row (Contains-append_right xs ys row there) before)
       (λ come.
-      let x = mapped_from (born_at version) xs come.0 come.1 in
+      let x = of_map (born_at version) xs come.0 come.1 in
       rows_apart xs ys x.0 row fresh.distinct x.1 there (ap (λ (h : Held). h.row.path) x.2 ∙ come.2))
       (path_behind owner (map (born_at version) xs) v w row.path a holds);
 }

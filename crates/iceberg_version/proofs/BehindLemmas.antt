@@ -3,7 +3,7 @@ use Rattle.std.proofs.Common.{◌≡◌, ◌≢◌, ◌≤◌, ◌+◌, ℕ, zer
 use Rattle.std.specs.Prelude.{not, is_some, option_and_then, unwrap_or}
 use Rattle.std.specs.List.{AllByRecursion, IsDistinct, filter, list_any}
 use Rattle.std.specs.Str.{bytes_eq}
-use Rattle.std.proofs.lemmas.Bool.{cases_Bool, cond-false, cond-true, false≢true}
+use Rattle.std.proofs.lemmas.Bool.{cases_Bool, false≢true}
 use Rattle.std.proofs.lemmas.Cmp.{nat_list_eq_equiv}
 use Rattle.std.proofs.lemmas.List.{length-map, map-append}
 use Rattle.std.proofs.lemmas.List.Elements.{Contains-append_cases, Contains-append_left, Contains-append_right}
@@ -20,7 +20,7 @@ use Rattle.table_history.specs.declared.row.PartValue.{PartValue}
 use Rattle.table_history.specs.declared.row.PartValue.TheVariants as value
 use Rattle.table_history.specs.declared.table.Change.{Change}
 use Rattle.table_history.specs.declared.table.Table.{Table}
-use Rattle.table_history.proofs.RowListLemmas.{Contains-cases, Contains-head, Contains-none, Contains-tail, distinct_filter}
+use Rattle.table_history.proofs.RowListLemmas.{Contains-filter, Contains-head, Contains-tail, distinct_filter, filter_contains}
 use Rattle.table_history.proofs.TableLemmas.{Contains-paths_cases}
 use Rattle.partition_map.specs.Columns.{column_kind}
 use Rattle.partition_map.specs.Kind.{IsOfKind, part_kind_of}
@@ -28,32 +28,11 @@ use Rattle.partition_map.specs.declared.kind.PartKind.{PartKind}
 use Rattle.partition_map.specs.declared.kind.PartKind.TheVariants as kind
 use Rattle.schema_map.specs.Image.{wide_columns, wide_type}
 use Rattle.target_core.specs.Conditions.{HasKind}
+use Rattle.iceberg_version.proofs.Shared.{is_not, never_both}
 
 -- ---- lists
 
-pub filter_there : {X : Type 0} (p : X → Bool) (xs : List X) (x : X) → Contains (filter p xs) x → Contains xs x × (p x ≡ true)
-filter_there p [] x there = absurd (Contains-none x there)
-filter_there p (y ∷ xs) x there =
-    ⊎_elim
-    (λ (yes : p y ≡ true). ⊎_elim
-    (λ (same : y ≡ x). (subst (λ z. Contains (y ∷ xs) z) same (Contains-head y xs), sym (ap p same) ∙ yes))
-    (λ later. let rest = filter_there p xs x later in (Contains-tail y xs x rest.0, rest.1))
-    (Contains-cases y (filter p xs) x (subst (λ l. Contains l x) (cond-true (p y) (y ∷ filter p xs) (filter p xs) yes) there)))
-    (λ (no : p y ≡ false). let rest = filter_there p xs x (subst (λ l. Contains l x) (cond-false (p y) (y ∷ filter p xs) (filter p xs) no) there) in (Contains-tail y xs x rest.0, rest.1))
-    (cases_Bool (p y))
-
-pub there_filter : {X : Type 0} (p : X → Bool) (xs : List X) (x : X) → Contains xs x → p x ≡ true → Contains (filter p xs) x
-there_filter p [] x there is = absurd (Contains-none x there)
-there_filter p (y ∷ xs) x there is =
-    ⊎_elim
-    (λ (same : y ≡ x). subst (λ l. Contains l x) (sym (cond-true (p y) (y ∷ filter p xs) (filter p xs) (ap p same ∙ is))) (subst (λ z. Contains (y ∷ filter p xs) z) same (Contains-head y (filter p xs))))
-    (λ later. ⊎_elim
-    (λ yes. subst (λ l. Contains l x) (sym (cond-true (p y) (y ∷ filter p xs) (filter p xs) yes)) (Contains-tail y (filter p xs) x (there_filter p xs x later is)))
-    (λ no. subst (λ l. Contains l x) (sym (cond-false (p y) (y ∷ filter p xs) (filter p xs) no)) (there_filter p xs x later is))
-    (cases_Bool (p y)))
-    (Contains-cases y xs x there)
-
-apart_all : (x : List ℕ) (ys : List (List ℕ)) → (Contains ys x → ⊥) → AllByRecursion (λ y. bytes_eq x y ≡ false) ys
+pub apart_all : (x : List ℕ) (ys : List (List ℕ)) → (Contains ys x → ⊥) → AllByRecursion (λ y. bytes_eq x y ≡ false) ys
 apart_all x [] none = tt
 apart_all x (y ∷ ys) none = (
   ⊎_elim (λ yes. absurd (none (subst (λ z. Contains (y ∷ ys) z) (sym ((bytes_eq-Decides x y).0 yes)) (Contains-head y ys)))) (λ no. no) (cases_Bool (bytes_eq x y)),
@@ -88,14 +67,6 @@ stays_row removed row = not (list_any (bytes_eq row.path) removed)
 abbrev pub table_behind : Table → Change → Table
 table_behind table change = record { schema = unwrap_or change.schema table.schema; partition = table.partition; rows = filter (stays_row change.removed) table.rows ++ change.added }
 
-not_removed : (b : Bool) → not b ≡ true → b ≡ true → ⊥
-not_removed true h e = false≢true h
-not_removed false h e = false≢true e
-
-not_any : (b : Bool) → (b ≡ true → ⊥) → not b ≡ true
-not_any true h = absurd (h refl)
-not_any false h = refl
-
 module _ (table : Table) (change : Change) (distinct : HasDistinctPaths table.rows) (can : CanApply table change) where
   removed_is : (path : List ℕ) → list_any (bytes_eq path) change.removed ≡ true → Contains change.removed path
   removed_is path h = (is_member-Decides bytes_eq-Decides change.removed path).0 h
@@ -107,14 +78,14 @@ module _ (table : Table) (change : Change) (distinct : HasDistinctPaths table.ro
   kept_rows = filter (stays_row change.removed) table.rows
 
   kept_row : (row : Row) → Contains kept_rows row → Contains table.rows row × ¬ Contains change.removed row.path
-  kept_row row there = let h = filter_there (stays_row change.removed) table.rows row there in (h.0, λ gone. not_removed (list_any (bytes_eq row.path) change.removed) h.1 (removed_so row.path gone))
+  kept_row row there = let h = Contains-filter (stays_row change.removed) table.rows row there in (h.0, λ gone. never_both (list_any (bytes_eq row.path) change.removed) h.1 (removed_so row.path gone))
 
   row_to : (row : Row) → Contains (kept_rows ++ change.added) row → IsRowAfter table.rows change.removed change.added row
   row_to row there = ⊎_elim (λ old. inr (kept_row row old)) (λ new. inl new) (Contains-append_cases kept_rows change.added row there)
 
   row_from : (row : Row) → IsRowAfter table.rows change.removed change.added row → Contains (kept_rows ++ change.added) row
   row_from row (inl new) = Contains-append_right kept_rows change.added row new
-  row_from row (inr old) = Contains-append_left kept_rows change.added row (there_filter (stays_row change.removed) table.rows row old.0 (not_any (list_any (bytes_eq row.path) change.removed) (λ h. old.1 (removed_is row.path h))))
+  row_from row (inr old) = Contains-append_left kept_rows change.added row (filter_contains (stays_row change.removed) table.rows row old.0 (is_not (list_any (bytes_eq row.path) change.removed) (λ h. old.1 (removed_is row.path h))))
 
   apart_rows : (p : List ℕ) → Contains (paths_of kept_rows) p → Contains (paths_of change.added) p → ⊥
   apart_rows p old new =
@@ -133,7 +104,7 @@ module _ (table : Table) (change : Change) (distinct : HasDistinctPaths table.ro
 
 -- ---- the kinds of columns
 
-wide_part : (t : TypeTree) → part_kind_of (wide_type t) ≡ part_kind_of t
+pub wide_part : (t : TypeTree) → part_kind_of (wide_type t) ≡ part_kind_of t
 wide_part tree.boolean = refl
 wide_part tree.byte = refl
 wide_part tree.short = refl

@@ -1,15 +1,14 @@
 -- Whether rows of a manifest are removed, and what then becomes of it.
-use Rattle.std.proofs.Common.{◌≡◌, ◌≢◌, ◌+◌, ◌<◌, ℕ, Bool, true, false, Contains, List, [], ◌∷◌, ◌++◌, drop, ◌≤◌, Option, Some, None, IsSome, cond, get_or, map, length, refl, sym, ap, subst, ◌∙◌, inl, inr, ⊎_elim}
-use Rattle.std.specs.Prelude.{◌||◌, is_some, unwrap_or}
+use Rattle.std.proofs.Common.{◌≡◌, ◌≢◌, ◌+◌, ◌<◌, ℕ, Bool, true, false, Contains, List, [], ◌∷◌, ◌++◌, drop, ◌≤◌, Option, Some, None, IsSome, cond, get_or, map, length, refl, sym, ap, subst, ◌∙◌, inl, inr}
+use Rattle.std.specs.Prelude.{is_some, unwrap_or}
 use Rattle.std.specs.List.{list_any}
 use Rattle.std.specs.Str.{bytes_eq}
 use Rattle.std.proofs.lemmas.Bool.{false≢true}
-use Rattle.std.proofs.lemmas.List.Folds.{list_any_at}
 use Rattle.std.proofs.lemmas.List.{append-nil, append_assoc, drop_all, drop_more, get_or-map, length-map}
 use Rattle.std.proofs.lemmas.Slice.Eq.{bytes_eq-Decides}
-use Rattle.table_history.proofs.RowListLemmas.{Contains-cases, Contains-head, Contains-none, Contains-tail}
 use Rattle.file_links.specs.Rows.{Entry, IsFirstOf, OwnedRows, rows_of, slot_at}
 use Rattle.file_links.specs.declared.slots.Held.{Held}
+use Rattle.iceberg_metadata.proofs.ListLemmas.{any_from, any_to}
 use Rattle.iceberg_version.specs.Carrying.{AreCarriedOn, IsCarriedOn}
 use Rattle.iceberg_version.specs.KeptEnd.{held_rows, live_manifest}
 use Rattle.iceberg_version.specs.Manifests.{LiveManifest, is_lost}
@@ -18,36 +17,7 @@ use Rattle.iceberg_version.specs.declared.carrying.Next.{Next}
 use Rattle.iceberg_version.specs.declared.kept.KeptManifest.{KeptManifest}
 use Rattle.iceberg_version.specs.declared.carrying.Next.TheVariants.{Anew, Stays}
 use Rattle.iceberg_version.proofs.RowLemmas.{entries_of, there}
-
-contains_any : {X : Type 0} (p : X → Bool) (xs : List X) (x : X) → Contains xs x → p x ≡ true → list_any p xs ≡ true
-contains_any p xs x c h = list_any_at p xs c.0 x c.1 (ap p c.2 ∙ h)
-
-abbrev Found : {X : Type 0} → (X → Bool) → List X → Type 0
-Found {X} p xs = (x : X) × Contains xs x × (p x ≡ true)
-
-any_by : {X : Type 0} (p : X → Bool) (x : X) (xs : List X) (b : Bool) → p x ≡ b → (b || list_any p xs) ≡ true → (list_any p xs ≡ true → Found p xs) → Found p (x ∷ xs)
-any_by p x xs true is h later = (x, Contains-head x xs, is)
-any_by p x xs false is h later = let f = later h in (f.0, Contains-tail x xs f.0 f.1, f.2)
-
-any_found : {X : Type 0} (p : X → Bool) (xs : List X) → list_any p xs ≡ true → Found p xs
-any_found p [] h = absurd (false≢true h)
-any_found p (x ∷ xs) h = any_by p x xs (p x) refl h (any_found p xs)
-
-map_there : {X Y : Type 0} (f : X → Y) (xs : List X) (x : X) → Contains xs x → Contains (map f xs) (f x)
-map_there {Y = Y} f [] x c = absurd (Contains-none x c)
-map_there {Y = Y} f (y ∷ ys) x c =
-    ⊎_elim
-    (λ e. subst (λ (z : Y). Contains (f y ∷ map f ys) z) (ap f e) (Contains-head (f y) (map f ys)))
-    (λ later. Contains-tail (f y) (map f ys) (f x) (map_there f ys x later))
-    (Contains-cases y ys x c)
-
-map_back : {X Y : Type 0} (f : X → Y) (xs : List X) (y : Y) → Contains (map f xs) y → (x : X) × Contains xs x × (f x ≡ y)
-map_back f [] y c = absurd (Contains-none y c)
-map_back f (x ∷ xs) y c =
-    ⊎_elim
-    (λ e. (x, Contains-head x xs, e))
-    (λ later. let r = map_back f xs y later in (r.0, Contains-tail x xs r.0 r.1, r.2))
-    (Contains-cases (f x) (map f xs) y c)
+use Rattle.iceberg_version.proofs.Shared.{false_by, in_map, of_map}
 
 -- ---- rows that are removed
 
@@ -55,31 +25,27 @@ pub any_lost : (links : OwnedRows) (owner : ℕ) (paths : List (List ℕ)) → I
 any_lost links owner paths t =
     let rows = t.owned.0 in
     let are : held_rows links owner ≡ map (λ (e : Entry). e.held) rows = ap (λ (o : Option (List Entry)). map (λ (e : Entry). e.held) (unwrap_or o [])) t.owned.1 in
-    let lost : is_lost paths t.entry.held ≡ true = contains_any (bytes_eq t.entry.held.row.path) paths t.entry.held.row.path t.lost ((bytes_eq-Decides t.entry.held.row.path t.entry.held.row.path).1 refl) in
-    ap (list_any (is_lost paths)) are ∙ contains_any (is_lost paths) (map (λ (e : Entry). e.held) rows) t.entry.held (map_there (λ (e : Entry). e.held) rows t.entry t.owned.2) lost
+    let lost : is_lost paths t.entry.held ≡ true = any_from (bytes_eq t.entry.held.row.path) paths t.entry.held.row.path t.lost ((bytes_eq-Decides t.entry.held.row.path t.entry.held.row.path).1 refl) in
+    ap (list_any (is_lost paths)) are ∙ any_from (is_lost paths) (map (λ (e : Entry). e.held) rows) t.entry.held (in_map (λ (e : Entry). e.held) rows t.entry t.owned.2) lost
 
 touched_by : (links : OwnedRows) (owner : ℕ) (paths : List (List ℕ)) → IsSome (rows_of links owner) → list_any (is_lost paths) (held_rows links owner) ≡ true → IsTouched links paths owner
 touched_by links owner paths h any =
-    let f = any_found (is_lost paths) (held_rows links owner) any in
-    let e = map_back (λ (e : Entry). e.held) (entries_of links owner) f.0 f.1 in
-    let p = any_found (bytes_eq f.0.row.path) paths f.2 in
+    let f = any_to (is_lost paths) (held_rows links owner) any in
+    let e = of_map (λ (e : Entry). e.held) (entries_of links owner) f.0 f.1 in
+    let p = any_to (bytes_eq f.0.row.path) paths f.2 in
     let path : e.0.held.row.path ≡ p.0 = ap (λ (x : Held). x.row.path) e.2 ∙ (bytes_eq-Decides f.0.row.path p.0).0 p.2 in
     record { entry = e.0; owned = (entries_of links owner, there links owner h, e.1); lost = subst (λ (q : List ℕ). Contains paths q) (sym path) p.1 }
 
-none_by : (b : Bool) → (b ≡ true → ⊥) → b ≡ false
-none_by true h = absurd (h refl)
-none_by false h = refl
-
 pub none_lost : (links : OwnedRows) (owner : ℕ) (paths : List (List ℕ)) → IsSome (rows_of links owner) → (IsTouched links paths owner → ⊥) → list_any (is_lost paths) (held_rows links owner) ≡ false
-none_lost links owner paths h untouched = none_by (list_any (is_lost paths) (held_rows links owner)) (λ any. untouched (touched_by links owner paths h any))
+none_lost links owner paths h untouched = false_by (list_any (is_lost paths) (held_rows links owner)) (λ any. untouched (touched_by links owner paths h any))
 
 -- ---- live rows
 
-first_none : (es : List Entry) → None ≡ slot_at es 0 → es ≡ []
+pub first_none : (es : List Entry) → None ≡ slot_at es 0 → es ≡ []
 first_none [] h = refl
 first_none (e ∷ es) h = cc
 
-none_if : (o : Option ℕ) → is_some o ≡ false → o ≡ None
+pub none_if : (o : Option ℕ) → is_some o ≡ false → o ≡ None
 none_if None h = refl
 none_if (Some n) h = absurd (false≢true (sym h))
 

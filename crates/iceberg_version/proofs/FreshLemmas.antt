@@ -1,5 +1,5 @@
 -- What is kept before the first commit.
-use Rattle.std.proofs.Common.{◌≡◌, ℕ, List, [], map, Bool, true, None, Some, nat_eq, sym, ap, subst, ◌∙◌, slice_get}
+use Rattle.std.proofs.Common.{◌≡◌, ℕ, List, [], map, true, None, Some, nat_eq, sym, ap, subst, ◌∙◌, slice_get}
 use Rattle.std.specs.List.{IsDistinct, list_all}
 use Rattle.table_history.specs.History.{IsSoundTable}
 use Rattle.table_history.specs.Row.{Row}
@@ -11,10 +11,7 @@ use Rattle.iceberg_metadata.specs.declared.metadata.Metadata.{Metadata}
 use Rattle.iceberg_version.specs.Sound.{AreRowsOf, OwnEachPath, has_content, is_sound_metadata}
 use Rattle.iceberg_version.specs.Writing.{no_version}
 use Rattle.iceberg_version.specs.declared.kept.KeptManifest.{KeptManifest}
-
-nothing_twice : {K : Type 0} (eq : K → K → Bool) → IsDistinct eq []
-unfolding IsDistinct
-nothing_twice eq = tt
+use Rattle.iceberg_version.proofs.Shared.{nothing_twice}
 
 pub fresh_metadata : (id location : List ℕ) (m : Metadata) → m ≡ no_version id location → is_sound_metadata 0 m ≡ true
 fresh_metadata id location m is = ap (is_sound_metadata 0) is

@@ -8,7 +8,7 @@ use Rattle.std.proofs.lemmas.Bool.{false≢true}
 use Rattle.std.proofs.lemmas.Bool.Decides.{Decides-int_eq, nat_tests}
 use Rattle.std.proofs.lemmas.Int.{fold-int_max_bounds, ints}
 use Rattle.std.proofs.lemmas.List.{append-nil, length-append}
-use Rattle.std.proofs.lemmas.List.Elements.{All-contains, Contains-append_cases, Contains-append_left, Contains-append_right}
+use Rattle.std.proofs.lemmas.List.Elements.{All-contains, Contains-append_cases, Contains-append_left}
 use Rattle.schema_map.specs.IcebergFits.{FitsIceberg}
 use Rattle.schema_map.specs.Paths.{Path, column_paths, known_id}
 use Rattle.schema_map.specs.Image.{wide_columns}
@@ -30,6 +30,7 @@ use Rattle.iceberg_metadata.proofs.ListLemmas.{all_from, both_are, both_true, no
 use Rattle.iceberg_version.specs.Schemas.{AddsSchema, AreNextSchemas, KeepsSchemas, Schemas, known_ids}
 use Rattle.iceberg_version.specs.Sound.{IsSoundMetadata, have_first_ids, is_under}
 use Rattle.iceberg_version.proofs.IdLemmas.{known_there, own_paths, still_agree}
+use Rattle.iceberg_version.proofs.Shared.{in_flat, map_push, of_flat, of_map}
 
 -- ---- tests of lists
 
@@ -76,19 +77,6 @@ under_more n m (negsuc i) more under = absurd (false≢true under)
 last_under : (n m : ℕ) → m ≡ n + 1 → is_under m (pos n) ≡ true
 last_under n m is = grind (arith, nat_tests)
 
-pub map_push : {A B : Type 0} (f : A → B) (xs : List A) (x : A) → map f (xs ++ x ∷ []) ≡ map f xs ++ f x ∷ []
-map_push f [] x = refl
-map_push f (y ∷ xs) x = ap (λ l. f y ∷ l) (map_push f xs x)
-
-pub of_map : {A B : Type 0} (f : A → B) (xs : List A) (y : B) → Contains (map f xs) y → (x : A) × Contains xs x × (f x ≡ y)
-of_map f [] y there = absurd (Contains-none y there)
-of_map f (x ∷ xs) y there =
-    ⊎_elim (λ same. (x, Contains-head x xs, same)) (λ later. let rest = of_map f xs y later in (rest.0, Contains-tail x xs rest.0 rest.1, rest.2)) (Contains-cases (f x) (map f xs) y there)
-
-pub in_map : {A B : Type 0} (f : A → B) (xs : List A) (x : A) → Contains xs x → Contains (map f xs) (f x)
-in_map f [] x there = absurd (Contains-none x there)
-in_map {B = B} f (y ∷ xs) x there = ⊎_elim (λ same. subst (λ (z : B). Contains (f y ∷ map f xs) z) (ap f same) (Contains-head (f y) (map f xs))) (λ later. Contains-tail (f y) (map f xs) (f x) (in_map f xs x later)) (Contains-cases y xs x there)
-
 flat_push : {A B : Type 0} (f : A → List B) (xs : List A) (x : A) → flat_map f (xs ++ x ∷ []) ≡ flat_map f xs ++ f x
 flat_push f [] x = append-nil (f x)
 flat_push f (y ∷ xs) x = ap (λ l. f y ++ l) (flat_push f xs x) ∙ sym (joined (f y) (flat_map f xs) (f x))
@@ -97,20 +85,7 @@ flat_push f (y ∷ xs) x = ap (λ l. f y ++ l) (flat_push f xs x) ∙ sym (joine
     joined [] vs ws = refl
     joined (u ∷ us) vs ws = ap (λ l. u ∷ l) (joined us vs ws)
 
-pub of_flat : {A B : Type 0} (f : A → List B) (xs : List A) (y : B) → Contains (flat_map f xs) y → (x : A) × Contains xs x × Contains (f x) y
-of_flat f [] y there = absurd (Contains-none y there)
-of_flat f (x ∷ xs) y there =
-    ⊎_elim (λ here. (x, Contains-head x xs, here)) (λ later. let rest = of_flat f xs y later in (rest.0, Contains-tail x xs rest.0 rest.1, rest.2)) (Contains-append_cases (f x) (flat_map f xs) y there)
-
-pub in_flat : {A B : Type 0} (f : A → List B) (xs : List A) (x : A) (y : B) → Contains xs x → Contains (f x) y → Contains (flat_map f xs) y
-in_flat f [] x y there here = absurd (Contains-none x there)
-in_flat f (z ∷ xs) x y there here =
-    ⊎_elim
-    (λ same. Contains-append_left (f z) (flat_map f xs) y (subst (λ w. Contains (f w) y) (sym same) here))
-    (λ later. Contains-append_right (f z) (flat_map f xs) y (in_flat f xs x y later here))
-    (Contains-cases z xs x there)
-
-zip_id : (paths : List Path) (ids : List ℤ) (p : PathId) → Contains (zip paths ids) p → Contains ids p.1
+pub zip_id : (paths : List Path) (ids : List ℤ) (p : PathId) → Contains (zip paths ids) p → Contains ids p.1
 zip_id [] ids p there = absurd (Contains-none p there)
 zip_id (path ∷ paths) [] p there = absurd (Contains-none p there)
 zip_id (path ∷ paths) (id ∷ ids) p there =
@@ -134,7 +109,7 @@ schema_id_by : (s : HeldSchema) (ss : List HeldSchema) (id : ℤ) (t : HeldSchem
 schema_id_by s ss id t true at is rest = let same : s ≡ t = cc in subst (λ (x : HeldSchema). x.0 ≡ id) same ((Decides-int_eq s.0 id).0 at)
 schema_id_by s ss id t false at is rest = rest is
 
-schema_id : (ss : List HeldSchema) (id : ℤ) (t : HeldSchema) → held_schema ss id ≡ Some t → t.0 ≡ id
+pub schema_id : (ss : List HeldSchema) (id : ℤ) (t : HeldSchema) → held_schema ss id ≡ Some t → t.0 ≡ id
 schema_id [] id t is = absurd (cc)
 schema_id (s ∷ ss) id t is = schema_id_by s ss id t (int_eq s.0 id) refl is (schema_id ss id t)
 
@@ -142,7 +117,7 @@ in_schemas_by : (s : HeldSchema) (ss : List HeldSchema) (id : ℤ) (t : HeldSche
 in_schemas_by s ss id t true is rest = let same : s ≡ t = cc in subst (Contains (s ∷ ss)) same (Contains-head s ss)
 in_schemas_by s ss id t false is rest = Contains-tail s ss t (rest is)
 
-in_schemas : (ss : List HeldSchema) (id : ℤ) (t : HeldSchema) → held_schema ss id ≡ Some t → Contains ss t
+pub in_schemas : (ss : List HeldSchema) (id : ℤ) (t : HeldSchema) → held_schema ss id ≡ Some t → Contains ss t
 in_schemas [] id t is = absurd (cc)
 in_schemas (s ∷ ss) id t is = in_schemas_by s ss id t (int_eq s.0 id) is (in_schemas ss id t)
 
@@ -174,19 +149,9 @@ ids_of schemas = map (λ s. s.0) schemas
 pub current_there : (m : Metadata) (stated : ColumnTrees) (next : Schemas) → AreSoundNext m stated next → Contains next.held next.current
 current_there m stated next sound = in_schemas next.held next.current.0 next.current sound.found
 
-module _ (version : ℕ) (m : Metadata) (stated : ColumnTrees) (next : Schemas) (first_ids : have_first_ids m.schemas ≡ true) (before : IsSoundMetadata version m) where
-  kept_next : KeepsSchemas m stated next → AreSoundNext m stated next
-  kept_next is =
-      let id = schema_id m.schemas m.current_schema next.current is.current.held in
-      record {
-        found = ap (λ (l : List HeldSchema). held_schema l next.current.0) is.held ∙ ap (held_schema m.schemas) id ∙ is.current.held;
-        columns = is.current.columns;
-        first_ids = ap have_first_ids is.held ∙ first_ids;
-        field_ids = λ i there. subst (λ (last : ℤ). i ≤ℤ last) (sym is.last_id) (before.field_ids i (subst (λ (l : List HeldSchema). Contains (flat_map (λ s. s.2) l) i) is.held there));
-        read = λ s there. before.schemas s (subst (λ (l : List HeldSchema). Contains l s) is.held there);
-        renamed = subst (λ (l : List HeldSchema). IsRenamed (flat_map path_ids l) → ⊥) (sym is.held) before.renamed;
-        grown = λ s there. subst (λ (l : List HeldSchema). Contains l s) (sym is.held) there;
-      }
+module _ (m : Metadata) (stated : ColumnTrees) (next : Schemas) (first_ids : have_first_ids m.schemas ≡ true) where
+  pub found_kept : KeepsSchemas m stated next → held_schema next.held next.current.0 ≡ Some next.current
+  found_kept is = ap (λ (l : List HeldSchema). held_schema l next.current.0) is.held ∙ ap (held_schema m.schemas) (schema_id m.schemas m.current_schema next.current is.current.held) ∙ is.current.held
 
   module _ (is : AddsSchema m stated next) where
     abbrev count : ℕ
@@ -201,7 +166,7 @@ module _ (version : ℕ) (m : Metadata) (stated : ColumnTrees) (next : Schemas) 
     other_ids : (s : HeldSchema) → Contains m.schemas s → s.0 ≢ next.current.0
     other_ids s there same = under_bound count s.0 (all_from (λ (t : HeldSchema). is_under count t.0) m.schemas s parts.1 there) (same ∙ new_id)
 
-    all_first : have_first_ids (m.schemas ++ next.current ∷ []) ≡ true
+    pub all_first : have_first_ids (m.schemas ++ next.current ∷ []) ≡ true
     all_first =
         let len = length-append m.schemas (next.current ∷ []) in
         let more : length (m.schemas ++ next.current ∷ []) ≡ count + 1 = omega (arith, len) in
@@ -213,6 +178,23 @@ module _ (version : ℕ) (m : Metadata) (stated : ColumnTrees) (next : Schemas) 
         let last : is_under total next.current.0 ≡ true = ap (is_under total) new_id ∙ last_under count total more in
         both_are (are_distinct (ids_of (m.schemas ++ next.current ∷ []))) (list_all (λ s. is_under total s.0) (m.schemas ++ next.current ∷ [])) ids (all_push (λ (s : HeldSchema). is_under total s.0) m.schemas next.current old last)
 
+    pub found_added : held_schema next.held next.current.0 ≡ Some next.current
+    found_added = ap (λ (l : List HeldSchema). held_schema l next.current.0) is.held ∙ schema_last m.schemas next.current other_ids
+
+module _ (version : ℕ) (m : Metadata) (stated : ColumnTrees) (next : Schemas) (first_ids : have_first_ids m.schemas ≡ true) (before : IsSoundMetadata version m) where
+  kept_next : KeepsSchemas m stated next → AreSoundNext m stated next
+  kept_next is =
+      record {
+        found = found_kept m stated next first_ids is;
+        columns = is.current.columns;
+        first_ids = ap have_first_ids is.held ∙ first_ids;
+        field_ids = λ i there. subst (λ (last : ℤ). i ≤ℤ last) (sym is.last_id) (before.field_ids i (subst (λ (l : List HeldSchema). Contains (flat_map (λ s. s.2) l) i) is.held there));
+        read = λ s there. before.schemas s (subst (λ (l : List HeldSchema). Contains l s) is.held there);
+        renamed = subst (λ (l : List HeldSchema). IsRenamed (flat_map path_ids l) → ⊥) (sym is.held) before.renamed;
+        grown = λ s there. subst (λ (l : List HeldSchema). Contains l s) (sym is.held) there;
+      }
+
+  module _ (is : AddsSchema m stated next) where
     one_more : (s : HeldSchema) → Contains next.held s → Contains m.schemas s ⊎ (next.current ≡ s)
     one_more s there =
         ⊎_elim (λ old. inl old) (λ new. ⊎_elim (λ same. inr same) (λ none. absurd (Contains-none s none)) (Contains-cases next.current [] s new)) (Contains-append_cases m.schemas (next.current ∷ []) s (subst (λ (l : List HeldSchema). Contains l s) is.held there))
@@ -239,9 +221,9 @@ module _ (version : ℕ) (m : Metadata) (stated : ColumnTrees) (next : Schemas) 
         let bounds = fold-int_max_bounds m.last_column_id is.ids (fold int_max m.last_column_id is.ids) refl in
         let current : CanBeHeld next.current = ⊎_elim (λ old. before.schemas next.current old) (λ new. fits_held next.current stated columns new) fits in
         record {
-          found = ap (λ (l : List HeldSchema). held_schema l next.current.0) is.held ∙ schema_last m.schemas next.current other_ids;
+          found = found_added m stated next first_ids is;
           columns = columns;
-          first_ids = ap have_first_ids is.held ∙ all_first;
+          first_ids = ap have_first_ids is.held ∙ all_first m stated next first_ids is;
           field_ids = λ i there.
               let s = of_flat (λ (t : HeldSchema). t.2) next.held i there in
               subst (λ (last : ℤ). i ≤ℤ last) (sym is.last_id)

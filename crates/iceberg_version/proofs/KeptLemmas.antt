@@ -1,6 +1,6 @@
 -- What is kept behind a commit.
 use Rattle.std.proofs.Common.{◌≡◌, ◌≢◌, ℕ, Bool, true, false, cond, Contains, List, [], ◌∷◌, Option, Some, None, IsSome, Result, Ok, Err, map, length, not, nat_eq, filter, slice_get, refl, sym, ap, subst, ◌∙◌, ◌⊎◌, inl, inr, ⊎_elim}
-use Rattle.std.specs.Prelude.{IfOk, OnOk, is_some, option_map, unwrap_or}
+use Rattle.std.specs.Prelude.{IfOk, OnOk, option_map, unwrap_or}
 use Rattle.std.specs.List.{IsDistinct, range_with_len}
 use Rattle.std.specs.Str.{bytes_eq}
 use Rattle.std.proofs.lemmas.Bool.{false≢true}
@@ -20,9 +20,10 @@ use Rattle.iceberg_version.specs.Manifests.{LiveManifest, is_lost, left}
 use Rattle.iceberg_version.specs.declared.carrying.Next.{Next}
 use Rattle.iceberg_version.specs.declared.carrying.Next.TheVariants.{Stays}
 use Rattle.iceberg_version.specs.declared.kept.KeptManifest.{KeptManifest}
-use Rattle.iceberg_version.proofs.LinkLemmas.{has_owner, held_from, holds_from, mapped_from, mapped_there, none_held, owned_from, path_from, path_there, same_held, some_held}
-use Rattle.iceberg_version.proofs.OwnerLemmas.{AreAlive, AreApart, AreOwnPaths, all_counted, all_distinct, all_held, all_kept, all_paths, all_rows, all_there, all_whose, named_there}
+use Rattle.iceberg_version.proofs.LinkLemmas.{has_owner, held_from, holds_from, none_held, owned_from, path_from, path_there, same_held, some_held}
+use Rattle.iceberg_version.proofs.OwnerLemmas.{AreAlive, AreApart, AreOwnPaths, all_counted, all_distinct, all_held, all_kept, all_paths, all_rows, all_there, all_whose, named_there, not_none}
 use Rattle.iceberg_version.proofs.ListLemmas.{alive_named, mapped_at, named_alive, named_apart, rows_match, stays_whole}
+use Rattle.iceberg_version.proofs.Shared.{in_map, of_map}
 
 -- ---- the rows without those that are lost
 
@@ -45,9 +46,6 @@ still_some removed (Some rows) some = refl
 was_some : (removed : List (List ℕ)) (o : Option (List Entry)) → IsSome (option_map (λ rows. filter (λ e. not (is_lost removed e.held)) rows) o) → IsSome o
 was_some removed None some = some
 was_some removed (Some rows) some = refl
-
-not_none : (o : Option (List Entry)) → IsSome o → o ≡ None → ⊥
-not_none o some none = false≢true (sym (ap (λ (r : Option (List Entry)). is_some r) none) ∙ some)
 
 filled_some : (o : Option (List Entry)) → map (λ (x : Entry). x.held) (unwrap_or o []) ≢ [] → IsSome o
 filled_some None some = absurd (some refl)
@@ -186,7 +184,7 @@ module _ (removed : List (List ℕ)) (ms : List KeptManifest) (v mid w : OwnedRo
 
       module _ (kept : List KeptManifest) (is : owners_of kept ≡ os) where
         of_kept : (o : ℕ) → Contains os o → IsOfManifest kept o
-        of_kept o there = let r = mapped_from (λ (m : KeptManifest). m.owner) kept o (subst (λ (ns : List ℕ). Contains ns o) (sym is) there) in (r.0, r.1, r.2)
+        of_kept o there = let r = of_map (λ (m : KeptManifest). m.owner) kept o (subst (λ (ns : List ℕ). Contains ns o) (sym is) there) in (r.0, r.1, r.2)
 
         own_all : OwnAllRows v ms → OwnAllRows x kept
         own_all own = λ o e owns.
@@ -206,7 +204,7 @@ module _ (removed : List (List ℕ)) (ms : List KeptManifest) (v mid w : OwnedRo
             ⊎_elim
             (λ earlier.
             let of = own o (there_first o earlier) in
-            let among : Contains (owners_of ms) o = subst (λ (n : ℕ). Contains (owners_of ms) n) of.2 (mapped_there (λ (m : KeptManifest). m.owner) ms of.0 of.1) in
+            let among : Contains (owners_of ms) o = subst (λ (n : ℕ). Contains (owners_of ms) n) of.2 (in_map (λ (m : KeptManifest). m.owner) ms of.0 of.1) in
             of_kept o (goes_on o of (had_rows o among earlier)))
             (λ later. of_kept o later)
             (all_whose ms version (map (source_of parts) next) os w x have o there)
@@ -222,7 +220,7 @@ module _ (removed : List (List ℕ)) (ms : List KeptManifest) (v mid w : OwnedRo
               ∙ rows_match front version removed v x ms parts next are os all_whole given
               (all_rows ms version (λ q. left removed (held_rows v q)) (map (source_of parts) next) os w x have alive (λ p o there at. held_left o));
           there = λ m there.
-              all_there ms version (map (source_of parts) next) os w x have alive m.owner (subst (λ (ns : List ℕ). Contains ns m.owner) is (mapped_there (λ (k : KeptManifest). k.owner) kept m there));
+              all_there ms version (map (source_of parts) next) os w x have alive m.owner (subst (λ (ns : List ℕ). Contains ns m.owner) is (in_map (λ (k : KeptManifest). k.owner) kept m there));
           distinct = subst (IsDistinct nat_eq) (sym is) (all_distinct ms version (map (source_of parts) next) os w x apart have alive places_apart);
           own = own_all;
           all = all_own;

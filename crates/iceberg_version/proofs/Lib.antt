@@ -19,6 +19,7 @@ pub mod RemovedLemmas
 pub mod RewritingLemmas
 pub mod RowLemmas
 pub mod SchemaLemmas
+pub mod Shared
 pub mod SourceLemmas
 pub mod SpecLemmas
 pub mod TouchedLemmas

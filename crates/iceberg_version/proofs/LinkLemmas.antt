@@ -1,26 +1,11 @@
 -- The rows of owners, without their slots.
-use Rattle.std.proofs.Common.{◌≡◌, ℕ, Contains, List, [], ◌∷◌, Option, Some, None, IsSome, map, refl, sym, ap, subst, ⊎_elim}
+use Rattle.std.proofs.Common.{◌≡◌, ℕ, Contains, List, [], Option, Some, None, IsSome, map, refl, sym, ap, subst}
 use Rattle.std.specs.Prelude.{unwrap_or}
-use Rattle.table_history.proofs.RowListLemmas.{Contains-cases, Contains-head, Contains-none, Contains-tail}
+use Rattle.table_history.proofs.RowListLemmas.{Contains-none}
 use Rattle.file_links.specs.Rows.{Entry, Holds, HoldsPath, OwnedRows, Owns, rows_of}
 use Rattle.file_links.specs.declared.slots.Held.{Held}
 use Rattle.iceberg_version.specs.KeptEnd.{held_rows}
-
-pub mapped_there : {X Y : Type 0} (f : X → Y) (xs : List X) (x : X) → Contains xs x → Contains (map f xs) (f x)
-mapped_there {Y = Y} f [] x c = absurd (Contains-none x c)
-mapped_there {Y = Y} f (y ∷ ys) x c =
-    ⊎_elim
-    (λ e. subst (λ (z : Y). Contains (f y ∷ map f ys) z) (ap f e) (Contains-head (f y) (map f ys)))
-    (λ later. Contains-tail (f y) (map f ys) (f x) (mapped_there f ys x later))
-    (Contains-cases y ys x c)
-
-pub mapped_from : {X Y : Type 0} (f : X → Y) (xs : List X) (y : Y) → Contains (map f xs) y → (x : X) × Contains xs x × (f x ≡ y)
-mapped_from f [] y c = absurd (Contains-none y c)
-mapped_from f (x ∷ xs) y c =
-    ⊎_elim
-    (λ e. (x, Contains-head x xs, e))
-    (λ later. let r = mapped_from f xs y later in (r.0, Contains-tail x xs r.0 r.1, r.2))
-    (Contains-cases (f x) (map f xs) y c)
+use Rattle.iceberg_version.proofs.Shared.{in_map, of_map}
 
 -- what an owner has is as it was
 pub same_held : (v w : OwnedRows) (owner : ℕ) → rows_of w owner ≡ rows_of v owner → held_rows w owner ≡ held_rows v owner
@@ -34,14 +19,14 @@ some_held v owner rows is = ap (λ (o : Option (List Entry)). map (λ (e : Entry
 
 owned_by : (v : OwnedRows) (owner : ℕ) (held : Held) (o : Option (List Entry)) → rows_of v owner ≡ o → Contains (map (λ (e : Entry). e.held) (unwrap_or o [])) held → (e : Entry) × Owns v owner e × (e.held ≡ held)
 owned_by v owner held None is c = absurd (Contains-none held c)
-owned_by v owner held (Some rows) is c = let r = mapped_from (λ (e : Entry). e.held) rows held c in (r.0, (rows, is, r.1), r.2)
+owned_by v owner held (Some rows) is c = let r = of_map (λ (e : Entry). e.held) rows held c in (r.0, (rows, is, r.1), r.2)
 
 -- between a row of an owner and an entry of it
 pub owned_from : (v : OwnedRows) (owner : ℕ) (held : Held) → Contains (held_rows v owner) held → (e : Entry) × Owns v owner e × (e.held ≡ held)
 owned_from v owner held c = owned_by v owner held (rows_of v owner) refl c
 
 pub held_from : (v : OwnedRows) (owner : ℕ) (e : Entry) → Owns v owner e → Contains (held_rows v owner) e.held
-held_from v owner e owned = subst (λ (hs : List Held). Contains hs e.held) (sym (some_held v owner owned.0 owned.1)) (mapped_there (λ (x : Entry). x.held) owned.0 e owned.2)
+held_from v owner e owned = subst (λ (hs : List Held). Contains hs e.held) (sym (some_held v owner owned.0 owned.1)) (in_map (λ (x : Entry). x.held) owned.0 e owned.2)
 
 -- between a row of an owner and a slot
 pub holds_from : (v : OwnedRows) (owner : ℕ) (held : Held) → Contains (held_rows v owner) held → (slot : ℕ) × Holds v slot held

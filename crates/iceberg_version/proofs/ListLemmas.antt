@@ -1,5 +1,5 @@
 -- The new list, of which the first manifests are those before that have live rows.
-use Rattle.std.proofs.Common.{zero, suc, ◌≡◌, ◌≢◌, ◌+◌, ◌-◌, ◌<◌, ◌≤◌, ◌||◌, ℕ, Bool, true, false, cond, Contains, List, [], ◌∷◌, ◌++◌, Option, Some, None, map, drop, length, get_or, not, slice_get, refl, sym, ap, subst, ◌∙◌, ⊎_elim, arith}
+use Rattle.std.proofs.Common.{zero, suc, ◌≡◌, ◌≢◌, ◌+◌, ◌-◌, ◌<◌, ◌≤◌, ℕ, Bool, true, false, cond, Contains, List, [], ◌∷◌, ◌++◌, Option, Some, None, map, drop, length, get_or, not, slice_get, refl, sym, ap, subst, ◌∙◌, ⊎_elim, arith}
 use Rattle.std.specs.Prelude.{option_map, unwrap_or}
 use Rattle.std.specs.List.{flat_map, list_any, range_with_len}
 use Rattle.std.proofs.lemmas.Bool.{cases_eq, false≢true}
@@ -10,6 +10,7 @@ use Rattle.table_history.specs.Row.{Row}
 use Rattle.table_history.proofs.RowListLemmas.{Contains-cases, Contains-head, Contains-none, Contains-tail}
 use Rattle.file_links.specs.Rows.{OwnedRows}
 use Rattle.file_links.specs.declared.slots.Held.{Held}
+use Rattle.iceberg_metadata.proofs.ListLemmas.{both_false}
 use Rattle.iceberg_version.specs.Advance.{IsPlaced, Source, added, added_rows, all_new, before, live_rows, new_rows, owners_of, source_of}
 use Rattle.iceberg_version.specs.Carrying.{AreCarriedOn, AreNext, IsNextList, IsNextOf}
 use Rattle.iceberg_version.specs.KeptEnd.{held_rows, live_manifest}
@@ -18,8 +19,8 @@ use Rattle.iceberg_version.specs.Manifests.{AreParts, LiveManifest, NextManifest
 use Rattle.iceberg_version.specs.declared.carrying.Next.{Next}
 use Rattle.iceberg_version.specs.declared.carrying.Next.TheVariants.{Added, Anew, Stays}
 use Rattle.iceberg_version.specs.declared.kept.KeptManifest.{KeptManifest}
-use Rattle.iceberg_version.proofs.LinkLemmas.{mapped_from, mapped_there}
 use Rattle.iceberg_version.proofs.OwnerLemmas.{AreApart, HasRows}
+use Rattle.iceberg_version.proofs.Shared.{in_map, of_map}
 
 -- ---- the manifests before
 
@@ -99,7 +100,7 @@ among_first parts carried count one p c is =
     ⊎_elim
     (λ first. first)
     (λ later.
-    let r = mapped_from (λ (k : ℕ). Added k) count one later in
+    let r = of_map (λ (k : ℕ). Added k) count one later in
     let wrong : added (unwrap_or (slice_get parts r.0) []) ≡ before p = ap (source_of parts) r.2 ∙ is in cc)
     (Contains-append_cases carried (map (λ (k : ℕ). Added k) count) one c)
 
@@ -109,7 +110,7 @@ place_by parts false k p is = cc
 
 pub named_alive : (removed : List (List ℕ)) (all : List LiveManifest) (parts : List (List Row)) (place : ℕ) (ms : List LiveManifest) (carried : List Next) (count : List ℕ) (p : ℕ) → ms ≡ drop place all → AreCarriedOn removed place ms carried → Contains (map (source_of parts) (carried ++ map (λ k. Added k) count)) (before p) → (place ≤ p) × ((m : LiveManifest) × (slice_get all p ≡ Some m) × (m.rows ≢ []))
 named_alive removed all parts place ms carried count p e are c =
-    let r = mapped_from (source_of parts) (carried ++ map (λ (k : ℕ). Added k) count) (before p) c in
+    let r = of_map (source_of parts) (carried ++ map (λ (k : ℕ). Added k) count) (before p) c in
     let one = all_carried removed all place ms carried r.0 e are (among_first parts carried count r.0 p r.1 r.2) in
     let same : one.place ≡ p = place_by parts (list_any (is_lost removed) one.manifest.rows) one.place p (sym (ap (source_of parts) one.is) ∙ r.2) in
     (subst (λ (n : ℕ). place ≤ n) same one.behind, (one.manifest, sym (ap (slice_get all) same) ∙ one.at, one.rows))
@@ -118,7 +119,7 @@ pub alive_named : (removed : List (List ℕ)) (all : List LiveManifest) (parts :
 alive_named removed all parts carried count p m are at some =
     let there = each_carried_on removed all 0 all carried p m refl are (omega arith) at some in
     subst (λ (s : Source). Contains (map (source_of parts) (carried ++ map (λ (k : ℕ). Added k) count)) s) (source_by parts (list_any (is_lost removed) m.rows) p)
-    (mapped_there (source_of parts) (carried ++ map (λ (k : ℕ). Added k) count) (goes_on removed m p) (Contains-append_left carried (map (λ (k : ℕ). Added k) count) (goes_on removed m p) there))
+    (in_map (source_of parts) (carried ++ map (λ (k : ℕ). Added k) count) (goes_on removed m p) (Contains-append_left carried (map (λ (k : ℕ). Added k) count) (goes_on removed m p) there))
 
 added_apart : (parts : List (List Row)) (count : List ℕ) → AreApart (map (source_of parts) (map (λ k. Added k) count))
 added_apart parts [] = tt
@@ -146,10 +147,6 @@ named_apart removed all parts place (m ∷ ms) carried count e are =
 left_by : (removed : List (List ℕ)) (h : Held) (rows : List Held) (b : Bool) → b ≡ false → left removed rows ≡ rows → cond (not b) (h ∷ left removed rows) (left removed rows) ≡ h ∷ rows
 left_by removed h rows true is same = absurd (false≢true (sym is))
 left_by removed h rows false is same = ap (λ (hs : List Held). h ∷ hs) same
-
-both_false : (a b : Bool) → (a || b) ≡ false → (a ≡ false) × (b ≡ false)
-both_false true b h = absurd (false≢true (sym h))
-both_false false b h = (refl, h)
 
 left_whole : (removed : List (List ℕ)) (rows : List Held) → list_any (is_lost removed) rows ≡ false → left removed rows ≡ rows
 left_whole removed [] none = refl
@@ -231,7 +228,7 @@ next_placed removed v ms parts next one list c =
     let within : k.place < length ms = subst (λ (n : ℕ). k.place < n) (length-map ms (live_manifest v)) (slice_get_within (map (live_manifest v) ms) k.place k.manifest k.at) in
     subst (λ (n : Next). IsPlaced (length ms) parts n) (sym k.is) (placed_by (length ms) parts (list_any (is_lost removed) k.manifest.rows) k.place within))
     (λ later.
-    let r = mapped_from (λ (k : ℕ). Added k) (range_with_len 0 parts) one later in
+    let r = of_map (λ (k : ℕ). Added k) (range_with_len 0 parts) one later in
     subst (λ (n : Next). IsPlaced (length ms) parts n) r.2 (let z : r.0 < 0 + parts = in_range 0 parts r.0 r.1 in let y : r.0 < parts = omega arith in y))
     (Contains-append_cases list.carried (map (λ (k : ℕ). Added k) (range_with_len 0 parts)) one (subst (λ (ns : List Next). Contains ns one) list.are c))
 

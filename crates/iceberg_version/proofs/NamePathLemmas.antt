@@ -1,4 +1,4 @@
--- The name of a manifest list is a path.
+-- Names in the metadata folder are paths: decimals are digits, plain text is a path behind the folder, and so is the name of a manifest list. The crates above show the same of their own names with it.
 use Rattle.std.proofs.Common.{◌≡◌, ℕ, zero, suc, ◌/◌, ◌%◌, ◌<◌, ◌≤◌, List, [], ◌∷◌, ◌++◌, length, get_or, Bool, true, false, cond, All, codes, refl, sym, ap, subst, ◌∙◌, arith}
 use Rattle.std.specs.Prelude.{◌==◌, ◌&&◌, ◌^◌, nat_lt, not}
 use Rattle.std.specs.Fmt.{decimal, digit_glyph, digits, digits_onto}
@@ -18,7 +18,7 @@ use Rattle.iceberg_version.specs.Names.{list_name}
 
 -- ---- digits
 
-abbrev IsDigit : ℕ → Type 0
+abbrev pub IsDigit : ℕ → Type 0
 IsDigit b = (48 ≤ b) × (b ≤ 57)
 
 glyph_digit : (n : ℕ) → IsDigit (digit_glyph false (n % 10))
@@ -34,20 +34,20 @@ onto_digits (suc k) n acc all =
     digits_by (n / 10 == 0) (digit_glyph false (n % 10) ∷ acc) (digits_onto k 10 false (n / 10) (digit_glyph false (n % 10) ∷ acc)) (glyph_digit n, all) (onto_digits k (n / 10) (digit_glyph false (n % 10) ∷ acc) (glyph_digit n, all))
 
 -- decimals are digits, however great the number is
-decimal_digits : (n : ℕ) → AllByRecursion IsDigit (decimal n)
+pub decimal_digits : (n : ℕ) → AllByRecursion IsDigit (decimal n)
 unfolding digits
 decimal_digits n = onto_digits 64 n [] tt
 
 -- ---- it is a path
 
-abbrev IsPlain : ℕ → Type 0
+abbrev pub IsPlain : ℕ → Type 0
 IsPlain b = (32 ≤ b) × (b < 128) × (b ≡ 47 → ⊥)
 
-plain_append : (xs ys : List ℕ) → AllByRecursion IsPlain xs → AllByRecursion IsPlain ys → AllByRecursion IsPlain (xs ++ ys)
+pub plain_append : (xs ys : List ℕ) → AllByRecursion IsPlain xs → AllByRecursion IsPlain ys → AllByRecursion IsPlain (xs ++ ys)
 plain_append [] ys a b = b
 plain_append (x ∷ xs) ys a b = (a.0, plain_append xs ys a.1 b)
 
-digits_plain : (xs : List ℕ) → AllByRecursion IsDigit xs → AllByRecursion IsPlain xs
+pub digits_plain : (xs : List ℕ) → AllByRecursion IsDigit xs → AllByRecursion IsPlain xs
 digits_plain [] a = tt
 digits_plain (x ∷ xs) a = let low = a.0.0 in let high = a.0.1 in ((omega (arith, low), omega (arith, high), λ slash. omega (arith, low, slash)), digits_plain xs a.1)
 
@@ -60,10 +60,10 @@ no_slash [] a = All-nil (λ b. is_slash b ≡ false)
 no_slash (x ∷ xs) a = All-cons (λ b. is_slash b ≡ false) x xs (other_by x (x == 47) refl a.0.2) (no_slash xs a.1)
 
 -- the same as a test
-abbrev is_plain : ℕ → Bool
+abbrev pub is_plain : ℕ → Bool
 is_plain b = nat_lt 31 b && (nat_lt b 128 && not (b == 47))
 
-plain_by : (xs : List ℕ) → list_all is_plain xs ≡ true → AllByRecursion IsPlain xs
+pub plain_by : (xs : List ℕ) → list_all is_plain xs ≡ true → AllByRecursion IsPlain xs
 plain_by [] all = tt
 plain_by (x ∷ xs) all = (grind (arith, nat_tests), plain_by xs (grind (arith, nat_tests)))
 
@@ -92,7 +92,7 @@ letter_first c l late = record {
   no_dots = first_apart c l 46 (46 ∷ []) (λ e. omega (arith, e, late));
 }
 
-path_by : (rest : List ℕ) → AllByRecursion IsPlain rest → length rest ≤ 500 → IsPath (path_of (108 ∷ rest))
+pub path_by : (rest : List ℕ) → AllByRecursion IsPlain rest → length rest ≤ 500 → IsPath (path_of (108 ∷ rest))
 path_by rest plain short =
     let name : AllByRecursion IsPlain (108 ∷ rest) = ((omega arith, omega arith, λ slash. omega (arith, slash)), plain) in
     let parts : slice_split is_slash (path_of (108 ∷ rest)) ≡ codes "metadata" ∷ (108 ∷ rest) ∷ [] =
@@ -108,7 +108,7 @@ path_by rest plain short =
       short = omega (arith, short);
     }
 
-short_decimal : (n : ℕ) → n < 2 ^ 64 → length (decimal n) ≤ 20
+pub short_decimal : (n : ℕ) → n < 2 ^ 64 → length (decimal n) ≤ 20
 short_decimal n small = length-decimal-le 20 n (omega arith) (omega (arith, small)) small
 
 pub list_path : (version : ℕ) → version < 2 ^ 64 → IsPath (path_of (list_name version))

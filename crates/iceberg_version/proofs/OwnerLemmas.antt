@@ -18,8 +18,9 @@ use Rattle.iceberg_manifest.specs.Lists.{AreEach}
 use Rattle.iceberg_version.specs.Manifests.{born_at}
 use Rattle.iceberg_version.specs.declared.carrying.Next.{Next}
 use Rattle.iceberg_version.specs.declared.kept.KeptManifest.{KeptManifest}
-use Rattle.iceberg_version.proofs.LinkLemmas.{mapped_from, none_held, path_there, same_held}
+use Rattle.iceberg_version.proofs.LinkLemmas.{none_held, path_there, same_held}
 use Rattle.iceberg_version.proofs.AdvanceLemmas.{fresh_behind, fresh_front, held_behind}
+use Rattle.iceberg_version.proofs.Shared.{of_map}
 
 -- ---- one manifest more
 
@@ -76,7 +77,7 @@ step_held ms version (before p) o v w has q held there = inl (subst (λ (x : Own
 step_held ms version (added rows) o v w has q held there =
     ⊎_elim
     (λ earlier. inl earlier)
-    (λ come. let r = mapped_from (born_at version) rows held come in inr (r.0, r.1, sym r.2))
+    (λ come. let r = of_map (born_at version) rows held come in inr (r.0, r.1, sym r.2))
     (held_behind o (map (born_at version) rows) v w q held has.appends there)
 
 -- ---- all of them
@@ -203,7 +204,7 @@ same_place os p q o distinct at_p at_q =
     (cases_lt p q))
     (cases_eq p q)
 
-not_none : (o : Option (List Entry)) → IsSome o → o ≡ None → ⊥
+pub not_none : (o : Option (List Entry)) → IsSome o → o ≡ None → ⊥
 not_none o some none = false≢true (sym (ap (λ (r : Option (List Entry)). is_some r) none) ∙ some)
 
 not_again : (ms : List KeptManifest) (version : ℕ) (s : Source) (ss : List Source) (os : List ℕ) (o : ℕ) (v mid w : OwnedRows) → IsDistinct nat_eq (owners_of ms) → HasOwner ms version s o v mid → HaveOwners ms version ss os mid w → AreAlive ms v (s ∷ ss) → AreApart (s ∷ ss) → ¬ Contains os o
@@ -305,7 +306,7 @@ AreOwnPaths v = (a b : ℕ) (h k : Held) → Contains (held_rows v a) h → Cont
 path_clash : (version o : ℕ) (rows more : List Row) (v w : OwnedRows) (b : ℕ) (h k : Held) → AddsRows o (map (born_at version) rows) v w → AreFresh v (rows ++ more) → b ≢ o → Contains (held_rows w o) h → Contains (held_rows w b) k → h.row.path ≡ k.row.path → ⊥
 path_clash version o rows more v w b h k has fresh apart ch ck same =
     let come : Contains (map (born_at version) rows) h = subst (λ (hs : List Held). Contains hs h) (has.appends.here ∙ ap (λ (hs : List Held). hs ++ map (born_at version) rows) (none_held v o has.free)) ch in
-    let r = mapped_from (born_at version) rows h come in
+    let r = of_map (born_at version) rows h come in
     let path : k.row.path ≡ r.0.path = sym same ∙ sym (ap (λ (x : Held). x.row.path) r.2) in
     fresh.unheld r.0 (Contains-append_left rows more r.0 r.1) (path_there v b k r.0.path (subst (λ (hs : List Held). Contains hs k) (same_held v w b (has.appends.others b apart)) ck) path)
 

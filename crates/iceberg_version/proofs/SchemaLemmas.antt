@@ -1,8 +1,7 @@
 -- The held schemas of a table.
-use Rattle.std.proofs.Common.{◌≡◌, ◌⊎◌, ◌+◌, ◌<◌, ◌++◌, ℕ, ℤ, pos, Bool, true, false, cond, List, [], ◌∷◌, Some, Ok, Contains, drop, fold, get_or, length, refl, sym, ap, subst, ◌∙◌, slice_get, inl, inr}
+use Rattle.std.proofs.Common.{◌≡◌, ◌⊎◌, ◌+◌, ◌<◌, ◌++◌, ℕ, ℤ, pos, Bool, true, cond, List, [], ◌∷◌, Some, Ok, Contains, drop, fold, get_or, length, refl, sym, ap, subst, ◌∙◌, slice_get, inl, inr}
 use Rattle.std.specs.Bool.{IsTrue}
 use Rattle.std.specs.Ordering.{int_eq}
-use Rattle.std.proofs.lemmas.Bool.Decides.{Decides-int_eq}
 use Rattle.std.proofs.lemmas.List.{at_drop_more}
 use Rattle.std.proofs.lemmas.Option.{get_or_from_slice_get, slice_get-get_or, slice_get_within}
 use Rattle.table_history.specs.TypeEq.{columns_eq}
@@ -17,6 +16,7 @@ use Rattle.iceberg_metadata.specs.Paths.{current_schema, held_schema}
 use Rattle.iceberg_metadata.specs.Schemas.{HeldSchema}
 use Rattle.iceberg_metadata.specs.declared.metadata.Metadata.{Metadata}
 use Rattle.iceberg_version.specs.Schemas.{AreNextSchemas, Schemas, known_ids, with_schemas}
+use Rattle.iceberg_version.proofs.HeldLemmas.{schema_id}
 
 pub found_at : (schemas : List HeldSchema) (place : ℕ) (id : ℤ) (held : HeldSchema) → place < length schemas → held ≡ get_or schemas place held → int_eq held.0 id ≡ true → held_schema (drop place schemas) id ≡ held_schema schemas id → slice_get schemas place ≡ held_schema schemas id
 found_at schemas place id held within is named before =
@@ -34,19 +34,11 @@ same_columns a b found is = let d = columns_eq-Decides a b in (λ t. d.0 (sym is
 abbrev HoldsNext : Metadata → ColumnTrees → Metadata → ℕ → Type 0
 HoldsNext m stated after place = (next : Schemas) × AreNextSchemas m stated next × (after ≡ with_schemas m next) × (slice_get after.schemas place ≡ Some next.current)
 
-held_id_at : (s : HeldSchema) (ss : List HeldSchema) (id : ℤ) (b : Bool) → int_eq s.0 id ≡ b → (found : HeldSchema) → (held_schema ss id ≡ Some found → found.0 ≡ id) → cond b (Some s) (held_schema ss id) ≡ Some found → found.0 ≡ id
-held_id_at s ss id true is found later h = let e = (Decides-int_eq s.0 id).0 is in cc
-held_id_at s ss id false is found later h = later h
-
-held_id : (schemas : List HeldSchema) (id : ℤ) (found : HeldSchema) → held_schema schemas id ≡ Some found → found.0 ≡ id
-held_id [] id found h = cc
-held_id (s ∷ ss) id found h = held_id_at s ss id (int_eq s.0 id) refl found (held_id ss id found) h
-
 pub keeps : (m : Metadata) (stated image : ColumnTrees) (place : ℕ) (current : HeldSchema) → image ≡ wide_columns stated → current_schema m ≡ Some current → current.1 ≡ image → slice_get m.schemas place ≡ Some current → HoldsNext m stated m place
 keeps m stated image place current wide held is at = (
   record { held = m.schemas; current = current; last_id = m.last_column_id },
   inl (record { current = record { held = held; columns = is ∙ wide }; held = refl; last_id = refl }),
-  ap (λ (x : ℤ). record m { current_schema = x }) (sym (held_id m.schemas m.current_schema current held)),
+  ap (λ (x : ℤ). record m { current_schema = x }) (sym (schema_id m.schemas m.current_schema current held)),
   at,
 )
 

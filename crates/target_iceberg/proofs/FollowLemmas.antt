@@ -1,5 +1,5 @@
 -- What a target holds behind commits, and the first of them that changes a type.
-use Rattle.std.proofs.Common.{◌≡◌, ◌⊎◌, inl, inr, ⊎_elim, ℕ, suc, ◌<◌, ◌+◌, Bool, true, false, cond, ◌&&◌, ◌||◌, List, [], ◌∷◌, ◌++◌, length, get_or, drop, map, Contains, Option, Some, None, refl, sym, ap, subst, ◌∙◌, arith}
+use Rattle.std.proofs.Common.{◌≡◌, ◌⊎◌, inl, inr, ⊎_elim, ℕ, suc, ◌<◌, ◌+◌, Bool, true, false, cond, ◌||◌, List, [], ◌∷◌, ◌++◌, length, get_or, drop, map, Contains, Option, Some, None, refl, sym, ap, subst, ◌∙◌, arith}
 use Rattle.std.specs.Prelude.{ℤ, pos, negsuc, ◌+ℤ◌, ◌<ℤ◌, ◌≤ℤ◌, is_some, not, unwrap_or}
 use Rattle.std.specs.List.{list_all}
 use Rattle.std.specs.Cmp.Lexicographic.{pointwise}
@@ -13,7 +13,10 @@ use Rattle.std.proofs.lemmas.List.Elements.{Contains-append_cases}
 use Rattle.iceberg_metadata.specs.Judging.{are_distinct, is_among}
 use Rattle.iceberg_metadata.specs.Paths.{held_schema}
 use Rattle.iceberg_metadata.specs.Schemas.{HeldSchema}
+use Rattle.iceberg_metadata.proofs.ListLemmas.{both_true}
+use Rattle.iceberg_metadata.proofs.LoopLemmas.{next_item}
 use Rattle.iceberg_version.specs.Sound.{have_first_ids, is_own_image, is_under}
+use Rattle.iceberg_version.proofs.Shared.{never_both}
 use Rattle.iceberg_field_ids.proofs.IcebergGiven.{column_paths_wide}
 use Rattle.iceberg_field_ids.specs.Ids.{PassesGreatest, new_count}
 use Rattle.schema_map.specs.Paths.{Path, column_paths, known_id}
@@ -26,14 +29,10 @@ use Rattle.table_history.proofs.RowListLemmas.{Contains-cases, Contains-head, Co
 use Rattle.target_iceberg.specs.Fitting.{ChangesType, HasTypeChange, HeldState, IdSchema, IsFirstChange, IsFirstTypeChange, held_behind, is_current, may_become, state_behind, state_with, stated_in, type_at}
 use Rattle.target_iceberg.specs.Following.{AreFirst, AreHeldBy, IsAtCurrent, IsChangeOf, IsReady}
 use Rattle.target_iceberg.specs.Newest.{HeldShape, IsTop, is_changed, with_schema, with_schemas}
-use Rattle.target_iceberg.proofs.NewestLemmas.{next_of, path_decides}
+use Rattle.target_iceberg.proofs.NewestLemmas.{path_decides}
 use Rattle.target_iceberg.proofs.TypeLemmas.{become_self, first_change, here as held_last, no_change, of_both, same_type}
 
 -- ---- the ids of held schemas
-
-both_true : (a b : Bool) → (a && b) ≡ true → (a ≡ true) × (b ≡ true)
-both_true true b is = (refl, is)
-both_true false b is = absurd (false≢true is)
 
 pair_of : HeldSchema → IdSchema
 pair_of s = (s.0, s.1)
@@ -75,10 +74,6 @@ among (s ∷ schemas) x id there same = ⊎_elim
     or_true true b is = refl
     or_true false b is = is
 
-not_true : (b : Bool) → not b ≡ true → b ≡ true → ⊥
-not_true true never is = false≢true never
-not_true false never is = false≢true is
-
 one_id : (schemas : List HeldSchema) → are_distinct (map (λ s. s.0) schemas) ≡ true → (x y : IdSchema) → Contains (pairs_of schemas) x → Contains (pairs_of schemas) y → x.0 ≡ y.0 → x ≡ y
 one_id [] distinct x y there also same = absurd (Contains-none x there)
 one_id (s ∷ schemas) distinct x y there also same =
@@ -86,10 +81,10 @@ one_id (s ∷ schemas) distinct x y there also same =
     ⊎_elim
     (λ (here : (s.0, s.1) ≡ x). ⊎_elim
     (λ (too : (s.0, s.1) ≡ y). sym here ∙ too)
-    (λ later. absurd (not_true (is_among (map (λ s. s.0) schemas) s.0) both.0 (among schemas y s.0 later (ap (λ (z : IdSchema). z.0) here ∙ same))))
+    (λ later. absurd (never_both (is_among (map (λ s. s.0) schemas) s.0) both.0 (among schemas y s.0 later (ap (λ (z : IdSchema). z.0) here ∙ same))))
     (Contains-cases (s.0, s.1) (pairs_of schemas) y also))
     (λ later. ⊎_elim
-    (λ (too : (s.0, s.1) ≡ y). absurd (not_true (is_among (map (λ s. s.0) schemas) s.0) both.0 (among schemas x s.0 later (ap (λ (z : IdSchema). z.0) too ∙ sym same))))
+    (λ (too : (s.0, s.1) ≡ y). absurd (never_both (is_among (map (λ s. s.0) schemas) s.0) both.0 (among schemas x s.0 later (ap (λ (z : IdSchema). z.0) too ∙ sym same))))
     (λ also_later. one_id schemas both.1 x y later also_later same)
     (Contains-cases (s.0, s.1) (pairs_of schemas) y also))
     (Contains-cases (s.0, s.1) (pairs_of schemas) x there)
@@ -320,11 +315,11 @@ no_commits_left state table index shapes current count commits rest none s name 
 
 pub found_schema : (schemas : List HeldSchema) (i : ℕ) (id : ℤ) (held : HeldSchema) → i < length schemas → held ≡ get_or schemas i held → int_eq held.0 id ≡ true → held_schema (drop i schemas) id ≡ held_schema schemas id → Some held ≡ held_schema schemas id
 found_schema schemas i id held within at named before =
-    sym (ap (λ (l : List HeldSchema). held_schema l id) (next_of schemas i held within at) ∙ ap (λ b. cond b (Some held) (held_schema (drop (i + 1) schemas) id)) named) ∙ before
+    sym (ap (λ (l : List HeldSchema). held_schema l id) (next_item schemas i held within at) ∙ ap (λ b. cond b (Some held) (held_schema (drop (i + 1) schemas) id)) named) ∙ before
 
 pub passed_schema : (schemas : List HeldSchema) (i : ℕ) (id : ℤ) (held : HeldSchema) → i < length schemas → held ≡ get_or schemas i held → int_eq held.0 id ≡ false → held_schema (drop i schemas) id ≡ held_schema schemas id → held_schema (drop (i + 1) schemas) id ≡ held_schema schemas id
 passed_schema schemas i id held within at named before =
-    sym (ap (λ (l : List HeldSchema). held_schema l id) (next_of schemas i held within at) ∙ ap (λ b. cond b (Some held) (held_schema (drop (i + 1) schemas) id)) named) ∙ before
+    sym (ap (λ (l : List HeldSchema). held_schema l id) (next_item schemas i held within at) ∙ ap (λ b. cond b (Some held) (held_schema (drop (i + 1) schemas) id)) named) ∙ before
 
 abbrev pub zero_ids : List Path → List (Path × ℤ)
 zero_ids paths = map (λ p. (p, pos 0)) paths

@@ -1,5 +1,5 @@
 -- The form of a version, part by part.
-use Rattle.std.proofs.Common.{◌≡◌, ◌≢◌, ◌≤◌, ◌<◌, ◌+◌, ◌≤ℤ◌, ℕ, suc, ℤ, pos, Bool, true, false, List, [], ◌∷◌, ◌++◌, length, map, drop, get_or, Contains, Option, Some, None, Bor, refl, sym, ap, subst, ◌∙◌, ⊎_elim, add-one, drop-cons, arith}
+use Rattle.std.proofs.Common.{◌≡◌, ◌≢◌, ◌≤◌, ◌<◌, ◌+◌, ◌≤ℤ◌, ℕ, ℤ, pos, Bool, true, false, List, [], ◌∷◌, ◌++◌, length, map, drop, get_or, Contains, Option, Some, None, Bor, refl, sym, ap, subst, ◌∙◌, ⊎_elim, arith}
 use Rattle.std.specs.declared.alloc.AllocError.{AllocError}
 use Rattle.std.specs.Prelude.{◌↔◌, Err, IfOk, Ok, Result, flat_map, is_some, if◌then◌else◌, IsTrue, MatchOption}
 use Rattle.std.specs.Cmp.Lexicographic.{pointwise}
@@ -9,11 +9,12 @@ use Rattle.schema_map.specs.Paths.{Path, known_id}
 use Rattle.std.proofs.lemmas.Bool.{false≢true}
 use Rattle.std.proofs.lemmas.List.{drop-drop, drop_all, get_or-map}
 use Rattle.std.proofs.lemmas.List.Elements.{Contains-append_cases, Contains-append_left, Contains-append_right}
-use Rattle.table_history.proofs.RowListLemmas.{Contains-cases, Contains-head, Contains-none, Contains-tail}
+use Rattle.table_history.proofs.RowListLemmas.{Contains-head, Contains-none, Contains-tail, all_at}
 use Rattle.iceberg_metadata.specs.Paths.{PathId, current_schema, default_fields, path_ids}
 use Rattle.iceberg_metadata.specs.Schemas.{HeldSchema}
 use Rattle.iceberg_metadata.specs.declared.metadata.Metadata.{Metadata}
 use Rattle.iceberg_metadata.specs.declared.metadata.SpecField.{SpecField}
+use Rattle.iceberg_metadata.proofs.LoopLemmas.{next_item}
 use Rattle.iceberg_version.specs.Schemas.{AreSpecFields, FIRST_PARTITION_ID, IsSpecField}
 use Rattle.iceberg_version.specs.Sound.{have_first_ids}
 use Rattle.target_iceberg.specs.Form.{HasOwnForm, HasOwnSpec}
@@ -21,21 +22,18 @@ use Rattle.target_iceberg.specs.FormSteps.{AreFields, IsGiven, IsPlain, IsUpTo}
 
 -- ---- item by item
 
-drop_here : {X : Type 0} (xs : List X) (i : ℕ) (x : X) → i < length xs → x ≡ get_or xs i x → drop i xs ≡ x ∷ drop (i + 1) xs
-drop_here xs i x within is = rw (add-one, drop-cons xs i x within) (ap (λ y. y ∷ drop (suc i) xs) (sym is))
-
 module _ {X : Type 0} (P : X → Type 0) (xs : List X) (i : ℕ) (so_far : AllByRecursion P (drop i xs) ↔ AllByRecursion P xs) where
   module _ (x : X) (within : i < length xs) (is : x ≡ get_or xs i x) where
     pub all_more : P x → AllByRecursion P (drop (i + 1) xs) ↔ AllByRecursion P xs
     all_more here = (
-      λ rest. so_far.0 (subst (AllByRecursion P) (sym (drop_here xs i x within is)) (here, rest)),
-      λ all. (subst (AllByRecursion P) (drop_here xs i x within is) (so_far.1 all)).1,
+      λ rest. so_far.0 (subst (AllByRecursion P) (sym (next_item xs i x within is)) (here, rest)),
+      λ all. (subst (AllByRecursion P) (next_item xs i x within is) (so_far.1 all)).1,
     )
 
     pub all_stop : (P x → ⊥) → IsTrue false ↔ AllByRecursion P xs
     all_stop never = (
       λ none. absurd (false≢true none),
-      λ all. absurd (never (subst (AllByRecursion P) (drop_here xs i x within is) (so_far.1 all)).0),
+      λ all. absurd (never (subst (AllByRecursion P) (next_item xs i x within is) (so_far.1 all)).0),
     )
 
   pub all_end : length xs ≤ i → IsTrue true ↔ AllByRecursion P xs
@@ -54,14 +52,14 @@ module _ (pairs : List PathId) (k : ℕ) (xs : List SpecField) (i : ℕ) (so_far
   module _ (x : SpecField) (within : i < length xs) (is : x ≡ get_or xs i x) where
     pub fields_more : IsSpecField pairs (k + i) x.name x → AreFields pairs (k + (i + 1)) (drop (i + 1) xs) ↔ AreFields pairs k xs
     fields_more here = let next : k + (i + 1) ≡ k + i + 1 = omega arith in (
-      λ rest. so_far.0 (subst (AreFields pairs (k + i)) (sym (drop_here xs i x within is)) (here, subst (λ (n : ℕ). AreFields pairs n (drop (i + 1) xs)) next rest)),
-      λ all. subst (λ (n : ℕ). AreFields pairs n (drop (i + 1) xs)) (sym next) (subst (AreFields pairs (k + i)) (drop_here xs i x within is) (so_far.1 all)).1,
+      λ rest. so_far.0 (subst (AreFields pairs (k + i)) (sym (next_item xs i x within is)) (here, subst (λ (n : ℕ). AreFields pairs n (drop (i + 1) xs)) next rest)),
+      λ all. subst (λ (n : ℕ). AreFields pairs n (drop (i + 1) xs)) (sym next) (subst (AreFields pairs (k + i)) (next_item xs i x within is) (so_far.1 all)).1,
     )
 
     pub fields_stop : (IsSpecField pairs (k + i) x.name x → ⊥) → IsTrue false ↔ AreFields pairs k xs
     fields_stop never = (
       λ none. absurd (false≢true none),
-      λ all. absurd (never (subst (AreFields pairs (k + i)) (drop_here xs i x within is) (so_far.1 all)).0),
+      λ all. absurd (never (subst (AreFields pairs (k + i)) (next_item xs i x within is) (so_far.1 all)).0),
     )
 
   pub fields_end : length xs ≤ i → IsTrue true ↔ AreFields pairs k xs
@@ -86,10 +84,6 @@ slash_by bytes location same (Some x) some test is = (λ _. (x.now, sym same ∙
 
 -- ---- the whole
 
-in_all : {X : Type 0} (P : X → Type 0) (xs : List X) (x : X) → AllByRecursion P xs → Contains xs x → P x
-in_all P [] x all there = absurd (Contains-none x there)
-in_all P (y ∷ xs) x all there = ⊎_elim (λ (same : y ≡ x). subst P same all.0) (λ later. in_all P xs x all.1 later) (Contains-cases y xs x there)
-
 all_in : {X : Type 0} (P : X → Type 0) (xs : List X) → ((x : X) → Contains xs x → P x) → AllByRecursion P xs
 all_in P [] all = tt
 all_in P (x ∷ xs) all = (all x (Contains-head x xs), all_in P xs (λ y there. all y (Contains-tail x xs y there)))
@@ -98,7 +92,7 @@ given_to : (last : ℤ) (ss : List HeldSchema) → AllByRecursion (IsGiven last)
 given_to last [] all id there = absurd (Contains-none id there)
 given_to last (s ∷ ss) all id there =
     ⊎_elim
-    (λ here. in_all (λ (i : ℤ). i ≤ℤ last) s.2 id all.0 here)
+    (λ here. all_at (λ (i : ℤ). i ≤ℤ last) s.2 id all.0 here)
     (λ later. given_to last ss all.1 id later)
     (Contains-append_cases s.2 (flat_map (λ (t : HeldSchema). t.2) ss) id there)
 
@@ -123,8 +117,8 @@ module _ (version : ℕ) (m : Metadata) where
     spec = spec;
     schema_ids = first;
     field_ids = given_to m.last_column_id m.schemas plain.given;
-    snapshots = λ s there. (in_all (IsUpTo version) m.snapshots s plain.snapshots there).id;
-    parents = λ s parent there is. (in_all (IsUpTo version) m.snapshots s plain.snapshots there).parent parent is;
+    snapshots = λ s there. (all_at (IsUpTo version) m.snapshots s plain.snapshots there).id;
+    parents = λ s parent there is. (all_at (IsUpTo version) m.snapshots s plain.snapshots there).parent parent is;
   }
 
   pub not_plain : (plain : Bool) → IsTrue plain ↔ IsPlain version m → plain ≡ false → IsTrue false ↔ HasOwnForm version m
@@ -181,7 +175,7 @@ pub known_more : (paths : List Path) (ids : List ℤ) (i : ℕ) (p : Path) (path
     → known_id (zip (drop (i + 1) paths) (drop (i + 1) ids)) path ≡ known_id (zip paths ids) path
 known_more paths ids i p path within is other so_far =
     ap (λ (l : List ℤ). known_id (zip (drop (i + 1) paths) l) path) (sym (drop-drop 1 i ids))
-    ∙ sym (known_step p (drop (i + 1) paths) (drop i ids) path other) ∙ ap (λ (l : List Path). known_id (zip l (drop i ids)) path) (sym (drop_here paths i p within is)) ∙ so_far
+    ∙ sym (known_step p (drop (i + 1) paths) (drop i ids) path other) ∙ ap (λ (l : List Path). known_id (zip l (drop i ids)) path) (sym (next_item paths i p within is)) ∙ so_far
 
 pub whole_form : (version : ℕ) (m : Metadata) (plain first : Bool) → IsTrue plain ↔ IsPlain version m → plain ≡ true → first ≡ have_first_ids m.schemas → first ≡ true → (r : Result Bool AllocError) → IfOk r (λ own. IsTrue own ↔ HasOwnSpec m) → IfOk r (λ own. IsTrue own ↔ HasOwnForm version m)
 whole_form version m plain first tested passes is first_is (Ok own) spec_is = by_spec version m plain first own tested passes is first_is spec_is

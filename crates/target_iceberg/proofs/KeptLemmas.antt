@@ -1,10 +1,9 @@
 -- What holds of all that is kept of an Iceberg target that was read.
-use Rattle.std.proofs.Common.{◌≡◌, ◌≤◌, ◌<◌, ◌^◌, ◌&&◌, ℕ, ℤ, Bool, true, false, cond, nat_le, nat_lt, List, [], ◌∷◌, length, Contains, Option, Some, None, Ok, refl, sym, ap, subst, ◌∙◌, inl, inr, ⊎_elim, pos, arith}
+use Rattle.std.proofs.Common.{◌≡◌, ◌≤◌, ◌^◌, ◌&&◌, ℕ, ℤ, true, nat_le, List, [], ◌∷◌, length, Contains, Option, Some, None, Ok, refl, sym, ap, subst, ◌∙◌, inl, inr, ⊎_elim, pos, arith}
 use Rattle.std.specs.Prelude.{◌||◌, is_some, unwrap_or}
 use Rattle.std.specs.List.{list_all}
 use Rattle.std.specs.Ordering.{int_eq}
 use Rattle.std.specs.Str.{bytes_eq}
-use Rattle.std.proofs.lemmas.Bool.Decides.{nat_tests}
 use Rattle.std.proofs.lemmas.List.{length-append, length-map}
 use Rattle.std.proofs.lemmas.List.Elements.{All-contains}
 use Rattle.std.proofs.lemmas.Option.{slice_get-get_or}
@@ -15,7 +14,7 @@ use Rattle.table_history.specs.TypeEqLaws.{columns_eq-Decides}
 use Rattle.table_history.specs.TypeTree.{ColumnTrees}
 use Rattle.table_history.specs.declared.table.Table.{Table}
 use Rattle.table_history.proofs.Laws.{same_rows_length}
-use Rattle.table_history.proofs.RowListLemmas.{Contains-cases, Contains-head, Contains-none, Contains-tail, bytes_itself}
+use Rattle.table_history.proofs.RowListLemmas.{Contains-cases, Contains-none, bytes_itself}
 use Rattle.schema_map.specs.Image.{wide_columns}
 use Rattle.schema_iceberg.proofs.IcebergSchema.{given_found}
 use Rattle.schema_iceberg.proofs.IcebergSound.{iceberg_wide}
@@ -23,7 +22,6 @@ use Rattle.file_links.specs.Rows.{Entry, OwnedRows, joined, rows_of as owned_by}
 use Rattle.iceberg_manifest.specs.ListWriting.{HasContent}
 use Rattle.iceberg_manifest.specs.declared.info.ManifestInfo.{ManifestInfo}
 use Rattle.iceberg_metadata.specs.Paths.{held_schema}
-use Rattle.iceberg_metadata.specs.Schemas.{HeldSchema}
 use Rattle.iceberg_metadata.specs.Writing.{CanBeHeld, IsWritable}
 use Rattle.iceberg_metadata.specs.declared.metadata.Metadata.{Metadata}
 use Rattle.iceberg_metadata.specs.declared.metadata.Snapshot.{Snapshot}
@@ -37,6 +35,8 @@ use Rattle.iceberg_table.specs.declared.snapshot.SnapshotTable.{SnapshotTable}
 use Rattle.iceberg_version.specs.Sound.{AreRowsOf, are_of, has_content, is_born, is_of, is_own_image, is_sound_metadata, is_sound_owner}
 use Rattle.iceberg_commit.proofs.SoundLemmas.{sound_to}
 use Rattle.iceberg_version.specs.declared.kept.KeptManifest.{KeptManifest}
+use Rattle.iceberg_version.proofs.HeldLemmas.{in_schemas}
+use Rattle.iceberg_version.proofs.Shared.{all_tested, le_test, lt_test}
 use Rattle.target_core.proofs.HeldRows.{are_held_by}
 use Rattle.target_core.specs.Held.{are_held}
 use Rattle.target_iceberg.specs.Form.{HasOwnForm}
@@ -51,14 +51,6 @@ held_rows table is = are_held_by table.rows is.live_files is.paths
 
 pub own_image : (schema : ColumnTrees) → wide_columns schema ≡ schema → is_own_image schema ≡ true
 own_image schema same = (columns_eq-Decides (wide_columns schema) schema).1 same
-
-in_schemas_by : (s : HeldSchema) (ss : List HeldSchema) (id : ℤ) (t : HeldSchema) (b : Bool) → cond b (Some s) (held_schema ss id) ≡ Some t → (held_schema ss id ≡ Some t → Contains ss t) → Contains (s ∷ ss) t
-in_schemas_by s ss id t true is rest = let same : s ≡ t = cc in subst (Contains (s ∷ ss)) same (Contains-head s ss)
-in_schemas_by s ss id t false is rest = Contains-tail s ss t (rest is)
-
-in_schemas : (ss : List HeldSchema) (id : ℤ) (t : HeldSchema) → held_schema ss id ≡ Some t → Contains ss t
-in_schemas [] id t is = absurd (cc)
-in_schemas (s ∷ ss) id t is = in_schemas_by s ss id t (int_eq s.0 id) is (in_schemas ss id t)
 
 -- a schema that a snapshot names is its own Image
 pub named_image : (m : Metadata) (s : Snapshot) (t : Table) → IsWritable m → HasColumnsOf m s t → wide_columns t.schema ≡ t.schema
@@ -85,16 +77,6 @@ sound_metadata version m own form = sound_to version m (record {
 
 -- ---- owners
 
-lt_test : (n m : ℕ) → n < m → nat_lt n m ≡ true
-lt_test n m is = grind (arith, nat_tests)
-
-le_test : (n m : ℕ) → n ≤ m → nat_le n m ≡ true
-le_test n m is = grind (arith, nat_tests)
-
-all_by : {X : Type 0} (p : X → Bool) (xs : List X) → ((x : X) → Contains xs x → p x ≡ true) → list_all p xs ≡ true
-all_by p [] all = refl
-all_by p (x ∷ xs) all = both_are (p x) (list_all p xs) (all x (Contains-head x xs)) (all_by p xs (λ y there. all y (Contains-tail x xs y there)))
-
 -- a manifest has no more rows than all of them
 rows_within : (ms : List Manifest) (m : Manifest) → Contains ms m → length m.rows ≤ length (rows_of ms)
 rows_within [] m there = absurd (Contains-none m there)
@@ -117,7 +99,7 @@ content_tested info (inr is) = ap (λ n. int_eq n (pos 0) || int_eq n (pos 1)) i
 
 module _ (ms : List Manifest) (ks : List KeptManifest) (v : OwnedRows) (linked : AreLinked ms ks v) where
   pub all_contents : ((m : Manifest) → Contains ms m → HasContent m.file.info) → list_all (λ m. has_content m.info) ks ≡ true
-  all_contents contents = all_by (λ (k : KeptManifest). has_content k.info) ks (λ k there.
+  all_contents contents = all_tested (λ (k : KeptManifest). has_content k.info) ks (λ k there.
       let m = each_back (IsKeptOf v) ms ks k linked.each there in
       content_tested k.info (subst HasContent (sym m.2.info) (contents m.0 m.1)))
 
@@ -125,21 +107,21 @@ module _ (ms : List Manifest) (ks : List KeptManifest) (v : OwnedRows) (linked :
   rows_linked rows all = λ owner e owns. all e.held.row (row_of ms ks v linked owner e owns)
 
   pub sound_owners : length (rows_of ms) ≤ MAX_LIVE_FILES → list_all (λ m. is_sound_owner v m.owner) ks ≡ true
-  sound_owners few = all_by (λ (k : KeptManifest). is_sound_owner v k.owner) ks (λ k there.
+  sound_owners few = all_tested (λ (k : KeptManifest). is_sound_owner v k.owner) ks (λ k there.
       let m = each_back (IsKeptOf v) ms ks k linked.each there in
       let count = sym (length-map m.2.rows (λ (e : Entry). e.held)) ∙ ap length m.2.same ∙ length-map m.0.rows held_of in
       let within = rows_within ms m.0 m.1 in
-      sound_by v k.owner m.2.rows m.2.owned (omega (arith, count, within, few)) (all_by is_born m.2.rows (λ e of. lt_test e.held.born (2 ^ 63) (linked.born k.owner e (m.2.rows, m.2.owned, of)))))
+      sound_by v k.owner m.2.rows m.2.owned (omega (arith, count, within, few)) (all_tested is_born m.2.rows (λ e of. lt_test e.held.born (2 ^ 63) (linked.born k.owner e (m.2.rows, m.2.owned, of)))))
 
   -- the rows of an owner are rows of the table
   of_rows : (rows : List Row) → ((row : Row) → Contains (rows_of ms) row → Contains rows row) → (owned : Option (List Entry)) → Contains v.owners owned → list_all (is_of rows) (unwrap_or owned []) ≡ true
   of_rows rows all None there = refl
   of_rows rows all (Some entries) there =
       let at : owned_by v there.0 ≡ Some entries = ap joined (slice_get-get_or v.owners there.0 (Some entries) there.1 ∙ ap Some there.2) in
-      all_by (is_of rows) entries (λ e within. any_from (λ (row : Row). bytes_eq row.path e.held.row.path) rows e.held.row (all e.held.row (row_of ms ks v linked there.0 e (entries, at, within))) (bytes_itself e.held.row.path))
+      all_tested (is_of rows) entries (λ e within. any_from (λ (row : Row). bytes_eq row.path e.held.row.path) rows e.held.row (all e.held.row (row_of ms ks v linked there.0 e (entries, at, within))) (bytes_itself e.held.row.path))
 
   pub all_linked : (rows : List Row) → ((row : Row) → Contains (rows_of ms) row → Contains rows row) → are_of rows v ≡ true
-  all_linked rows all = all_by (λ (owned : Option (List Entry)). list_all (is_of rows) (unwrap_or owned [])) v.owners (of_rows rows all)
+  all_linked rows all = all_tested (λ (owned : Option (List Entry)). list_all (is_of rows) (unwrap_or owned [])) v.owners (of_rows rows all)
 
 -- ---- what was read
 

@@ -19,7 +19,7 @@ use Rattle.target_iceberg.specs.Following.{AreKindsOf}
 
 -- ---- Iceberg's types change no kind
 
-wide_kinds : (schema : ColumnTrees) (names : List (List ℕ)) → kinds_of (wide_columns schema) names ≡ kinds_of schema names
+pub wide_kinds : (schema : ColumnTrees) (names : List (List ℕ)) → kinds_of (wide_columns schema) names ≡ kinds_of schema names
 wide_kinds schema [] = refl
 wide_kinds schema (name ∷ names) = λ i. wide_kind schema name i ∷ wide_kinds schema names i
 

@@ -3,7 +3,6 @@ pub mod KindLemmas
 pub mod NewestLemmas
 pub mod PublishingLemmas
 pub mod WrittenNames
-pub mod WrittenLists
 pub mod WrittenLive
 pub mod WrittenFiles
 pub mod WrittenStart

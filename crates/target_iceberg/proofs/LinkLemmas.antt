@@ -9,41 +9,27 @@ use Rattle.std.proofs.lemmas.Cmp.{nat_eq_equiv}
 use Rattle.std.proofs.lemmas.Grind.{flat_map-append}
 use Rattle.std.proofs.lemmas.List.{length-append, length-map, map-append}
 use Rattle.std.proofs.lemmas.List.Elements.{Contains-append_left, Contains-append_right, Contains-push, Contains-push_cases}
-use Rattle.std.proofs.lemmas.Map.Keys.{IsDistinct-push, IsDistinct-tail, IsDistinct-from_apart}
+use Rattle.std.proofs.lemmas.Map.Keys.{IsDistinct-push, IsDistinct-tail}
 use Rattle.file_links.specs.Rows.{joined, AddsOwner, Entry, HoldsPath, Inserts, OwnedRows, Owns, Reserves, rows_of as owned_by}
 use Rattle.file_links.specs.declared.slots.Held.{Held}
 use Rattle.table_history.specs.Row.{Row}
 use Rattle.table_history.specs.Rows.{HasDistinctPaths, HasPath, paths_of}
-use Rattle.table_history.proofs.RowListLemmas.{Contains-cases, Contains-head, Contains-none, Contains-tail}
+use Rattle.table_history.proofs.RowListLemmas.{Contains-cases, Contains-head, Contains-none}
 use Rattle.iceberg_manifest.specs.Lists.{AreEach}
 use Rattle.iceberg_table.specs.Tables.{rows_in, rows_of}
 use Rattle.iceberg_table.proofs.EachLaws.{each_back, each_push}
+use Rattle.iceberg_table.proofs.LiveLaws.{in_flat}
 use Rattle.iceberg_table.proofs.RowLaws.{distinct_front, shared}
 use Rattle.target_iceberg.specs.Kept.{IsKeptOf, held_of}
 use Rattle.target_iceberg.specs.InspectSteps.{AreLinked, FillsOwner, LinksManifest}
+use Rattle.target_iceberg.specs.OnceLemmas.{none_or_some, some_once}
 use Rattle.iceberg_live.specs.declared.live.LiveRow.{LiveRow}
 use Rattle.iceberg_table.specs.declared.manifest.Manifest.{Manifest}
 use Rattle.iceberg_version.specs.Sound.{OwnEachPath}
 use Rattle.iceberg_version.specs.declared.kept.KeptManifest.{KeptManifest}
+use Rattle.iceberg_version.proofs.Shared.{in_map, nothing_twice, of_map}
 
 -- ---- lists
-
--- what a mapped list has comes from an item
-pub map_from : {X Y : Type 0} (f : X → Y) (xs : List X) (y : Y) → Contains (map f xs) y → (x : X) × Contains xs x × (f x ≡ y)
-map_from f [] y there = absurd (Contains-none y there)
-map_from f (x ∷ xs) y there =
-    ⊎_elim
-    (λ same. (x, Contains-head x xs, same))
-    (λ later. let rest = map_from f xs y later in (rest.0, Contains-tail x xs rest.0 rest.1, rest.2))
-    (Contains-cases (f x) (map f xs) y there)
-
-pub map_there : {X Y : Type 0} (f : X → Y) (xs : List X) (x : X) → Contains xs x → Contains (map f xs) (f x)
-map_there f [] x there = absurd (Contains-none x there)
-map_there f (z ∷ xs) x there =
-    ⊎_elim
-    (λ (same : z ≡ x). subst (λ w. Contains (f z ∷ map f xs) w) (ap f same) (Contains-head (f z) (map f xs)))
-    (λ later. Contains-tail (f z) (map f xs) (f x) (map_there f xs x later))
-    (Contains-cases z xs x there)
 
 -- a list around an item that it has
 around : {X : Type 0} (xs : List X) (x : X) → Contains xs x → (front : List X) × (behind : List X) × (xs ≡ front ++ x ∷ behind)
@@ -60,30 +46,13 @@ one_or_other a b = ⊎_elim (λ is. inl ((Decides-eqb a b).0 is)) (λ is. inr (�
 differ_tested : (a b : ℕ) → a ≢ b → nat_eq a b ≡ false
 differ_tested a b differ = ⊎_elim (λ is. absurd (differ ((Decides-eqb a b).0 is))) (λ is. is) (cases_Bool (nat_eq a b))
 
-none_distinct : IsDistinct nat_eq []
-none_distinct = IsDistinct-from_apart nat_eq [] (λ i j d _ within. absurd (omega arith))
-
 -- ---- distinct paths
 
 behind_distinct : (rows rest : List Row) → HasDistinctPaths (rows ++ rest) → HasDistinctPaths rest
 behind_distinct [] rest distinct = distinct
 behind_distinct (r ∷ rows) rest distinct = behind_distinct rows rest (IsDistinct-tail bytes_eq r.path (paths_of (rows ++ rest)) distinct)
 
-row_there : (ms : List Manifest) (m : Manifest) (row : Row) → Contains ms m → Contains (rows_in m.rows) row → Contains (rows_of ms) row
-row_there [] m row there within = absurd (Contains-none m there)
-row_there (x ∷ ms) m row there within =
-    ⊎_elim
-    (λ (same : x ≡ m). Contains-append_left (rows_in x.rows) (rows_of ms) row (subst (λ (n : Manifest). Contains (rows_in n.rows) row) (sym same) within))
-    (λ later. Contains-append_right (rows_in x.rows) (rows_of ms) row (row_there ms m row later within))
-    (Contains-cases x ms m there)
-
 -- ---- one row more
-
-some_once : {X : Type 0} (o : Option X) (x y : X) → o ≡ Some x → o ≡ Some y → x ≡ y
-some_once o x y a b = cc
-
-no_some : {X : Type 0} (o : Option X) (x : X) → o ≡ None → o ≡ Some x → ⊥
-no_some o x a b = absurd cc
 
 module _ (v v1 : OwnedRows) (owner : ℕ) (front : List LiveRow) (fills : FillsOwner v v1 owner front) where
   pub row_in : (live : LiveRow) (v2 : OwnedRows) (slot : ℕ) (held : Held) → held ≡ held_of live → held.born < 2 ^ 63 → Inserts v1 v2 owner slot held → FillsOwner v v2 owner (front ++ live ∷ [])
@@ -106,7 +75,7 @@ module _ (v v1 : OwnedRows) (owner : ℕ) (front : List LiveRow) (fills : FillsO
   held_in e owns =
       let same : owns.0 ≡ fills.entries = some_once (owned_by v1 owner) owns.0 fills.entries owns.1 fills.here in
       let there : Contains fills.entries e = subst (λ (l : List Entry). Contains l e) same owns.2 in
-      map_from held_of front e.held (subst (λ (l : List Held). Contains l e.held) fills.same (map_there (λ (x : Entry). x.held) fills.entries e there))
+      of_map held_of front e.held (subst (λ (l : List Held). Contains l e.held) fills.same (in_map (λ (x : Entry). x.held) fills.entries e there))
 
   module _ (rows rest : List LiveRow) (live : LiveRow) (split : rows ≡ front ++ live ∷ rest) (apart : (path : List ℕ) → HoldsPath v path → HasPath (rows_in rows) path → ⊥) (distinct : HasDistinctPaths (rows_in rows)) where
     whole : rows_in rows ≡ rows_in front ++ live.row ∷ rows_in rest
@@ -116,7 +85,7 @@ module _ (v v1 : OwnedRows) (owner : ℕ) (front : List LiveRow) (fills : FillsO
     free_of o e owns path (inl same) =
         let from = held_in e (subst (λ (n : ℕ). Owns v1 n e) same owns) in
         let at : from.0.row.path ≡ live.row.path = ap (λ (h : Held). h.row.path) from.2 ∙ path in
-        shared (rows_in front) live.row (rows_in rest) (from.0.row, map_there (λ (l : LiveRow). l.row) front from.0 from.1, at) (subst HasDistinctPaths whole distinct)
+        shared (rows_in front) live.row (rows_in rest) (from.0.row, in_map (λ (l : LiveRow). l.row) front from.0 from.1, at) (subst HasDistinctPaths whole distinct)
     free_of o e owns path (inr other) =
         let was : Owns v o e = (owns.0, sym (fills.others o other) ∙ owns.1, owns.2) in
         let there : Contains (rows_in rows) live.row = subst (λ (l : List Row). Contains l live.row) (sym whole) (Contains-append_right (rows_in front) (live.row ∷ rows_in rest) live.row (Contains-head live.row (rows_in rest))) in
@@ -184,7 +153,7 @@ each_stays v v' free none others [] [] are = tt
 each_stays v v' free none others [] (k ∷ ks) are = absurd are
 each_stays v v' free none others (m ∷ ms) [] are = absurd are
 each_stays v v' free none others (m ∷ ms) (k ∷ ks) are =
-    let other : k.owner ≢ free = λ same. no_some (owned_by v free) are.0.rows none (subst (λ (n : ℕ). owned_by v n ≡ Some are.0.rows) same are.0.owned) in
+    let other : k.owner ≢ free = λ same. none_or_some (owned_by v free) are.0.rows none (subst (λ (n : ℕ). owned_by v n ≡ Some are.0.rows) same are.0.owned) in
     (record { info = are.0.info; rows = are.0.rows; owned = others k.owner other ∙ are.0.owned; same = are.0.same }, each_stays v v' free none others ms ks are.1)
 
 owner_new : (v : OwnedRows) (free : ℕ) → owned_by v free ≡ None → (ms : List Manifest) (ks : List KeptManifest) → AreEach (IsKeptOf v) ms ks → list_any (nat_eq free) (map (λ k. k.owner) ks) ≡ false
@@ -193,7 +162,7 @@ owner_new v free none [] (k ∷ ks) are = absurd are
 owner_new v free none (m ∷ ms) [] are = absurd are
 owner_new v free none (m ∷ ms) (k ∷ ks) are =
     let other : nat_eq free k.owner ≡ false = ⊎_elim
-    (λ (same : free ≡ k.owner). absurd (no_some (owned_by v free) are.0.rows none (subst (λ (n : ℕ). owned_by v n ≡ Some are.0.rows) (sym same) are.0.owned)))
+    (λ (same : free ≡ k.owner). absurd (none_or_some (owned_by v free) are.0.rows none (subst (λ (n : ℕ). owned_by v n ≡ Some are.0.rows) (sym same) are.0.owned)))
     (λ (differ : free ≢ k.owner). differ_tested free k.owner differ)
     (one_or_other free k.owner) in
     ap (λ b. b || list_any (nat_eq free) (map (λ k. k.owner) ks)) other ∙ owner_new v free none ms ks are.1
@@ -210,12 +179,12 @@ module _ (v : OwnedRows) where
   row_of_kept : (m : Manifest) (k : KeptManifest) → IsKeptOf v m k → (owner : ℕ) → k.owner ≡ owner → (e : Entry) → Owns v owner e → Contains (rows_in m.rows) e.held.row
   row_of_kept m k is owner of e owns =
       let same : owns.0 ≡ is.rows = some_once (owned_by v owner) owns.0 is.rows owns.1 (ap (owned_by v) (sym of) ∙ is.owned) in
-      let there = map_there (λ (x : Entry). x.held) is.rows e (subst (λ (l : List Entry). Contains l e) same owns.2) in
-      let live = map_from held_of m.rows e.held (subst (λ (l : List Held). Contains l e.held) is.same there) in
-      subst (λ (r : Row). Contains (rows_in m.rows) r) (ap (λ (h : Held). h.row) live.2) (map_there (λ (l : LiveRow). l.row) m.rows live.0 live.1)
+      let there = in_map (λ (x : Entry). x.held) is.rows e (subst (λ (l : List Entry). Contains l e) same owns.2) in
+      let live = of_map held_of m.rows e.held (subst (λ (l : List Held). Contains l e.held) is.same there) in
+      subst (λ (r : Row). Contains (rows_in m.rows) r) (ap (λ (h : Held). h.row) live.2) (in_map (λ (l : LiveRow). l.row) m.rows live.0 live.1)
 
   row_of_rest : (ms : List Manifest) (ks : List KeptManifest) → AreEach (IsKeptOf v) ms ks → (k : KeptManifest) → Contains ks k → (owner : ℕ) → k.owner ≡ owner → (e : Entry) → Owns v owner e → Contains (rows_of ms) e.held.row
-  row_of_rest ms ks each k there owner of e owns = let m = each_back (IsKeptOf v) ms ks k each there in row_there ms m.0 e.held.row m.1 (row_of_kept m.0 k m.2 owner of e owns)
+  row_of_rest ms ks each k there owner of e owns = let m = each_back (IsKeptOf v) ms ks k each there in in_flat ms m.0 e.held.row m.1 (row_of_kept m.0 k m.2 owner of e owns)
 
   owner_once : (ms : List Manifest) (ks : List KeptManifest) → AreEach (IsKeptOf v) ms ks → HasDistinctPaths (rows_of ms) → (i j : KeptManifest) → Contains ks i → Contains ks j → (a b : ℕ) → i.owner ≡ a → j.owner ≡ b → (d e : Entry) → Owns v a d → Owns v b e
       → d.held.row.path ≡ e.held.row.path → a ≡ b
@@ -247,14 +216,14 @@ module _ (ms : List Manifest) (ks : List KeptManifest) (v : OwnedRows) (linked :
       let k = linked.own.only owner e owns in
       let m = each_back (IsKeptOf v) ms ks k.0 linked.each k.1 in
       let same : owns.0 ≡ m.2.rows = some_once (owned_by v owner) owns.0 m.2.rows owns.1 (ap (owned_by v) (sym k.2) ∙ m.2.owned) in
-      let there = map_there (λ (x : Entry). x.held) m.2.rows e (subst (λ (l : List Entry). Contains l e) same owns.2) in
-      let live = map_from held_of m.0.rows e.held (subst (λ (l : List Held). Contains l e.held) m.2.same there) in
+      let there = in_map (λ (x : Entry). x.held) m.2.rows e (subst (λ (l : List Entry). Contains l e) same owns.2) in
+      let live = of_map held_of m.0.rows e.held (subst (λ (l : List Held). Contains l e.held) m.2.same there) in
       (m.0, live.0, m.1, live.1, live.2)
 
   pub row_of : (owner : ℕ) (e : Entry) → Owns v owner e → Contains (rows_of ms) e.held.row
   row_of owner e owns =
       let live = live_of owner e owns in
-      let there = row_there ms live.0 live.1.row live.2 (map_there (λ (l : LiveRow). l.row) live.0.rows live.1 live.3) in
+      let there = in_flat ms live.0 live.1.row live.2 (in_map (λ (l : LiveRow). l.row) live.0.rows live.1 live.3) in
       subst (λ (r : Row). Contains (rows_of ms) r) (ap (λ (h : Held). h.row) live.4) there
 
   module _ (m : Manifest) (k : KeptManifest) (v' : OwnedRows) (keeps : LinksManifest v v' m k) where
@@ -298,8 +267,8 @@ module _ (ms : List Manifest) (ks : List KeptManifest) (v : OwnedRows) (linked :
 pub none_linked : (v : OwnedRows) → ((owner : ℕ) → owned_by v owner ≡ None) → AreLinked [] [] v
 none_linked v none = record {
   each = tt;
-  own = record { distinct = none_distinct; only = λ owner e owns. absurd (no_some (owned_by v owner) owns.0 (none owner) owns.1) };
-  born = λ owner e owns. absurd (no_some (owned_by v owner) owns.0 (none owner) owns.1);
+  own = record { distinct = nothing_twice nat_eq; only = λ owner e owns. absurd (none_or_some (owned_by v owner) owns.0 (none owner) owns.1) };
+  born = λ owner e owns. absurd (none_or_some (owned_by v owner) owns.0 (none owner) owns.1);
 }
 
 pub none_owned : (v v' : OwnedRows) (owners rows : ℕ) → v.owners ≡ [] → Reserves v v' owners rows → (owner : ℕ) → owned_by v' owner ≡ None

@@ -26,9 +26,6 @@ use Rattle.target_iceberg.specs.declared.shape.Shape.{Shape}
 pub path_decides : (p q : Path) → Decides (pointwise bytes_eq p q) (p ≡ q)
 path_decides p q = slice_eq-Decides bytes_eq-Decides p q (pointwise bytes_eq p q) refl
 
-pub path_self : (p : Path) → pointwise bytes_eq p p ≡ true
-path_self p = (path_decides p p).1 refl
-
 other_path : (p q : Path) → (p ≡ q → ⊥) → pointwise bytes_eq p q ≡ false
 other_path p q apart = ⊎_elim (λ one. absurd (apart ((path_decides p q).0 one))) (λ no. no) (cases_Bool (pointwise bytes_eq p q))
 
@@ -161,9 +158,6 @@ pub no_shapes_left : (id : ℤ) (path : Path) (held goal : Option HeldShape) (re
 no_shapes_left id path held goal rest left none so_far = sym (ap (λ (l : List Shape). with_pairs id path held (zip rest l)) none ∙ ap (with_pairs id path held) (zip_none rest)) ∙ so_far
 
 -- ---- the first of the paths
-
-pub next_of : {X : Type 0} (xs : List X) (i : ℕ) (x : X) → i < length xs → x ≡ get_or xs i x → drop i xs ≡ x ∷ drop (i + 1) xs
-next_of xs i x within at = drop_more xs i x within ∙ ap (λ y. y ∷ drop (i + 1) xs) (sym at)
 
 last_of : {X : Type 0} (xs : List X) (i : ℕ) (x : X) → i < length xs → x ≡ get_or xs i x → take (i + 1) xs ≡ take i xs ++ x ∷ []
 last_of xs i x within at = take_more xs i x within ∙ ap (λ y. take i xs ++ y ∷ []) (sym at)

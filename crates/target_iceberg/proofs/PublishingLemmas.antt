@@ -27,6 +27,7 @@ use Rattle.target_core.specs.declared.target.TargetError.TheVariants.{Contested,
 use Rattle.iceberg_table.specs.Folder.{metadata_folder, path_of, version_path}
 use Rattle.iceberg_version.specs.Names.{list_name, manifest_name, staged_name}
 use Rattle.target_iceberg.specs.Publishing.{AreApart, AreManifestPaths, HaveBytes, IsAside, IsDurable, IsForestalled, IsNoneOf, IsNotAside, IsOther, IsPublished, PublishesVersion}
+use Rattle.target_iceberg.specs.SettledLemmas.{name_in}
 
 -- ---- the names
 
@@ -60,17 +61,14 @@ metadata_not_aside new (IsAside.manifest number lt is) = manifest_metadata new.v
 metadata_not_aside new (IsAside.list is) = list_metadata new.version (sym is)
 metadata_not_aside new (IsAside.staged is) = staged_metadata new.version (sym is)
 
-in_folder : (name : List ℕ) → IsIn metadata_folder (path_of name)
-in_folder name = (name, refl)
-
 aside_in : (new : VersionFiles) (path : List ℕ) → IsAside new path → IsIn metadata_folder path
-aside_in new path (IsAside.manifest number lt is) = subst (IsIn metadata_folder) (sym is) (in_folder (manifest_name new.version number))
-aside_in new path (IsAside.list is) = subst (IsIn metadata_folder) (sym is) (in_folder (list_name new.version))
-aside_in new path (IsAside.staged is) = subst (IsIn metadata_folder) (sym is) (in_folder (staged_name new.version))
+aside_in new path (IsAside.manifest number lt is) = subst (IsIn metadata_folder) (sym is) (name_in (manifest_name new.version number))
+aside_in new path (IsAside.list is) = subst (IsIn metadata_folder) (sym is) (name_in (list_name new.version))
+aside_in new path (IsAside.staged is) = subst (IsIn metadata_folder) (sym is) (name_in (staged_name new.version))
 
 pub outside_other : (new : VersionFiles) (path : List ℕ) → IsOutside metadata_folder path → IsOther new path
 outside_other new path outside = record {
-  version = λ (is : path ≡ version_path new.version). outside (subst (IsIn metadata_folder) (sym is) (in_folder (codes "v" ++ (decimal new.version ++ codes ".metadata.json"))));
+  version = λ (is : path ≡ version_path new.version). outside (subst (IsIn metadata_folder) (sym is) (name_in (codes "v" ++ (decimal new.version ++ codes ".metadata.json"))));
   aside = λ of. outside (aside_in new path of);
 }
 

@@ -48,7 +48,6 @@ use Rattle.iceberg_version.specs.declared.kept.IcebergKept.{IcebergKept}
 use Rattle.iceberg_version.specs.KeptEnd.{view_of}
 use Rattle.target_iceberg.specs.Leftovers.{IsLeftoverName}
 use Rattle.iceberg_version.specs.Writing.{mark_property}
-use Rattle.target_core.proofs.Marks.{one_mark}
 use Rattle.target_core.specs.Conditions.{IsPublishable}
 use Rattle.target_core.specs.Mark.{IsMark, IsMarkText}
 use Rattle.target_core.specs.Refusals.{IsInspectRefusal, IsOfInspect}
@@ -68,10 +67,6 @@ use Rattle.target_iceberg.specs.Reading.{HasMark, IsAbsent, IsCurrent, IsOurs, R
 
 some_once : (a b : List ℕ) → Some a ≡ Some b → a ≡ b
 some_once a b e = cc
-
--- metadata has one mark at most
-pub mark_once : (m : Metadata) (a b : Mark) → HasMark m a → HasMark m b → a ≡ b
-mark_once m a b x y = one_mark x.text a b x.reads (subst (λ (t : List ℕ). IsMarkText t b) (some_once y.text x.text (sym y.found ∙ x.found)) y.reads)
 
 module _ (source : Kind) (version : ℕ) (m : Metadata) where
   this_of : (mark : Mark) → IsOwnMark source version m mark → IsOfThis source version m

@@ -8,8 +8,7 @@ use Rattle.std.specs.Str.{bytes_eq}
 use Rattle.std.proofs.lemmas.Bool.{cases_Bool, false≢true}
 use Rattle.std.proofs.lemmas.Slice.Eq.{bytes_eq-Decides}
 use Rattle.lake_basics.specs.declared.limits.TheConstants.{MAX_FILE_BYTES, MAX_ICEBERG_VERSION}
-use Rattle.lake_store.specs.Disk.{Disk, Files, IsDirty}
-use Rattle.lake_store.specs.Runs.{IsIn}
+use Rattle.lake_store.specs.Disk.{Disk, Files}
 use Rattle.partition_map.specs.declared.kind.PartKind.{PartKind}
 use Rattle.partition_map.specs.declared.kind.PartKind.TheVariants as kind
 use Rattle.schema_map.specs.Image.{wide_columns}
@@ -26,14 +25,14 @@ use Rattle.file_links.specs.Rows.{Entry, OwnedRows, rows_of as owned_rows}
 use Rattle.iceberg_manifest.specs.Lists.{AreEach}
 use Rattle.iceberg_metadata.specs.Writing.{SameMetadata, metadata_text}
 use Rattle.iceberg_metadata.specs.declared.metadata.Metadata.{Metadata}
+use Rattle.iceberg_metadata.proofs.ListLemmas.{both_true}
 use Rattle.iceberg_table.specs.Files.{SaysMetadata}
-use Rattle.iceberg_table.specs.Folder.{HasVersion, IsNewest, metadata_folder, path_of}
+use Rattle.iceberg_table.specs.Folder.{HasVersion, IsNewest, path_of}
 use Rattle.iceberg_table.specs.declared.manifest.Manifest.{Manifest}
 use Rattle.iceberg_version.specs.KeptEnd.{end_of, live_manifest, manifests_of, view_of}
 use Rattle.iceberg_version.specs.Manifests.{LiveManifest}
 use Rattle.iceberg_version.specs.Names.{list_name, manifest_name, staged_name}
 use Rattle.iceberg_commit.specs.NextVersion.{IsReadBack, OwnEachRow, image, version_files}
-use Rattle.target_iceberg.specs.Leftovers.{IsLeftover}
 use Rattle.iceberg_version.specs.Sound.{is_sound_owner}
 use Rattle.iceberg_version.specs.Writing.{IsWritten, NewVersion, TableEnd, mark_of, stated_behind}
 use Rattle.iceberg_version.specs.declared.kept.IcebergKept.{IcebergKept}
@@ -45,7 +44,7 @@ use Rattle.target_core.specs.declared.target.TargetError.TheVariants.{Unsupporte
 use Rattle.target_iceberg.specs.Fitting.{ChangesPartition, Unfit, kinds_of, state_of}
 use Rattle.target_iceberg.specs.Form.{HasOwnForm}
 use Rattle.target_iceberg.specs.IcebergMeaning.{iceberg_meaning}
-use Rattle.target_iceberg.specs.Kept.{HoldsEnd, IsCounted, IsKeptOf, StandsFor}
+use Rattle.target_iceberg.specs.Kept.{HoldsEnd, IsKeptOf, StandsFor}
 use Rattle.target_iceberg.specs.Reached.{CanGoOn, IsReached, IsSettled}
 use Rattle.target_iceberg.specs.Reading.{IsCarried, IsMarked, IsOurs}
 use Rattle.target_iceberg.specs.Publishing.{IsAside, IsPublished}
@@ -63,7 +62,6 @@ use Rattle.target_iceberg.proofs.WrittenRows.{after_are, after_distinct, after_r
 use Rattle.target_iceberg.proofs.WrittenStart.{IsLiveOf, StartsAt, live_rows, starts}
 use Rattle.target_iceberg.proofs.WrittenVersion as version
 use Rattle.target_iceberg.proofs.WrittenVersion.{HasCommitted}
-use Rattle.target_iceberg.proofs.WrittenLists.{both_true}
 
 -- ---- kinds that stay
 
@@ -212,15 +210,6 @@ module _ (disk : Disk) (after : Files) (id location : List ℕ) (kept : IcebergK
   pub goes_on_newest : (newest : ℕ) → IsNewest (HasVersion after) newest → CanGoOn after newest
   goes_on_newest newest is = subst (CanGoOn after) (one_newest (kept.version + 1) newest newest_behind is) goes_on
 
-  -- Where nothing that was reached and nothing of the new version is dirty, and all that is dirty in the folder is a leftover, the files are settled.
-  pub settled_behind : (new : Disk) → new.files ≡ after → ((path : List ℕ) → IsIn metadata_folder path → IsDirty new path → IsLeftover path)
-      → ((path : List ℕ) → IsDirty new path → IsReached disk.files path → ⊥) → ((path : List ℕ) → IsDirty new path → IsNewPath (kept.version + 1) (length h.writes.written.texts) path → ⊥) → IsSettled new
-  settled_behind new same leftovers old fresh = record {
-    leftovers = leftovers;
-    unreached = λ path dirty is. ⊎_elim (old path dirty) (fresh path dirty) (reached_cases path (subst (λ (files : Files). IsReached files path) same is));
-    goes_on = λ newest is. subst (λ (files : Files). CanGoOn files newest) (sym same) (goes_on_newest newest (subst (λ (files : Files). IsNewest (HasVersion files) newest) same is));
-  }
-
   -- ---- what is carried
 
   pub new_carried : IsCarried id after (kept.version + 1) commit.change (standing_at origin commit.position)
@@ -348,9 +337,6 @@ module _ (disk : Disk) (after : Files) (id location : List ℕ) (kept : IcebergK
         manifests = kept_each k.links gathered.manifests k.manifests k.owners (subst (λ (l : List LiveManifest). AreEach IsLiveOf gathered.manifests l) (sym is.manifests) gathered.live);
         own = is.own;
       }
-
-  pub counted_behind : (k : IcebergKept) → k.version ≡ kept.version + 1 → IsCounted k.version after
-  counted_behind k is = inr (omega (arith, is), subst (IsNewest (HasVersion after)) (sym is) newest_behind)
 
   -- and it stands for the files
   pub stands_behind : (k : IcebergKept) → IsKeptBehind k → IsAdvanced image origin (view_of kept) commit (view_of k) → StandsFor id location k after

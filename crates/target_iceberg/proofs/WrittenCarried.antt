@@ -1,9 +1,8 @@
 -- The new version carries the change and the mark.
-use Rattle.std.proofs.Common.{◌≡◌, ◌⊎◌, inl, inr, ⊎_elim, ℕ, zero, suc, ℤ, pos, ◌+◌, List, [], ◌∷◌, ◌++◌, map, length, Bool, true, false, cond, Contains, Some, refl, sym, ap, subst, ◌∙◌, arith}
-use Rattle.std.specs.Prelude.{◌≤ℤ◌, ◌||◌, flat_map, nat_lt}
+use Rattle.std.proofs.Common.{◌≡◌, ◌⊎◌, inl, inr, ⊎_elim, ℕ, zero, suc, ℤ, pos, ◌+◌, List, [], ◌∷◌, ◌++◌, map, length, Bool, true, cond, Contains, Some, refl, sym, ap, subst, ◌∙◌, arith}
+use Rattle.std.specs.Prelude.{◌≤ℤ◌, flat_map, nat_lt}
 use Rattle.std.specs.FinMap as map
 use Rattle.std.specs.List.{filter, list_any}
-use Rattle.std.proofs.lemmas.Bool.{false≢true}
 use Rattle.std.proofs.lemmas.Bool.Decides.{nat_tests}
 use Rattle.std.proofs.lemmas.Int.{ints}
 use Rattle.std.proofs.lemmas.List.{append_cancel_left}
@@ -12,7 +11,7 @@ use Rattle.lake_basics.specs.declared.limits.TheConstants.{MAX_MANIFEST_ENTRIES}
 use Rattle.lake_store.specs.Disk.{Files}
 use Rattle.table_history.specs.Row.{Row}
 use Rattle.table_history.specs.declared.table.Commit.{Commit}
-use Rattle.table_history.proofs.RowListLemmas.{Contains-cases, Contains-filter, Contains-head, Contains-none, Contains-tail}
+use Rattle.table_history.proofs.RowListLemmas.{Contains-filter, Contains-head, Contains-none, Contains-tail, filter_contains}
 use Rattle.file_links.specs.declared.slots.Held.{Held}
 use Rattle.iceberg_manifest.specs.Entry.{EntryData}
 use Rattle.iceberg_live.specs.Live.{IsRowOf}
@@ -21,18 +20,21 @@ use Rattle.iceberg_manifest.specs.declared.info.ManifestInfo.{ManifestInfo}
 use Rattle.iceberg_live.specs.declared.live.LiveRow.{LiveRow}
 use Rattle.iceberg_manifest.specs.declared.partition.PartColumn.{PartColumn}
 use Rattle.iceberg_metadata.specs.declared.metadata.Metadata.{Metadata}
+use Rattle.iceberg_metadata.proofs.ListLemmas.{any_from}
 use Rattle.iceberg_table.specs.Files.{SaysMetadata}
 use Rattle.iceberg_table.specs.Folder.{HasVersion}
 use Rattle.iceberg_table.specs.Manifests.{SaysManifest}
 use Rattle.iceberg_table.specs.declared.list.ManifestFile.{ManifestFile}
 use Rattle.iceberg_version.specs.Manifests.{LiveManifest, NextManifest, added_entry, added_manifest, born_at, carried, deleted_entry, existing_entry, has_rows, is_lost, left, lost, new, rewritten_entries, stays}
 use Rattle.iceberg_version.specs.Writing.{TableEnd, front_in}
+use Rattle.iceberg_version.proofs.ListLemmas.{parts_joined}
+use Rattle.iceberg_version.proofs.Shared.{in_map, of_map}
 use Rattle.target_core.specs.Views.{Origin, standing_at}
 use Rattle.target_iceberg.specs.Reached.{IsReached}
 use Rattle.target_iceberg.specs.Reading.{Adds, Deletes, IsCarried, IsEntryIn, KeepsId}
 use Rattle.target_iceberg.proofs.WrittenFiles.{metadata_too, reached_stays, version_at, version_stays}
 use Rattle.target_iceberg.proofs.WrittenManifests.{IsPlacedNext, inherited_low}
-use Rattle.target_iceberg.proofs.WrittenNext.{IsMade, in_joined, parts_joined}
+use Rattle.target_iceberg.proofs.WrittenNext.{IsMade, in_joined}
 use Rattle.target_iceberg.specs.OnceLemmas.{manifest_says_once}
 use Rattle.target_iceberg.proofs.WrittenOwn.{made_of}
 use Rattle.target_iceberg.proofs.WrittenRows.{any_removed, removed_any}
@@ -40,18 +42,8 @@ use Rattle.target_iceberg.proofs.WrittenStart.{HasEnd, IsFirstEnd, live_rows, ro
 use Rattle.target_iceberg.proofs.WrittenCurrent as written
 use Rattle.target_iceberg.proofs.WrittenVersion as version
 use Rattle.target_iceberg.proofs.WrittenVersion.{HasCommitted}
-use Rattle.target_iceberg.proofs.WrittenLists.{in_filter, in_map, of_map}
 
 -- ---- lists
-
-any_there : {A : Type 0} (p : A → Bool) (xs : List A) (x : A) → Contains xs x → p x ≡ true → list_any p xs ≡ true
-any_there p [] x there is = absurd (Contains-none x there)
-any_there p (y ∷ xs) x there is = by (p y) refl (⊎_elim (λ same. inl same) (λ later. inr (any_there p xs x later is)) (Contains-cases y xs x there))
-  where
-    by : (b : Bool) → p y ≡ b → (y ≡ x) ⊎ (list_any p xs ≡ true) → (b || list_any p xs) ≡ true
-    by true at cases = refl
-    by false at (inl same) = absurd (false≢true (sym at ∙ ap p same ∙ is))
-    by false at (inr later) = later
 
 part_with : (parts : List (List Row)) (row : Row) → Contains (flat_map (λ p. p) parts) row → (part : List Row) × Contains parts part × Contains part row
 part_with [] row there = absurd (Contains-none row there)
@@ -244,10 +236,10 @@ module _ (files after : Files) (id location : List ℕ) (rows : List Row) (end :
       let x = at.1 in
       let same : x.row.path ≡ path = ap (λ (r : Row). r.path) at.4 ∙ held.2 in
       let gone : is_lost removed x ≡ true = any_removed removed x.row.path (subst (Contains removed) (sym same) there) in
-      let any = any_there (is_lost removed) at.0.rows x at.3 gone in
-      let of_list = in_map (carried front number removed) (filter has_rows end.manifests) at.0 (in_filter has_rows end.manifests at.0 at.2 (filled at.0.rows x at.3)) in
+      let any = any_from (is_lost removed) at.0.rows x at.3 gone in
+      let of_list = in_map (carried front number removed) (filter has_rows end.manifests) at.0 (filter_contains has_rows end.manifests at.0 at.2 (filled at.0.rows x at.3)) in
       let in_next : Contains next (carried front number removed at.0) = subst (λ (l : List NextManifest). Contains l (carried front number removed at.0)) (sym h.writes.is.manifests.next_are.is) (Contains-append_left (map (carried front number removed) (filter has_rows end.manifests)) (map (added_manifest front number) parts) (carried front number removed at.0) of_list) in
-      let within = Contains-append_right (map (existing_entry front) (left removed at.0.rows)) (map (deleted_entry front number) (lost removed at.0.rows)) (deleted_entry front number x) (in_map (deleted_entry front number) (lost removed at.0.rows) x (in_filter (is_lost removed) at.0.rows x at.3 gone)) in
+      let within = Contains-append_right (map (existing_entry front) (left removed at.0.rows)) (map (deleted_entry front number) (lost removed at.0.rows)) (deleted_entry front number x) (in_map (deleted_entry front number) (lost removed at.0.rows) x (filter_contains (is_lost removed) at.0.rows x at.3 gone)) in
       let entry = entry_in (carried front number removed at.0) in_next (rewritten_entries front number removed at.0.rows) (left removed at.0.rows) (carried_anew at.0 any) (deleted_entry front number x) within in (
         entry.0,
         deleted_entry front number x,

@@ -27,10 +27,11 @@ use Rattle.iceberg_table.specs.declared.manifest.Manifest.{Manifest}
 use Rattle.iceberg_version.specs.Manifests.{LiveManifest, NextManifest}
 use Rattle.iceberg_version.specs.Names.{manifest_name}
 use Rattle.iceberg_version.specs.Writing.{TableEnd, front_in}
+use Rattle.iceberg_version.proofs.ListLemmas.{parts_joined}
 use Rattle.target_core.specs.Views.{Origin}
 use Rattle.target_iceberg.specs.Reading.{SaysCurrent}
 use Rattle.target_iceberg.proofs.WrittenManifests.{IsPlaced, IsPlacedNext, place_all}
-use Rattle.target_iceberg.proofs.WrittenNext.{IsMade, all_made, few_rows, few_texts, parts_joined}
+use Rattle.target_iceberg.proofs.WrittenNext.{IsMade, all_made, few_rows, few_texts}
 use Rattle.target_iceberg.specs.OnceLemmas.{manifest_says_once}
 use Rattle.target_iceberg.proofs.WrittenRows.{after_are, after_distinct, after_rows, listed_rows, rows_behind}
 use Rattle.target_iceberg.proofs.WrittenStart.{IsLiveOf, live_rows, live_rows_are}

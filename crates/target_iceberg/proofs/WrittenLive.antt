@@ -1,17 +1,13 @@
 -- The rows of a current snapshot's manifests are those that are live in it.
-use Rattle.std.proofs.Common.{◌≡◌, ◌≢◌, ◌↔◌, ⊎_elim, ℕ, pos, ◌<◌, List, [], ◌∷◌, true, Contains, refl, sym, subst, ◌∙◌, arith}
+use Rattle.std.proofs.Common.{◌≡◌, ◌≢◌, ◌↔◌, ⊎_elim, ℕ, pos, ◌<◌, List, [], true, Contains, refl, sym, subst, arith}
 use Rattle.std.specs.List.{filter}
 use Rattle.std.proofs.lemmas.Bool.Decides.{nat_tests}
-use Rattle.std.proofs.lemmas.List.{append_cancel_left}
-use Rattle.std.proofs.lemmas.List.Elements.{Contains-append_cases}
 use Rattle.lake_store.specs.Disk.{Files}
 use Rattle.table_history.specs.Row.{Row}
-use Rattle.table_history.proofs.RowListLemmas.{Contains-filter, Contains-head, Contains-none, Contains-tail}
+use Rattle.table_history.proofs.RowListLemmas.{Contains-filter, Contains-none, filter_contains}
 use Rattle.iceberg_manifest.specs.Entry.{EntryData}
 use Rattle.iceberg_live.specs.Live.{IsRowOf}
 use Rattle.iceberg_manifest.specs.Entry.{is_live}
-use Rattle.iceberg_metadata.specs.Location.{front_of}
-use Rattle.iceberg_manifest.specs.declared.info.ManifestInfo.{ManifestInfo}
 use Rattle.iceberg_live.specs.declared.live.LiveRow.{LiveRow}
 use Rattle.iceberg_manifest.specs.declared.partition.PartColumn.{PartColumn}
 use Rattle.iceberg_columns.specs.declared.columns.SourceColumn.{SourceColumn}
@@ -24,29 +20,15 @@ use Rattle.iceberg_table.specs.Tables.{rows_in, rows_of}
 use Rattle.iceberg_table.specs.declared.list.ManifestFile.{ManifestFile}
 use Rattle.iceberg_table.specs.declared.manifest.Manifest.{Manifest}
 use Rattle.iceberg_table.proofs.EachLaws.{each_back, each_of}
-use Rattle.iceberg_table.proofs.LiveLaws.{columns_same, list_same}
+use Rattle.iceberg_table.proofs.LiveLaws.{columns_same, list_same, of_flat, row_once}
+use Rattle.iceberg_version.proofs.Shared.{in_flat, in_map, of_map}
 use Rattle.target_iceberg.specs.Reading.{SaysCurrent}
-use Rattle.target_iceberg.proofs.WrittenLists.{in_filter, in_flat, in_map, of_map}
 use Rattle.target_iceberg.specs.OnceLemmas.{list_once}
 
 -- ---- lists
 
-of_flat : (rs : List Manifest) (row : Row) → Contains (rows_of rs) row → (r : Manifest) × Contains rs r × Contains (rows_in r.rows) row
-of_flat [] row there = absurd (Contains-none row there)
-of_flat (q ∷ rs) row there =
-    ⊎_elim (λ here. (q, Contains-head q rs, here)) (λ later. let rest = of_flat rs row later in (rest.0, Contains-tail q rs rest.0 rest.1, rest.2)) (Contains-append_cases (rows_in q.rows) (rows_of rs) row there)
-
 pub live_true : (e : EntryData) → e.status < 2 → is_live e ≡ true
 live_true e low = grind (arith, nat_tests)
-
--- an entry has one row
-pub row_once : (location : List ℕ) (info : ManifestInfo) (e : EntryData) (a b : LiveRow) → IsRowOf location info e a → IsRowOf location info e b → a.row ≡ b.row
-row_once location info e a b ra rb =
-    let path : a.row.path ≡ b.row.path = append_cancel_left (front_of location) a.row.path b.row.path (sym ra.place ∙ rb.place) in
-    let values : a.row.values ≡ b.row.values = ra.values ∙ sym rb.values in
-    let count : a.row.count ≡ b.row.count = ra.count ∙ sym rb.count in
-    let size : a.row.size ≡ b.row.size = ra.size ∙ sym rb.size in
-    λ i. record { path = path i; values = values i; count = count i; size = size i }
 
 module _ (files : Files) (m : Metadata) (current : SaysCurrent files m) where
   abbrev columns : List PartColumn
@@ -89,7 +71,7 @@ module _ (files : Files) (m : Metadata) (current : SaysCurrent files m) where
       data_rows : (file.info.content ≡ pos 0) × HasEntries files m.location columns r → Contains (rows_of current.manifests) live.row
       data_rows d =
           let mine : entries ≡ d.1.entries = d.1.only entries (subst (λ (f : ManifestFile). SaysManifest files columns f.path entries) (sym is.0) says) in
-          let among = in_filter is_live d.1.entries l (subst (λ (es : List EntryData). Contains es l) mine held) (live_true l row.live) in
+          let among = filter_contains is_live d.1.entries l (subst (λ (es : List EntryData). Contains es l) mine held) (live_true l row.live) in
           let found = each_of (IsRowOf m.location r.file.info) (filter is_live d.1.entries) r.rows l d.1.rows among in
           let theirs = subst (λ (f : ManifestFile). IsRowOf m.location f.info l live) (sym is.0) row in
           let same = row_once m.location r.file.info l found.0 live found.2 theirs in

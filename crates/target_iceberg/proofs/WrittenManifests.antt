@@ -32,6 +32,8 @@ use Rattle.iceberg_table.proofs.EachLaws.{each_back}
 use Rattle.iceberg_version.specs.Manifests.{AreListed, IsInfoOf, LiveManifest, NextManifest, added_entry, born_at, left, lost, new, new_entries, rewritten_entries, stays, with_place}
 use Rattle.iceberg_version.specs.Names.{manifest_name}
 use Rattle.iceberg_version.specs.Writing.{TableEnd, front_in}
+use Rattle.iceberg_version.proofs.ListLemmas.{parts_joined}
+use Rattle.iceberg_version.proofs.Shared.{of_map}
 use Rattle.target_core.specs.Views.{Origin}
 use Rattle.target_iceberg.specs.Kept.{born_of, held_of}
 use Rattle.target_iceberg.specs.Reached.{IsReached}
@@ -39,11 +41,10 @@ use Rattle.target_iceberg.proofs.WrittenFiles.{reached_stays}
 use Rattle.target_iceberg.specs.OnceLemmas.{current_in}
 use Rattle.target_iceberg.specs.SameLemmas.{manifest_at, manifest_reached}
 use Rattle.target_iceberg.proofs.WrittenNames.{manifest_path}
-use Rattle.target_iceberg.proofs.WrittenNext.{IsMade, added_live, born_again, held_again, in_joined, live_of, new_live, parts_joined, rewritten_live}
+use Rattle.target_iceberg.proofs.WrittenNext.{IsMade, added_live, born_again, held_again, in_joined, live_of, new_live, rewritten_live}
 use Rattle.target_iceberg.proofs.WrittenStart.{HasEnd, IsFirstEnd, IsLiveOf}
 use Rattle.target_iceberg.proofs.WrittenVersion as version
 use Rattle.target_iceberg.proofs.WrittenVersion.{HasCommitted}
-use Rattle.target_iceberg.proofs.WrittenLists.{of_map}
 
 -- ---- a manifest of the list before
 

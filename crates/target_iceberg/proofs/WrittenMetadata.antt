@@ -1,5 +1,5 @@
 -- The metadata of a new version, read back: its form, its current snapshot, and its parents.
-use Rattle.std.proofs.Common.{◌≡◌, ◌≢◌, ◌⊎◌, inl, inr, ⊎_elim, ℕ, zero, suc, ℤ, pos, ◌+◌, ◌-◌, ◌<◌, ◌≤◌, List, [], ◌∷◌, ◌++◌, map, length, drop, Bool, true, false, cond, Contains, Option, None, Some, refl, sym, ap, subst, ◌∙◌, arith}
+use Rattle.std.proofs.Common.{◌≡◌, ◌≢◌, ◌⊎◌, inl, inr, ⊎_elim, ℕ, ℤ, pos, ◌+◌, ◌-◌, ◌<◌, ◌≤◌, List, [], ◌∷◌, ◌++◌, map, length, drop, Bool, true, false, cond, Contains, Option, None, Some, refl, sym, ap, subst, ◌∙◌, arith}
 use Rattle.std.specs.Prelude.{◌≤ℤ◌}
 use Rattle.std.specs.List.{IsDistinct}
 use Rattle.std.specs.Ordering.{int_eq}
@@ -16,11 +16,11 @@ use Rattle.iceberg_metadata.specs.Writing.{SameMetadata}
 use Rattle.iceberg_metadata.specs.declared.metadata.Metadata.{Metadata}
 use Rattle.iceberg_metadata.specs.declared.metadata.Snapshot.{Snapshot}
 use Rattle.iceberg_version.specs.Writing.{MAX_SNAPSHOTS, TableEnd, last_of, no_version}
+use Rattle.iceberg_version.proofs.Shared.{drop_push, in_drop, in_map, nothing_twice}
 use Rattle.target_iceberg.specs.Form.{held_ids}
 use Rattle.target_iceberg.proofs.WrittenFiles.{in_held, in_held_at}
 use Rattle.target_iceberg.specs.OnceLemmas.{some_once}
 use Rattle.target_iceberg.proofs.WrittenStart.{HasEnd, IsFirstEnd}
-use Rattle.target_iceberg.proofs.WrittenLists.{in_map}
 
 -- ---- the metadata that a commit goes on from
 
@@ -33,10 +33,6 @@ pub record IsSoundAt (version : ℕ) (m : Metadata) : Type 0 where
   pub current : (id : ℤ) → m.current_snapshot ≡ Some id → id ≤ℤ pos version
   pub distinct : IsDistinct int_eq (map (λ s. s.id) m.snapshots)
   pub acyclic : FormsCycle m → ⊥
-
-nothing_twice : IsDistinct int_eq []
-unfolding IsDistinct
-nothing_twice = tt
 
 none_held : (o : Option ℤ) (s : Snapshot) → held_at [] o ≡ Some s → ⊥
 none_held None s is = cc is
@@ -56,7 +52,7 @@ none_sound version id location plain = record {
   snapshots = λ s there. absurd (Contains-none s there);
   parents = λ s parent there is. absurd (Contains-none s there);
   current = λ i is. absurd (cc is);
-  distinct = nothing_twice;
+  distinct = nothing_twice int_eq;
   acyclic = no_cycle id location;
 }
 
@@ -91,16 +87,6 @@ end_sound files id location end plain (inl first) = subst (IsSoundAt end.version
 end_sound files id location end plain (inr has) = same_sound end.version end.metadata has.metadata has.same (read_sound files end has)
 
 -- ---- lists
-
-in_drop : {A : Type 0} (k : ℕ) (xs : List A) (x : A) → Contains (drop k xs) x → Contains xs x
-in_drop zero xs x there = there
-in_drop (suc k) [] x there = there
-in_drop (suc k) (y ∷ xs) x there = Contains-tail y xs x (in_drop k xs x there)
-
-drop_push : {A : Type 0} (k : ℕ) (xs : List A) (x : A) → k ≤ length xs → drop k (xs ++ x ∷ []) ≡ drop k xs ++ x ∷ []
-drop_push zero xs x within = refl
-drop_push (suc k) [] x within = absurd (omega (arith, within))
-drop_push (suc k) (y ∷ xs) x within = drop_push k xs x (omega (arith, within))
 
 -- the last so many of a list with one more
 last_push : {A : Type 0} (n : ℕ) (xs : List A) (x : A) → 0 < n → last_of n (xs ++ x ∷ []) ≡ drop (length xs + 1 - n) xs ++ x ∷ []

@@ -24,6 +24,7 @@ use Rattle.iceberg_metadata.specs.declared.metadata.SpecField.{SpecField}
 use Rattle.iceberg_version.specs.Schemas.{AreSpecFields, FIRST_PARTITION_ID, Schemas}
 use Rattle.iceberg_version.specs.Sound.{have_first_ids}
 use Rattle.iceberg_version.specs.Writing.{IsWritten, MAX_SNAPSHOTS, NewVersion, TableEnd, last_of, mapping_property, mark_of, mark_property, metadata_of as made_of, next_version, properties_of, snapshot_of, spec_of}
+use Rattle.iceberg_version.proofs.Shared.{in_map}
 use Rattle.target_core.specs.Mark.{IsMarkText, mark_data}
 use Rattle.target_core.specs.Views.{Origin}
 use Rattle.target_core.specs.declared.mark.Mark.{Mark}
@@ -31,7 +32,6 @@ use Rattle.target_iceberg.specs.Form.{HasOwnForm, HasOwnSpec}
 use Rattle.target_iceberg.specs.Reading.{HasMark, property}
 use Rattle.target_iceberg.proofs.WrittenMetadata.{IsSoundAt, current_held, snapshot_cases}
 use Rattle.target_iceberg.proofs.WrittenSchemas.{AreSoundNext, field_names_are}
-use Rattle.target_iceberg.proofs.WrittenLists.{in_map}
 
 -- ---- the mark
 

@@ -1,14 +1,14 @@
 -- What becomes of the manifests of a list, and their live rows.
-use Rattle.std.proofs.Common.{◌≡◌, ◌≢◌, inl, inr, ⊎_elim, ℕ, pos, ◌+◌, ◌≤◌, List, [], ◌∷◌, ◌++◌, map, length, take, drop, Bool, true, false, cond, Contains, Result, Ok, Err, refl, sym, ap, subst, ◌∙◌, arith}
+use Rattle.std.proofs.Common.{◌≡◌, ◌≢◌, inl, inr, ℕ, pos, ◌+◌, ◌≤◌, List, [], ◌∷◌, ◌++◌, map, length, Bool, true, false, cond, Contains, Result, Ok, Err, refl, sym, ap, subst, arith}
 use Rattle.std.specs.Prelude.{flat_map, nat_lt}
 use Rattle.std.specs.List.{AllByRecursion, filter, list_any}
-use Rattle.std.proofs.lemmas.List.{length-take, take-append-drop}
 use Rattle.lake_basics.specs.Outcome.{◌>>=◌, with_fault}
 use Rattle.table_history.specs.Path.{IsPath}
 use Rattle.table_history.specs.Row.{Row}
-use Rattle.table_history.proofs.RowListLemmas.{Contains-cases, Contains-head, Contains-none, Contains-tail}
+use Rattle.table_history.proofs.RowListLemmas.{Contains-head, Contains-tail}
 use Rattle.avro_value.specs.ValueTree.{ValueTree, total, value_count}
 use Rattle.avro_value.specs.declared.api.TheConstants.{MAX_VALUES}
+use Rattle.avro_value.proofs.ValueLaws.{size_pos}
 use Rattle.file_links.specs.declared.slots.Held.{Held}
 use Rattle.iceberg_manifest.specs.Entry.{EntryData}
 use Rattle.iceberg_manifest.specs.ListReading.{infos_in, list_plan, list_row, list_rows}
@@ -21,9 +21,9 @@ use Rattle.iceberg_manifest.specs.declared.info.ManifestInfo.{ManifestInfo}
 use Rattle.iceberg_live.specs.declared.live.LiveRow.{LiveRow}
 use Rattle.iceberg_metadata.proofs.StepLemmas.{bind_ok, ok_is}
 use Rattle.iceberg_table.specs.Lists.{AreRows}
-use Rattle.iceberg_version.specs.Manifests.{AreListed, AreParts, LiveManifest, NextManifest, added_entry, added_manifest, born_at, carried, deleted_entry, existing_entry, has_rows, is_lost, left, new, rewritten_entries, stays}
+use Rattle.iceberg_version.specs.Manifests.{AreListed, LiveManifest, NextManifest, added_entry, added_manifest, born_at, carried, deleted_entry, existing_entry, has_rows, is_lost, left, new, rewritten_entries, stays}
+use Rattle.iceberg_version.proofs.Shared.{in_flat}
 use Rattle.target_iceberg.specs.Kept.{held_of}
-use Rattle.target_iceberg.proofs.WrittenLists.{in_flat}
 
 -- ---- each manifest of the list
 
@@ -65,20 +65,6 @@ module _ (front : List ℕ) (version : ℕ) (removed : List (List ℕ)) (manifes
   all_made = all_append (map (carried front version removed) (filter has_rows manifests)) (map (added_manifest front version) parts) (carried_made manifests (λ m there. there)) (added_made parts (λ p there. there))
 
 -- ---- parts of a list
-
-pub parts_joined : {A : Type 0} (size : ℕ) (xs : List A) (parts : List (List A)) → AreParts size xs parts → flat_map (λ p. p) parts ≡ xs
-parts_joined size xs [] are = sym are
-parts_joined size xs (p ∷ ps) are =
-    let rest = parts_joined size (drop size xs) ps are.2 in
-    (λ i. are.1 i ++ rest i) ∙ take-append-drop size xs
-
-pub parts_few : {A : Type 0} (size : ℕ) (xs : List A) (parts : List (List A)) (part : List A) → AreParts size xs parts → Contains parts part → length part ≤ size
-parts_few size xs [] part are there = absurd (Contains-none part there)
-parts_few size xs (p ∷ ps) part are there =
-    ⊎_elim
-    (λ (same : p ≡ part). let is : length part ≡ length (take size xs) = ap length (sym same ∙ are.1) in let few = length-take size xs in omega (arith, is, few))
-    (λ later. parts_few size (drop size xs) ps part are.2 later)
-    (Contains-cases p ps part there)
 
 pub in_joined : {A : Type 0} (parts : List (List A)) (part : List A) (x : A) → Contains parts part → Contains part x → Contains (flat_map (λ p. p) parts) x
 in_joined parts part x there within = in_flat (λ p. p) parts part x there within
@@ -122,25 +108,9 @@ module _ (location : List ℕ) (version : ℕ) (info : ManifestInfo) where
 
 -- ---- how many there are
 
-one_each : (v : ValueTree) → 1 ≤ value_count v
-one_each ValueTree.null = omega arith
-one_each (ValueTree.boolean b) = omega arith
-one_each (ValueTree.int n) = omega arith
-one_each (ValueTree.long n) = omega arith
-one_each (ValueTree.float bs) = omega arith
-one_each (ValueTree.double bs) = omega arith
-one_each (ValueTree.bytes bs) = omega arith
-one_each (ValueTree.text bs) = omega arith
-one_each (ValueTree.fixed bs) = omega arith
-one_each (ValueTree.enum_of i) = omega arith
-one_each (ValueTree.array_of vs) = omega arith
-one_each (ValueTree.map_of es) = omega arith
-one_each (ValueTree.union_of i v) = omega arith
-one_each (ValueTree.record_of vs) = omega arith
-
 length_within : (vs : List ValueTree) → length vs ≤ total value_count vs
 length_within [] = omega arith
-length_within (v ∷ vs) = let rest = length_within vs in let one = one_each v in omega (arith, rest, one)
+length_within (v ∷ vs) = let rest = length_within vs in let one = size_pos v in omega (arith, rest, one)
 
 -- rows that are read value by value
 abbrev IsRowStep : {P E : Type 0} → (P → ℕ → List ValueTree → Result (List ManifestInfo) E) → Type 0

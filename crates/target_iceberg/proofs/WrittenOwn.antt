@@ -12,7 +12,6 @@ use Rattle.table_history.specs.declared.table.Commit.{Commit}
 use Rattle.table_history.proofs.RowListLemmas.{Contains-filter, Contains-none, all_at}
 use Rattle.file_links.specs.declared.slots.Held.{Held}
 use Rattle.iceberg_manifest.specs.Entry.{EntryData}
-use Rattle.iceberg_manifest.specs.Lists.{AreEach}
 use Rattle.iceberg_manifest.specs.Entry.{is_live}
 use Rattle.iceberg_manifest.specs.declared.info.ManifestInfo.{ManifestInfo}
 use Rattle.iceberg_manifest.specs.declared.partition.PartColumn.{PartColumn}
@@ -22,21 +21,22 @@ use Rattle.iceberg_table.specs.Plan.{part_columns}
 use Rattle.iceberg_table.specs.declared.list.ManifestFile.{ManifestFile}
 use Rattle.iceberg_version.specs.Manifests.{LiveManifest, NextManifest, added_entry, deleted_entry, existing_entry, is_lost, left, lost, new, rewritten_entries, stays}
 use Rattle.iceberg_version.specs.Writing.{TableEnd, front_in}
+use Rattle.iceberg_version.proofs.Shared.{each_length, of_map}
 use Rattle.target_core.specs.Views.{Origin}
 use Rattle.target_iceberg.specs.Kept.{held_of}
 use Rattle.target_iceberg.specs.Reached.{CanGoOn, HasOwnEntries}
 use Rattle.target_iceberg.specs.Reading.{SaysCurrent}
 use Rattle.target_iceberg.proofs.WrittenManifests.{IsPlacedNext, held_row, read_in}
-use Rattle.target_iceberg.proofs.WrittenNext.{IsMade, parts_few}
+use Rattle.target_iceberg.proofs.WrittenNext.{IsMade}
 use Rattle.target_iceberg.specs.OnceLemmas.{manifest_says_once, metadata_once, says_once, some_once}
 use Rattle.iceberg_table.specs.declared.plan.Plan.{Plan}
+use Rattle.iceberg_commit.proofs.MadeLemmas.{part_short}
 use Rattle.target_iceberg.proofs.WrittenNew.{raised}
 use Rattle.target_iceberg.proofs.WrittenStart.{HasEnd, IsFirstEnd}
 use Rattle.target_iceberg.proofs.WrittenCurrent as written
 use Rattle.target_iceberg.proofs.WrittenReached.{leaves}
 use Rattle.target_iceberg.proofs.WrittenVersion as version
 use Rattle.target_iceberg.proofs.WrittenVersion.{HasCommitted}
-use Rattle.target_iceberg.proofs.WrittenLists.{of_map}
 
 -- ---- how many entries there are
 
@@ -47,12 +47,6 @@ two_parts removed (h ∷ rows) = by (is_lost removed h) (two_parts removed rows)
     by : (b : Bool) → length (left removed rows) + length (lost removed rows) ≡ length rows → length (cond (not b) (h ∷ left removed rows) (left removed rows)) + length (cond b (h ∷ lost removed rows) (lost removed rows)) ≡ length (h ∷ rows)
     by true rest = omega (arith, rest)
     by false rest = omega (arith, rest)
-
-pub each_length : {A B : Type 0} (P : A → B → Type 0) (xs : List A) (ys : List B) → AreEach P xs ys → length xs ≡ length ys
-each_length P [] [] are = refl
-each_length P [] (y ∷ ys) are = absurd are
-each_length P (x ∷ xs) [] are = absurd are
-each_length P (x ∷ xs) (y ∷ ys) are = let rest = each_length P xs ys are.1 in omega (arith, rest)
 
 filter_few : (es : List EntryData) → length (filter is_live es) ≤ length es
 filter_few [] = omega arith
@@ -142,7 +136,7 @@ module _ (files after : Files) (id location : List ℕ) (rows : List Row) (end :
   added_few : (part : List Row) → Contains h.writes.is.manifests.next_are.parts part → length (map (added_entry front number) part) ≤ MAX_MANIFEST_ENTRIES
   added_few part there =
       let next_are = h.writes.is.manifests.next_are in
-      let few = parts_few MAX_MANIFEST_ENTRIES next_are.added next_are.parts part next_are.cut there in
+      let few = part_short MAX_MANIFEST_ENTRIES next_are.added next_are.parts part next_are.cut there in
       let same = length-map part (added_entry front number) in
       omega (arith, few, same)
 

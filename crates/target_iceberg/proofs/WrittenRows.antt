@@ -1,23 +1,23 @@
 -- The live rows of a new version's manifests: those before without the removed ones, and the added ones.
 use Rattle.std.proofs.Common.{◌≡◌, ◌⊎◌, ◌↔◌, inl, inr, ⊎_elim, ℕ, ◌+◌, ◌≤◌, List, [], ◌∷◌, ◌++◌, map, length, Bool, true, false, not, cond, Contains, refl, sym, ap, subst, ◌∙◌, arith}
 use Rattle.std.specs.Prelude.{◌||◌, flat_map, nat_lt}
-use Rattle.std.specs.List.{AllByRecursion, IsDistinct, filter, list_any}
+use Rattle.std.specs.List.{IsDistinct, filter, list_any}
 use Rattle.std.specs.Str.{bytes_eq}
 use Rattle.std.proofs.lemmas.Bool.{cases_Bool, false≢true}
 use Rattle.std.proofs.lemmas.Bool.Decides.{nat_tests}
 use Rattle.std.proofs.lemmas.Grind.{flat_map-append}
 use Rattle.std.proofs.lemmas.List.Elements.{Contains-append_cases, Contains-append_left, Contains-append_right, filter-append}
-use Rattle.std.proofs.lemmas.Map.Keys.{IsDistinct-cons, IsDistinct-head, IsDistinct-tail}
 use Rattle.std.proofs.lemmas.Slice.Eq.{bytes_eq-Decides}
 use Rattle.table_history.specs.Row.{Row}
 use Rattle.table_history.specs.Rows.{HasDistinctPaths, HasPath, IsInPathOrder, SameRows, paths_of}
 use Rattle.table_history.specs.Tables.{IsRowAfter}
-use Rattle.table_history.proofs.RowListLemmas.{Contains-cases, Contains-filter, Contains-head, Contains-none, Contains-tail, all_at, distinct_filter}
+use Rattle.table_history.proofs.RowListLemmas.{Contains-cases, Contains-filter, Contains-head, Contains-none, Contains-tail, distinct_filter, filter_contains}
 use Rattle.table_history.proofs.TableLemmas.{distinct_order}
 use Rattle.file_links.specs.declared.slots.Held.{Held}
+use Rattle.iceberg_metadata.proofs.ListLemmas.{not_true}
 use Rattle.iceberg_version.specs.Manifests.{AreListed, LiveManifest, NextManifest, added_manifest, born_at, carried, has_rows, is_lost, left, new, rewritten_entries, stays}
+use Rattle.iceberg_version.proofs.BehindLemmas.{distinct_joined}
 use Rattle.target_iceberg.proofs.WrittenStart.{live_rows, rows_held}
-use Rattle.target_iceberg.proofs.WrittenLists.{in_filter}
 
 -- ---- paths among the removed ones
 
@@ -41,10 +41,6 @@ removed_any (p ∷ removed) path is = by (bytes_eq path p) refl is (λ rest. rem
 -- whether a row stays
 abbrev pub is_left : List (List ℕ) → Row → Bool
 is_left removed row = not (list_any (bytes_eq row.path) removed)
-
-not_true : (b : Bool) → not b ≡ true → b ≡ false
-not_true true is = absurd (false≢true is)
-not_true false is = refl
 
 pub left_other : (removed : List (List ℕ)) (row : Row) → is_left removed row ≡ true → Contains removed row.path → ⊥
 left_other removed row is there = false≢true (sym (not_true (list_any (bytes_eq row.path) removed) is) ∙ any_removed removed row.path there)
@@ -141,23 +137,6 @@ rows_behind front version manifests removed next added parts joined is =
 
 -- ---- distinct paths
 
-other_path : (x y : List ℕ) → (x ≡ y → ⊥) → bytes_eq x y ≡ false
-other_path x y other = ⊎_elim (λ same. absurd (other ((bytes_eq-Decides x y).0 same))) (λ is. is) (cases_Bool (bytes_eq x y))
-
-all_from : (P : List ℕ → Type 0) (xs : List (List ℕ)) → ((x : List ℕ) → Contains xs x → P x) → AllByRecursion P xs
-all_from P [] each = tt
-all_from P (x ∷ xs) each = (each x (Contains-head x xs), all_from P xs (λ y there. each y (Contains-tail x xs y there)))
-
-first_once : (x : List ℕ) (xs : List (List ℕ)) → IsDistinct bytes_eq (x ∷ xs) → Contains xs x → ⊥
-first_once x xs distinct there = false≢true (sym (all_at (λ y. bytes_eq x y ≡ false) xs x (IsDistinct-head bytes_eq x xs distinct) there) ∙ (bytes_eq-Decides x x).1 refl)
-
-both_distinct : (xs ys : List (List ℕ)) → IsDistinct bytes_eq xs → IsDistinct bytes_eq ys → ((x : List ℕ) → Contains xs x → Contains ys x → ⊥) → IsDistinct bytes_eq (xs ++ ys)
-both_distinct [] ys d e apart = e
-both_distinct (x ∷ xs) ys d e apart =
-    IsDistinct-cons bytes_eq x (xs ++ ys)
-    (all_from (λ y. bytes_eq x y ≡ false) (xs ++ ys) (λ y there. other_path x y (λ same. ⊎_elim (λ a. first_once x xs d (subst (Contains xs) (sym same) a)) (λ b. apart x (Contains-head x xs) (subst (Contains ys) (sym same) b)) (Contains-append_cases xs ys y there))))
-    (both_distinct xs ys (IsDistinct-tail bytes_eq x xs d) e (λ y a b. apart y (Contains-tail x xs y a) b))
-
 paths_append : (xs ys : List Row) → paths_of (xs ++ ys) ≡ paths_of xs ++ paths_of ys
 paths_append [] ys = refl
 paths_append (x ∷ xs) ys = ap (λ (l : List (List ℕ)). x.path ∷ l) (paths_append xs ys)
@@ -181,14 +160,14 @@ module _ (before live : List Row) (removed : List (List ℕ)) (change_added adde
         (Contains-append_cases (filter (is_left removed) live) added row there),
     λ is. ⊎_elim
         (λ (fresh : Contains change_added row). Contains-append_right (filter (is_left removed) live) added row ((same row).0 fresh))
-        (λ (old : Contains before row × (Contains removed row.path → ⊥)). Contains-append_left (filter (is_left removed) live) added row (in_filter (is_left removed) live row ((live_are row).0 old.0) (other_left removed row old.1)))
+        (λ (old : Contains before row × (Contains removed row.path → ⊥)). Contains-append_left (filter (is_left removed) live) added row (filter_contains (is_left removed) live row ((live_are row).0 old.0) (other_left removed row old.1)))
         is,
   )
 
   pub after_distinct : HasDistinctPaths live → IsInPathOrder added → ((row : Row) → Contains change_added row → HasPath before row.path → Contains removed row.path) → HasDistinctPaths after_rows
   after_distinct distinct order fresh =
       subst (IsDistinct bytes_eq) (sym (paths_append (filter (is_left removed) live) added))
-      (both_distinct (paths_of (filter (is_left removed) live)) (paths_of added) (distinct_filter (is_left removed) live distinct) (distinct_order (paths_of added) order) (λ path a b.
+      (distinct_joined (paths_of (filter (is_left removed) live)) (paths_of added) (distinct_filter (is_left removed) live distinct) (distinct_order (paths_of added) order) (λ path a b.
       let old = of_paths (filter (is_left removed) live) path a in
       let add = of_paths added path b in
       let both = Contains-filter (is_left removed) live old.0 old.1 in

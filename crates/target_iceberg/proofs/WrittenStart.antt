@@ -1,7 +1,6 @@
 -- What a commit starts from: a table's end, and the files that hold it.
-use Rattle.std.proofs.Common.{◌≡◌, ◌⊎◌, ◌↔◌, inl, inr, ℕ, ◌<◌, ◌≤◌, List, [], ◌∷◌, ◌++◌, map, true, Contains, Option, refl, sym, ap, subst, ◌∙◌, arith}
+use Rattle.std.proofs.Common.{◌≡◌, ◌⊎◌, ◌↔◌, inl, inr, ℕ, ◌<◌, ◌≤◌, List, [], ◌∷◌, ◌++◌, bytes_eq, map, true, Contains, Option, refl, sym, ap, subst, ◌∙◌, arith}
 use Rattle.std.specs.Prelude.{flat_map, unwrap_or}
-use Rattle.std.specs.List.{IsDistinct}
 use Rattle.lake_store.specs.Disk.{Files}
 use Rattle.file_links.specs.Rows.{Entry, OwnedRows}
 use Rattle.file_links.specs.declared.slots.Held.{Held}
@@ -29,6 +28,7 @@ use Rattle.iceberg_version.specs.Sound.{have_first_ids}
 use Rattle.iceberg_version.specs.Writing.{TableEnd, no_version}
 use Rattle.iceberg_version.specs.declared.kept.IcebergKept.{IcebergKept}
 use Rattle.iceberg_version.specs.declared.kept.KeptManifest.{KeptManifest}
+use Rattle.iceberg_version.proofs.Shared.{nothing_twice}
 use Rattle.target_core.specs.Views.{IsUnpublished, View}
 use Rattle.target_iceberg.specs.Form.{HasOwnForm}
 use Rattle.target_iceberg.specs.Kept.{HoldsEnd, IsFirst, IsKeptOf, StandsFor, held_of}
@@ -115,10 +115,6 @@ all_free files none = record {
   manifests = λ version number later. none_reached files none _;
 }
 
-nothing_twice : HasDistinctPaths []
-unfolding IsDistinct
-nothing_twice = tt
-
 none_in : {A : Type 0} (xs : List A) → ((x : A) → Contains xs x → ⊥) → xs ≡ []
 none_in [] none = refl
 none_in (x ∷ xs) none = absurd (none x (Contains-head x xs))
@@ -142,7 +138,7 @@ pub distinct_live : (id location : List ℕ) (kept : IcebergKept) (files : Files
 distinct_live id location kept files stands = by stands.end
   where
     by : IsFirst files id location kept ⊎ HoldsEnd files kept → HasDistinctPaths (live_rows (manifests_of kept))
-    by (inl first) = subst HasDistinctPaths (sym (ap (λ (ms : List KeptManifest). live_rows (map (live_manifest kept.links) ms)) (none_in kept.manifests first.manifests))) nothing_twice
+    by (inl first) = subst HasDistinctPaths (sym (ap (λ (ms : List KeptManifest). live_rows (map (live_manifest kept.links) ms)) (none_in kept.manifests first.manifests))) (nothing_twice bytes_eq)
     by (inr holds) = subst HasDistinctPaths (sym (live_rows_are holds.current.manifests (manifests_of kept) (all_live kept.links holds.current.manifests kept.manifests holds.manifests))) holds.current.says.distinct
 
 same_table : (files : Files) (m n : Metadata) (c : SaysCurrent files m) (d : SaysCurrent files n) (t : Table) → m ≡ n → IsTableOfSnapshot files m c.snapshot t → IsTableOfSnapshot files n d.snapshot t
@@ -168,7 +164,7 @@ module _ (id location : List ℕ) (kept : IcebergKept) (files : Files) (goes_on 
           λ there. absurd (Contains-none row (subst (λ (l : List Row). Contains l row) empty there)),
           λ there. absurd (Contains-none row (subst (λ (l : List Row). Contains l row) no_live there)),
         );
-        distinct = subst HasDistinctPaths (sym no_live) nothing_twice;
+        distinct = subst HasDistinctPaths (sym no_live) (nothing_twice bytes_eq);
         schema_ids = kept.schema_ids;
         own_image = image_is;
       }

@@ -1,23 +1,16 @@
 -- The new version as it stands in the files behind a commit.
-use Rattle.std.proofs.Common.{◌≡◌, ◌≢◌, ◌⊎◌, inl, inr, ⊎_elim, ℕ, pos, ◌+◌, ◌<◌, ◌≤◌, List, [], ◌∷◌, ◌++◌, length, Bool, true, false, cond, Contains, Option, None, Some, Ok, refl, sym, ap, subst, ◌∙◌, arith}
+use Rattle.std.proofs.Common.{◌≡◌, ◌≢◌, ◌⊎◌, ⊎_elim, ℕ, pos, ◌+◌, ◌<◌, ◌≤◌, List, [], ◌∷◌, ◌++◌, length, Contains, Option, None, Some, Ok, refl, sym, ap, subst, ◌∙◌, arith}
 use Rattle.std.specs.Prelude.{option_and_then, option_map}
-use Rattle.std.specs.Str.{bytes_eq}
-use Rattle.std.proofs.lemmas.Bool.{cases_lt}
 use Rattle.lake_basics.specs.Outcome.{◌>>=◌, each}
 use Rattle.lake_basics.specs.declared.limits.TheConstants.{MAX_FILE_BYTES, MAX_ICEBERG_VERSION}
 use Rattle.lake_store.specs.Disk.{Files}
 use Rattle.partition_map.specs.Columns.{column_kind}
-use Rattle.partition_map.specs.Kind.{part_kind_of}
 use Rattle.partition_map.specs.declared.kind.PartKind.{PartKind}
-use Rattle.schema_map.specs.Image.{wide_columns, wide_type}
-use Rattle.table_history.specs.History.{column_type}
+use Rattle.schema_map.specs.Image.{wide_columns}
 use Rattle.table_history.specs.Path.{IsPath}
 use Rattle.table_history.specs.Row.{Row}
 use Rattle.table_history.specs.Rows.{HasPath}
-use Rattle.table_history.specs.TypeTree as tree
-use Rattle.table_history.specs.TypeTree.{ColumnTrees, TypeTree, column, no_columns}
-use Rattle.table_history.specs.declared.limit.LimitKind.{LimitKind}
-use Rattle.table_history.specs.declared.limit.LimitKind.TheVariants.{File, Versions}
+use Rattle.table_history.specs.TypeTree.{ColumnTrees}
 use Rattle.table_history.specs.declared.table.Commit.{Commit}
 use Rattle.iceberg_metadata.specs.Location.{front_of}
 use Rattle.iceberg_manifest.specs.declared.partition.PartColumn.{PartColumn}
@@ -40,19 +33,21 @@ use Rattle.iceberg_table.specs.Plan.{IsPlanOf, names_of, part_columns, snapshot_
 use Rattle.iceberg_table.specs.declared.plan.Plan.{Plan}
 use Rattle.iceberg_version.specs.Names.{list_name}
 use Rattle.iceberg_version.specs.Schemas.{AreSpecFields, FIRST_PARTITION_ID, Schemas}
-use Rattle.iceberg_version.specs.Writing.{AreColumns, IsWritten, NewVersion, PassesAt, TableEnd, mark_of, snapshot_of, stated_behind}
+use Rattle.iceberg_version.specs.Writing.{AreColumns, TableEnd, mark_of, snapshot_of, stated_behind}
+use Rattle.iceberg_version.proofs.HeldLemmas.{in_schemas}
+use Rattle.iceberg_version.proofs.NamePathLemmas.{list_path}
+use Rattle.iceberg_version.proofs.Shared.{in_flat}
 use Rattle.target_core.specs.Views.{Origin, standing_at}
 use Rattle.target_iceberg.specs.Fitting.{kinds_of}
 use Rattle.target_iceberg.specs.Form.{HasOwnForm, field_names}
 use Rattle.target_iceberg.specs.Reading.{IsCurrent, IsMarked}
 use Rattle.target_iceberg.specs.Writes.{Writes}
+use Rattle.target_iceberg.proofs.KindLemmas.{wide_kinds}
 use Rattle.target_iceberg.proofs.WrittenFiles.{version_cases, version_held}
 use Rattle.target_iceberg.proofs.WrittenMetadata.{IsSoundAt, end_sound, no_new_cycle}
-use Rattle.target_iceberg.proofs.WrittenNames.{list_path}
 use Rattle.target_iceberg.proofs.WrittenNew.{IsNew, fields_are, new_current, new_is, new_marked, own_form}
-use Rattle.target_iceberg.proofs.WrittenSchemas.{AreSoundNext, columns_found, in_schemas, names_found, parts_found, sound_next, source_columns}
+use Rattle.target_iceberg.proofs.WrittenSchemas.{AreSoundNext, columns_found, names_found, parts_found, sound_next, source_columns}
 use Rattle.target_iceberg.proofs.WrittenStart.{HasEnd, StartsAt}
-use Rattle.target_iceberg.proofs.WrittenLists.{in_flat}
 
 -- Behind a commit the files have what is written for it, all of it is read back, its number and its metadata's length pass no
 -- limit, the partition columns keep their kinds, and the change fits the rows before.
@@ -66,59 +61,6 @@ pub record HasCommitted (files after : Files) (id location : List ℕ) (rows : L
   pub removed_there : (path : List ℕ) → Contains commit.change.removed path → HasPath rows path
   pub added_new : (row : Row) → Contains commit.change.added row → HasPath rows row.path → Contains commit.change.removed row.path
   pub paths : (row : Row) → Contains commit.change.added row → IsPath row.path
-
--- A commit that passes no number passes neither of these.
-pub none_passed : (end : TableEnd) (origin : Origin) (now : ℕ) (commit : Commit) (written : NewVersion) → IsWritten end origin now commit written → ((which : LimitKind) (number : ℕ) → PassesAt end origin now commit which number → ⊥)
-    → (end.version + 1 ≤ MAX_ICEBERG_VERSION) × (length (metadata_text written.metadata) ≤ MAX_FILE_BYTES)
-none_passed end origin now commit written is never = (
-  ⊎_elim (λ (more : MAX_ICEBERG_VERSION < end.version + 1). absurd (never Versions MAX_ICEBERG_VERSION (refl, inl more))) (λ few. few) (cases_lt MAX_ICEBERG_VERSION (end.version + 1)),
-  ⊎_elim
-      (λ (long : MAX_FILE_BYTES < length (metadata_text written.metadata)). absurd (never File MAX_FILE_BYTES (
-        refl,
-        record {
-          schemas = is.schemas;
-          fields = is.fields;
-          columns = is.columns;
-          layout = is.layout;
-          cause = inr (inr (subst (λ (m : Metadata). MAX_FILE_BYTES < length (metadata_text m)) is.metadata long));
-        },
-      )))
-      (λ few. few)
-      (cases_lt MAX_FILE_BYTES (length (metadata_text written.metadata))),
-)
-
--- ---- kinds
-
-kind_kept : (t : TypeTree) → part_kind_of (wide_type t) ≡ part_kind_of t
-kind_kept tree.boolean = refl
-kind_kept tree.byte = refl
-kind_kept tree.short = refl
-kind_kept tree.int = refl
-kind_kept tree.long = refl
-kind_kept tree.float = refl
-kind_kept tree.double = refl
-kind_kept tree.text = refl
-kind_kept tree.binary = refl
-kind_kept tree.date = refl
-kind_kept tree.timestamp = refl
-kind_kept tree.timestamp_ntz = refl
-kind_kept (tree.decimal p s) = refl
-kind_kept (tree.struct_of cs) = refl
-kind_kept (tree.list_of t b) = refl
-kind_kept (tree.map_of k v b) = refl
-
-found_by : (b : Bool) (t : TypeTree) (wide o : Option TypeTree) → option_and_then part_kind_of wide ≡ option_and_then part_kind_of o → option_and_then part_kind_of (cond b (Some (wide_type t)) wide) ≡ option_and_then part_kind_of (cond b (Some t) o)
-found_by true t wide o same = kind_kept t
-found_by false t wide o same = same
-
--- the types of the format change no kind
-wide_kind : (schema : ColumnTrees) (name : List ℕ) → column_kind (wide_columns schema) name ≡ column_kind schema name
-wide_kind no_columns name = refl
-wide_kind (column n t b cs) name = found_by (bytes_eq n name) t (column_type (wide_columns cs) name) (column_type cs name) (wide_kind cs name)
-
-wide_kinds : (schema : ColumnTrees) (names : List (List ℕ)) → kinds_of (wide_columns schema) names ≡ kinds_of schema names
-wide_kinds schema [] = refl
-wide_kinds schema (n ∷ ns) = λ i. wide_kind schema n i ∷ wide_kinds schema ns i
 
 -- ---- partition columns by their numbers
 

@@ -5,8 +5,6 @@ use Rattle.std.specs.Fmt.{decimal}
 use Rattle.std.specs.List.{cons_option}
 use Rattle.std.specs.Str.{bytes_eq}
 use Rattle.std.specs.Str.Parse.{digits_value}
-use Rattle.std.proofs.lemmas.Bool.{false≢true}
-use Rattle.std.proofs.lemmas.Bool.Decides.{nat_tests}
 use Rattle.std.proofs.lemmas.Fmt.{decimal_is_IsNumeral}
 use Rattle.std.proofs.lemmas.List.{length-append}
 use Rattle.std.proofs.lemmas.Slice.Eq.{bytes_eq-Decides}
@@ -14,29 +12,14 @@ use Rattle.lake_basics.specs.declared.limits.TheConstants.{MAX_ICEBERG_VERSION}
 use Rattle.lake_store.specs.Disk.{Files, names_in}
 use Rattle.table_history.proofs.RowListLemmas.{Contains-cases, Contains-head, Contains-none, Contains-tail}
 use Rattle.iceberg_metadata.specs.VersionName.{IsVersionName}
+use Rattle.iceberg_metadata.proofs.ListLemmas.{both_are, both_true}
 use Rattle.iceberg_table.specs.Folder.{HasVersion, IsNewest, metadata_folder}
 use Rattle.target_core.specs.Views.{View}
+use Rattle.iceberg_version.proofs.Shared.{le_by, le_test}
 use Rattle.target_iceberg.specs.Reading.{Reads, commits_in, version_digits, version_name, version_named}
 use Rattle.target_iceberg.specs.ViewLemmas.{no_commits}
 
 -- ---- the version that a name is of
-
-and_is : (a b : Bool) → a ≡ true → b ≡ true → (a && b) ≡ true
-and_is a b p q = ap (λ t. t && b) p ∙ q
-
-and_left : (a b : Bool) → (a && b) ≡ true → a ≡ true
-and_left true b h = refl
-and_left false b h = h
-
-and_right : (a b : Bool) → (a && b) ≡ true → b ≡ true
-and_right true b h = h
-and_right false b h = absurd (false≢true h)
-
-le_test : (n m : ℕ) → n ≤ m → nat_le n m ≡ true
-le_test n m is = grind (arith, nat_tests)
-
-le_by : (n m : ℕ) → nat_le n m ≡ true → n ≤ m
-le_by n m is = grind (arith, nat_tests)
 
 chosen : (b : Bool) (n v : ℕ) → (if b then Some n else None) ≡ Some v → (b ≡ true) × (n ≡ v)
 chosen true n v is = (refl, cc)
@@ -62,7 +45,7 @@ named_version name v h =
     let value = name_value name v h in
     let spelled : name ≡ version_name (digits_value 10 (version_digits name)) = h.spelled ∙ ap version_name (sym value) in
     let within = subst (λ (n : ℕ). n ≤ MAX_ICEBERG_VERSION) (sym value) h.within in
-    let is = and_is (bytes_eq name (version_name (digits_value 10 (version_digits name)))) (nat_le (digits_value 10 (version_digits name)) MAX_ICEBERG_VERSION)
+    let is = both_are (bytes_eq name (version_name (digits_value 10 (version_digits name)))) (nat_le (digits_value 10 (version_digits name)) MAX_ICEBERG_VERSION)
     ((bytes_eq-Decides name (version_name (digits_value 10 (version_digits name)))).1 spelled) (le_test (digits_value 10 (version_digits name)) MAX_ICEBERG_VERSION within) in
     ap (λ b. if b then Some (digits_value 10 (version_digits name)) else None) is ∙ ap (λ (n : ℕ). Some n) value
 
@@ -70,8 +53,9 @@ version_by_name : (name : List ℕ) (v : ℕ) → version_named name ≡ Some v 
 version_by_name name v h =
     let n = digits_value 10 (version_digits name) in
     let whole = chosen (bytes_eq name (version_name n) && nat_le n MAX_ICEBERG_VERSION) n v h in
-    let spelled = (bytes_eq-Decides name (version_name n)).0 (and_left (bytes_eq name (version_name n)) (nat_le n MAX_ICEBERG_VERSION) whole.0) in
-    let within = le_by n MAX_ICEBERG_VERSION (and_right (bytes_eq name (version_name n)) (nat_le n MAX_ICEBERG_VERSION) whole.0) in
+    let parts = both_true (bytes_eq name (version_name n)) (nat_le n MAX_ICEBERG_VERSION) whole.0 in
+    let spelled = (bytes_eq-Decides name (version_name n)).0 parts.0 in
+    let within = le_by n MAX_ICEBERG_VERSION parts.1 in
     record { spelled = spelled ∙ ap version_name whole.1; within = subst (λ (m : ℕ). m ≤ MAX_ICEBERG_VERSION) whole.1 within }
 
 -- ---- what is picked from a list

@@ -11,8 +11,9 @@ use Rattle.partition_map.specs.Kind.{part_kind_of}
 use Rattle.schema_map.specs.Image.{wide_columns, wide_type}
 use Rattle.schema_map.proofs.Wide.{own_wide, wide_limits}
 use Rattle.iceberg_commit.specs.NextVersion.{image}
-use Rattle.iceberg_commit.proofs.WideLemmas.{kind_kept, of_same, values_fit, wide_column}
+use Rattle.iceberg_commit.proofs.WideLemmas.{of_same, values_fit, wide_column}
 use Rattle.target_core.specs.Conditions.{HasKind, IsPublishable}
+use Rattle.iceberg_version.proofs.BehindLemmas.{wide_part}
 
 -- ---- types
 
@@ -42,7 +43,7 @@ mutual
 -- ---- kinds
 
 of_wide : (t : TypeTree) (v : PartValue) → IsOfType t v ↔ IsOfType (wide_type t) v
-of_wide t v = (of_same t (wide_type t) (part_kind_of t) refl (kind_kept t) v, of_same (wide_type t) t (part_kind_of t) (kind_kept t) refl v)
+of_wide t v = (of_same t (wide_type t) (part_kind_of t) refl (wide_part t) v, of_same (wide_type t) t (part_kind_of t) (wide_part t) refl v)
 
 fits_by : (o : Option TypeTree) (v : PartValue) → FitsColumn o v ↔ FitsColumn (option_map wide_type o) v
 fits_by None v = (λ fits. fits, λ fits. fits)

@@ -3,7 +3,8 @@ use Rattle.std.proofs.lemmas.List.{take_all}
 use Rattle.file_links.specs.Rows.{OwnedRows}
 use Rattle.iceberg_version.specs.Advance.{EndsEmpty, owners_of}
 use Rattle.iceberg_version.specs.declared.kept.KeptManifest.{KeptManifest}
-use Rattle.iceberg_version.proofs.AdvanceLemmas.{ends_none, ends_not, ends_one, is_empty, is_filled, kept_more, kept_new, kept_there, still_there}
+use Rattle.iceberg_version.proofs.AdvanceLemmas.{ends_none, ends_not, ends_one, is_empty, is_filled, kept_more, kept_new, still_there}
+use Rattle.iceberg_version.proofs.CarryingLemmas.{kept_there}
 use Rattle.iceberg_version.proofs.advancing.end_empty.Goals.{else-is_none, then-is_none}
 use Rattle.iceberg_version.proofs.advancing.end_empty.Goals as goal
 
