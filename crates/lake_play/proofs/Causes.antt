@@ -1,6 +1,6 @@
 -- The cause of each answer of a list of events.
 use Rattle.std.proofs.Common.{◌≡◌, ◌≢◌, ◌⊎◌, inl, inr, ⊎_elim, ℕ, zero, suc, ◌+◌, ◌-◌, ◌^◌, ◌≤◌, ◌<◌, Bool, true, false, List, [], ◌∷◌, ◌++◌, drop, length, Contains, Option, Some, None, Result, Ok, Err, refl, sym, ap, subst, ◌∙◌, arith}
-use Rattle.std.specs.Prelude.{slice_get, unwrap_or}
+use Rattle.std.specs.Prelude.{unwrap_or}
 use Rattle.std.specs.Fmt.{decimal}
 use Rattle.std.proofs.lemmas.Bool.{cases_lt}
 use Rattle.std.proofs.lemmas.List.Elements.{Contains-append_right}
@@ -31,6 +31,7 @@ use Rattle.target_hudi.specs.InspectLemmas as hudi_inspect
 use Rattle.target_hudi.specs.ViewLemmas as hudi_view
 use Rattle.target_hudi.specs.WideLemmas as hudi_wide
 use Rattle.target_hudi.specs.declared.target.HudiTarget.{HudiTarget}
+use Rattle.iceberg_version.proofs.Shared.{in_drop, slice_there}
 use Rattle.target_iceberg.specs.InspectLemmas as iceberg_inspect
 use Rattle.target_iceberg.specs.ViewLemmas as iceberg_view
 use Rattle.target_iceberg.specs.WideLemmas as iceberg_wide
@@ -54,7 +55,7 @@ use Rattle.lake_play.specs.Playing.{Brings, scripted, status_of}
 use Rattle.lake_play.specs.Scripted.{scripted_store, some_of}
 use Rattle.lake_play.proofs.Faults.{IsPlayedFault, at_head_fault, from_position_fault, from_scratch_fault}
 use Rattle.lake_play.proofs.Histories.{entry_of, holds_history, is_history, not_absent, same_length}
-use Rattle.lake_play.proofs.Logs.{HoldsCommits, some_same}
+use Rattle.lake_play.proofs.Logs.{HoldsCommits}
 use Rattle.lake_play.proofs.Rooms.{enters_free, told_by}
 use Rattle.lake_play.proofs.Syncs.{same_told}
 use Rattle.lake_play.proofs.Targets.{IsPlayed, at_front, shows_whole}
@@ -156,16 +157,6 @@ module _ (target : TargetFacts) (views : Views target) (history : History) (file
   }
 
 -- ---- the tables along which commits lead
-
-pub in_drop : {X : Type 0} (n : ℕ) (xs : List X) (x : X) → Contains (drop n xs) x → Contains xs x
-in_drop zero xs x there = there
-in_drop (suc n) [] x there = there
-in_drop (suc n) (y ∷ xs) x there = Contains-tail y xs x (in_drop n xs x there)
-
-pub at_contains : {X : Type 0} (xs : List X) (i : ℕ) (x : X) → slice_get xs i ≡ Some x → Contains xs x
-at_contains [] i x is = absurd cc
-at_contains (y ∷ xs) zero x is = subst (λ z. Contains (y ∷ xs) z) (some_same y x is) (Contains-head y xs)
-at_contains (y ∷ xs) (suc i) x is = Contains-tail y xs x (at_contains xs i x is)
 
 -- a schema that one of them states is that of the table to which it leads
 stated_along : (before : Table) (history : History) (commits : List Commit) → LeadAlong before history commits → (commit : Commit) (schema : ColumnTrees) → Contains commits commit → commit.change.schema ≡ Some schema
@@ -287,7 +278,7 @@ module _ (target : TargetFacts) (views : Views target) (mode : Mode) (now : ℕ)
     columns_by : (n : ℕ) → ShowsTable Delta target.files.image front n start → (b : Bool) → due.full ≡ b → HasColumns front due.partition
     columns_by n shows true full = let whole = in_full full in (last.0, last_there, sym (whole.columns ∙ (last.3 whole.table whole.is_table).partition))
     columns_by zero shows false full = let is = since full in absurd (marked_none start is.marked.0 shows is.marked.1)
-    columns_by (suc k) shows false full = let is = since full in (shows.0, at_contains front k shows.0 shows.1, sym (is.columns ∙ shows.2.partition))
+    columns_by (suc k) shows false full = let is = since full in (shows.0, slice_there front k shows.0 shows.1, sym (is.columns ∙ shows.2.partition))
 
   -- What is due is so to a view that shows the table at which the target stands.
   pub due_shows : (start : View) → target.files.reads files start → ShowsTable Delta target.files.image front j start

@@ -29,7 +29,9 @@ use Rattle.schema_map.specs.declared.fault.MapError.{MapError}
 use Rattle.schema_map.specs.declared.fault.MapError.TheVariants as map_errors
 use Rattle.iceberg_version.specs.KeptEnd as iceberg_view
 use Rattle.iceberg_version.specs.declared.kept.IcebergKept.{IcebergKept}
+use Rattle.iceberg_version.proofs.Shared.{in_drop, slice_there}
 use Rattle.source_core.specs.Histories.{LeadAlong, ShowsTable}
+use Rattle.source_core.proofs.Histories.{along_length}
 use Rattle.target_core.specs.Views.{IsPublished, IsUnpublished, SameView, View, standing_of}
 use Rattle.target_core.specs.declared.mark.Mark.{Mark}
 use Rattle.target_core.specs.declared.target.TargetError.{TargetError}
@@ -49,7 +51,7 @@ use Rattle.target_sync.specs.Along.{IsToLast}
 use Rattle.target_sync.specs.Targets.{TargetFacts, target_facts}
 use Rattle.lake_play.specs.Causes.{IsUnfitBetween, LeadFrom}
 use Rattle.lake_play.specs.Formats.{to_hudi, to_iceberg}
-use Rattle.lake_play.proofs.Causes.{Views, at_contains, hudi_views, iceberg_views, in_drop, marked_none}
+use Rattle.lake_play.proofs.Causes.{Views, hudi_views, iceberg_views, marked_none}
 
 -- ---- the tables
 
@@ -86,11 +88,6 @@ added_along number before (after ∷ history) (c ∷ commits) tables along commi
     (λ (here : c ≡ commit). row_carries number after.1 row (tables after (Contains-head after history)) ((along.0.rows.added_rows row).0 (subst (λ (x : Commit). Contains x.change.added row) (sym here) added)).0)
     (λ later. added_along number after.1 history commits (λ entry in_it. tables entry (Contains-tail after history entry in_it)) along.1 commit later row added)
     (Contains-cases c commits commit there)
-
-along_count : (before : Table) (history : History) (commits : List Commit) → LeadAlong before history commits → length commits ≡ length history
-along_count before [] commits along = ap (λ (l : List Commit). length l) along
-along_count before (after ∷ history) [] along = absurd along
-along_count before (after ∷ history) (commit ∷ commits) along = ap suc (along_count after.1 history commits along.1)
 
 -- ---- kinds
 
@@ -129,7 +126,7 @@ module _ (number : ℕ) (target : TargetFacts) (views : Views target) (commits :
   held_at zero view reads none same =
       ⊎_elim (λ (un : IsUnpublished view). inl un) (λ (published : IsPublished view). absurd (marked_none unfit.start published.1.0 none (same.mark ∙ published.1.1))) (views.published files view reads)
   held_at (suc k) view reads shown same =
-      let of = table_of number shown.0 (at_contains (drill_history number 200) k shown.0 shown.1) in
+      let of = table_of number shown.0 (slice_there (drill_history number 200) k shown.0 shown.1) in
       inr (
         sym same.partition ∙ shown.2.partition ∙ ap (λ (t : Table). t.partition) of.1,
         ap target.files.image (sym (ap (λ (t : Table). t.schema) of.1)) ∙ shown.2.schema ∙ ap (λ (s : ColumnTrees). Some s) same.schema,
@@ -145,7 +142,7 @@ module _ (number : ℕ) (target : TargetFacts) (views : Views target) (commits :
   few_due =
       ⊎_elim
       (λ (since : (k : ℕ) × (entry : List ℕ × Table) × (unfit.j ≡ k + 1) × (slice_get unfit.front k ≡ Some entry) × LeadAlong entry.1 (drop (k + 1) unfit.front) unfit.due).
-      let count = along_count since.1.1 (drop (since.0 + 1) unfit.front) unfit.due since.4 in
+      let count = along_length since.1.1 (drop (since.0 + 1) unfit.front) unfit.due since.4 in
       let left = length-drop (since.0 + 1) unfit.front in
       let whole : 200 ≡ length unfit.front + length unfit.rest = sym (length_map (entry_after number) 200) ∙ ap (λ (h : History). length h) unfit.split ∙ length-append unfit.front unfit.rest in
       omega (arith, count, left, whole))

@@ -45,6 +45,7 @@ use Rattle.target_hudi.specs.Writing as hudi_writing
 use Rattle.target_hudi.specs.declared.kept.HudiKept.{HudiKept}
 use Rattle.target_hudi.specs.declared.target.HudiTarget.{HudiTarget}
 use Rattle.iceberg_version.specs.declared.kept.IcebergKept.{IcebergKept}
+use Rattle.iceberg_version.proofs.Shared.{in_take, slice_there}
 use Rattle.target_iceberg.specs.CountLemmas.{commits_read}
 use Rattle.target_iceberg.specs.Fitting as iceberg_fitting
 use Rattle.target_iceberg.specs.Inspecting as iceberg_inspecting
@@ -66,7 +67,6 @@ use Rattle.lake_play.specs.Playing.{Brings, IsSynced, PlaysAll, nothing_played, 
 use Rattle.lake_play.specs.Standing.{IsFresh, meaning_of_hudi, meaning_of_iceberg}
 use Rattle.lake_play.specs.declared.playing.Progress.{Progress}
 use Rattle.lake_play.proofs.AtSyncs.{EndBefore, Found, IsSyncAt, Stays, both_stay, syncs_on}
-use Rattle.lake_play.proofs.Causes.{at_contains}
 use Rattle.lake_play.proofs.DrillDue.{few_due}
 use Rattle.lake_play.proofs.DrillEvents.{drill_weight, few_spent, plain}
 use Rattle.lake_play.proofs.DrillFits.{table_of}
@@ -80,7 +80,7 @@ use Rattle.lake_play.proofs.IcebergFiles as iceberg_files
 use Rattle.lake_play.proofs.IcebergFiles.{IsDrills, iceberg_drills, none_drills}
 use Rattle.lake_play.proofs.IcebergNumbers as iceberg
 use Rattle.lake_play.proofs.IcebergEntries.{EntriesUpTo, HasFewEntries, few_entries, few_in_all, no_actions, none_few}
-use Rattle.lake_play.proofs.IcebergIds.{HasIcebergIds, iceberg_ids, in_take, kept_low, kept_narrow, none_ids, states}
+use Rattle.lake_play.proofs.IcebergIds.{HasIcebergIds, iceberg_ids, kept_low, kept_narrow, none_ids, states}
 use Rattle.lake_play.proofs.HudiTimes.{AreUpTo, HudiTimes, hudi_times, kept_up_to, no_times, within_9999}
 use Rattle.lake_play.proofs.Plays.{Keeps, begins}
 use Rattle.lake_play.proofs.ShortFiles.{HoldsShort}
@@ -187,7 +187,7 @@ few_shown : (number : ℕ) (files : Files) (j : ℕ) (v : View) → iceberg_read
 few_shown number files j v (inl none) shows = let empty = ap (λ (w : View). length w.table.rows) none.1 in omega (arith, empty)
 few_shown number files zero v (inr ours) shows = let empty = ap (λ (w : View). length w.table.rows) shows in omega (arith, empty)
 few_shown number files (suc k) v (inr ours) shows =
-    let of = table_of number shows.0 (at_contains (drill_history number 200) k shows.0 shows.1) in
+    let of = table_of number shows.0 (slice_there (drill_history number 200) k shows.0 shows.1) in
     let few = few_rows number v.table.rows shows.0.1 of.0 of.2 of.1 (λ row there. (shows.2.rows row).0 there) ours.distinct in
     omega (arith, few)
 

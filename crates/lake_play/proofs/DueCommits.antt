@@ -27,6 +27,7 @@ use Rattle.conformance.proofs.Bounds.{added_paths, drill_history}
 use Rattle.source_core.specs.Histories.{LeadAlong, ShowsTable}
 use Rattle.source_delta.specs.Heads.{IsTableId}
 use Rattle.target_core.specs.Views.{View}
+use Rattle.iceberg_version.proofs.Shared.{in_drop, slice_there}
 use Rattle.target_sync.specs.Dues.{Due, IsIdBehind, origin_of}
 use Rattle.target_sync.specs.Targets.{TargetFacts}
 use Rattle.target_sync.specs.declared.plan.Mode.TheVariants as modes
@@ -34,7 +35,7 @@ use Rattle.target_sync.specs.declared.status.Status.{Status}
 use Rattle.lake_play.specs.Causes.{LeadFrom, StateSchemasOf}
 use Rattle.lake_play.specs.Formats.{from_delta}
 use Rattle.lake_play.specs.Playing.{Brings}
-use Rattle.lake_play.proofs.Causes.{Views, at_contains, due_columns, due_leads, due_shows, due_states, in_drop}
+use Rattle.lake_play.proofs.Causes.{Views, due_columns, due_leads, due_shows, due_states}
 use Rattle.lake_play.proofs.DrillRows.{IsDrillEntry, IsDrillRow, IsDueCommit, entry_in, entry_position, entry_row, row_path}
 use Rattle.lake_play.proofs.Logs.{HoldsCommits}
 use Rattle.lake_play.proofs.Targets.{IsPlayed}
@@ -80,14 +81,14 @@ module _ (number : ℕ) where
 
     start_row : (n : ℕ) → ShowsTable Delta image front n start → (row : Row) → Contains start.table.rows row → IsDrillRow number row
     start_row zero none row there = absurd (Contains-none row (subst (λ (v : View). Contains v.table.rows row) none there))
-    start_row (suc k) shown row there = entry_row number shown.0 row (in_front shown.0 (at_contains front k shown.0 shown.1)) ((shown.2.rows row).0 there)
+    start_row (suc k) shown row there = entry_row number shown.0 row (in_front shown.0 (slice_there front k shown.0 shown.1)) ((shown.2.rows row).0 there)
 
     pub due_are : (commit : Commit) → Contains due commit → IsDueCommit number commit
     due_are commit there = by leads
       where
         by : LeadFrom front j start due → IsDueCommit number commit
         by (inl (k, entry, place, at, along)) =
-            due_along entry.1 (drop (k + 1) front) due (λ row inside. entry_row number entry row (in_front entry (at_contains front k entry at)) inside) (λ other inside. in_front other (in_drop (k + 1) front other inside)) stated_is along commit there
+            due_along entry.1 (drop (k + 1) front) due (λ row inside. entry_row number entry row (in_front entry (slice_there front k entry at)) inside) (λ other inside. in_front other (in_drop (k + 1) front other inside)) stated_is along commit there
         by (inr whole) =
             let one : whole.commit ≡ commit = Contains-one whole.commit commit (subst (λ (l : List Commit). Contains l commit) whole.only there) in
             let last : Contains front whole.entry = subst (λ (h : History). Contains h whole.entry) (sym whole.last.1) (Contains-append_right whole.last.0 (whole.entry ∷ []) whole.entry (Contains-head whole.entry [])) in

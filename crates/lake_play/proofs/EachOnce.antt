@@ -24,6 +24,7 @@ use Rattle.target_iceberg.specs.IcebergMeaning.{iceberg_meaning}
 use Rattle.target_iceberg.specs.TableId.{table_id}
 use Rattle.target_iceberg.specs.ViewLemmas as iceberg_view
 use Rattle.target_iceberg.specs.declared.target.IcebergTarget.{IcebergTarget}
+use Rattle.target_iceberg.specs.ViewLemmas.{no_commits}
 use Rattle.target_sync.specs.Targets.{TargetFacts, target_facts}
 use Rattle.target_sync.specs.declared.plan.Mode.{Mode}
 use Rattle.target_sync.specs.declared.plan.Mode.TheVariants as modes
@@ -33,7 +34,7 @@ use Rattle.lake_play.specs.Playing.{Extends, IsSynced, PlaysAll, nothing_played,
 use Rattle.lake_play.specs.Standing.{BothHaveEachOnce, HasEachOnce, IsFresh, IsSyncedEarly, floor_behind, is_same, meaning_of_hudi, meaning_of_iceberg}
 use Rattle.lake_play.specs.declared.playing.Progress.{Progress}
 use Rattle.lake_play.proofs.Histories.{same_length}
-use Rattle.lake_play.proofs.Once.{Counts, IsOnce, none_published, once_more, one_place, unmarked}
+use Rattle.lake_play.proofs.Once.{Counts, IsOnce, once_more, one_place, unmarked}
 use Rattle.lake_play.proofs.Plays.{Keeps, begins, crash_keeps, extend_keeps, nothing_keeps, shorten_keeps, sync_keeps}
 use Rattle.lake_play.proofs.Syncs.{floor_other, same_beside}
 use Rattle.lake_play.proofs.Targets.{IsPlayed, Laws, at_front, first_get, hudi_laws, iceberg_laws}
@@ -190,7 +191,7 @@ module _ (kind : Kind) (target : Meaning) (side : Side kind target) (history : H
         j = 0;
         within = omega arith;
         at = at;
-        commits = none_published at.view at.shows;
+        commits = no_commits at.view at.shows;
         named = λ standing mark. absurd (unmarked at.view standing at.shows mark);
         early = inl (omega (arith, empty));
       }

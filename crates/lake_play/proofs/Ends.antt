@@ -1,6 +1,5 @@
 -- Lists, item by item.
-use Rattle.std.proofs.Common.{◌≡◌, ℕ, zero, suc, List, [], ◌∷◌, ◌++◌, length, Some, None, ap, refl, sym, subst, ◌∙◌, append_assoc, arith}
-use Rattle.std.proofs.lemmas.List.{append-nil}
+use Rattle.std.proofs.Common.{◌≡◌, ℕ, zero, suc, List, [], ◌∷◌, ◌++◌, length, Some, None, refl, subst}
 use Rattle.std.specs.List.{AllByRecursion}
 use Rattle.std.specs.Prelude.{slice_get}
 
@@ -16,15 +15,3 @@ pub all_at : {X : Type 0} (P : X → Type 0) (xs : List X) (i : ℕ) (x : X) →
 all_at P [] i x all at = let no : None ≡ Some x = at in absurd cc
 all_at P (y ∷ xs) zero x all at = let one : Some y ≡ Some x = at in let same : y ≡ x = cc in subst P same all.0
 all_at P (y ∷ xs) (suc i) x all at = all_at P xs i x all.1 at
-
--- ---- a list of which a front is gone
-
-pub nothing_left : {X : Type 0} (all front rest : List X) → all ≡ front ++ rest → length rest ≡ 0 → all ≡ front
-nothing_left all front [] is none = is ∙ append-nil front
-nothing_left all front (x ∷ rest) is none = absurd (omega (arith, none))
-
-pub one_gone : {X : Type 0} (all front rest : List X) (x : X) → all ≡ front ++ x ∷ rest → all ≡ (front ++ x ∷ []) ++ rest
-one_gone all front rest x is = is ∙ sym (append_assoc front (x ∷ []) rest)
-
-pub one_next : {X : Type 0} (all front rest more : List X) (x : X) → all ≡ front ++ rest → rest ≡ x ∷ more → all ≡ front ++ x ∷ more
-one_next all front rest more x is next = is ∙ ap (λ l. front ++ l) next

@@ -30,11 +30,11 @@ use Rattle.iceberg_table.specs.declared.manifest.Manifest.{Manifest}
 use Rattle.iceberg_version.specs.Manifests.{AreListed, IsInfoOf, LiveManifest, NextManifest, new, new_entries, stays, with_place}
 use Rattle.iceberg_version.specs.Names.{manifest_name}
 use Rattle.iceberg_version.specs.Writing.{TableEnd, front_in}
+use Rattle.iceberg_version.proofs.ListLemmas.{parts_joined}
+use Rattle.iceberg_version.proofs.Shared.{each_length}
 use Rattle.target_core.specs.Views.{Origin}
 use Rattle.target_iceberg.proofs.WrittenCurrent as written
 use Rattle.target_iceberg.proofs.WrittenFiles.{reached_stays}
-use Rattle.target_iceberg.proofs.WrittenNext.{parts_joined}
-use Rattle.target_iceberg.proofs.WrittenOwn.{each_length}
 use Rattle.target_iceberg.proofs.WrittenStart.{HasEnd, IsFirstEnd, IsLiveOf}
 use Rattle.target_iceberg.proofs.WrittenVersion as version
 use Rattle.target_iceberg.proofs.WrittenVersion.{HasCommitted}

@@ -10,6 +10,7 @@ use Rattle.file_links.specs.declared.slots.Held.{Held}
 use Rattle.iceberg_manifest.specs.Lists.{AreEach}
 use Rattle.iceberg_table.specs.Once.{each_once, entry_count, entries_once, has_path}
 use Rattle.iceberg_table.specs.declared.manifest.Manifest.{Manifest}
+use Rattle.iceberg_table.proofs.CountLaws.{count_append}
 use Rattle.iceberg_version.specs.Manifests.{LiveManifest, NextManifest, added_entry, added_manifest, carried, deleted_entry, existing_entry, has_rows, is_lost, left, lost, new, rewritten_entries, stays}
 use Rattle.target_iceberg.specs.Kept.{held_of}
 use Rattle.target_iceberg.proofs.WrittenStart.{IsLiveOf}
@@ -38,10 +39,6 @@ one_up_to (s ∷ rs) r there =
     (λ (here : s ≡ r). let same = ap (λ (x : Manifest). x.entries) here in omega (arith, same))
     (λ later. let rest = one_up_to rs r later in omega (arith, rest))
     (Contains-cases s rs r there)
-
-count_append : (xs ys : List Manifest) → entry_count (xs ++ ys) ≡ entry_count xs + entry_count ys
-count_append [] ys = omega arith
-count_append (x ∷ xs) ys = let rest = count_append xs ys in omega (arith, rest)
 
 -- ---- the manifests of the list before
 

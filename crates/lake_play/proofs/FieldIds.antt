@@ -2,7 +2,6 @@
 use Rattle.std.proofs.Common.{◌≡◌, inl, inr, ⊎_elim, ℕ, suc, ◌+◌, ◌*◌, ◌≤◌, pos, Bool, true, false, List, [], ◌∷◌, ◌++◌, length, Contains, Option, Some, None, Result, Ok, Err, refl, sym, ap, subst, ◌∙◌, arith, if◌then◌else◌}
 use Rattle.std.specs.Cmp.Lexicographic.{pointwise}
 use Rattle.std.specs.Int.{int_max}
-use Rattle.std.specs.List.{zip}
 use Rattle.std.specs.Prelude.{ℤ, ◌≤ℤ◌, ◌<ℤ◌, ◌+ℤ◌, flat_map, fold, int_lt, is_some, unwrap_or}
 use Rattle.std.specs.Str.{bytes_eq}
 use Rattle.std.proofs.lemmas.Grind.{flat_map-append}
@@ -27,6 +26,7 @@ use Rattle.iceberg_metadata.specs.Paths.{PathId, path_ids}
 use Rattle.iceberg_metadata.specs.Schemas.{HeldSchema}
 use Rattle.iceberg_version.specs.Schemas.{AddsSchema, AreNextSchemas, KeepsSchemas, Schemas}
 use Rattle.iceberg_version.specs.Writing.{IsWritten, NewVersion, Passes, PassesVersions, TableEnd, end_behind, stated_behind}
+use Rattle.iceberg_version.proofs.HeldLemmas.{zip_id}
 use Rattle.iceberg_metadata.specs.declared.metadata.Metadata.{Metadata}
 use Rattle.target_core.specs.Views.{Origin}
 
@@ -86,15 +86,6 @@ given_up_to known most last (path ∷ paths) ids low under is id there =
     raised (most + 1 + length paths) (most + length (path ∷ paths)) id (omega arith) (given_up_to known (most + 1) t.value.1 paths others.value (up_to_more most (most + 1) known (omega arith) low) step.1 others.first id later))
     (Contains-cases t.value.0 others.value id (subst (λ (l : List ℤ). Contains l id) (sym all) there))
 
-zip_second : (paths : List Path) (ids : List ℤ) (p : PathId) → Contains (zip paths ids) p → Contains ids p.1
-zip_second [] ids p there = absurd (Contains-none p there)
-zip_second (path ∷ paths) [] p there = absurd (Contains-none p there)
-zip_second (path ∷ paths) (id ∷ ids) p there =
-    ⊎_elim
-    (λ (here : (path, id) ≡ p). subst (Contains (id ∷ ids)) (ap (λ (q : PathId). q.1) here) (Contains-head id ids))
-    (λ later. Contains-tail id ids p.1 (zip_second paths ids p later))
-    (Contains-cases (path, id) (zip paths ids) p there)
-
 -- ---- the schemas of a version
 
 -- so many columns, nested ones and all, are the most
@@ -138,7 +129,7 @@ module _ (most : ℕ) (m : Metadata) (stated : ColumnTrees) (next : Schemas) (lo
       old p there = raised most (most + 2) p.1 (omega arith) (low.known p there)
 
       new : (p : PathId) → Contains (path_ids next.current) p → p.1 ≤ℤ pos (most + 2)
-      new p there = each p.1 (subst (λ (h : HeldSchema). Contains h.2 p.1) is.current (zip_second (column_paths next.current.1) next.current.2 p there))
+      new p there = each p.1 (subst (λ (h : HeldSchema). Contains h.2 p.1) is.current (zip_id (column_paths next.current.1) next.current.2 p there))
 
       split : flat_map path_ids next.held ≡ flat_map path_ids m.schemas ++ path_ids next.current
       split =

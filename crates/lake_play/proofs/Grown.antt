@@ -17,6 +17,7 @@ use Rattle.target_core.specs.Meaning.{Meaning}
 use Rattle.target_core.specs.Views.{View}
 use Rattle.target_core.proofs.Apart.{folders_apart}
 use Rattle.target_iceberg.specs.IcebergMeaning.{iceberg_meaning}
+use Rattle.target_iceberg.specs.ViewLemmas.{no_commits}
 use Rattle.target_sync.specs.Along.{GoesOnAlong, HasGoneTo, LeadsAsFar, StandsFrom}
 use Rattle.target_sync.specs.Answered.{IsDone, IsUndisturbed}
 use Rattle.target_sync.specs.Dues.{origin_of}
@@ -32,7 +33,7 @@ use Rattle.lake_play.proofs.AtSyncs.{Stays}
 use Rattle.lake_play.proofs.EachOnce.{Side, hudi_counts, hudi_side, iceberg_counts, iceberg_side, same_kind}
 use Rattle.lake_play.proofs.Histories.{holds_history, is_history, same_length}
 use Rattle.lake_play.proofs.Logs.{HoldsCommits, extended_elsewhere}
-use Rattle.lake_play.proofs.Once.{Counts, advanced_count, none_published}
+use Rattle.lake_play.proofs.Once.{Counts, advanced_count}
 use Rattle.lake_play.proofs.Plays.{Keeps}
 use Rattle.lake_play.proofs.Syncs.{alone}
 use Rattle.lake_play.proofs.Targets.{shows_front, shows_whole}
@@ -152,7 +153,7 @@ module _ (kind : Kind) (target : Meaning) (side : Side kind target) (history : H
       let up = stands.up_to in
       let none : stands.j ≡ 0 = omega (arith, up) in
       let at : IsAt Delta target history (fuse_disk store).files 0 = subst (IsAt Delta target history (fuse_disk store).files) none stands.at in
-      let count = none_published at.view at.shows in
+      let count = no_commits at.view at.shows in
       record { j = 0; within = omega arith; at = at; few = omega (arith, count) }
 
 -- ---- the two targets

@@ -38,6 +38,7 @@ use Rattle.delta_log.specs.declared.commit.MetaData.{MetaData}
 use Rattle.delta_log.specs.declared.error.LineFault.{LineFault}
 use Rattle.delta_table.specs.Versions.{AreVersions, HasVersion}
 use Rattle.delta_table.specs.declared.versions.Versions.{Versions}
+use Rattle.delta_table.proofs.LogLaws.{none_some}
 use Rattle.delta_table.proofs.PathLaws.{bytes_once}
 use Rattle.lake_basics.specs.Outcome.{each}
 use Rattle.source_delta.specs.Heads.{IsAbsent}
@@ -117,9 +118,6 @@ distinct_positions version base (bytes ∷ commits) (entry ∷ history) is few =
     (subst (λ (p : List ℕ). AllByRecursion (λ y. bytes_eq p y ≡ false) (positions_of history)) (sym is.0)
     (later_positions version (version + 1) (Some entry.1) commits history is.2 (omega arith) (omega (arith, few))))
     (distinct_positions (version + 1) (Some entry.1) commits history is.2 (omega (arith, few)))
-
-none_some : (t : Table) → None ≡ Some t → ⊥
-none_some t is = cc
 
 -- The tables after commits are a history of a table.
 pub is_history : (commits : List (List ℕ)) (history : History) → IsHistoryFrom 0 None commits history → length commits ≤ 2 ^ 64 → IsHistory history

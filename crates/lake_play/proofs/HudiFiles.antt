@@ -25,6 +25,7 @@ use Rattle.target_hudi.specs.TableName.{IsTableName, new_pairs}
 use Rattle.target_hudi.specs.Writing.{PassesAt, PassesLast, TimelineEnd, end_behind, held_behind}
 use Rattle.target_hudi.specs.declared.kept.HudiKept.{HudiKept}
 use Rattle.target_hudi.specs.declared.target.HudiTarget.{HudiTarget}
+use Rattle.iceberg_version.proofs.Shared.{in_take, slice_there}
 use Rattle.target_sync.specs.Answered.{IsPassed}
 use Rattle.target_sync.specs.Dues.{origin_of}
 use Rattle.target_sync.specs.Targets.{TargetFacts, target_facts}
@@ -32,12 +33,11 @@ use Rattle.target_sync.specs.declared.plan.Mode.TheVariants as modes
 use Rattle.target_sync.specs.declared.status.Status.{Status}
 use Rattle.lake_play.specs.Formats.{from_delta, place, to_hudi}
 use Rattle.lake_play.specs.Playing.{Brings}
-use Rattle.lake_play.proofs.Causes.{at_contains, due_shows, hudi_views}
+use Rattle.lake_play.proofs.Causes.{due_shows, hudi_views}
 use Rattle.lake_play.proofs.DrillFits.{table_of}
 use Rattle.lake_play.proofs.DrillRows.{IsDueCommit}
 use Rattle.lake_play.proofs.DueCommits.{due_partition, each_due, origin_is}
 use Rattle.lake_play.proofs.HudiTexts.{IsDrillSchema, properties_short, written_short}
-use Rattle.lake_play.proofs.IcebergIds.{in_take}
 use Rattle.lake_play.proofs.Plays.{Keeps}
 use Rattle.lake_play.proofs.Targets.{IsPlayed}
 use Rattle.lake_play.proofs.TextBounds.{IsShortOrigin}
@@ -102,13 +102,13 @@ module _ (number : ℕ) (said : AreSaid number) (t : HudiTarget) (name : IsTable
   kept_schema : (kept : HudiKept) (j : ℕ) → ShowsTable Delta facts.files.image front j (view_of kept) → IsDrillSchema kept.table.schema
   kept_schema kept zero shows = inr (ap (λ (v : View). v.table.schema) shows)
   kept_schema kept (suc k) (entry, at, shown) =
-      let of = table_of number entry (in_front entry (at_contains front k entry at)) in
+      let of = table_of number entry (in_front entry (slice_there front k entry at)) in
       let same : wide_columns entry.1.schema ≡ kept.table.schema = wide_held _ _ _ shown.schema in
       inl (sym same ∙ ap (λ (table : Table). wide_columns table.schema) of.1)
 
   kept_partition : (kept : HudiKept) (partition : List (List ℕ)) → partition ≡ codes "d" ∷ [] → (IsUnpublished (view_of kept) → kept.table.partition ≡ partition) → (j : ℕ) → ShowsTable Delta facts.files.image front j (view_of kept) → kept.table.partition ≡ codes "d" ∷ []
   kept_partition kept partition is begins zero shows = begins shows ∙ is
-  kept_partition kept partition is begins (suc k) (entry, at, shown) = let of = table_of number entry (in_front entry (at_contains front k entry at)) in shown.partition ∙ ap (λ (table : Table). table.partition) of.1
+  kept_partition kept partition is begins (suc k) (entry, at, shown) = let of = table_of number entry (in_front entry (slice_there front k entry at)) in shown.partition ∙ ap (λ (table : Table). table.partition) of.1
 
   pub no_file : (n : ℕ) → IsPassed from_delta facts modes.Sync drill_time files File n → ⊥
   no_file n (start, reads, (goes, (due, (at, within, (kept, stands, inl (some_commits, is, most, names)))))) = names_none is

@@ -3,7 +3,6 @@ use Rattle.std.proofs.Common.{◌≡◌, ◌⊎◌, ⊎_elim, inl, inr, ℕ, zer
 use Rattle.std.specs.Bool.{Decides}
 use Rattle.std.specs.Cmp.Lexicographic.{slice_cmp}
 use Rattle.std.specs.Fmt.{decimal}
-use Rattle.std.specs.List.{IsDistinct}
 use Rattle.std.specs.List.Sorted.{IsStrictlySortedBy}
 use Rattle.std.specs.Ordering.{eq_by_cmp, nat_cmp, ordering_then}
 use Rattle.std.specs.Prelude.{unwrap_or}
@@ -22,7 +21,7 @@ use Rattle.table_history.specs.Row.{Row}
 use Rattle.table_history.specs.TypeTree.{ColumnTrees, no_columns}
 use Rattle.table_history.specs.TypeTree as tree
 use Rattle.table_history.specs.declared.table.Commit.{Commit}
-use Rattle.table_history.proofs.RowListLemmas.{Contains-cases, Contains-head, Contains-none, Contains-tail}
+use Rattle.table_history.proofs.RowListLemmas.{Contains-head, Contains-tail}
 use Rattle.conformance.specs.Drill.{drill_schema}
 use Rattle.conformance.proofs.Bounds.{added_paths, path_there, paths_count}
 use Rattle.conformance.proofs.Texts.{compact_most, most_bytes, most_of_members}
@@ -39,6 +38,7 @@ use Rattle.target_hudi.specs.TableName.{IsTableName, new_pairs}
 use Rattle.target_hudi.specs.Writing.{IsNextInstant, IsStatedText, IsWritten, TimelineEnd, mark_of, replaced_of, stat_of, stated_behind}
 use Rattle.target_hudi.proofs.OrderLemmas.{replaced_total}
 use Rattle.target_hudi.proofs.StatReadLemmas.{AreOf, distinct_rows, rows_from}
+use Rattle.iceberg_version.proofs.Shared.{in_map}
 use Rattle.lake_play.specs.Formats.{place}
 use Rattle.lake_play.proofs.DrillRows.{IsDrillRow, IsDueCommit, few_rows, path_short}
 use Rattle.lake_play.proofs.TextBounds.{IsShortOrigin, digits_most, mark_most, pairs_most, put_most, with_most}
@@ -177,14 +177,6 @@ schema_most schema (inr is) text written =
     let none = digits_most 0 (omega arith) in
     omega (arith, long, most, none)
 
-in_map_list : {A B : Type 0} (f : A → B) (xs : List A) (x : A) → Contains xs x → Contains (map f xs) (f x)
-in_map_list f [] x there = absurd (Contains-none x there)
-in_map_list {A} {B} f (y ∷ xs) x there =
-    ⊎_elim
-    (λ (here : y ≡ x). subst (λ (z : A). Contains (f y ∷ map f xs) (f z)) here (Contains-head (f y) (map f xs)))
-    (λ later. Contains-tail (f y) (map f xs) (f x) (in_map_list f xs x later))
-    (Contains-cases y xs x there)
-
 -- ---- what is written
 
 -- The instant that is written for a commit of the drill has a short text.
@@ -215,7 +207,7 @@ written_short number end origin now instant commit written schema_is origin_is d
     few_replaced : length written.replaced ≤ 10000
     few_replaced = few_ids number written.replaced is.replaced_order (λ p there.
         let of = (is.replaced p).0 there in
-        subst (Contains (map replaced_of (added_paths number 200))) (sym of.2) (in_map_list replaced_of (added_paths number 200) of.0 (due.removed of.0 of.1.0)))
+        subst (Contains (map replaced_of (added_paths number 200))) (sym of.2) (in_map replaced_of (added_paths number 200) of.0 (due.removed of.0 of.1.0)))
 
     id_short : (p : List ℕ × List ℕ) → Contains written.replaced p → 10 + (6 * length p.0 + most_bytes (string p.1)) ≤ 7000
     id_short p there =

@@ -24,6 +24,7 @@ use Rattle.iceberg_table.specs.declared.plan.Plan.{Plan}
 use Rattle.iceberg_version.specs.KeptEnd.{end_of, view_of}
 use Rattle.iceberg_version.specs.Writing.{TableEnd, stated_behind}
 use Rattle.iceberg_version.specs.declared.kept.IcebergKept.{IcebergKept}
+use Rattle.iceberg_version.proofs.Shared.{slice_there}
 use Rattle.target_core.specs.Written.{AreWritten}
 use Rattle.target_hudi.proofs.FittedLemmas.{wide_kinds}
 use Rattle.target_iceberg.proofs.WrittenCurrent as written
@@ -89,7 +90,7 @@ use Rattle.lake_play.specs.Playing.{Brings, IsSynced, scripted}
 use Rattle.lake_play.specs.Scripted.{scripted_store}
 use Rattle.lake_play.specs.Standing.{meaning_of_iceberg}
 use Rattle.lake_play.proofs.AtSyncs.{Stays}
-use Rattle.lake_play.proofs.Causes.{at_contains, marked_none}
+use Rattle.lake_play.proofs.Causes.{marked_none}
 use Rattle.lake_play.proofs.DrillFits.{table_of}
 use Rattle.lake_play.proofs.EachOnce.{iceberg_side}
 use Rattle.lake_play.proofs.EntryCounts.{once_up_to, one_up_to}
@@ -379,7 +380,7 @@ last_at history front entry is = ap (λ (h : History). slice_get h (length front
 module _ (number : ℕ) (commits : List (List ℕ)) (front rest : History) (is : IsHistoryFrom 0 None commits front) (few : length commits ≤ 200) (split : drill_history number 200 ≡ front ++ rest) where
   pub entries_are : AreEntries number front
   entries_are i entry at =
-      let there : Contains (drill_history number 200) entry = subst (λ (h : History). Contains h entry) (sym split) (Contains-append_left front rest entry (at_contains front i entry at)) in
+      let there : Contains (drill_history number 200) entry = subst (λ (h : History). Contains h entry) (sym split) (Contains-append_left front rest entry (slice_there front i entry at)) in
       let found = from_map (entry_after number) 200 entry there in
       let none : 0 + i ≡ i = omega arith in
       let inside = slice_get_within front i entry at in

@@ -29,6 +29,7 @@ use Rattle.iceberg_table.specs.Folder.{metadata_folder}
 use Rattle.iceberg_version.specs.KeptEnd.{end_of, view_of}
 use Rattle.iceberg_version.specs.Writing.{no_version, stated_behind}
 use Rattle.iceberg_version.specs.declared.kept.IcebergKept.{IcebergKept}
+use Rattle.iceberg_version.proofs.Shared.{in_take}
 use Rattle.target_core.proofs.Apart.{folders_apart}
 use Rattle.target_core.specs.Folders.{SameIn}
 use Rattle.target_core.specs.Views.{Origin, Standing, View}
@@ -57,7 +58,6 @@ use Rattle.lake_play.proofs.DrillRows.{IsDueCommit}
 use Rattle.lake_play.proofs.DueCommits.{due_partition, each_due, origin_is}
 use Rattle.lake_play.proofs.EachOnce.{iceberg_side}
 use Rattle.lake_play.proofs.Gains.{stays_or_comes}
-use Rattle.lake_play.proofs.IcebergIds.{in_take}
 use Rattle.lake_play.proofs.IcebergKept.{end_is}
 use Rattle.lake_play.proofs.IcebergTexts.{Begins, at_no_commit, begins_take}
 use Rattle.lake_play.proofs.Logs.{extended_elsewhere}

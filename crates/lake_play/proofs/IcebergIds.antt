@@ -1,5 +1,5 @@
 -- The field ids of an Iceberg target stay near the number of its versions.
-use Rattle.std.proofs.Common.{◌≡◌, inl, inr, ⊎_elim, ℕ, zero, suc, ◌+◌, ◌*◌, ◌^◌, ◌≤◌, List, [], ◌∷◌, ◌++◌, length, take, Contains, refl, sym, ap, subst, arith}
+use Rattle.std.proofs.Common.{◌≡◌, inl, inr, ℕ, ◌+◌, ◌*◌, ◌^◌, ◌≤◌, List, [], ◌∷◌, ◌++◌, length, Contains, refl, sym, ap, subst, arith}
 use Rattle.std.proofs.lemmas.List.Elements.{Contains-append_left}
 use Rattle.delta_table.specs.SameVersions.{version_in}
 use Rattle.delta_table.specs.Versions.{log_folder}
@@ -8,7 +8,7 @@ use Rattle.lake_store.specs.Fuse.{fuse_disk, room_of}
 use Rattle.lake_store.specs.Runs.{IsIn}
 use Rattle.lake_store.specs.declared.fuse.FuseStore.{FuseStore}
 use Rattle.source_core.specs.Histories.{IsAt}
-use Rattle.table_history.proofs.RowListLemmas.{Contains-cases, Contains-head, Contains-none, Contains-tail}
+use Rattle.table_history.proofs.RowListLemmas.{Contains-head, Contains-tail}
 use Rattle.table_history.specs.History.{History}
 use Rattle.table_history.specs.TypeTree.{ColumnTrees}
 use Rattle.table_history.specs.declared.kind.Kind.{Kind}
@@ -100,12 +100,6 @@ step id location origin now kept before after commit stands writes within states
     let made = written_low (2 * kept.version) (end_of kept) origin now commit writes.written low stated writes.is in
     of_behind id location kept before after origin now commit stands writes within HasLowIds
     (alike_back (kept.version + 1) writes.written.metadata writes.back.metadata.0 writes.back.metadata.2 (subst (λ (most : ℕ). AreLow most writes.written.metadata.schemas writes.written.metadata.last_column_id) two made))
-
-pub in_take : {X : Type 0} (n : ℕ) (xs : List X) (x : X) → Contains (take n xs) x → Contains xs x
-in_take zero xs x there = absurd (Contains-none x there)
-in_take (suc n) [] x there = there
-in_take (suc n) (y ∷ xs) x there =
-    ⊎_elim (λ (here : y ≡ x). subst (Contains (y ∷ xs)) here (Contains-head y xs)) (λ later. Contains-tail y xs x (in_take n xs x later)) (Contains-cases y (take n xs) x there)
 
 -- ---- along a play
 

@@ -25,6 +25,7 @@ use Rattle.iceberg_version.specs.KeptEnd.{end_of, live_manifest, manifests_of, v
 use Rattle.iceberg_version.specs.Manifests.{LiveManifest, has_rows}
 use Rattle.iceberg_version.specs.declared.kept.IcebergKept.{IcebergKept}
 use Rattle.iceberg_version.specs.declared.kept.KeptManifest.{KeptManifest}
+use Rattle.iceberg_version.proofs.Shared.{in_flat, in_map, slice_there}
 use Rattle.source_core.specs.Histories.{ShowsTable}
 use Rattle.table_history.specs.History.{History}
 use Rattle.table_history.specs.Row.{Row}
@@ -32,14 +33,12 @@ use Rattle.table_history.specs.declared.kind.Kind.TheVariants.{Delta}
 use Rattle.table_history.specs.declared.table.Table.{Table}
 use Rattle.table_history.proofs.RowListLemmas.{Contains-cases, Contains-head, Contains-none, Contains-tail}
 use Rattle.target_core.specs.Views.{IsUnpublished, View}
-use Rattle.target_iceberg.proofs.WrittenLists.{in_flat, in_map}
 use Rattle.target_iceberg.proofs.WrittenLive.{live_are}
 use Rattle.target_iceberg.specs.AlikeLemmas.{held_ours}
 use Rattle.target_iceberg.specs.Kept.{HoldsEnd, IsFirst, IsKeptOf, StandsFor, held_of}
 use Rattle.target_iceberg.specs.OnceLemmas.{metadata_once, says_once}
 use Rattle.target_iceberg.specs.Reading.{IsOurs, SaysCurrent}
 use Rattle.lake_play.specs.Standing.{meaning_of_iceberg}
-use Rattle.lake_play.proofs.Causes.{at_contains}
 use Rattle.lake_play.proofs.DrillRows.{IsDrillRow, entry_in, entry_row, few_rows}
 use Rattle.lake_play.proofs.IcebergTexts.{IsDrillEnd, small_row}
 use Rattle.lake_play.proofs.ManifestTexts.{AreSmallManifests, IsSmallManifest, IsSmallRow, all_mapped}
@@ -117,12 +116,12 @@ module _ (number : ℕ) (id location : List ℕ) (kept : IcebergKept) (files : F
 
   row_by : (n : ℕ) → ShowsTable Delta meaning_of_iceberg.image front n (view_of kept) → (row : Row) → Contains kept.table.rows row → IsDrillRow number row
   row_by zero none row there = absurd (Contains-none row (subst (λ (v : View). Contains v.table.rows row) none there))
-  row_by (suc k) (entry, at, shown) row there = entry_row number entry row (entry_in number entry (in_front entry (at_contains front k entry at))) ((shown.rows row).0 there)
+  row_by (suc k) (entry, at, shown) row there = entry_row number entry row (entry_in number entry (in_front entry (slice_there front k entry at))) ((shown.rows row).0 there)
 
   partition_by : (n : ℕ) → ShowsTable Delta meaning_of_iceberg.image front n (view_of kept) → (partition : List (List ℕ)) → partition ≡ codes "d" ∷ [] → (IsUnpublished (view_of kept) → kept.table.partition ≡ partition) → kept.table.partition ≡ codes "d" ∷ []
   partition_by zero none partition is begins = begins none ∙ is
   partition_by (suc k) (entry, at, shown) partition is begins =
-      let of = entry_in number entry (in_front entry (at_contains front k entry at)) in
+      let of = entry_in number entry (in_front entry (slice_there front k entry at)) in
       shown.partition ∙ sym (ap (λ (e : List ℕ × Table). e.1.partition) of.2)
 
   -- ---- its manifests

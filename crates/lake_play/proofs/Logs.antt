@@ -5,7 +5,7 @@ use Rattle.std.specs.FinMap as map
 use Rattle.std.specs.FinSet as set
 use Rattle.std.specs.Ordering.{nat_cmp}
 use Rattle.std.specs.Cmp.Lexicographic.{slice_cmp}
-use Rattle.std.proofs.lemmas.Bool.{cases_lt, false≢true}
+use Rattle.std.proofs.lemmas.Bool.{cases_lt}
 use Rattle.std.proofs.lemmas.List.{append_cancel_left, length-append}
 use Rattle.lake_store.specs.Disk.{Disk, Files, IsClean, MayLeave, empty_disk, removed, synced, written}
 use Rattle.lake_store.specs.Runs.{IsIn}
@@ -15,6 +15,7 @@ use Rattle.delta_table.specs.SameVersions.{has_too, holds_too, own_versions, ver
 use Rattle.delta_table.specs.Versions.{HasVersion, HoldsVersion, IsVersionPath, log_folder}
 use Rattle.delta_table.proofs.PathLaws.{one_version, path_once}
 use Rattle.target_core.specs.Folders.{SameIn}
+use Rattle.target_iceberg.specs.SettledLemmas.{none_there}
 use Rattle.lake_play.specs.Playing.{Sheds}
 use Rattle.lake_play.specs.Standing.{HasVersionsAlone, HoldsFrom}
 
@@ -39,9 +40,6 @@ pub record HoldsCommits (commits : List (List ℕ)) (first : ℕ) (disk : Disk) 
 some_none : (x : List ℕ) → None ≡ Some x → ⊥
 some_none x is = cc
 
-not_there : (o : Option (List ℕ)) → o ≡ None → IsSome o → ⊥
-not_there o is there = false≢true (subst (λ (q : Option (List ℕ)). IsSome q) is there)
-
 -- what is there stays so in files that are the same in the log's folder
 alone_too : (a b : Files) → SameIn log_folder a b → HasVersionsAlone a → HasVersionsAlone b
 alone_too a b same alone path within there = alone path within (subst (λ (o : Option (List ℕ)). IsSome o) (same path within) there)
@@ -51,7 +49,7 @@ no_commits = record {
   newest = inl (refl, refl);
   holds = λ version bytes from is. absurd (some_none bytes is);
   only = λ version has. absurd (some_none has.0 (sym (map.get-empty (slice_cmp nat_cmp) has.1.path) ∙ has.1.there));
-  alone = λ path within there. absurd (not_there (map.get empty_disk.files path) (map.get-empty (slice_cmp nat_cmp) path) there);
+  alone = λ path within there. absurd (none_there (map.get empty_disk.files path) (map.get-empty (slice_cmp nat_cmp) path) there);
   clean = λ path within. set.contains-empty (slice_cmp nat_cmp) path;
 }
 
@@ -180,7 +178,7 @@ module _ (commits : List (List ℕ)) (first to : ℕ) (old new : Disk) (sheds : 
   was_there : (path : List ℕ) → IsSome (map.get new.files path) → (o : Option (List ℕ)) → map.get old.files path ≡ o → IsSome o
   was_there path there (Some bytes) is = refl
   was_there path there None is =
-      absurd (not_there (map.get new.files path) (sheds.others path (λ of. not_there (map.get new.files path) (sheds.gone path of) there) ∙ is) there)
+      absurd (none_there (map.get new.files path) (sheds.others path (λ of. none_there (map.get new.files path) (sheds.gone path of) there) ∙ is) there)
 
   left_alone : HasVersionsAlone new.files
   left_alone path within there = h.alone path within (was_there path there (map.get old.files path) refl)

@@ -1,9 +1,9 @@
 -- The manifests of an Iceberg target whose rows are small, and how long their texts and their list are at most.
-use Rattle.std.proofs.Common.{◌≡◌, ◌⊎◌, ⊎_elim, ℕ, zero, suc, ◌+◌, ◌^◌, ◌≤◌, ◌<◌, ℤ, pos, Bool, true, false, List, [], ◌∷◌, ◌++◌, length, map, take, drop, Contains, Option, Some, None, refl, sym, ap, subst, ◌∙◌, codes, arith, if◌then◌else◌}
+use Rattle.std.proofs.Common.{◌≡◌, ◌⊎◌, ⊎_elim, ℕ, suc, ◌+◌, ◌^◌, ◌≤◌, ◌<◌, ℤ, pos, Bool, true, false, List, [], ◌∷◌, ◌++◌, length, map, drop, Contains, Option, Some, None, refl, sym, ap, subst, ◌∙◌, codes, arith, if◌then◌else◌}
 use Rattle.std.specs.Fmt.{decimal}
 use Rattle.std.specs.List.{filter, list_any}
 use Rattle.std.specs.Prelude.{IfSome, not, sum_by}
-use Rattle.std.proofs.lemmas.List.{length-append, length-drop, length-map, length-take}
+use Rattle.std.proofs.lemmas.List.{length-append, length-drop, length-map}
 use Rattle.std.proofs.lemmas.List.Elements.{Contains-append_cases}
 use Rattle.std.proofs.lemmas.List.Filters.{length-filter_both}
 use Rattle.serde_json.specs.Data.{array}
@@ -31,6 +31,7 @@ use Rattle.iceberg_table.specs.Folder.{path_of}
 use Rattle.iceberg_version.specs.Manifests.{AreListed, AreNextManifests, AreParts, LiveManifest, NextManifest, added_entry, added_manifest, born_at, carried, deleted_entry, entry_of, existing_entry, file_at, has_rows, is_lost, left, lost, new, new_entries, rewritten_entries, stays}
 use Rattle.iceberg_version.specs.Names.{manifest_name}
 use Rattle.iceberg_version.specs.Writing.{AreColumns, IsListText, IsManifestText, TableEnd, next_version, schema_json, spec_json}
+use Rattle.iceberg_version.proofs.Shared.{in_drop, in_take, short_take}
 use Rattle.table_history.specs.Row.{Row}
 use Rattle.table_history.specs.declared.row.PartValue.{PartValue}
 use Rattle.table_history.specs.declared.row.PartValue.TheVariants as value
@@ -150,19 +151,6 @@ module _ (front : List ℕ) (short : length front ≤ 80) (version : ℕ) where
 
 -- ---- parts
 
-take_few : {A : Type 0} (n : ℕ) (xs : List A) → length (take n xs) ≤ n
-take_few n xs = let count = length-take n xs in omega (arith, count)
-
-in_take : {A : Type 0} (n : ℕ) (xs : List A) (x : A) → Contains (take n xs) x → Contains xs x
-in_take zero xs x there = absurd (Contains-none x there)
-in_take (suc n) [] x there = there
-in_take (suc n) (y ∷ xs) x there = ⊎_elim (λ (here : y ≡ x). subst (Contains (y ∷ xs)) here (Contains-head y xs)) (λ later. Contains-tail y xs x (in_take n xs x later)) (Contains-cases y (take n xs) x there)
-
-in_drop : {A : Type 0} (n : ℕ) (xs : List A) (x : A) → Contains (drop n xs) x → Contains xs x
-in_drop zero xs x there = there
-in_drop (suc n) [] x there = there
-in_drop (suc n) (y ∷ xs) x there = Contains-tail y xs x (in_drop n xs x there)
-
 -- the part is of some of these rows
 abbrev IsPartOf : ℕ → List Row → List Row → Type 0
 IsPartOf size rows part = (length part ≤ size) × ((row : Row) → Contains part row → Contains rows row)
@@ -171,7 +159,7 @@ parts_of : (size : ℕ) (rows : List Row) (parts : List (List Row)) → AreParts
 parts_of size rows [] are part there = absurd (Contains-none part there)
 parts_of size rows (p ∷ parts) are part there =
     ⊎_elim
-    (λ (here : p ≡ part). subst (IsPartOf size rows) (sym are.1 ∙ here) (take_few size rows, λ row inside. in_take size rows row inside))
+    (λ (here : p ≡ part). subst (IsPartOf size rows) (sym are.1 ∙ here) (short_take size rows, λ row inside. in_take size rows row inside))
     (λ later. let rest = parts_of size (drop size rows) parts are.2 part later in (rest.0, λ row inside. in_drop size rows row (rest.1 row inside)))
     (Contains-cases p parts part there)
 

@@ -1,11 +1,11 @@
 -- The metadata of an Iceberg target of a drill, and how long its text is at most.
-use Rattle.std.proofs.Common.{◌≡◌, ◌⊎◌, ⊎_elim, inl, inr, ℕ, zero, suc, ◌+◌, ◌*◌, ◌-◌, ◌^◌, ◌≤◌, ◌<◌, ℤ, pos, Bool, true, false, List, [], ◌∷◌, ◌++◌, length, map, drop, Contains, Option, Some, None, Result, Ok, refl, sym, ap, subst, ◌∙◌, codes, arith, if◌then◌else◌}
+use Rattle.std.proofs.Common.{◌≡◌, ◌⊎◌, ⊎_elim, inl, inr, ℕ, ◌+◌, ◌*◌, ◌-◌, ◌^◌, ◌≤◌, ◌<◌, ℤ, pos, Bool, true, false, List, [], ◌∷◌, ◌++◌, length, map, Contains, Option, Some, None, Result, Ok, refl, sym, ap, subst, ◌∙◌, codes, arith, if◌then◌else◌}
 use Rattle.std.specs.Fmt.{decimal}
 use Rattle.std.specs.Int.{int_max}
 use Rattle.std.specs.Prelude.{IfSome, flat_map, fold, int_lt, negsuc, unwrap_or}
 use Rattle.std.proofs.lemmas.List.{length-append, length-drop}
 use Rattle.std.proofs.lemmas.List.Elements.{Contains-append_cases}
-use Rattle.serde_json.specs.Data.{Data, array, number, object, string, Members, no_members, member, put}
+use Rattle.serde_json.specs.Data.{Data, array, object, string, Members, no_members, member, put}
 use Rattle.serde_json.specs.View.{items_of}
 use Rattle.json_reading.specs.Json.{members_with}
 use Rattle.schema_map.specs.Paths.{column_paths}
@@ -23,7 +23,8 @@ use Rattle.iceberg_metadata.specs.declared.metadata.Snapshot.{Snapshot}
 use Rattle.iceberg_metadata.specs.declared.metadata.SpecField.{SpecField}
 use Rattle.iceberg_version.specs.Schemas.{AreNextSchemas, AreSpecFields, IsSpecField, Schemas, known_ids}
 use Rattle.iceberg_version.specs.Writing.{MAX_SNAPSHOTS, TableEnd, last_of, later, list_file, mark_of, metadata_of, next_version, operation_of, properties_of, snapshot_of, spec_of}
-use Rattle.table_history.proofs.RowListLemmas.{Contains-one, Contains-tail}
+use Rattle.iceberg_version.proofs.Shared.{in_drop}
+use Rattle.table_history.proofs.RowListLemmas.{Contains-one}
 use Rattle.table_history.specs.Row.{Row}
 use Rattle.table_history.specs.TypeTree.{ColumnTrees}
 use Rattle.table_history.specs.declared.table.Change.{Change}
@@ -167,11 +168,6 @@ short_snapshot m version change schema now is lt id up =
       timestamp = (at.0, at.1, omega (arith, time));
       schema_id = (0, id, omega arith);
     }
-
-in_drop : {X : Type 0} (n : ℕ) (xs : List X) (x : X) → Contains (drop n xs) x → Contains xs x
-in_drop zero xs x there = there
-in_drop (suc n) [] x there = there
-in_drop (suc n) (y ∷ xs) x there = Contains-tail y xs x (in_drop n xs x there)
 
 -- ---- the metadata of a new version
 

@@ -21,12 +21,12 @@ use Rattle.iceberg_table.specs.declared.error.Fault.TheVariants as fault
 use Rattle.iceberg_version.specs.KeptEnd.{end_of, view_of}
 use Rattle.iceberg_version.specs.Writing.{no_version}
 use Rattle.iceberg_version.specs.declared.kept.IcebergKept.{IcebergKept}
+use Rattle.iceberg_version.proofs.HeldLemmas.{in_schemas}
 use Rattle.iceberg_commit.specs.NextVersion.{VersionFiles, version_files}
 use Rattle.target_core.specs.Views.{Origin, View}
 use Rattle.target_core.specs.Written.{AreWritten}
 use Rattle.target_iceberg.proofs.CommitFiles.{newest_now}
 use Rattle.target_iceberg.proofs.WrittenFiles.{metadata_at}
-use Rattle.target_iceberg.proofs.WrittenSchemas.{in_schemas}
 use Rattle.target_iceberg.specs.AlikeLemmas.{held_ours}
 use Rattle.target_iceberg.specs.CountLemmas.{commits_read}
 use Rattle.target_iceberg.specs.Kept.{HoldsEnd, IsFirst, StandsFor}

@@ -55,9 +55,6 @@ unmarked view standing unpublished mark = let no : view.mark ≡ None = ap (λ (
 same_standing : (a b : Standing) → Some a ≡ Some b → a ≡ b
 same_standing a b e = cc
 
-pub none_published : (view : View) → IsUnpublished view → view.commits ≡ 0
-none_published view is = ap (λ (v : View). v.commits) is
-
 pub advanced_count : (image : ColumnTrees → Option ColumnTrees) (origin : Origin) (start view : View) (commits : List Commit) → IsAdvancedAll image origin start commits view → view.commits ≡ start.commits + length commits
 advanced_count image origin start view [] leads = let same = leads.commits in omega (arith, same)
 advanced_count image origin start view (commit ∷ commits) leads =

@@ -11,6 +11,7 @@ use Rattle.lake_store.specs.declared.fuse.FuseStore.{FuseStore}
 use Rattle.lake_store.specs.declared.fuse.Script.{Script}
 use Rattle.lake_store.specs.declared.store.StoreError.{StoreError}
 use Rattle.lake_store.specs.declared.store.StoreError.TheVariants.{Taken}
+use Rattle.iceberg_version.proofs.Shared.{le_test}
 use Rattle.lake_play.specs.Scripted.{ScriptedCanBeContested, has_room, known_room, scripted_contests, some_of, stop_of}
 use Rattle.lake_play.specs.declared.scripted.Scripted.{Scripted}
 
@@ -23,11 +24,8 @@ none_left stop calls files more near past same = omega (arith, near, past, same)
 one_less : (stop calls files more : ℕ) → stop ≤ 2 ^ 64 - 1 → calls < stop → more ≤ files + 1 → min (more + (stop - next_of calls)) (2 ^ 64 - 1) ≤ min (files + (stop - calls)) (2 ^ 64 - 1)
 one_less stop calls files more near ahead few = omega (arith, near, ahead, few)
 
-reached : (stop calls : ℕ) → stop ≤ calls → nat_le stop calls ≡ true
-reached stop calls past = grind (arith, nat_tests, past)
-
 is_past : (stop calls : ℕ) (named : Bool) → stop ≤ calls → (nat_le stop calls || named) ≡ true
-is_past stop calls named past = ap (λ (b : Bool). b || named) (reached stop calls past)
+is_past stop calls named past = ap (λ (b : Bool). b || named) (le_test stop calls past)
 
 -- a stop of 64 bits
 within_64 : (stop : ℕ) → stop_of (Some stop) ≡ 1 → stop ≤ 2 ^ 64 - 1
@@ -54,9 +52,6 @@ room_falls script calls files more near few same = by script.stop refl
 
 abbrev given : FuseStore → ℕ → Scripted
 given fuse room = record { fuse = fuse; room = room }
-
-not_false : (b : Bool) → b ≡ true → b ≡ false → ⊥
-not_false b is off = false≢true (sym off ∙ is)
 
 one_is : (n : ℕ) → (n == 1) ≡ true → n ≡ 1
 one_is n is = grind (arith, nat_tests, is)
@@ -159,7 +154,7 @@ told_by s t none same =
 
 never_full : (stop : Bool) (n : ℕ) → (not stop || nat_le n n) ≡ false → ⊥
 never_full false n is = false≢true (sym is)
-never_full true n is = false≢true (sym is ∙ reached n n (omega arith))
+never_full true n is = false≢true (sym is ∙ le_test n n (omega arith))
 
 -- With the room that it leaves a fuse enters no contest.
 pub enters_free : (fuse : FuseStore) → (FuseCanBeContested fuse → ⊥) → ScriptedCanBeContested (given fuse (room_of fuse)) → ⊥

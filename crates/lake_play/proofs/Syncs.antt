@@ -1,5 +1,5 @@
 -- What a sync of one target leaves is what the next one asks.
-use Rattle.std.proofs.Common.{◌≡◌, inl, inr, ⊎_elim, ℕ, zero, suc, ◌^◌, ◌≤◌, ◌<◌, Bool, true, false, ◌&&◌, List, [], ◌∷◌, ◌++◌, length, Some, None, Result, Ok, Err, refl, sym, ap, subst, ◌∙◌, arith, if◌then◌else◌}
+use Rattle.std.proofs.Common.{◌≡◌, inl, inr, ⊎_elim, ℕ, zero, suc, ◌^◌, ◌≤◌, ◌<◌, Bool, true, false, ◌&&◌, List, ◌++◌, length, Some, None, Result, Ok, Err, refl, sym, ap, subst, ◌∙◌, arith, if◌then◌else◌}
 use Rattle.std.proofs.lemmas.Bool.{cases_lt, false≢true}
 use Rattle.std.specs.FinMap as map
 use Rattle.lake_store.specs.Disk.{IsClean}
@@ -12,6 +12,7 @@ use Rattle.source_delta.specs.Heads.{IsAbsent}
 use Rattle.table_history.specs.History.{History}
 use Rattle.table_history.specs.declared.kind.Kind.{Kind}
 use Rattle.table_history.specs.declared.kind.Kind.TheVariants.{Delta}
+use Rattle.hudi_groups.proofs.GroupSetLemmas.{empty_of}
 use Rattle.target_core.specs.Conditions.{GoesOn}
 use Rattle.target_core.specs.Folders.{SameIn, folder_of}
 use Rattle.target_core.specs.Views.{View}
@@ -85,10 +86,6 @@ floor_stays target synced count floor given not = by (is_same target synced) (is
 
 pub floor_other : (target synced : Kind) (count floor : ℕ) (given : Status) → is_same target synced ≡ false → floor_behind target synced count floor given ≡ floor
 floor_other target synced count floor given other = ap (λ (b : Bool). if b && is_done given then count else floor) other
-
-none_left : {X : Type 0} (xs : List X) → length xs ≡ 0 → xs ≡ []
-none_left [] is = refl
-none_left (x ∷ xs) is = absurd (omega (arith, is))
 
 -- ---- one sync
 
@@ -196,7 +193,7 @@ module _ (target : TargetFacts) (mode : Mode) (now : ℕ) (old new : FuseStore) 
       -- there is none
       module _ (empty : count ≡ 0) where
         nothing : IsAbsent (fuse_disk old).files
-        nothing = subst (λ (l : List (List ℕ)). HoldsCommits l first (fuse_disk old) → IsAbsent (fuse_disk old).files) (sym (none_left commits empty)) (is_absent first (fuse_disk old)) log
+        nothing = subst (λ (l : List (List ℕ)). HoldsCommits l first (fuse_disk old) → IsAbsent (fuse_disk old).files) (sym (empty_of commits empty)) (is_absent first (fuse_disk old)) log
 
         no_due : Due from_delta mode (fuse_disk old).files here.view → ⊥
         no_due due = nothing due.is_head.newest due.is_head.is.there
