@@ -1,7 +1,7 @@
 //! The form of a path within a table's folder.
-ghost use Rattle.std.specs.Prelude.{◌≡◌, ◌↔◌, ◌≤◌, IsTrue, All};
-ghost use Rattle.std.specs.List.{slice_split};
-ghost use Rattle.table_history.specs.Path.{IsPathOfAnyLength, IsPath, IsSegment, is_slash, is_path, is_path_of_any_length};
+ghost use Rattle.std.specs.Prelude.{◌≡◌, ◌↔◌, ◌&&◌, nat_le, IsTrue};
+ghost use Rattle.std.specs.List.{list_all, slice_split};
+ghost use Rattle.table_history.specs.Path.{IsPathOfAnyLength, IsPath, is_slash, is_segment, is_path, is_path_of_any_length};
 
 use lake_basics::limits::MAX_PATH_BYTES;
 
@@ -19,32 +19,33 @@ pub fn path_form_of_any_length(bytes: &[u8]) -> bool
     ensures form { IsTrue result ↔ IsPathOfAnyLength bytes.now }
     ensures test { result ≡ is_path_of_any_length bytes.now }
 {
-    has_plain_segments(bytes) && str::from_utf8(bytes).is_ok()
+    has_plain_segments(bytes) && simdutf8::is_utf8(bytes)
 }
 
 // Whether no byte is under 32, and each segment may stand in a path.
 fn has_plain_segments(bytes: &[u8]) -> bool
-    ensures { IsTrue result
-        ↔ (All (λ b. 32 ≤ b) bytes.now × All IsSegment (slice_split is_slash bytes.now)) }
+    ensures { result
+        ≡ (list_all (λ b. nat_le 32 b) bytes.now && list_all is_segment (slice_split is_slash bytes.now)) }
 {
-    let mut start = 0;
-    for i in 0..bytes.len() {
-        let byte = bytes[i];
-        if byte < 32 {
-            return false;
-        }
-        if byte == b'/' {
-            if !is_segment(&bytes[start..i]) {
-                return false;
-            }
-            start = i + 1;
-        }
-    }
-    is_segment(&bytes[start..])
+    has_no_control(bytes) && has_segments(bytes)
+}
+
+// Whether no byte is under 32.
+fn has_no_control(bytes: &[u8]) -> bool
+    ensures { result ≡ list_all (λ b. nat_le 32 b) bytes.now }
+{
+    bytes.iter().all(|byte| *byte >= 32)
+}
+
+// Whether each segment may stand in a path.
+fn has_segments(bytes: &[u8]) -> bool
+    ensures { result ≡ list_all is_segment (slice_split is_slash bytes.now) }
+{
+    bytes.split(|byte| *byte == b'/').all(is_segment)
 }
 
 fn is_segment(segment: &[u8]) -> bool
-    ensures { IsTrue result ↔ IsSegment segment.now }
+    ensures { result ≡ is_segment segment.now }
 {
     !matches!(segment, [] | b"." | b"..")
 }
