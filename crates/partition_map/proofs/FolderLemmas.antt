@@ -138,9 +138,8 @@ found_part style column component name part b hive is is' within named same =
     ap Some is' ∙ sym (cond-true style.hive_style _ _ hive ∙ cond-true _ _ _ (and_from (list_any is_equals component) _ (has_equals component within) test))
 
 -- ---- unescaping
-pub unescaped_plain : (style : FolderStyle) (part : List ℕ) → style.url_encode ≡ false → IsUtf8 part → Some part ≡ unescaped_text style part
-unescaped_plain style part plain utf8 =
-    let same : unescaped_bytes style part ≡ part = cond-false style.url_encode _ _ plain in
+pub unescaped_same : (style : FolderStyle) (part : List ℕ) → unescaped_bytes style part ≡ part → IsUtf8 part → Some part ≡ unescaped_text style part
+unescaped_same style part same utf8 =
     sym (cond-true _ _ _ (is_utf8-from_IsUtf8 _ (subst IsUtf8 (sym same) utf8)) ∙ ap Some same)
 
 pub unescaped_some : (style : FolderStyle) (part text : List ℕ) → style.url_encode ≡ true → text ≡ percent_decode part → IsUtf8 (percent_decode part) → Some text ≡ unescaped_text style part

@@ -9,11 +9,12 @@ use Rattle.std.proofs.lemmas.List.Sums.{prefix_len_is, prefix_len_passes}
 use Rattle.std.proofs.lemmas.List.Folds.{length-prefix_len}
 use Rattle.lake_basics.specs.declared.limits.TheConstants.{MAX_PATH_BYTES}
 use Rattle.table_history.specs.Path.{IsPath, IsPathOfAnyLength, IsSegment, is_slash, is_path, is_path_of_any_length}
-use Rattle.std.proofs.Common.{Result, Ok, Err, IfOk, IfErr, ◌+◌, ◌/◌, ◌%◌, zero, suc, ◌≤◌, ◌≡◌, ◌≢◌, inl, inr, ℕ, ◌<◌, true, false, List, [], ◌∷◌, ◌++◌, length, take, drop, get_or, All, refl, sym, ap, subst, ◌∙◌, ⊎_elim, arith, drop-cons}
+use Rattle.std.proofs.Common.{Option, Some, None, is_some, Bool, Result, Ok, Err, IfOk, IfErr, ◌+◌, ◌/◌, ◌%◌, zero, suc, ◌≤◌, ◌≡◌, ◌≢◌, inl, inr, ℕ, ◌<◌, true, false, List, [], ◌∷◌, ◌++◌, length, take, drop, get_or, All, refl, sym, ap, subst, ◌∙◌, ⊎_elim, arith, drop-cons}
 use Rattle.std.specs.Prelude.{not, ◌||◌, ◌==◌, nat_lt, nat_le}
 use Rattle.std.proofs.lemmas.Bool.{cases_Bool, cases_lt, cond-true, cond-false, true≢false, and_parts, and_from, or_cases, or_left, or_right, eqb-true, eq-eqb, ltb-true, lt-ltb, not-true, and_left, and_right, lt-leb, not_from_false, false_from_ne_true}
 use Rattle.std.proofs.lemmas.Bool.Decides.{nat_tests}
 use Rattle.std.proofs.lemmas.List.Elements.{All-nil, All-cons, All-get_or, All-from_get_or, All-head, All-tail}
+use Rattle.memchr.specs.Find.{IsFirst, Nowhere, Passes, is_byte3}
 use Rattle.percent_encoding.specs.Percent.{percent_encode_byte, percent_decode}
 use Rattle.percent_encoding.proofs.PercentLemmas.{percent_decode-nil, percent_decode_not_percent, percent_decode-percent_encode_byte, IsByte}
 use Rattle.table_history.proofs.PathTests.{path_decided, path_of_any_length_decided}
@@ -144,6 +145,29 @@ test-from_IsWellEscaped [] h = refl
 test-from_IsWellEscaped (b ∷ uri) h =
     and_from (is_path_byte b uri) (is_well_escaped uri) (test-from_byte b uri (h 0 (omega arith))) (test-from_IsWellEscaped uri (λ i within. byte_rest b uri i (h (suc i) (omega (arith, within)))))
 
+-- ---- bytes that stand for themselves
+pub nowhere_from_none : (P : ℕ → Type 0) (i j : ℕ) (place : Option ℕ) → is_some place ≡ false → IsFirst P i j place → Nowhere P i j
+nowhere_from_none P i j None some found = found
+nowhere_from_none P i j (Some k) some found = absurd (true≢false some)
+
+nowhere_rest : (test : ℕ → Bool) (b : ℕ) (bytes : List ℕ) → Nowhere (Passes test (b ∷ bytes)) 0 (length (b ∷ bytes)) → Nowhere (Passes test bytes) 0 (length bytes)
+nowhere_rest test b bytes none = λ k _ within. none (suc k) (omega arith) (omega (arith, within))
+
+-- bytes without `%` are their own decoding
+pub percent_decode-same : (test : ℕ → Bool) → test 37 ≡ true → (bytes : List ℕ) → Nowhere (Passes test bytes) 0 (length bytes) → percent_decode bytes ≡ bytes
+percent_decode-same test percent [] none = percent_decode-nil
+percent_decode-same test percent (b ∷ bytes) none =
+    percent_decode_not_percent b bytes (λ is. none 0 (omega arith) (omega arith) (ap test is ∙ percent))
+    ∙ ap (λ l. b ∷ l) (percent_decode-same test percent bytes (nowhere_rest test b bytes none))
+
+-- without `?`, `#` and `%` nothing is escaped badly
+pub is_well_escaped-literal : (bytes : List ℕ) → Nowhere (Passes (is_byte3 63 35 37) bytes) 0 (length bytes) → is_well_escaped bytes ≡ true
+is_well_escaped-literal [] none = refl
+is_well_escaped-literal (b ∷ bytes) none =
+    let other : (c : ℕ) → is_byte3 63 35 37 c ≡ true → b ≢ c = λ c special is. none 0 (omega arith) (omega arith) (ap (is_byte3 63 35 37) is ∙ special) in
+    let byte : IsPathByte (b ∷ bytes) 0 = record { no_query = other 63 refl; no_fragment = other 35 refl; escape = λ is. absurd (other 37 refl is) } in
+    and_from (is_path_byte b bytes) (is_well_escaped bytes) (test-from_byte b bytes byte) (is_well_escaped-literal bytes (nowhere_rest (is_byte3 63 35 37) b bytes none))
+
 -- ---- the function, by its cases
 pub uri_path-outside : (uri : List ℕ) → is_outside uri ≡ true → uri_path uri ≡ outside_table
 uri_path-outside uri h = cond-true (is_outside uri) _ _ h
@@ -172,9 +196,6 @@ no_path_at path none =
 pub too_long_at : (path : List ℕ) → IsPathOfAnyLength path → MAX_PATH_BYTES < length path → path_place path ≡ too_long path
 too_long_at path form long =
     path_place-too_long path (and_left (nat_le (length path) MAX_PATH_BYTES) (is_path_of_any_length path) (lt-leb (length path) MAX_PATH_BYTES long)) ((path_of_any_length_decided path).1 form)
-
-pub inside_at : (path : List ℕ) → IsPathOfAnyLength path → length path ≤ MAX_PATH_BYTES → path_place path ≡ inside_table path
-inside_at path form short = path_place-inside path ((path_decided path).1 (record { form = form; short = short }))
 
 -- what the relations say of a URI that names this
 abbrev pub MeansPath : List ℕ → UriPath → Type 0

@@ -1,5 +1,5 @@
 //! Partition values in the folders of files.
-ghost use Rattle.std.specs.Prelude.{◌≡◌, ◌↔◌, ℕ, List, length, map, option_map, IsTrue, IfOk, IfSome, vec_len};
+ghost use Rattle.std.specs.Prelude.{◌≡◌, ◌↔◌, ℕ, List, length, map, option_map, true, IsTrue, IsFalse, IfOk, IfSome, vec_len};
 ghost use Rattle.std.specs.Borrow.{Bor};
 ghost use Rattle.std.specs.Cow.{cow_str_bytes};
 ghost use Rattle.std.specs.Option.{option_copied};
@@ -8,6 +8,7 @@ ghost use Rattle.partition_map.specs.Folder.{texts_of, folder_components, last_c
 
 use crate::texts::stands_in_folder;
 use lake_basics::Text;
+use memchr::memchr;
 use percent_encoding::{DecodeError, percent_decode_str};
 use std::alloc::{AllocError, Global};
 use std::borrow::CowStr;
@@ -157,11 +158,19 @@ fn is_name_of(
 ) -> Result<bool, AllocError>
     ensures { IfOk result (λ same. same ≡ bytes_eq (unescaped_bytes style name.now) column.now) }
 {
-    if !style.url_encode {
+    if !may_unescape(style, name) {
         return Ok(name == column);
     }
     let name = percent_decode_str(name).into_cow(alloc)?;
     Ok(name.as_slice() == column.as_bytes())
+}
+
+// Whether the part of a component holds what may be an escape. Without that it stands for itself.
+fn may_unescape(style: FolderStyle, part: &str) -> bool
+    ensures encoded { IsTrue result → style.url_encode ≡ true }
+    ensures same { IsFalse result → unescaped_bytes style part.now ≡ part.now }
+{
+    style.url_encode && memchr(b'%', part.as_bytes()).is_some()
 }
 
 /// The text of a part of a component, percent-decoded where the table's folders are. None where
@@ -174,7 +183,7 @@ pub fn unescape<'a>(
     ensures { IfOk result
         (λ text. option_map cow_str_bytes text ≡ unescaped_text style part.now) }
 {
-    if !style.url_encode {
+    if !may_unescape(style, part) {
         return Ok(Some(CowStr::Borrowed(part)));
     }
     match percent_decode_str(part).decode_utf8(alloc) {

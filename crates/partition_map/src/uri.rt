@@ -1,13 +1,14 @@
 //! Paths as relative URIs, as Delta commits have them.
-ghost use Rattle.std.specs.Prelude.{◌≡◌, ◌++◌, ◌==◌, IfOk, IfErr, OnOk, length, slice_index, string_bytes, take_while};
+ghost use Rattle.std.specs.Prelude.{◌≡◌, ◌++◌, ◌==◌, true, IsTrue, IfOk, IfErr, OnOk, length, slice_index, string_bytes, take_while};
 ghost use Rattle.percent_encoding.specs.Percent.{percent_decode};
 ghost use Rattle.table_history.specs.Path.{IsPath};
 ghost use Rattle.partition_map.specs.Uri.{is_plain, escaped_byte, escaped_path, is_scheme_byte, colon, NamesPath, ExplainsRefusal};
-ghost use Rattle.partition_map.specs.UriPath.{is_outside, begins_hex, is_path_byte, is_well_escaped, path_place, uri_path, inside_table, GivesPath};
+ghost use Rattle.partition_map.specs.UriPath.{is_outside, begins_hex, is_path_byte, is_well_escaped, path_place, uri_path, inside_table, GivesPath, RefusesPath};
 
 use crate::error::PartError;
 use lake_basics::Text;
 use lake_basics::limits::MAX_PATH_BYTES;
+use memchr::memchr3;
 use percent_encoding::{percent_decode, percent_encode_byte};
 use std::alloc::{AllocError, Global};
 use std::borrow::CowSlice;
@@ -56,10 +57,29 @@ pub fn decode_uri_path(alloc: Global, uri: &str) -> Result<Text, PartError>
     if is_outside(bytes) {
         return Err(PartError::OutsideTable);
     }
+    if is_literal(bytes) {
+        return literal_path(alloc, uri);
+    }
     if !is_well_escaped(bytes) {
         return Err(PartError::BadPath);
     }
     place_path(unescaped(alloc, bytes)?)
+}
+
+// Whether there is no `?`, no `#` and no `%`, so that each byte stands for itself.
+fn is_literal(uri: &[u8]) -> bool
+    ensures escapes { IsTrue result → is_well_escaped uri.now ≡ true }
+    ensures same { IsTrue result → percent_decode uri.now ≡ uri.now }
+{
+    memchr3(b'?', b'#', b'%', uri).is_none()
+}
+
+// The path of a text in which each byte stands for itself, where it is one.
+fn literal_path(alloc: Global, text: &str) -> Result<Text, PartError>
+    ensures { GivesPath (path_place text.now) result }
+{
+    check_path(text.as_bytes())?;
+    Ok(Text::from_str(alloc, text)?)
 }
 
 // The bytes without escapes.
@@ -79,13 +99,22 @@ fn place_path(bytes: Vec<u8>) -> Result<Text, PartError>
     let Ok(path) = String::from_utf8(bytes) else {
         return Err(PartError::BadPath);
     };
-    if !path_form_of_any_length(path.as_bytes()) {
+    check_path(path.as_bytes())?;
+    Ok(Text::from_string(path))
+}
+
+// Why unescaped bytes are no path, where they are none.
+fn check_path(bytes: &[u8]) -> Result<(), PartError>
+    ensures ok { IfOk result (λ _. path_place bytes.now ≡ inside_table bytes.now) }
+    ensures refused { IfErr result (RefusesPath (path_place bytes.now)) }
+{
+    if !path_form_of_any_length(bytes) {
         return Err(PartError::BadPath);
     }
-    if path.len() as u64 > MAX_PATH_BYTES {
+    if bytes.len() as u64 > MAX_PATH_BYTES {
         return Err(PartError::TooLong);
     }
-    Ok(Text::from_string(path))
+    Ok(())
 }
 
 fn is_outside(uri: &[u8]) -> bool
