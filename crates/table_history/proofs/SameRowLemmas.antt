@@ -1,5 +1,5 @@
 -- Two lists of the same rows, of distinct paths each, have them in another order at most.
-use Rattle.std.proofs.Common.{◌≡◌, ℕ, false, List, [], ◌∷◌, Contains, sym, ap, ◌∙◌, ⊎_elim}
+use Rattle.std.proofs.Common.{◌≡◌, false, List, [], ◌∷◌, Contains, sym, ap, ◌∙◌, ⊎_elim}
 use Rattle.std.specs.List.{remove}
 use Rattle.std.specs.List.Sorted.{IsPermutation}
 use Rattle.std.specs.Str.{bytes_eq}

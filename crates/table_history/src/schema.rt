@@ -2,7 +2,7 @@
 ghost use Rattle.std.specs.Prelude.{◌≡◌, ◌↔◌, IfOk, IsTrue};
 ghost use Rattle.std.specs.Cmp as cmp;
 ghost use Rattle.table_history.specs.SchemaView.{type_view, column_view, columns_view};
-ghost use Rattle.table_history.specs.TypeTree.{decimal};
+ghost use Rattle.table_history.specs.TypeTree.{decimal, list_of};
 ghost use Rattle.table_history.specs.TypeEq.{type_eq, column_eq, columns_eq};
 
 use lake_basics::Text;
@@ -146,13 +146,7 @@ fn same_type(kind: &ColumnType, other: &ColumnType) -> bool
             ColumnType::Struct(others) => same_columns(columns, others),
             _ => false,
         },
-        ColumnType::List { element, nullable } => match other {
-            ColumnType::List {
-                element: other,
-                nullable: may_be_null,
-            } => same_type(element, other) && *nullable == *may_be_null,
-            _ => false,
-        },
+        ColumnType::List { element, nullable } => same_list(element, *nullable, other),
         ColumnType::Map {
             key,
             value,
@@ -180,6 +174,19 @@ fn same_decimal(precision: u8, scale: u8, other: &ColumnType) -> bool
             precision: digits,
             scale: behind,
         } => precision == *digits && scale == *behind,
+        _ => false,
+    }
+}
+
+#[cycle(same)]
+fn same_list(element: &ColumnType, nullable: bool, other: &ColumnType) -> bool
+    ensures { result ≡ type_eq (list_of (type_view element.now) nullable) (type_view other.now) }
+{
+    match other {
+        ColumnType::List {
+            element: other,
+            nullable: may_be_null,
+        } => same_type(element, other) && nullable == *may_be_null,
         _ => false,
     }
 }
