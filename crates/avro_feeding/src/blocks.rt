@@ -5,7 +5,7 @@ ghost use Rattle.avro_schema.specs.Tree.{tree_of};
 ghost use Rattle.avro_value.specs.ValueTree.{value_tree};
 ghost use Rattle.avro_container.specs.Laws.{flaw_error as error_of_flaw};
 ghost use Rattle.avro_feeding.specs.Calls.{behind_of};
-ghost use Rattle.avro_feeding.specs.Feeding.{in_blocks, refusal as refusal_of, ended};
+ghost use Rattle.avro_feeding.specs.Feeding.{in_blocks, waits_or_refused, refusal as refusal_of, ended};
 ghost use Rattle.avro_feeding.specs.Views.{IsFedBy, IsRead, IsReadOn, behind_front, summed, trees_found, with_found as found_with};
 
 use crate::place::{Fed, Place, Refused, out_of_memory};
@@ -161,6 +161,43 @@ fn drop_front(bytes: &mut Vec<u8>, count: usize)
     bytes.truncate(left);
 }
 
+/// How reading leaves the bytes: those that were taken are dropped where it may go on.
+fn left_behind(schema: Schema, marker: Blob, mut bytes: Vec<u8>, taken: usize, read: Read) -> Fed
+    requires { taken ≤ length bytes.items }
+    ensures { summed result
+        ≡ (
+          waits_or_refused (in_blocks (record {
+            schema = tree_of schema;
+            marker = marker;
+            offset = read.offset;
+            rest = drop taken bytes.items;
+            budget = read.budget;
+          })) (Some (tree_of schema)) read.refusal,
+          trees_found read.found,
+        ) }
+{
+    let state = match read.refusal {
+        Some(error) => Err(Refused {
+            error,
+            schema: Some(schema),
+        }),
+        None => {
+            drop_front(&mut bytes, taken);
+            Ok(Place::Blocks(BlocksSoFar {
+                schema,
+                marker,
+                offset: read.offset,
+                rest: Blob::from_vec(bytes),
+                budget: read.budget,
+            }))
+        }
+    };
+    Fed {
+        state,
+        found: read.found,
+    }
+}
+
 impl BlocksSoFar {
     pub(crate) fn schema(&self) -> &Schema
         ensures { result.now ≡ self.now.schema }
@@ -181,7 +218,7 @@ impl BlocksSoFar {
             rest,
             budget,
         } = self;
-        let mut bytes = rest.into_vec();
+        let bytes = rest.into_vec();
         let blocks = &bytes.as_slice()[front..];
         let len = blocks.len();
         let Ok(read) = read_blocks(
@@ -194,27 +231,8 @@ impl BlocksSoFar {
         ) else {
             return out_of_memory(Some(schema));
         };
-        let state = match read.refusal {
-            Some(error) => Err(Refused {
-                error,
-                schema: Some(schema),
-            }),
-            None => {
-                let taken = front + len.saturating_sub(read.left);
-                drop_front(&mut bytes, taken);
-                Ok(Place::Blocks(BlocksSoFar {
-                    schema,
-                    marker,
-                    offset: read.offset,
-                    rest: Blob::from_vec(bytes),
-                    budget: read.budget,
-                }))
-            }
-        };
-        Fed {
-            state,
-            found: read.found,
-        }
+        let taken = front + len.saturating_sub(read.left);
+        left_behind(schema, marker, bytes, taken, read)
     }
 
     /// What a piece more makes of it. A block that isn't whole is found by its count and its size.
