@@ -1,6 +1,6 @@
 //! The change that the file actions of a commit make of the rows before it.
 
-ghost use Rattle.std.specs.Prelude.{◌≡◌, IfOk, IfErr, All, length};
+ghost use Rattle.std.specs.Prelude.{◌↔◌, ◌<◌, IfOk, IfErr, IsTrue, All, length};
 ghost use Rattle.std.specs.List.{IsDistinct};
 ghost use Rattle.std.specs.Str.{bytes_eq};
 ghost use Rattle.table_history.specs.Rows.{HasDistinctPaths};
@@ -26,14 +26,17 @@ const MANY_FILES: DeltaError = DeltaError::Limit {
     which: LimitKind::LiveFiles,
 };
 
-/// How many rows there are behind the actions, where these are the rows that they add.
-fn live_count(before: &FileRows, files: &[FileAction], rows: &[FileRow]) -> u128
+/// Whether there are too many rows behind the actions, where these are the rows that they add. The
+/// rows that the actions replace are counted only where that may tell.
+fn has_many_files(before: &FileRows, files: &[FileAction], rows: &[FileRow]) -> bool
     requires distinct { IsDistinct bytes_eq (file_paths files.now) }
-    ensures count { result ≡ length (rows_behind before.now files.now rows.now) }
+    ensures many { IsTrue result
+        ↔ (MAX_LIVE_FILES < length (rows_behind before.now files.now rows.now)) }
     ensures before { HasDistinctPaths before.now }
 {
+    let most = u128::from(MAX_LIVE_FILES);
     let all = before.len() as u128 + rows.len() as u128;
-    all - u128::from(held_count(before, files))
+    all > most && all - u128::from(held_count(before, files)) > most
 }
 
 /// The change that file actions make of the rows before (Delta protocol, "Action Reconciliation"), with
@@ -58,7 +61,7 @@ pub fn change_over(
         return Err(MANY_COLUMNS);
     }
     let rows = rows_of(alloc, columns, files)?;
-    if live_count(before, files, rows.as_slice()) > u128::from(MAX_LIVE_FILES) {
+    if has_many_files(before, files, rows.as_slice()) {
         return Err(MANY_FILES);
     }
     Ok(change_between(alloc, stated, before, files, rows)?)
