@@ -16,6 +16,7 @@ use Rattle.table_history.specs.declared.row.FileRow.{FileRow}
 use Rattle.table_history.proofs.Laws.{change_of_same_rows, same_rows_length}
 use Rattle.table_history.proofs.RowListLemmas.{Contains-cases, Contains-head, Contains-none, Contains-paths, Contains-tail, all_at}
 use Rattle.table_history.proofs.TableLemmas.{Contains-paths_cases}
+use Rattle.table_history.proofs.SameTableLemmas.{rows_back}
 use Rattle.iceberg_change.specs.Behind.{AreApart}
 
 -- ---- distinct paths
@@ -69,9 +70,6 @@ same_both xs ys us vs one two row = (
   λ h. ⊎_elim (λ a. Contains-append_left ys vs row ((one row).0 a)) (λ b. Contains-append_right ys vs row ((two row).0 b)) (Contains-append_cases xs us row h),
   λ h. ⊎_elim (λ a. Contains-append_left xs us row ((one row).1 a)) (λ b. Contains-append_right xs us row ((two row).1 b)) (Contains-append_cases ys vs row h),
 )
-
-pub same_back : (xs ys : List FileRow) → SameRows xs ys → SameRows ys xs
-same_back xs ys same row = ((same row).1, (same row).0)
 
 pub same_further : (xs ys zs : List FileRow) → SameRows xs ys → SameRows ys zs → SameRows xs zs
 same_further xs ys zs one two row = (λ h. (two row).0 ((one row).0 h), λ h. (one row).1 ((two row).1 h))
@@ -147,4 +145,4 @@ module _ (before held start kept left came all : List FileRow)
     pub all_diff : (after : List FileRow) → SameRows after came → (removed : List (List ℕ)) (added : List FileRow) → IsDiff went after removed added → IsDiff before all removed added
     all_diff after is removed added d =
         let parts = diff_beside kept (left ++ start) came removed added kept_apart came_apart (change_of_same_rows went (left ++ start) after came removed added went_is is d) in
-        change_of_same_rows (kept ++ (left ++ start)) before (kept ++ came) all removed added (same_back before (kept ++ (left ++ start)) before_parts) (same_moved (kept ++ came) all (IsPermutation-sym all (kept ++ came) whole)) parts
+        change_of_same_rows (kept ++ (left ++ start)) before (kept ++ came) all removed added (rows_back before (kept ++ (left ++ start)) before_parts) (same_moved (kept ++ came) all (IsPermutation-sym all (kept ++ came) whole)) parts

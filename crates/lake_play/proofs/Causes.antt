@@ -9,7 +9,8 @@ use Rattle.lake_store.specs.Fuse.{CanFail, FuseCanBeContested, FuseCanFail, cont
 use Rattle.lake_store.specs.declared.fuse.FuseStore.{FuseStore}
 use Rattle.lake_store.specs.declared.fuse.Script.{Script}
 use Rattle.conformance.specs.Histories.{IsHistoryFrom}
-use Rattle.source_core.specs.Histories.{IsAt, IsLast, IsLike, LeadAlong, SameTable, ShowsEntry, ShowsTable}
+use Rattle.source_core.specs.Histories.{IsAt, IsLast, IsLike, LeadAlong, ShowsEntry, ShowsTable}
+use Rattle.table_history.specs.Tables.{SameTable}
 use Rattle.source_core.specs.declared.error.SourceError.{SourceError}
 use Rattle.source_core.specs.declared.error.SourceError.TheVariants as source
 use Rattle.source_delta.specs.Heads.{IsAbsent, IsTableAtHead}

@@ -12,7 +12,8 @@ use Rattle.conformance.proofs.Legal.{commits_are}
 use Rattle.conformance.proofs.Numbers.{length_map}
 use Rattle.delta_table.specs.Versions.{HoldsVersion}
 use Rattle.lake_store.specs.Disk.{Disk, Files}
-use Rattle.source_core.specs.Histories.{IsLast, SameTable}
+use Rattle.source_core.specs.Histories.{IsLast}
+use Rattle.table_history.specs.Tables.{SameTable}
 use Rattle.source_core.specs.declared.error.SourceError.{SourceError}
 use Rattle.source_core.specs.declared.error.SourceError.TheVariants as source
 use Rattle.source_core.specs.declared.head.Head.{Head}

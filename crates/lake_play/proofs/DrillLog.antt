@@ -47,7 +47,7 @@ use Rattle.delta_table.specs.declared.error.LogError.{LogError}
 use Rattle.delta_table.specs.declared.error.LogError.TheVariants as log
 use Rattle.delta_table.proofs.LogLaws.{step_made}
 use Rattle.delta_table.proofs.PathLaws.{bytes_once, path_once}
-use Rattle.source_core.specs.Histories.{SameTable}
+use Rattle.table_history.specs.Tables.{SameTable}
 use Rattle.source_core.specs.declared.error.SourceError.TheVariants as source
 use Rattle.source_delta.specs.LikeLemmas.{LikeBefore, SameBefore, like_before, next_like, next_same}
 use Rattle.source_delta.specs.Reading.{HasEach, IsRefusedLog, LacksVersion, ShowsAtHead, ShowsFromScratch, Tells, TellsCommit}

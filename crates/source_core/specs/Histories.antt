@@ -12,12 +12,6 @@ use Rattle.table_history.specs.declared.table.Table.{Table}
 use Rattle.target_core.specs.Meaning.{Meaning}
 use Rattle.target_core.specs.Views.{IsUnpublished, Standing, View}
 
--- the same rows, partition columns and schema
-pub record SameTable (a b : Table) : Type 0 where
-  pub rows : SameRows a.rows b.rows
-  pub partition : a.partition ≡ b.partition
-  pub schema : a.schema ≡ b.schema
-
 -- this is the last of its commits, with the table after it
 abbrev pub IsLast : History → List ℕ × Table → Type 0
 IsLast history last = (front : History) × (history ≡ front ++ last ∷ [])

@@ -1,19 +1,16 @@
 -- The commits after a position, version by version.
-use Rattle.std.proofs.Common.{◌≡◌, ◌≤◌, ◌<◌, ◌+◌, ◌^◌, Bool, true, false, ℕ, zero, suc, Option, None, List, [], ◌∷◌, ◌++◌, length, Some, inl, inr, ⊎_elim, refl, sym, ap, subst, ◌∙◌, arith}
+use Rattle.std.proofs.Common.{◌≡◌, ◌≤◌, ◌<◌, ◌+◌, ◌^◌, Bool, true, false, ℕ, zero, suc, Option, None, List, [], ◌∷◌, ◌++◌, length, Some, inr, refl, sym, ap, subst, ◌∙◌, arith}
 use Rattle.std.proofs.lemmas.List.{length-append}
 use Rattle.std.proofs.lemmas.Bool.Decides.{nat_tests}
 use Rattle.std.proofs.lemmas.Fmt.{decimal_injective}
 use Rattle.std.specs.Fmt.{decimal}
-use Rattle.std.specs.Prelude.{MatchOption, nat_lt, unwrap_or}
+use Rattle.std.specs.Prelude.{MatchOption, nat_lt}
 use Rattle.lake_basics.specs.declared.limits.TheConstants.{MAX_ACTIONS, MAX_COMMITS, MAX_DELTA_VERSION, MAX_NAMES}
 use Rattle.lake_store.specs.Disk.{Files, names_in}
-use Rattle.table_history.specs.Rows.{HasPath, SameRows}
-use Rattle.table_history.specs.Tables.{CanApply, IsAfter}
-use Rattle.table_history.specs.TypeTree.{ColumnTrees}
-use Rattle.table_history.specs.declared.table.Change.{Change}
+use Rattle.table_history.specs.Tables.{CanApply, IsAfter, SameTable}
 use Rattle.table_history.specs.declared.table.Commit.{Commit}
 use Rattle.table_history.specs.declared.table.Table.{Table}
-use Rattle.table_history.proofs.Laws.{same_rows_after}
+use Rattle.table_history.proofs.SameTableLemmas.{after_same, afters_same, can_apply_same, same_itself}
 use Rattle.delta_change.specs.Change.{IsTableOfLog}
 use Rattle.delta_log.specs.declared.commit.DeltaCommit.{DeltaCommit}
 use Rattle.delta_table.specs.Log.{SaysCommit}
@@ -208,47 +205,6 @@ since_refused files position base source.StoreFault h = tt
 
 -- ---- that they may be applied
 
--- the same rows, partition columns and schema
-record AreAlike (a b : Table) : Type 0 where
-  pub rows : SameRows a.rows b.rows
-  pub partition : a.partition ≡ b.partition
-  pub schema : a.schema ≡ b.schema
-
-alike_itself : (t : Table) → AreAlike t t
-alike_itself t = record { rows = λ row. ((λ h. h), (λ h. h)); partition = refl; schema = refl }
-
-path_alike : (a b : Table) → AreAlike a b → (path : List ℕ) → HasPath a.rows path → HasPath b.rows path
-path_alike a b same path h = (h.0, (same.rows h.0).0 h.1, h.2)
-
-path_back : (a b : Table) → AreAlike a b → (path : List ℕ) → HasPath b.rows path → HasPath a.rows path
-path_back a b same path h = (h.0, (same.rows h.0).1 h.1, h.2)
-
-apply_alike : (a b : Table) (change : Change) → AreAlike a b → CanApply a change → CanApply b change
-apply_alike a b change same can = record {
-  removed_distinct = can.removed_distinct;
-  removed_there = λ path there. path_alike a b same path (can.removed_there path there);
-  added_distinct = can.added_distinct;
-  added_new = λ row added there. can.added_new row added (path_back a b same row.path there);
-}
-
-after_alike : (a b : Table) (change : Change) (after : Table) → AreAlike a b → IsAfter b change after → IsAfter a change after
-after_alike a b change after same is = record {
-  rows = λ row. (
-    λ h. ⊎_elim (λ added. inl added) (λ kept. inr ((same.rows row).1 kept.0, kept.1)) ((is.rows row).0 h),
-    λ h. (is.rows row).1 (⊎_elim (λ added. inl added) (λ kept. inr ((same.rows row).0 kept.0, kept.1)) h),
-  );
-  distinct = is.distinct;
-  schema = is.schema ∙ ap (λ (s : ColumnTrees). unwrap_or change.schema s) (sym same.schema);
-  partition = is.partition ∙ sym same.partition;
-}
-
-afters_alike : (before : Table) (change : Change) (a b : Table) → IsAfter before change a → IsAfter before change b → AreAlike a b
-afters_alike before change a b x y = record {
-  rows = same_rows_after before before change a b (λ row. ((λ h. h), (λ h. h))) x y;
-  partition = x.partition ∙ sym y.partition;
-  schema = x.schema ∙ sym y.schema;
-}
-
 -- each change fits the table before it, and leaves one that commits may leave where that one is
 abbrev pub LeadOn : Table → List Commit → Table → Type 0
 LeadOn before [] last = before ≡ last
@@ -267,28 +223,28 @@ lead_begins base later commits table = subst (λ (cs : List Commit). LeadOn base
 pub lead_on : (base : Table) (before after : Later) → LeadOn base before.commits before.table → GoesOnBy before after → LeadOn base after.commits after.table
 lead_on base before after fit more = subst (λ (cs : List Commit). LeadOn base cs after.table) (sym more.commits) (lead_more before.commits base before after more fit)
 
-fit_each : (commits : List Commit) (before alike last : Table) → AreAlike before alike → LeadOn before commits last → FitAll alike commits
+fit_each : (commits : List Commit) (before alike last : Table) → SameTable before alike → LeadOn before commits last → FitAll alike commits
 fit_each [] before alike last same on = tt
 fit_each (commit ∷ commits) before alike last same on = (
-  apply_alike before alike commit.change same on.0,
+  can_apply_same before alike commit.change same on.0,
   λ table after.
-      let of = after_alike before alike commit.change table same after in
-      fit_each commits on.2.0 table last (afters_alike before commit.change on.2.0 table on.2.1 of) on.2.2,
+      let of = after_same before alike commit.change table same after in
+      fit_each commits on.2.0 table last (afters_same before commit.change on.2.0 table on.2.1 of) on.2.2,
 )
 
 pub fit_all : (base : Table) (commits : List Commit) (last : Table) → LeadOn base commits last → FitAll base commits
-fit_all base commits last on = fit_each commits base base last (alike_itself base) on
+fit_all base commits last on = fit_each commits base base last (same_itself base) on
 
-apply_each : (commits : List Commit) (before alike last : Table) → AreAlike before alike → IsTableOfLog before → LeadOn before commits last → CanApplyAll alike commits
+apply_each : (commits : List Commit) (before alike last : Table) → SameTable before alike → IsTableOfLog before → LeadOn before commits last → CanApplyAll alike commits
 apply_each [] before alike last same is fit = tt
 apply_each (commit ∷ commits) before alike last same is fit = (
-  apply_alike before alike commit.change same fit.0,
+  can_apply_same before alike commit.change same fit.0,
   λ table after.
-      let of = after_alike before alike commit.change table same after in (
+      let of = after_same before alike commit.change table same after in (
         publishable_of_log table (fit.1 is table of),
-        apply_each commits fit.2.0 table last (afters_alike before commit.change fit.2.0 table fit.2.1 of) (fit.1 is fit.2.0 fit.2.1) fit.2.2,
+        apply_each commits fit.2.0 table last (afters_same before commit.change fit.2.0 table fit.2.1 of) (fit.1 is fit.2.0 fit.2.1) fit.2.2,
       ),
 )
 
 pub can_apply_all : (base : Table) (commits : List Commit) (last : Table) → IsPublishable base → LeadOn base commits last → CanApplyAll base commits
-can_apply_all base commits last is fit = apply_each commits base base last (alike_itself base) (log_of_publishable base is) fit
+can_apply_all base commits last is fit = apply_each commits base base last (same_itself base) (log_of_publishable base is) fit

@@ -25,7 +25,8 @@ use Rattle.delta_table.specs.Versions.{HasVersion, log_folder}
 use Rattle.delta_table.proofs.LogLaws.{step_made}
 use Rattle.delta_table.proofs.PathLaws.{says_once}
 use Rattle.target_core.specs.Folders.{SameIn}
-use Rattle.source_core.specs.Histories.{IsLast, IsLike, LeadAlong, LeadsTo, SameTable}
+use Rattle.source_core.specs.Histories.{IsLast, IsLike, LeadAlong, LeadsTo}
+use Rattle.table_history.specs.Tables.{SameTable}
 use Rattle.source_core.specs.declared.head.Head.{Head}
 use Rattle.source_delta.specs.Heads.{IsDeltaHead, IsNewest, IsTableAtHead}
 use Rattle.source_delta.specs.Histories.{HoldsHistory, IsReadableOver, table_before}

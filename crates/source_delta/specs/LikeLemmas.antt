@@ -19,7 +19,8 @@ use Rattle.delta_log.specs.declared.commit.MetaData.{MetaData}
 use Rattle.delta_change.proofs.KindLemmas.{same_columns}
 use Rattle.delta_change.proofs.TableLemmas.{partition_kept}
 use Rattle.delta_table.specs.Log.{IsStep}
-use Rattle.source_core.specs.Histories.{IsLike, SameTable}
+use Rattle.source_core.specs.Histories.{IsLike}
+use Rattle.table_history.specs.Tables.{SameTable}
 use Rattle.source_delta.specs.Histories.{IsReadableOver}
 use Rattle.partition_map.proofs.KindLemmas.{same_kind}
 

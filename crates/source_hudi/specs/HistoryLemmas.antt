@@ -28,7 +28,8 @@ use Rattle.hudi_table.specs.declared.properties.Properties.{Properties}
 use Rattle.hudi_table.specs.declared.reading.Naming.TheVariants as naming
 use Rattle.hudi_table.proofs.FolderLaws.{order_up_to_head, reached_times}
 use Rattle.hudi_table.proofs.TimeOrder.{up_to_itself}
-use Rattle.source_core.specs.Histories.{IsLast, IsLike, LeadAlong, LeadsTo, SameTable}
+use Rattle.source_core.specs.Histories.{IsLast, IsLike, LeadAlong, LeadsTo}
+use Rattle.table_history.specs.Tables.{SameTable}
 use Rattle.source_core.specs.declared.head.Head.{Head}
 use Rattle.target_core.specs.Folders.{SameIn}
 use Rattle.target_core.specs.FolderLemmas.{names_own, same_back}

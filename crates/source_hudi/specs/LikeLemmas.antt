@@ -5,7 +5,7 @@ use Rattle.table_history.specs.First.{NoneOf}
 use Rattle.table_history.specs.History.{FitsColumn, column_type}
 use Rattle.table_history.specs.Row.{Row}
 use Rattle.table_history.specs.Rows.{SameRows}
-use Rattle.table_history.specs.Tables.{IsAfter, IsDiff, empty_table}
+use Rattle.table_history.specs.Tables.{IsAfter, IsDiff, empty_table, SameTable}
 use Rattle.table_history.specs.TypeTree.{ColumnTrees}
 use Rattle.table_history.specs.declared.feature.Feature.TheVariants as feature
 use Rattle.table_history.specs.declared.row.PartValue.{PartValue}
@@ -13,6 +13,7 @@ use Rattle.table_history.specs.declared.table.Change.{Change}
 use Rattle.table_history.specs.declared.table.Table.{Table}
 use Rattle.table_history.proofs.Laws.{change_applied, change_of_same_rows}
 use Rattle.table_history.proofs.RowListLemmas.{Contains-head, Contains-tail}
+use Rattle.table_history.proofs.SameTableLemmas.{rows_back}
 use Rattle.partition_map.specs.Columns.{HasOtherKind, LacksKinds, column_kind}
 use Rattle.partition_map.specs.declared.kind.PartKind.{PartKind}
 use Rattle.hudi_timeline.specs.Causes.{AreKinds, IsInForce, Shows, change_features}
@@ -21,7 +22,7 @@ use Rattle.hudi_timeline.specs.Live.{Completed, IsLiveAfter}
 use Rattle.hudi_timeline.specs.Schemas.{schema_after, stated_schema}
 use Rattle.hudi_properties.specs.declared.table.HudiTable.{HudiTable}
 use Rattle.hudi_timeline.proofs.ChangeLemmas.{schema_is}
-use Rattle.source_core.specs.Histories.{IsLike, SameTable}
+use Rattle.source_core.specs.Histories.{IsLike}
 use Rattle.source_hudi.specs.Histories.{IsMadeBy, IsReadable}
 use Rattle.partition_map.proofs.KindLemmas.{same_kind}
 
@@ -133,9 +134,6 @@ fits_after (Some s) a b next after name v is is' same = (
 live_as : (table : HudiTable) (kinds : List PartKind) (u : Completed) (a b : List Row) → SameRows a b → (row : Row) → IsLiveAfter table kinds u a row → IsLiveAfter table kinds u b row
 live_as table kinds u a b same row (inl written) = inl written
 live_as table kinds u a b same row (inr kept) = inr ((same row).0 kept.0, kept.1)
-
-rows_back : (a b : List Row) → SameRows a b → SameRows b a
-rows_back a b same row = ((same row).1, (same row).0)
 
 -- What the change leads from and to in the history, and that the table made of the one that is held is like the one there.
 pub record LeadsLike (base : Table) (change : Change) (next after : Table) : Type 0 where

@@ -1,12 +1,13 @@
 -- A timeline makes one table, up to the order of its rows, and where it has a head, a table is there.
-use Rattle.std.proofs.Common.{◌≡◌, ⊎_elim, ℕ, List, [], ◌∷◌, ◌++◌, map, Contains, Option, Some, None, Result, Ok, refl, sym, ap, subst, ◌∙◌}
+use Rattle.std.proofs.Common.{◌≡◌, ℕ, List, [], ◌∷◌, ◌++◌, map, Option, Some, None, Result, Ok, refl, sym, ap, subst, ◌∙◌}
 use Rattle.lake_store.specs.Disk.{Files}
 use Rattle.table_history.specs.Row.{Row}
 use Rattle.table_history.specs.Rows.{HasDistinctPaths, SameRows}
-use Rattle.table_history.specs.Tables.{IsAfter, IsDiff, empty_table}
+use Rattle.table_history.specs.Tables.{IsAfter, IsDiff, empty_table, SameTable}
 use Rattle.table_history.specs.declared.table.Change.{Change}
 use Rattle.table_history.specs.declared.table.Table.{Table}
 use Rattle.table_history.proofs.Laws.{change_applied}
+use Rattle.table_history.proofs.SameTableLemmas.{same_itself}
 use Rattle.partition_map.specs.Columns.{column_kind}
 use Rattle.partition_map.specs.declared.kind.PartKind.{PartKind}
 use Rattle.hudi_timeline.specs.Causes.{AreKinds, rows_before, table_before}
@@ -26,7 +27,6 @@ use Rattle.hudi_table.specs.Reading.{SayTimeline}
 use Rattle.hudi_table.specs.declared.instants.CompletedInstant.{CompletedInstant}
 use Rattle.hudi_table.specs.declared.properties.Properties.{Properties}
 use Rattle.hudi_table.specs.declared.reading.Naming.TheVariants as naming
-use Rattle.source_core.specs.Histories.{SameTable}
 use Rattle.source_core.specs.declared.head.Head.{Head}
 use Rattle.source_hudi.specs.Heads.{IsAbsent, IsHudiHead, IsTableAtHead}
 use Rattle.source_hudi.specs.Histories.{IsMadeBy}
@@ -100,9 +100,6 @@ later_once table (u ∷ timeline) held base a b same columns one other =
     let made = made_by u table (Some base) other.0 other.1 columns other.2 other.3 in
     let next = step_same u table held base one.0 one.1 other.1 (like_same held base same) columns one.2 one.3 (λ can. made) same in
     later_once table timeline one.1 other.1 a b next made.partition one.4 other.4
-
-same_itself : (table : Table) → SameTable table table
-same_itself table = record { rows = λ row. (λ there. there, λ there. there); partition = refl; schema = refl }
 
 made_once : (table : HudiTable) (timeline : Timeline) (a b : Table) → LeadsThrough table None timeline a → LeadsThrough table None timeline b → SameTable a b
 made_once table [] a b one other = subst (SameTable a) (one ∙ sym other) (same_itself a)

@@ -27,13 +27,13 @@ use Rattle.source_iceberg.specs.SinceLemmas.{ancestors_once}
 use Rattle.source_iceberg.specs.Heads.{IsNewestMetadata}
 use Rattle.source_iceberg.specs.Reading.{IsRefusedSnapshot, Tells}
 use Rattle.table_history.specs.History.{FitColumns}
-use Rattle.table_history.specs.Rows.{HasDistinctPaths, HasPath, SameRows}
-use Rattle.table_history.specs.Tables.{CanApply, IsAfter, LeadsTo}
+use Rattle.table_history.specs.Rows.{HasDistinctPaths}
+use Rattle.table_history.specs.Tables.{CanApply, IsAfter, LeadsTo, SameTable}
 use Rattle.table_history.specs.TypeTree.{ColumnTrees}
-use Rattle.table_history.specs.declared.table.Change.{Change}
 use Rattle.table_history.specs.declared.table.Commit.{Commit}
 use Rattle.table_history.specs.declared.table.Table.{Table}
-use Rattle.table_history.proofs.Laws.{same_rows_after, same_rows_length}
+use Rattle.table_history.proofs.Laws.{same_rows_length}
+use Rattle.table_history.proofs.SameTableLemmas.{after_same, afters_same, can_apply_same, same_itself}
 use Rattle.target_core.specs.Conditions.{HasKind, IsPublishable}
 use Rattle.source_core.specs.Since.{CanApplyAll, FitAll, IsSinceRefusal}
 use Rattle.iceberg_metadata.specs.declared.metadata.Metadata.{Metadata}
@@ -47,49 +47,9 @@ use Rattle.source_iceberg.specs.declared.since.Later.{Later}
 
 -- ---- tables of the same rows, columns and partition columns
 
-record AreAlike (a b : Table) : Type 0 where
-  pub rows : SameRows a.rows b.rows
-  pub partition : a.partition ≡ b.partition
-  pub schema : a.schema ≡ b.schema
-
-alike_itself : (t : Table) → AreAlike t t
-alike_itself t = record { rows = λ row. ((λ h. h), (λ h. h)); partition = refl; schema = refl }
-
-path_alike : (a b : Table) → AreAlike a b → (path : List ℕ) → HasPath a.rows path → HasPath b.rows path
-path_alike a b same path h = (h.0, (same.rows h.0).0 h.1, h.2)
-
-path_back : (a b : Table) → AreAlike a b → (path : List ℕ) → HasPath b.rows path → HasPath a.rows path
-path_back a b same path h = (h.0, (same.rows h.0).1 h.1, h.2)
-
-apply_alike : (a b : Table) (change : Change) → AreAlike a b → CanApply a change → CanApply b change
-apply_alike a b change same can = record {
-  removed_distinct = can.removed_distinct;
-  removed_there = λ path there. path_alike a b same path (can.removed_there path there);
-  added_distinct = can.added_distinct;
-  added_new = λ row added there. can.added_new row added (path_back a b same row.path there);
-}
-
-after_alike : (a b : Table) (change : Change) (after : Table) → AreAlike a b → IsAfter b change after → IsAfter a change after
-after_alike a b change after same is = record {
-  rows = λ row. (
-    λ h. ⊎_elim (λ added. inl added) (λ kept. inr ((same.rows row).1 kept.0, kept.1)) ((is.rows row).0 h),
-    λ h. (is.rows row).1 (⊎_elim (λ added. inl added) (λ kept. inr ((same.rows row).0 kept.0, kept.1)) h),
-  );
-  distinct = is.distinct;
-  schema = is.schema ∙ ap (λ (s : ColumnTrees). unwrap_or change.schema s) (sym same.schema);
-  partition = is.partition ∙ sym same.partition;
-}
-
-afters_alike : (before : Table) (change : Change) (a b : Table) → IsAfter before change a → IsAfter before change b → AreAlike a b
-afters_alike before change a b x y = record {
-  rows = same_rows_after before before change a b (λ row. ((λ h. h), (λ h. h))) x y;
-  partition = x.partition ∙ sym y.partition;
-  schema = x.schema ∙ sym y.schema;
-}
-
 -- a table like one that may be published, and of distinct paths
-publishable_alike : (a b : Table) → AreAlike a b → HasDistinctPaths b.rows → IsPublishable a → IsPublishable b
-publishable_alike a b same distinct is = record {
+publishable_same : (a b : Table) → SameTable a b → HasDistinctPaths b.rows → IsPublishable a → IsPublishable b
+publishable_same a b same distinct is = record {
   sound = record {
     distinct = distinct;
     values = λ row there.
@@ -124,27 +84,27 @@ lead_begins base later commits table = subst (λ (cs : List Commit). LeadOn base
 pub lead_on : (base : Table) (before after : Later) → LeadOn base before.commits before.table → GoesOnBy before after → LeadOn base after.commits after.table
 lead_on base before after on more = subst (λ (cs : List Commit). LeadOn base cs after.table) (sym more.commits) (lead_more before.commits base before after more on)
 
-fit_each : (commits : List Commit) (before alike last : Table) → AreAlike before alike → LeadOn before commits last → FitAll alike commits
+fit_each : (commits : List Commit) (before alike last : Table) → SameTable before alike → LeadOn before commits last → FitAll alike commits
 fit_each [] before alike last same on = tt
 fit_each (commit ∷ commits) before alike last same on = (
-  apply_alike before alike commit.change same on.1,
-  λ table after. fit_each commits on.0 table last (afters_alike before commit.change on.0 table on.2 (after_alike before alike commit.change table same after)) on.4,
+  can_apply_same before alike commit.change same on.1,
+  λ table after. fit_each commits on.0 table last (afters_same before commit.change on.0 table on.2 (after_same before alike commit.change table same after)) on.4,
 )
 
 pub fit_all : (base : Table) (commits : List Commit) (last : Table) → LeadOn base commits last → FitAll base commits
-fit_all base commits last on = fit_each commits base base last (alike_itself base) on
+fit_all base commits last on = fit_each commits base base last (same_itself base) on
 
-apply_each : (commits : List Commit) (before alike last : Table) → AreAlike before alike → LeadOn before commits last → CanApplyAll alike commits
+apply_each : (commits : List Commit) (before alike last : Table) → SameTable before alike → LeadOn before commits last → CanApplyAll alike commits
 apply_each [] before alike last same on = tt
 apply_each (commit ∷ commits) before alike last same on = (
-  apply_alike before alike commit.change same on.1,
+  can_apply_same before alike commit.change same on.1,
   λ table after.
-      let next = afters_alike before commit.change on.0 table on.2 (after_alike before alike commit.change table same after) in
-      (publishable_alike on.0 table next after.distinct on.3, apply_each commits on.0 table last next on.4),
+      let next = afters_same before commit.change on.0 table on.2 (after_same before alike commit.change table same after) in
+      (publishable_same on.0 table next after.distinct on.3, apply_each commits on.0 table last next on.4),
 )
 
 pub can_apply_all : (base : Table) (commits : List Commit) (last : Table) → LeadOn base commits last → CanApplyAll base commits
-can_apply_all base commits last on = apply_each commits base base last (alike_itself base) on
+can_apply_all base commits last on = apply_each commits base base last (same_itself base) on
 
 -- the table behind a snapshot's commit is its own
 pub leads_to_own : (before own : Table) (commit : Commit) → commit.change.schema ≡ Some own.schema → LeadsTo before.rows commit.change.removed commit.change.added own.rows → HasDistinctPaths own.rows → own.partition ≡ before.partition

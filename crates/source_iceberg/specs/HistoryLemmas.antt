@@ -18,7 +18,8 @@ use Rattle.iceberg_table.specs.Snapshots.{IsReadAs, IsTableOfSnapshot}
 use Rattle.iceberg_table.specs.declared.manifest.Manifest.{Manifest}
 use Rattle.iceberg_table.specs.declared.snapshot.SnapshotTable.{SnapshotTable}
 use Rattle.iceberg_table.proofs.LiveLaws.{columns_same}
-use Rattle.source_core.specs.Histories.{IsLast, IsLike, LeadAlong, LeadsTo, SameTable}
+use Rattle.source_core.specs.Histories.{IsLast, IsLike, LeadAlong, LeadsTo}
+use Rattle.table_history.specs.Tables.{SameTable}
 use Rattle.source_core.specs.declared.head.Head.{Head}
 use Rattle.source_iceberg.specs.Heads.{IsCurrent, IsIcebergHead, IsTableAtHead}
 use Rattle.source_iceberg.specs.Histories.{AreEntriesOf, HoldsHistory, IsEntryOf}

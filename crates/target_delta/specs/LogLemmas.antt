@@ -5,9 +5,10 @@ use Rattle.std.proofs.Math.Nat.{eq-or-lt_of_le}
 use Rattle.std.specs.FinMap as map
 use Rattle.lake_store.specs.Disk.{Files}
 use Rattle.table_history.specs.Row.{Row}
-use Rattle.table_history.specs.Rows.{SameRows}
 use Rattle.table_history.specs.TypeTree.{ColumnTrees}
 use Rattle.table_history.specs.declared.table.Table.{Table}
+use Rattle.table_history.specs.Tables.{SameTable}
+use Rattle.table_history.proofs.SameTableLemmas.{same_table_back}
 use Rattle.delta_live.specs.Live.{ActsOn, IsRowBehind, PartColumns, ArePartColumns}
 use Rattle.delta_change.specs.TableBehind.{IsSchemaBehind, partition_behind, rows_before, schema_before}
 use Rattle.delta_log.specs.declared.commit.DeltaCommit.{DeltaCommit}
@@ -19,27 +20,16 @@ use Rattle.target_delta.specs.Reading.{KeepsId}
 
 -- ---- one table, up to the order of rows
 
-pub record SameTable (a b : Table) : Type 0 where
-  pub rows : SameRows a.rows b.rows
-  pub schema : a.schema ≡ b.schema
-  pub partition : a.partition ≡ b.partition
-
 abbrev pub SameTables : Option Table → Option Table → Type 0
 SameTables None None = Unit {0}
 SameTables (Some a) (Some b) = SameTable a b
 SameTables _ _ = ⊥
 
-pub same_table : (a : Table) → SameTable a a
-same_table a = record { rows = λ row. (λ h. h, λ h. h); schema = refl; partition = refl }
-
-pub table_sym : (a b : Table) → SameTable a b → SameTable b a
-table_sym a b same = record { rows = λ row. ((same.rows row).1, (same.rows row).0); schema = sym same.schema; partition = sym same.partition }
-
 pub tables_sym : (a b : Option Table) → SameTables a b → SameTables b a
 tables_sym None None same = tt
 tables_sym None (Some b) same = absurd same
 tables_sym (Some a) None same = absurd same
-tables_sym (Some a) (Some b) same = table_sym a b same
+tables_sym (Some a) (Some b) same = same_table_back a b same
 
 pub one_columns : (schema : ColumnTrees) (names : List (List ℕ)) (c d : PartColumns) → ArePartColumns schema names c → ArePartColumns schema names d → c ≡ d
 one_columns schema [] [] [] h k = refl

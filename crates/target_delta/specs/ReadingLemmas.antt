@@ -11,6 +11,7 @@ use Rattle.lake_store.specs.Runs.{IsIn}
 use Rattle.table_history.specs.Row.{Row}
 use Rattle.table_history.specs.TypeTree.{ColumnTrees}
 use Rattle.table_history.specs.declared.table.Change.{Change}
+use Rattle.table_history.specs.Tables.{SameTable}
 use Rattle.delta_live.specs.Live.{AddsRow, PartColumns, ArePartColumns}
 use Rattle.delta_change.specs.TableBehind.{Spells}
 use Rattle.delta_log.specs.declared.commit.DeltaCommit.{DeltaCommit}
@@ -33,7 +34,7 @@ use Rattle.target_delta.specs.Reading.{HasMark, IsAbsent, IsCarried, IsMarkAt, I
 use Rattle.delta_table.specs.Log.{IsStep}
 use Rattle.delta_table.specs.SameVersions.{SameVersions, has_too, log_too, own_versions, says_too, version_in, versions_sym}
 use Rattle.target_delta.specs.NameLemmas.{name_in, never_leftover, same_behind}
-use Rattle.target_delta.specs.LogLemmas.{SameTable, id_below, one_columns, one_table}
+use Rattle.target_delta.specs.LogLemmas.{id_below, one_columns, one_table}
 
 -- ---- one of each
 

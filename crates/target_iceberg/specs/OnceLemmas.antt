@@ -9,8 +9,8 @@ use Rattle.avro_container.specs.Reading.{container_at}
 use Rattle.avro_container.proofs.Containers.{container_again, container_refused}
 use Rattle.lake_store.specs.Disk.{Files}
 use Rattle.table_history.specs.declared.table.Table.{Table}
-use Rattle.table_history.specs.Rows.{SameRows}
 use Rattle.table_history.proofs.RowListLemmas.{Contains-head, Contains-tail}
+use Rattle.table_history.specs.Tables.{SameTable}
 use Rattle.iceberg_manifest.specs.Containers.{IsRefusedBy, Scan, StandsFor}
 use Rattle.iceberg_manifest.specs.Entry.{EntryData}
 use Rattle.iceberg_manifest.specs.Lists.{AreEach}
@@ -208,12 +208,6 @@ says_once files m a b =
     let manifests : a.manifests ≡ b.manifests = manifests_once files m.location (part_columns b.plan.columns) b.list a.manifests b.manifests
     (subst (λ (l : List ManifestFile). AreEach (IsManifestOf files m.location (part_columns b.plan.columns)) l a.manifests) list (subst (λ (p : Plan). AreEach (IsManifestOf files m.location (part_columns p.columns)) a.list a.manifests) plan a.says.are)) b.says.are in
     record { snapshot = snapshot; plan = plan; list = list; manifests = manifests }
-
--- one table, up to the order of rows
-pub record SameTable (a b : Table) : Type 0 where
-  pub rows : SameRows a.rows b.rows
-  pub schema : a.schema ≡ b.schema
-  pub partition : a.partition ≡ b.partition
 
 pub table_once : (files : Files) (m : Metadata) (s : Snapshot) (a b : Table) → IsTableOfSnapshot files m s a → IsTableOfSnapshot files m s b → SameTable a b
 table_once files m s a b h k =

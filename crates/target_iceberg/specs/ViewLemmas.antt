@@ -4,6 +4,7 @@ use Rattle.lake_store.specs.Disk.{Files}
 use Rattle.table_history.specs.Row.{Row}
 use Rattle.table_history.specs.declared.table.Change.{Change}
 use Rattle.table_history.specs.declared.table.Table.{Table}
+use Rattle.table_history.specs.Tables.{SameTable}
 use Rattle.iceberg_manifest.specs.Entry.{EntryData}
 use Rattle.iceberg_manifest.specs.declared.info.ManifestInfo.{ManifestInfo}
 use Rattle.iceberg_metadata.specs.declared.metadata.Metadata.{Metadata}
@@ -16,7 +17,7 @@ use Rattle.iceberg_table.specs.declared.plan.Plan.{Plan}
 use Rattle.target_core.specs.Changes.{IsGone, SameRowChange}
 use Rattle.target_core.specs.Views.{IsPublished, IsUnpublished, SameView, Standing, View, absent}
 use Rattle.target_iceberg.specs.Reading.{Adds, Deletes, IsAbsent, IsCarried, IsCurrent, IsEntryIn, IsMarked, IsOurs, Reads, SaysCurrent, SaysSnapshot}
-use Rattle.target_iceberg.specs.OnceLemmas.{SameTable, current_once, metadata_once, newest_once, says_once, standing_once, table_once}
+use Rattle.target_iceberg.specs.OnceLemmas.{current_once, metadata_once, newest_once, says_once, standing_once, table_once}
 
 -- ---- absent
 

@@ -6,7 +6,8 @@ use Rattle.std.proofs.lemmas.Option.{get_or_from_slice_get, same_Some, slice_get
 use Rattle.lake_store.specs.Disk.{Files}
 use Rattle.lake_store.specs.declared.store.Store.{Ghosts}
 use Rattle.lake_store.proofs.MomentLaws.{weaker}
-use Rattle.source_core.specs.Histories.{IsAt, IsLast, IsLike, LeadAlong, SameTable, ShowsEntry, ShowsTable}
+use Rattle.source_core.specs.Histories.{IsAt, IsLast, IsLike, LeadAlong, ShowsEntry, ShowsTable}
+use Rattle.table_history.specs.Tables.{SameTable}
 use Rattle.source_core.specs.declared.head.Head.{Head}
 use Rattle.source_core.proofs.Histories.{along_length, entry_after, entry_same}
 use Rattle.table_history.specs.History.{FitsColumn, History, IsHistory, IsSoundTable, column_type, positions_of}

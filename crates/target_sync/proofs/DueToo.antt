@@ -1,16 +1,16 @@
 -- The commits that are planned for one target are due to another one of the same table at the same position.
 use Rattle.std.proofs.Common.{◌≡◌, inl, inr, ⊎_elim, ◌<◌, ℕ, true, false, List, [], Contains, Option, Some, None, sym, ap, subst, ◌∙◌}
 use Rattle.lake_store.specs.Disk.{Files}
-use Rattle.source_core.specs.Histories.{SameTable}
 use Rattle.source_core.specs.declared.head.Head.{Head}
 use Rattle.table_history.specs.Rows.{SameRows}
-use Rattle.table_history.specs.Tables.{LeadsTo}
+use Rattle.table_history.specs.Tables.{LeadsTo, SameTable}
 use Rattle.table_history.specs.TypeTree.{ColumnTrees}
 use Rattle.table_history.specs.declared.kind.Kind.{Kind}
 use Rattle.table_history.specs.declared.row.FileRow.{FileRow}
 use Rattle.table_history.specs.declared.table.Commit.{Commit}
 use Rattle.table_history.specs.declared.table.Table.{Table}
 use Rattle.table_history.proofs.RowListLemmas.{Contains-none}
+use Rattle.table_history.proofs.SameTableLemmas.{same_table_back, same_through}
 use Rattle.target_core.specs.Conditions.{IsPublishable}
 use Rattle.target_core.specs.Views.{IsOfSource, Standing, View}
 use Rattle.target_sync.specs.Dues.{AreSinceMark, IsIdBehind, IsInFull, IsWhole, TakesCommits}
@@ -22,7 +22,7 @@ use Rattle.target_sync.specs.declared.plan.Mode.{Mode}
 use Rattle.target_sync.specs.declared.plan.Plan.{Plan}
 use Rattle.target_sync.proofs.Histories.{id_whole, one_standing, unmarked}
 use Rattle.target_sync.proofs.Planning.{since_sound}
-use Rattle.target_sync.proofs.Running.{can_apply_same}
+use Rattle.target_sync.proofs.Running.{can_apply_all_same}
 
 -- what changes nothing leads to the same rows
 pub same_rows : (held rows : List FileRow) (removed : List (List ℕ)) (added : List FileRow) → LeadsTo held removed added rows → removed ≡ [] → added ≡ [] → SameRows held rows
@@ -31,22 +31,12 @@ same_rows held rows removed added leads no_removed no_added row = (
   λ there. ⊎_elim (λ (new : Contains added row). absurd (Contains-none row (subst (λ (l : List FileRow). Contains l row) no_added new))) (λ (old : Contains held row × ¬ Contains removed row.path). old.0) ((leads row).1 there),
 )
 
-same_back : (a b : Table) → SameTable a b → SameTable b a
-same_back a b same = record { rows = λ row. ((same.rows row).1, (same.rows row).0); partition = sym same.partition; schema = sym same.schema }
-
-same_through : (a b c : Table) → SameTable a b → SameTable b c → SameTable a c
-same_through a b c one two = record {
-  rows = λ row. (λ there. (two.rows row).0 ((one.rows row).0 there), λ there. (one.rows row).1 ((two.rows row).1 there));
-  partition = one.partition ∙ two.partition;
-  schema = one.schema ∙ two.schema;
-}
-
 module _ {K L : Type 0} (view : K → View) (other : L → View) (source : SourceMeaning) (mode : Mode) (head : Head) (first : Plan K) (kept : L) (too : IsDueToo view other head first kept) (plan : Plan L) (is : IsSincePlan other head kept first.commits plan) where
   pub shared_sound : (image own_image : ColumnTrees → Option ColumnTrees) (kind : Kind) → IsSoundPlan view image kind mode first
       → ((table : Table) (held : ColumnTrees) → own_image table.schema ≡ Some held → IsPublishable table → IsPublishable (record { schema = held; partition = table.partition; rows = table.rows }))
       → IsOfSource kind (other kept) × (0 < (other kept).commits) → IsSoundPlan other own_image kind mode plan
   shared_sound image own_image kind sound held ours =
-      let can = can_apply_same (view first.kept).table (other kept).table (same_back (other kept).table (view first.kept).table too.table) first.commits (sound.since too.since) in
+      let can = can_apply_all_same (view first.kept).table (other kept).table (same_table_back (other kept).table (view first.kept).table too.table) first.commits (sound.since too.since) in
       let own = since_sound other (λ k files. ⊥) source head kept first.commits plan is own_image kind held ours can in
       record {
         can = own.can;

@@ -14,18 +14,18 @@ use Rattle.table_history.specs.History.{FitColumns}
 use Rattle.table_history.specs.Rows.{SameRows}
 use Rattle.table_history.specs.SchemaSize.{IsWithinLimits}
 use Rattle.table_history.specs.Sound.{IsSound}
-use Rattle.table_history.specs.Tables.{IsAfter, LeadsTo}
+use Rattle.table_history.specs.Tables.{IsAfter, LeadsTo, SameTable}
 use Rattle.table_history.specs.TypeTree.{ColumnTrees}
 use Rattle.table_history.specs.declared.kind.Kind.{Kind}
 use Rattle.table_history.specs.declared.table.Change.{Change}
 use Rattle.table_history.specs.declared.table.Commit.{Commit}
 use Rattle.table_history.specs.declared.table.Table.{Table}
 use Rattle.table_history.proofs.Laws.{same_rows_length}
+use Rattle.table_history.proofs.SameTableLemmas.{same_itself}
 use Rattle.target_core.specs.Conditions.{CanPublishAll, GoesOn, HasKind, IsPublishable}
 use Rattle.target_core.specs.Views.{IsOfSource, IsUnpublished, Origin, View, absent}
 use Rattle.target_sync.specs.Answered.{IsPlanRefusal, IsReadFault}
 use Rattle.target_sync.specs.Applied.{answer_of_source}
-use Rattle.source_core.specs.Histories.{SameTable}
 use Rattle.target_sync.specs.Dues.{AreSinceMark, IsIdBehind, IsInFull, IsMarked, IsSinceFault, IsWhole, TakesCommits}
 use Rattle.target_sync.specs.Plans.{IsDuePlan, IsFound, IsFoundInFull, IsFoundOfSource, IsFoundOurs, IsFullPlan, IsSinceMark, IsSincePlan, IsSoundPlan, IsStartOf}
 use Rattle.target_sync.specs.Sources.{HasHead, SourceMeaning}
@@ -171,7 +171,7 @@ module _ {K : Type 0} (view : K → View) (stands_for : K → Files → Type 0) 
       let whole : IsMarked (view kept) (IsWhole source files) = (told.0, told.1, told.2.0) in
       let Due : K → Type 0 = λ k. AreSinceMark source modes.Sync files (view k) plan.partition plan.commits plan.full in
       let base : Table = (view kept).table in
-      let same : SameTable base base = record { rows = λ row. (λ there. there, λ there. there); partition = refl; schema = refl } in
+      let same : SameTable base base = same_itself base in
       let due : Due kept = record {
         sync = refl;
         marked = (told.0, told.1, (told.2.0, (base, same, subst (λ (cs : List Commit). source.is_since files told.0.to base cs) (sym is.commits) told.2.1)));

@@ -1,14 +1,14 @@
 -- The commits of a source may be published over a target that holds what its types hold of the table before them.
-use Rattle.std.proofs.Common.{◌≡◌, ◌⊎◌, inl, inr, ⊎_elim, ℕ, List, [], ◌∷◌, Contains, Option, Some, None, refl, sym, ap, subst, ◌∙◌}
+use Rattle.std.proofs.Common.{◌≡◌, ◌⊎◌, inl, inr, ⊎_elim, List, [], ◌∷◌, Contains, Option, Some, None, refl, sym, ap, subst, ◌∙◌}
 use Rattle.std.specs.Prelude.{◌↔◌, unwrap_or}
-use Rattle.table_history.specs.Rows.{HasDistinctPaths, HasPath, SameRows}
-use Rattle.table_history.specs.Tables.{CanApply, IsAfter, IsRowAfter}
+use Rattle.table_history.specs.Rows.{HasDistinctPaths, SameRows}
+use Rattle.table_history.specs.Tables.{CanApply, IsAfter, IsRowAfter, SameTable}
 use Rattle.table_history.specs.TypeTree.{ColumnTrees}
 use Rattle.table_history.specs.declared.row.FileRow.{FileRow}
 use Rattle.table_history.specs.declared.table.Change.{Change}
 use Rattle.table_history.specs.declared.table.Commit.{Commit}
 use Rattle.table_history.specs.declared.table.Table.{Table}
-use Rattle.source_core.specs.Histories.{SameTable}
+use Rattle.table_history.proofs.SameTableLemmas.{after_same, can_apply_same, has_path_same, row_after, rows_back}
 use Rattle.source_core.specs.Since.{CanApplyAll}
 use Rattle.target_core.specs.Conditions.{CanPublish, CanPublishAll, IsPublishable}
 use Rattle.target_core.specs.Views.{IsAdvanced, IsSchemaAfter, Origin, View}
@@ -19,39 +19,14 @@ pub record IsLike (image : ColumnTrees → Option ColumnTrees) (t : Table) (view
   pub partition : t.partition ≡ view.table.partition
   pub schema : (view.table.schema ≡ t.schema) ⊎ (image t.schema ≡ Some view.table.schema)
 
-pub row_after : (a b : List FileRow) (change : Change) (row : FileRow) → SameRows a b → IsRowAfter a change.removed change.added row → IsRowAfter b change.removed change.added row
-row_after a b change row same is = ⊎_elim inl (λ (old : Contains a row × ¬ Contains change.removed row.path). inr ((same row).0 old.0, old.1)) is
-
-pub rows_back : (a b : List FileRow) → SameRows a b → SameRows b a
-rows_back a b same row = ((same row).1, (same row).0)
-
-pub path_there : (a b : List FileRow) (path : List ℕ) → SameRows a b → HasPath a path → HasPath b path
-path_there a b path same has = (has.0, (same has.0).0 has.1, has.2)
-
 -- the table after the change, with these rows
 abbrev moved : Table → Change → List FileRow → Table
 moved t change rows = record { schema = unwrap_or change.schema t.schema; partition = t.partition; rows = rows }
 
 -- What fits a table fits another one of the same rows, partition columns and schema.
-pub can_apply_same : (a b : Table) → SameTable a b → (commits : List Commit) → CanApplyAll a commits → CanApplyAll b commits
-can_apply_same a b same [] can = tt
-can_apply_same a b same (commit ∷ commits) can = (
-  record {
-    removed_distinct = can.0.removed_distinct;
-    removed_there = λ path there. path_there a.rows b.rows path same.rows (can.0.removed_there path there);
-    added_distinct = can.0.added_distinct;
-    added_new = λ row there has. can.0.added_new row there (path_there b.rows a.rows row.path (rows_back a.rows b.rows same.rows) has);
-  },
-  λ after is. can.1 after (record {
-    rows = λ row. (
-      λ there. row_after b.rows a.rows commit.change row (rows_back a.rows b.rows same.rows) ((is.rows row).0 there),
-      λ was. (is.rows row).1 (row_after a.rows b.rows commit.change row same.rows was),
-    );
-    distinct = is.distinct;
-    schema = is.schema ∙ ap (λ (s : ColumnTrees). unwrap_or commit.change.schema s) (sym same.schema);
-    partition = is.partition ∙ sym same.partition;
-  }),
-)
+pub can_apply_all_same : (a b : Table) → SameTable a b → (commits : List Commit) → CanApplyAll a commits → CanApplyAll b commits
+can_apply_all_same a b same [] can = tt
+can_apply_all_same a b same (commit ∷ commits) can = (can_apply_same a b commit.change same can.0, λ after is. can.1 after (after_same a b commit.change after same is))
 
 module _ (image : ColumnTrees → Option ColumnTrees) (origin : Origin)
     (held_publishable : (table : Table) (held : ColumnTrees) → image table.schema ≡ Some held → IsPublishable table → IsPublishable (record { schema = held; partition = table.partition; rows = table.rows })) where
@@ -90,9 +65,9 @@ module _ (image : ColumnTrees → Option ColumnTrees) (origin : Origin)
   can_here t view commit like can after = record {
     change = record {
       removed_distinct = can.removed_distinct;
-      removed_there = λ path there. path_there t.rows view.table.rows path like.rows (can.removed_there path there);
+      removed_there = λ path there. has_path_same t.rows view.table.rows path like.rows (can.removed_there path there);
       added_distinct = can.added_distinct;
-      added_new = λ row there has. can.added_new row there (path_there view.table.rows t.rows row.path (rows_back t.rows view.table.rows like.rows) has);
+      added_new = λ row there has. can.added_new row there (has_path_same view.table.rows t.rows row.path (rows_back t.rows view.table.rows like.rows) has);
     };
     after = λ table is. publishable_as commit.change.schema t view table like is.schema is.partition (after (moved t commit.change table.rows) (is_moved t view commit.change table.rows like is.rows is.distinct));
   }

@@ -11,15 +11,15 @@ use Rattle.source_core.specs.declared.head.Head.{Head}
 use Rattle.table_history.specs.History.{History}
 use Rattle.table_history.specs.Row.{Row}
 use Rattle.table_history.specs.Rows.{SameRows}
-use Rattle.table_history.specs.Tables.{IsRowAfter}
+use Rattle.table_history.specs.Tables.{SameTable}
 use Rattle.table_history.specs.TypeTree.{ColumnTrees}
 use Rattle.table_history.specs.declared.kind.Kind.{Kind}
 use Rattle.table_history.specs.declared.limit.LimitKind.{LimitKind}
 use Rattle.table_history.specs.declared.limit.LimitKind.TheVariants.{Names}
-use Rattle.table_history.specs.declared.table.Change.{Change}
 use Rattle.table_history.specs.declared.table.Commit.{Commit}
 use Rattle.table_history.specs.declared.table.Table.{Table}
 use Rattle.table_history.proofs.Laws.{change_of_same_rows}
+use Rattle.table_history.proofs.SameTableLemmas.{row_after}
 use Rattle.target_core.specs.Folders.{SameIn, after_crash, folder_of}
 use Rattle.target_core.specs.Gained.{Carries, Gained, GainedSome, StillCarries}
 use Rattle.target_core.specs.Meaning.{Meaning}
@@ -30,7 +30,6 @@ use Rattle.target_core.proofs.Apart.{folders_apart}
 use Rattle.target_core.proofs.Same.{advanced_from, same_refl}
 use Rattle.target_core.proofs.Steps.{count_taken}
 use Rattle.target_sync.specs.Applied.{StayShown, position_at}
-use Rattle.source_core.specs.Histories.{SameTable}
 use Rattle.target_sync.specs.Dues.{AreSinceMark, Due, IsIdBehind, IsInFull, IsMarked, IsWhole, TakesCommits, origin_of}
 use Rattle.target_sync.specs.Sources.{SameSource, SourceMeaning}
 use Rattle.target_sync.specs.Synced.{HasTable, IsAsBefore, IsAsBeforeOrUnderway, IsAtHead, IsContested, IsLimited, IsStopped, IsUnderway, KeepsSource, Leaving, Synced, with_columns}
@@ -114,9 +113,6 @@ one_rows v w (inl same) = same.rows
 one_rows v w (inr none) =
     let is : v.table.rows ≡ w.table.rows = ap (λ (x : View). x.table.rows) none.0 ∙ sym (ap (λ (x : View). x.table.rows) none.1) in
     λ row. (λ there. subst (λ (rows : List Row). Contains rows row) is there, λ there. subst (λ (rows : List Row). Contains rows row) (sym is) there)
-
-row_after : (a b : List Row) (change : Change) (row : Row) → SameRows a b → IsRowAfter a change.removed change.added row → IsRowAfter b change.removed change.added row
-row_after a b change row same is = ⊎_elim inl (λ (old : Contains a row × ¬ Contains change.removed row.path). inr ((same row).0 old.0, old.1)) is
 
 rows_refl : (rows : List Row) → SameRows rows rows
 rows_refl rows row = (λ there. there, λ there. there)

@@ -1,10 +1,9 @@
 -- What is to be published to a target that is brought to the source's head.
 use Rattle.std.specs.Prelude.{◌≡◌, ◌⊎◌, ℕ, Bool, true, false, List, [], ◌∷◌, Option, Some, None}
 use Rattle.lake_store.specs.Disk.{Files}
-use Rattle.source_core.specs.Histories.{SameTable}
 use Rattle.source_core.specs.declared.error.SourceError.{SourceError}
 use Rattle.source_core.specs.declared.head.Head.{Head}
-use Rattle.table_history.specs.Tables.{IsDiff, LeadsTo}
+use Rattle.table_history.specs.Tables.{IsDiff, LeadsTo, SameTable}
 use Rattle.table_history.specs.declared.table.Change.{Change}
 use Rattle.table_history.specs.declared.table.Commit.{Commit}
 use Rattle.table_history.specs.declared.table.Table.{Table}

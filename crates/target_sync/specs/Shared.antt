@@ -1,6 +1,6 @@
 -- What two targets need of the source alike.
 use Rattle.std.specs.Prelude.{◌≡◌, true, false, Some}
-use Rattle.source_core.specs.Histories.{SameTable}
+use Rattle.table_history.specs.Tables.{SameTable}
 use Rattle.source_core.specs.declared.head.Head.{Head}
 use Rattle.target_core.specs.Views.{Standing, View}
 use Rattle.target_sync.specs.Dues.{MayBeSame}

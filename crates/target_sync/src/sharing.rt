@@ -3,7 +3,7 @@ ghost use Rattle.std.specs.Prelude.{◌≡◌, ◌↔◌, [], IfErr, IfOk, IfSom
 ghost use Rattle.std.specs.Bool.{Decides};
 ghost use Rattle.lake_store.specs.Runs.{FailsBy, IsUncontestedBy, OnlyReads};
 ghost use Rattle.source_core.specs.Answers.{IsReadRefusal};
-ghost use Rattle.source_core.specs.Histories.{SameTable};
+ghost use Rattle.table_history.specs.Tables.{SameTable};
 ghost use Rattle.table_history.specs.Rows.{SameRows};
 ghost use Rattle.target_core.specs.Conditions.{IsPublishable};
 ghost use Rattle.target_sync.specs.Answered.{IsReadFault};
