@@ -1,7 +1,7 @@
 -- What is at fault in a block is refused so.
-use Rattle.std.proofs.Common.{◌≡◌, ℕ, zero, suc, ◌+◌, ◌-◌, ◌<◌, ◌≤◌, ◌⊎◌, pos, Bool, true, false, cond, List, [], ◌∷◌, ◌++◌, length, take, drop, Result, Ok, Err, refl, sym, ap, subst, ◌∙◌, append_assoc, arith, inl, inr}
+use Rattle.std.proofs.Common.{◌≡◌, ℕ, zero, suc, ◌+◌, ◌-◌, ◌<◌, ◌≤◌, pos, false, List, [], ◌∷◌, ◌++◌, length, take, drop, Result, Ok, Err, refl, sym, ap, ◌∙◌, append_assoc, arith, inl, inr}
 use Rattle.std.specs.Str.{bytes_eq}
-use Rattle.std.proofs.lemmas.Bool.{cases_lt}
+use Rattle.std.proofs.lemmas.Bool.{cases_lt, false_from_ne_true}
 use Rattle.std.proofs.lemmas.Slice.Eq.{bytes_eq-Decides}
 use Rattle.std.proofs.lemmas.List.{length-append, length-take, length-drop, take-append-drop}
 use Rattle.avro_value.specs.Varint.{Long}
@@ -18,10 +18,6 @@ use Rattle.avro_container.specs.Faults.{IsFlawAt, FaultsInNumber, FaultsInObject
 use Rattle.avro_container.proofs.Objects.{objects_again, objects_refused, run_in_again, run_in_refused, natural_in_again, natural_in_refused, fault_is}
 use Rattle.avro_container.proofs.ContainerLoops.{some_blocks}
 use Rattle.avro_container.proofs.WholeBlocks.{block_is, block_takes, block_length, block_faulty, whole_again, blocks_length, blocks_on}
-
-untrue : (b : Bool) → (b ≡ true → ⊥) → b ≡ false
-untrue true h = absurd (h refl)
-untrue false h = refl
 
 short_block : (l : Layout) (marker bytes : List ℕ) (budget n s : ℕ) (count sizes rest : List ℕ) (f : ContainerFault) → bytes ≡ count ++ (sizes ++ rest) → Long (pos n) count → Long (pos s) sizes → length rest < s + 16 → IsFlawAt flaw.Short bytes f
     → block_at l marker bytes budget ≡ Err f
@@ -49,7 +45,7 @@ block_refused l marker bytes budget f h = elim h [
       whole_again l marker bytes budget n objects sync rest w ∙ rw (objects_refused l n objects (sync ++ rest) budget f o) refl
   | inr (inr (inr (inr (vs, objects, sync, rest, w, joined, few, other, at)))) ↦
       (let o = objects_again l vs objects (length (sync ++ rest)) budget (budget - total value_count vs) joined (omega (arith, few)) in
-      let no : bytes_eq sync marker ≡ false = untrue (bytes_eq sync marker) (λ t. other ((bytes_eq-Decides sync marker).0 t)) in
+      let no : bytes_eq sync marker ≡ false = false_from_ne_true (bytes_eq sync marker) (λ t. other ((bytes_eq-Decides sync marker).0 t)) in
       whole_again l marker bytes budget (length vs) objects sync rest w ∙ rw (o, no) (ap Err (fault_is f flaw.BadSync (length (sync ++ rest)) at.0 at.1)))
 ]
 

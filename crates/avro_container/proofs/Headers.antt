@@ -1,8 +1,9 @@
 -- What a header takes, what it is read again from, and where it is at fault.
-use Rattle.std.proofs.Common.{◌≡◌, ℕ, zero, suc, ◌+◌, ◌-◌, ◌<◌, ◌≤◌, ◌⊎◌, pos, Bool, true, false, cond, List, [], ◌∷◌, ◌++◌, length, Option, Some, None, Result, Ok, Err, refl, sym, ap, subst, ◌∙◌, append_assoc, arith, inl, inr}
+use Rattle.std.proofs.Common.{◌≡◌, ℕ, ◌+◌, ◌-◌, ◌<◌, ◌≤◌, ◌⊎◌, pos, Bool, true, false, cond, List, [], ◌∷◌, ◌++◌, length, Result, Ok, Err, refl, sym, ap, subst, ◌∙◌, append_assoc, arith, inl, inr}
 use Rattle.std.specs.Str.{bytes_eq}
 use Rattle.std.proofs.lemmas.Slice.Eq.{bytes_eq-Decides}
 use Rattle.std.proofs.lemmas.List.{length-append}
+use Rattle.std.proofs.lemmas.Bool.{false_from_ne_true}
 use Rattle.avro_value.specs.declared.fault.Fault.{Fault}
 use Rattle.avro_value.specs.declared.fault.Fault.TheVariants.{Short, BadLong, BadLength, BadIndex, BadText, BadBool, Limit}
 use Rattle.avro_value.specs.declared.fault.FaultAt.{FaultAt}
@@ -75,14 +76,10 @@ magic_short : (bytes : List ℕ) → length bytes < 4 → after_magic bytes ≡ 
 unfolding after_magic
 magic_short bytes lt = rw (run_refused 4 bytes Short (refl, lt), after_magic) refl
 
-untrue : (b : Bool) → (b ≡ true → ⊥) → b ≡ false
-untrue true h = absurd (h refl)
-untrue false h = refl
-
 magic_other : (front rest : List ℕ) → length front ≡ 4 → (front ≡ magic → ⊥) → after_magic (front ++ rest) ≡ Err flaw.BadMagic
 unfolding after_magic
 magic_other front rest len other =
-    let no : bytes_eq front magic ≡ false = untrue (bytes_eq front magic) (λ t. other ((bytes_eq-Decides front magic).0 t)) in
+    let no : bytes_eq front magic ≡ false = false_from_ne_true (bytes_eq front magic) (λ t. other ((bytes_eq-Decides front magic).0 t)) in
     rw (run_again 4 front front rest (refl, len), after_magic, no) refl
 
 -- ---- the metadata

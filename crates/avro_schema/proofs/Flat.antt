@@ -4,16 +4,13 @@ use Rattle.std.specs.declared.cmp.Ordering.{Ordering}
 use Rattle.std.specs.declared.cmp.Ordering.TheVariants.{Less, Equal, Greater}
 use Rattle.std.specs.Ordering.{nat_cmp, match_ordering}
 use Rattle.std.specs.Cmp.Lexicographic.{slice_cmp}
+use Rattle.std.proofs.lemmas.Bool.{or_from}
 use Rattle.serde_json.specs.Data.{Data, string, array, object, Members, no_members, member, put}
 use Rattle.serde_json.specs.View.{items_of}
 use Rattle.serde_json.specs.Written.{has_float, items_have_float, members_have_float}
 use Rattle.avro_schema.specs.Tree.{SchemaTree, schema_tree, ShapeTree, BranchTrees, no_branches, branch, FieldTrees, no_fields, field}
 use Rattle.avro_schema.specs.Names.{has_dot, namespace_of}
 use Rattle.avro_schema.specs.Writing.{Written, put_some, size_json, id_json, with_annotations, type_members, primitive_json, no_namespace, named_members, is_written, definition_json, array_members, map_members, fixed_members, enum_members, record_members, schema_json, shape_json, branches_json, fields_json}
-
-both : (a b : Bool) → a ≡ false → b ≡ false → (a || b) ≡ false
-both true b e f = e
-both false b e f = f
 
 left : (a b : Bool) → (a || b) ≡ false → a ≡ false
 left true b e = e
@@ -29,9 +26,9 @@ flat_by Equal a b c e f g = f
 flat_by Greater a b c e f g = g
 
 flat_put : (k : List ℕ) (d : Data) (ms : Members) → has_float d ≡ false → members_have_float ms ≡ false → members_have_float (put k d ms) ≡ false
-flat_put k d no_members hd hms = both _ _ hd refl
+flat_put k d no_members hd hms = or_from _ _ hd refl
 flat_put k d (member l e ms) hd hms =
-    flat_by (slice_cmp nat_cmp k l) _ _ _ (both (has_float d) _ hd hms) (both (has_float d) _ hd (right (has_float e) _ hms)) (both (has_float e) _ (left (has_float e) _ hms) (flat_put k d ms hd (right (has_float e) _ hms)))
+    flat_by (slice_cmp nat_cmp k l) _ _ _ (or_from (has_float d) _ hd hms) (or_from (has_float d) _ hd (right (has_float e) _ hms)) (or_from (has_float e) _ (left (has_float e) _ hms) (flat_put k d ms hd (right (has_float e) _ hms)))
 
 flat_id : (z : ℤ) → has_float (id_json z) ≡ false
 flat_id (pos n) = refl
@@ -110,8 +107,8 @@ mutual
 
   flat_branches : (ts : BranchTrees) (space : List ℕ) (names : List (List ℕ)) → items_have_float (branches_json ts space names).0 ≡ false
   flat_branches no_branches space names = refl
-  flat_branches (branch t ts) space names = both _ _ (flat_schema t space names) (flat_branches ts space (schema_json t space names).1)
+  flat_branches (branch t ts) space names = or_from _ _ (flat_schema t space names) (flat_branches ts space (schema_json t space names).1)
 
   flat_fields : (fs : FieldTrees) (space : List ℕ) (names : List (List ℕ)) → items_have_float (fields_json fs space names).0 ≡ false
   flat_fields no_fields space names = refl
-  flat_fields (field name t id fs) space names = both _ _ (flat_put_id (codes "field-id") id (put (codes "type") (schema_json t space names).0 (put (codes "name") (string name) no_members)) (flat_put (codes "type") (schema_json t space names).0 (put (codes "name") (string name) no_members) (flat_schema t space names) refl)) (flat_fields fs space (schema_json t space names).1)
+  flat_fields (field name t id fs) space names = or_from _ _ (flat_put_id (codes "field-id") id (put (codes "type") (schema_json t space names).0 (put (codes "name") (string name) no_members)) (flat_put (codes "type") (schema_json t space names).0 (put (codes "name") (string name) no_members) (flat_schema t space names) refl)) (flat_fields fs space (schema_json t space names).1)

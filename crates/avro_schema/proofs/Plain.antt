@@ -4,6 +4,7 @@ use Rattle.std.specs.List.{list_any}
 use Rattle.std.specs.Str.{bytes_eq}
 use Rattle.std.proofs.lemmas.Slice.Eq.{bytes_eq-Decides}
 use Rattle.std.proofs.lemmas.List.Folds.{list_any-append}
+use Rattle.std.proofs.lemmas.Bool.{false_from_ne_true, or_from, or_left, or_parts, or_right}
 use Rattle.serde_json.specs.Data.{depth}
 use Rattle.avro_schema.specs.Tree.{SchemaTree, schema_tree, ShapeTree, BranchTrees, no_branches, branch, FieldTrees, no_fields, field}
 use Rattle.avro_schema.specs.Names.{is_name, Definition, definition_of, with_definition, are_distinct}
@@ -23,27 +24,9 @@ listed x ds = among x (names_of ds)
 
 -- ---- Bool
 
-or_false : (a b : Bool) → a ≡ false → b ≡ false → (a || b) ≡ false
-or_false a b e f = rw (e, f) refl
-
-or_right : (a b : Bool) → b ≡ true → (a || b) ≡ true
-or_right true b e = refl
-or_right false b e = e
-
-or_left : (a b : Bool) → a ≡ true → (a || b) ≡ true
-or_left a b e = rw e refl
-
-parts : (a b : Bool) → (a || b) ≡ false → (a ≡ false) × (b ≡ false)
-parts true b e = absurd cc
-parts false b e = (refl, e)
-
 no_part : (a b : Bool) → (not a && b) ≡ true → (a ≡ false) × (b ≡ true)
 no_part true b e = absurd cc
 no_part false b e = (refl, e)
-
-unless : (b : Bool) → (b ≡ true → ⊥) → b ≡ false
-unless true h = absurd (h refl)
-unless false h = refl
 
 clash : (b : Bool) → b ≡ true → b ≡ false → ⊥
 clash true e f = cc
@@ -79,15 +62,15 @@ distinct_parts : (xs ys : List (List ℕ)) → are_distinct (xs ++ ys) ≡ true 
 distinct_parts [] ys e = (refl, e, λ x h. absurd (clash false h refl))
 distinct_parts (y ∷ xs) ys e =
     let both = no_part (among y (xs ++ ys)) (are_distinct (xs ++ ys)) e in
-    let here = parts (among y xs) (among y ys) (sym (list_any-append (bytes_eq y) xs ys) ∙ both.0) in
+    let here = or_parts (among y xs) (among y ys) (sym (list_any-append (bytes_eq y) xs ys) ∙ both.0) in
     let rest = distinct_parts xs ys both.1 in
     (rw (here.0, rest.0) refl, rest.1, λ x h. apart_by (bytes_eq x y) x y xs ys refl h here.1 (rest.2 x))
 
 other_than : (x name : List ℕ) (ns : List (List ℕ)) → among name ns ≡ false → among x ns ≡ true → bytes_eq x name ≡ false
-other_than x name ns none here = unless (bytes_eq x name) (λ e. clash (among name ns) (ap (λ (z : List ℕ). among z ns) (sym ((bytes_eq-Decides x name).0 e)) ∙ here) none)
+other_than x name ns none here = false_from_ne_true (bytes_eq x name) (λ e. clash (among name ns) (ap (λ (z : List ℕ). among z ns) (sym ((bytes_eq-Decides x name).0 e)) ∙ here) none)
 
 split_false : (x : List ℕ) (xs ys : List (List ℕ)) → among x (xs ++ ys) ≡ false → (among x xs ≡ false) × (among x ys ≡ false)
-split_false x xs ys e = parts (among x xs) (among x ys) (sym (list_any-append (bytes_eq x) xs ys) ∙ e)
+split_false x xs ys e = or_parts (among x xs) (among x ys) (sym (list_any-append (bytes_eq x) xs ys) ∙ e)
 
 in_first : (x : List ℕ) (xs ys : List (List ℕ)) → among x xs ≡ true → among x (xs ++ ys) ≡ true
 in_first x xs ys h = list_any-append (bytes_eq x) xs ys ∙ or_left (among x xs) (among x ys) h
@@ -131,13 +114,13 @@ mutual
   untouched_shape x ShapeTree.double l p s before out none = none
   untouched_shape x ShapeTree.bytes l p s before out none = none
   untouched_shape x ShapeTree.text l p s before out none = none
-  untouched_shape x (ShapeTree.fixed_of name size) l p s before out none = still_unlisted x name (schema_tree (ShapeTree.fixed_of name size) l p s) before (parts (bytes_eq x name) false out).0 none
-  untouched_shape x (ShapeTree.enum_of name symbols) l p s before out none = still_unlisted x name (schema_tree (ShapeTree.enum_of name symbols) l p s) before (parts (bytes_eq x name) false out).0 none
+  untouched_shape x (ShapeTree.fixed_of name size) l p s before out none = still_unlisted x name (schema_tree (ShapeTree.fixed_of name size) l p s) before (or_parts (bytes_eq x name) false out).0 none
+  untouched_shape x (ShapeTree.enum_of name symbols) l p s before out none = still_unlisted x name (schema_tree (ShapeTree.enum_of name symbols) l p s) before (or_parts (bytes_eq x name) false out).0 none
   untouched_shape x (ShapeTree.array_of inner id) l p s before out none = untouched x inner before out none
   untouched_shape x (ShapeTree.map_of inner key value) l p s before out none = untouched x inner before out none
   untouched_shape x (ShapeTree.union_of ts) l p s before out none = untouched_branches x ts before out none
   untouched_shape x (ShapeTree.record_of name fs) l p s before out none =
-      let both = parts (bytes_eq x name) (among x (names_in_fields fs)) out in
+      let both = or_parts (bytes_eq x name) (among x (names_in_fields fs)) out in
       still_unlisted x name (schema_tree (ShapeTree.record_of name fs) l p s) (after_fields fs before) both.0 (untouched_fields x fs before both.1 none)
 
   untouched_branches : (x : List ℕ) (ts : BranchTrees) (before : List Definition) → among x (branch_names ts) ≡ false → listed x before ≡ false → listed x (after_branches ts before) ≡ false
@@ -168,12 +151,12 @@ free at before name ns proper out none =
 -- The names of the next part are not those of the part before.
 next_unlisted : (t : SchemaTree) (before : List Definition) (ns : List (List ℕ)) → ((x : List ℕ) → among x (names_in t) ≡ true → among x ns ≡ false) → AreUnlisted before (names_in t ++ ns) → AreUnlisted (after_type t before) ns
 next_unlisted t before ns apart none x h =
-    let out : among x (names_in t) ≡ false = unless (among x (names_in t)) (λ e. clash (among x ns) h (apart x e)) in
+    let out : among x (names_in t) ≡ false = false_from_ne_true (among x (names_in t)) (λ e. clash (among x ns) h (apart x e)) in
     untouched x t before out (none x (in_second x (names_in t) ns h))
 
 within_outside : (at : Place) (name : List ℕ) (ns : List (List ℕ)) → among name ns ≡ false → AreOutside at (name ∷ ns) → AreOutside (inside at name) ns
 within_outside at name ns alone out x h =
-    list_any-append (bytes_eq x) at.open_names (name ∷ []) ∙ or_false (list_any (bytes_eq x) at.open_names) (bytes_eq x name || false) (out x (or_right (bytes_eq x name) (among x ns) h)) (or_false (bytes_eq x name) false (other_than x name ns alone h) refl)
+    list_any-append (bytes_eq x) at.open_names (name ∷ []) ∙ or_from (list_any (bytes_eq x) at.open_names) (bytes_eq x name || false) (out x (or_right (bytes_eq x name) (among x ns) h)) (or_from (bytes_eq x name) false (other_than x name ns alone h) refl)
 
 mutual
   stand : (at : Place) (before : List Definition) (t : SchemaTree) → IsSound t → are_distinct (names_in t) ≡ true → AreOutside at (names_in t) → AreUnlisted before (names_in t) → Stands at before t (after_type t before)

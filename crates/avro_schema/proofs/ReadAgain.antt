@@ -1,5 +1,5 @@
 -- What a text declares can be written, and nests no deeper then.
-use Rattle.std.proofs.Common.{◌≡◌, ℕ, suc, ◌+◌, ◌≤◌, ◌⊎◌, ℤ, pos, negsuc, Bool, true, false, ◌||◌, ◌&&◌, not, cond, length, ◌==◌, max, List, [], ◌∷◌, ◌++◌, map, Option, None, Some, Ok, option_map, is_some, refl, ap, sym, subst, ◌∙◌, inl, inr, codes, IfSome, arith, eqb, ne_eqb}
+use Rattle.std.proofs.Common.{◌≡◌, ℕ, suc, ◌+◌, ◌≤◌, ◌⊎◌, ℤ, pos, negsuc, Bool, true, false, ◌&&◌, not, cond, length, ◌==◌, max, List, [], ◌∷◌, ◌++◌, map, Option, None, Some, Ok, option_map, is_some, refl, ap, sym, subst, ◌∙◌, inl, inr, codes, IfSome, arith, eqb, ne_eqb}
 use Rattle.std.specs.Prelude.{option_and_then, nat_le}
 use Rattle.std.specs.List.{AllByRecursion, list_any}
 use Rattle.std.specs.Str.{bytes_eq, is_utf8}
@@ -7,7 +7,7 @@ use Rattle.std.specs.declared.cmp.Ordering.{Ordering}
 use Rattle.std.specs.declared.cmp.Ordering.TheVariants.{Less, Equal, Greater}
 use Rattle.std.specs.Ordering.{nat_cmp, match_ordering}
 use Rattle.std.specs.Cmp.Lexicographic.{slice_cmp}
-use Rattle.std.proofs.lemmas.Bool.{leb-true}
+use Rattle.std.proofs.lemmas.Bool.{leb-true, or_right}
 use Rattle.std.proofs.lemmas.List.{length-append}
 use Rattle.std.proofs.lemmas.Slice.Eq.{bytes_eq-Decides}
 use Rattle.serde_json.specs.Data.{Data, null, boolean, number, string, array, object, Items, no_items, item, Members, no_members, member, put, depth, items_depth, members_depth}
@@ -62,13 +62,9 @@ id_small (Some d) id e = id_known (int d) id (int_small d) e
 
 -- ---- names
 
-or_last : (a b : Bool) → b ≡ true → (a || b) ≡ true
-or_last true b e = refl
-or_last false b e = e
-
 dot_inside : (xs ys : List ℕ) → has_dot (xs ++ dot ∷ ys) ≡ true
 dot_inside [] ys = refl
-dot_inside (x ∷ xs) ys = or_last (x == dot) (has_dot (xs ++ dot ∷ ys)) (dot_inside xs ys)
+dot_inside (x ∷ xs) ys = or_right (x == dot) (has_dot (xs ++ dot ∷ ys)) (dot_inside xs ys)
 
 other_word : (word other : List ℕ) → has_dot word ≡ true → has_dot other ≡ false → bytes_eq word other ≡ false
 other_word word other dotted none = go (bytes_eq word other) refl

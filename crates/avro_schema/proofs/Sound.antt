@@ -2,7 +2,7 @@
 use Rattle.std.proofs.Common.{◌≡◌, ℕ, zero, suc, ◌+◌, ◌-◌, ◌<◌, ◌≤◌, Bool, true, false, ◌||◌, ◌&&◌, not, cond, List, [], ◌∷◌, ◌++◌, length, take, map, Option, Some, None, Ok, Err, ℤ, refl, ap, subst, ◌∙◌, inl, inr, arith, codes, is_some}
 use Rattle.std.specs.Prelude.{nat_lt, ◌==◌}
 use Rattle.std.specs.Str.{bytes_eq}
-use Rattle.std.proofs.lemmas.Bool.{eqb-false, ltb-false}
+use Rattle.std.proofs.lemmas.Bool.{eqb-false, ltb-false, or_parts}
 use Rattle.std.proofs.lemmas.Slice.Eq.{bytes_eq-Decides}
 use Rattle.serde_json.specs.Data.{Data, null, boolean, number, string, array, object, Items}
 use Rattle.serde_json.specs.Find.{get, as_str, as_array}
@@ -80,10 +80,6 @@ leaf_found space d st word shape l p s t after n says small e =
     let same : ◌≡◌ {A = SchemaRead} (schema_tree shape l p s, record st { budget = st.budget - 1 }) (t, after) = ok_is _ _ c.1 in
     let P : SchemaRead → Type 0 = λ x. Found space d st x.0 x.1 (suc n) 0 in
     subst P same (record { declares = inl (says, refl); same_open = refl; levels = omega (arith, small.1); types = omega (arith, small.0, c.0) })
-
-or_parts : (a b : Bool) → (a || b) ≡ false → (a ≡ false) × (b ≡ false)
-or_parts true b e = absurd cc
-or_parts false b e = (refl, e)
 
 fits_by : (space : List ℕ) (d : Data) (st : State) (name : List ℕ) (u t : SchemaTree) (after : State) (left : ℕ) (b : Bool) → (nat_lt left (level_count u) || nat_lt st.budget (type_count u)) ≡ b → Declares (place space st) st.definitions d u st.definitions → cond {A = Reading SchemaRead} b (Err BadSchema) (Ok (u, record st { budget = st.budget - type_count u })) ≡ Ok (t, after) → Found space d st t after left 0
 fits_by space d st name u t after left true is declares e = absurd cc

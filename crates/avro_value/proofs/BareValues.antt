@@ -1,6 +1,6 @@
 -- Values that take no bytes pass the limit at the place where they begin.
-use Rattle.std.proofs.Common.{◌≡◌, ℕ, zero, suc, ◌+◌, ◌-◌, ◌<◌, ◌≤◌, ◌⊎◌, ◌&&◌, Bool, true, false, cond, List, [], ◌∷◌, ◌++◌, length, Result, Ok, Err, refl, sym, ap, ◌∙◌, arith, inl, inr, eqb}
-use Rattle.std.proofs.lemmas.Bool.{eqb-true}
+use Rattle.std.proofs.Common.{◌≡◌, ℕ, zero, suc, ◌+◌, ◌-◌, ◌<◌, ◌≤◌, ◌⊎◌, Bool, true, false, cond, List, [], ◌∷◌, ◌++◌, length, Result, Ok, Err, refl, ap, ◌∙◌, arith, inl, inr, eqb}
+use Rattle.std.proofs.lemmas.Bool.{and_parts, eqb-true}
 use Rattle.avro_value.specs.declared.fault.FaultAt.{FaultAt}
 use Rattle.avro_value.specs.declared.fault.Fault.TheVariants.{Limit}
 use Rattle.avro_value.specs.Layout.{Layout, Layouts, no_layouts, layouts, is_bare, are_bare}
@@ -34,10 +34,6 @@ idle_mapped : {A B : Type 0} (f : A → B) (k : ℕ) (bytes : List ℕ) (budget 
 idle_mapped f k bytes budget r (inl (v, left, is, few)) = inl (f v, left, ap (map_reading f) is, few)
 idle_mapped f k bytes budget r (inr past) = inr (ap (map_reading f) past)
 
-both : (a b : Bool) → (a && b) ≡ true → (a ≡ true) × (b ≡ true)
-both true b e = (refl, e)
-both false b e = absurd cc
-
 no_run : (n : ℕ) → n ≡ 0 → (bytes : List ℕ) (budget : ℕ) → item_at (run_at n) bytes budget ≡ Ok ([], bytes, budget)
 no_run n e bytes budget = ap (λ (m : ℕ). item_at (run_at m) bytes budget) e ∙ ap (item_reading bytes budget) (run_again 0 [] [] bytes (refl, refl))
 
@@ -63,7 +59,7 @@ mutual
   idle_parts : (ls : Layouts) → are_bare ls ≡ true → IdleBy 0 (parts_at ls)
   idle_parts no_layouts e bytes budget = inl ([], budget, refl, omega arith)
   idle_parts (layouts l ls) e bytes budget =
-      let all = both (is_bare l) (are_bare ls) e in
+      let all = and_parts (is_bare l) (are_bare ls) e in
       elim (idle_begun (content_at l) (idle_content l all.0) bytes budget) [
         | inl (v, left, is, few) ↦ elim (idle_parts ls all.1 bytes left) [
           | inl (vs, behind, more, fewer) ↦ inl (v ∷ vs, behind, rw (is, more) refl, omega (arith, few, fewer))

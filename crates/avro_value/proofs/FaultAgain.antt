@@ -1,9 +1,9 @@
 -- What is at fault is refused so: no two faults are first.
-use Rattle.std.proofs.Common.{◌≡◌, ℕ, zero, suc, ◌+◌, ◌-◌, ◌*◌, ◌/◌, ◌%◌, ◌^◌, ◌<◌, ◌≤◌, ◌⊎◌, ℤ, pos, negsuc, neg_ℤ, Bool, true, false, cond, List, [], ◌∷◌, ◌++◌, length, take, drop, Option, Some, None, Result, Ok, Err, FitsSigned, IsUtf8, refl, sym, ap, subst, ◌∙◌, append_assoc, arith, inl, inr, nat_lt, eqb, eq-eqb, ne_eqb, add-one}
+use Rattle.std.proofs.Common.{◌≡◌, ℕ, zero, suc, ◌+◌, ◌-◌, ◌*◌, ◌/◌, ◌%◌, ◌^◌, ◌<◌, ◌≤◌, ℤ, pos, negsuc, neg_ℤ, Bool, true, false, List, [], ◌∷◌, ◌++◌, length, take, drop, Result, Ok, Err, FitsSigned, IsUtf8, refl, sym, subst, ◌∙◌, append_assoc, arith, inl, inr, nat_lt, eqb, eq-eqb, ne_eqb, add-one}
 use Rattle.std.specs.Int.{w32}
 use Rattle.std.specs.Str.{is_utf8}
 use Rattle.std.specs.List.{AllByRecursion}
-use Rattle.std.proofs.lemmas.Bool.{ltb-true, ltb-false, lt-ltb, le-ltb, eqb-true}
+use Rattle.std.proofs.lemmas.Bool.{eqb-true, false_from_ne_true, le-ltb, lt-ltb, ltb-false, ltb-true}
 use Rattle.std.proofs.lemmas.List.{length-append}
 use Rattle.std.proofs.lemmas.Str.{IsUtf8-from_is_utf8}
 use Rattle.avro_value.specs.declared.fault.Fault.{Fault}
@@ -53,10 +53,6 @@ pub long_refused : RefusedAgain long_at LacksVarint
 unfolding long_at
 long_refused bytes r n = rw (number_refused bytes r n) refl
 
-never_true : (b : Bool) → (b ≡ true → ⊥) → b ≡ false
-never_true true h = absurd (h refl)
-never_true false h = refl
-
 pub int_refused : RefusedAgain int_at LacksInt
 unfolding int_at
 int_refused bytes r n = elim n [
@@ -64,7 +60,7 @@ int_refused bytes r n = elim n [
   | inr out ↦
       (let b = out.3 in
       let l = b.3 in
-      let unfit : nat_lt l.0 (2 ^ 32) ≡ false = never_true _ (λ h. out.2 (subst (λ (m : ℤ). FitsSigned w32 m) (sym l.1) (fits_32 l.0 (ltb-true _ _ h)))) in
+      let unfit : nat_lt l.0 (2 ^ 32) ≡ false = false_from_ne_true _ (λ h. out.2 (subst (λ (m : ℤ). FitsSigned w32 m) (sym l.1) (fits_32 l.0 (ltb-true _ _ h)))) in
       rw (b.2, number_again l.0 b.0 b.1 l.2, unfit, out.0) refl)
 ]
 
@@ -121,6 +117,6 @@ text_refused bytes r m = elim m [
   | inl bare ↦ rw (bytes_refused bytes r bare) refl
   | inr bad ↦
       (let b = bad.3 in
-      let other : is_utf8 bad.1 ≡ false = never_true _ (λ h. bad.2 (IsUtf8-from_is_utf8 bad.1 h)) in
+      let other : is_utf8 bad.1 ≡ false = false_from_ne_true _ (λ h. bad.2 (IsUtf8-from_is_utf8 bad.1 h)) in
       rw (b.2, bytes_again bad.1 b.0 b.1 b.3, other, bad.0) refl)
 ]

@@ -1,7 +1,8 @@
 -- Text is a run of bytes that passes the test.
-use Rattle.std.proofs.Common.{◌≡◌, ℕ, Bool, true, false, cond, List, Result, Ok, Err, IsUtf8, refl, sym, ap, ◌∙◌}
+use Rattle.std.proofs.Common.{◌≡◌, ℕ, List, Result, Ok, Err, IsUtf8, refl, ◌∙◌}
 use Rattle.std.specs.Str.{is_utf8}
 use Rattle.std.proofs.lemmas.Str.{IsUtf8-from_is_utf8, is_utf8-from_IsUtf8}
+use Rattle.std.proofs.lemmas.Bool.{false_from_ne_true}
 use Rattle.avro_value.specs.declared.fault.Fault.{Fault}
 use Rattle.avro_value.specs.declared.fault.Fault.TheVariants.{BadText}
 use Rattle.lake_basics.specs.Outcome.{◌>>=◌}
@@ -11,10 +12,6 @@ pub text_ok : (input run rest text : List ℕ) → bytes_at input ≡ Ok (run, r
 unfolding text_at
 text_ok input run rest text e t h = rw (e, is_utf8-from_IsUtf8 run h, t) refl
 
-untrue : (b : Bool) → (b ≡ true → ⊥) → b ≡ false
-untrue true h = absurd (h refl)
-untrue false h = refl
-
 pub text_err : (input run rest : List ℕ) → bytes_at input ≡ Ok (run, rest) → ¬ (IsUtf8 run) → text_at input ≡ Err BadText
 unfolding text_at
-text_err input run rest e h = rw (e, untrue (is_utf8 run) (λ t. h (IsUtf8-from_is_utf8 run t))) refl
+text_err input run rest e h = rw (e, false_from_ne_true (is_utf8 run) (λ t. h (IsUtf8-from_is_utf8 run t))) refl

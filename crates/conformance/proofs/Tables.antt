@@ -39,6 +39,7 @@ use Rattle.partition_map.specs.declared.kind.PartKind.{PartKind}
 use Rattle.schema_delta.specs.Delta.{delta_schema_of}
 use Rattle.table_history.specs.TypeTree.{ColumnTrees}
 use Rattle.std.proofs.lemmas.Map.Keys.{IsDistinct-cons}
+use Rattle.std.proofs.lemmas.Option.{same_Some}
 
 -- ---- rows
 
@@ -279,13 +280,10 @@ pub distinct_rows : (number count : ℕ) → count ≤ 200 → HasDistinctPaths 
 distinct_rows number zero le = distinct_nothing
 distinct_rows number (suc i) le = distinct_after number i (omega (arith, le)) (rows_after number i) (distinct_rows number i (omega (arith, le)))
 
-one_some : {A : Type 0} (a b : A) → Some a ≡ Some b → a ≡ b
-one_some a b is = cc
-
 first_plain : (number : ℕ) → SpellsDrill → IsPlain number 0 None
 first_plain number spells = record {
-  protocol = λ p is. sym (one_some drill_protocol p is);
-  meta = λ m is. sym (one_some drill_meta m is);
+  protocol = λ p is. sym (same_Some drill_protocol p is);
+  meta = λ m is. sym (same_Some drill_meta m is);
   first = λ none lacks. ⊎_elim (λ (no : Some drill_protocol ≡ None). cc) (λ (no : Some drill_meta ≡ None). cc) lacks;
   once = λ t m is. let no : None ≡ Some t = is in absurd cc;
   schema = spells;

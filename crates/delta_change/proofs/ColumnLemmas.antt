@@ -4,7 +4,7 @@ use Rattle.std.specs.Prelude.{◌==◌}
 use Rattle.std.specs.Cmp.Lexicographic.{pointwise}
 use Rattle.std.specs.List.{list_any, list_all, IsDistinct}
 use Rattle.std.specs.Str.{bytes_eq}
-use Rattle.std.proofs.lemmas.Bool.{cases_Bool, false≢true, eqb-true}
+use Rattle.std.proofs.lemmas.Bool.{and_parts, cases_Bool, eqb-true, false≢true, or_parts}
 use Rattle.std.proofs.lemmas.Cmp.{nat_list_eq_equiv}
 use Rattle.std.proofs.lemmas.Map.Views.{Contains-from_any, list_any-from_Contains}
 use Rattle.std.proofs.lemmas.Slice.Eq.{bytes_eq-Decides, slice_eq-Decides}
@@ -54,10 +54,6 @@ not_true false e = refl
 not_false : (b : Bool) → not b ≡ false → b ≡ true
 not_false true e = refl
 not_false false e = absurd (false≢true (sym e))
-
-both_false : (a b : Bool) → (a || b) ≡ false → (a ≡ false) × (b ≡ false)
-both_false true b h = absurd (false≢true (sym h))
-both_false false b h = (refl, h)
 
 -- ---- one schema at most
 
@@ -115,10 +111,6 @@ known_any : (name : List ℕ) → list_any (bytes_eq name) known_features ≡ is
 known_any name =
     λ i. bytes_eq name (codes "columnMapping") || (bytes_eq name (codes "deletionVectors") || (bytes_eq name (codes "timestampNtz") || (bytes_eq name (codes "v2Checkpoint") || or_nothing (bytes_eq name (codes "vacuumProtocolCheck")) i)))
 
-both_true : (a b : Bool) → (a && b) ≡ true → (a ≡ true) × (b ≡ true)
-both_true true b h = (refl, h)
-both_true false b h = absurd (false≢true h)
-
 feature_shown : (c : DeltaCommit) → needs_other_feature c.protocol ≡ true → NeedsOtherFeature c
 feature_shown c h = by c.protocol refl h
   where
@@ -130,7 +122,7 @@ feature_shown c h = by c.protocol refl h
 
     by : (o : Option Protocol) → c.protocol ≡ o → needs_other_feature o ≡ true → NeedsOtherFeature c
     by None is e = absurd (false≢true e)
-    by (Some p) is e = let both = both_true (lists_features p.reader) (lists_unknown p.reader_features) e in named p p.reader_features is (version_three p.reader both.0) refl both.1
+    by (Some p) is e = let both = and_parts (lists_features p.reader) (lists_unknown p.reader_features) e in named p p.reader_features is (version_three p.reader both.0) refl both.1
 
 feature_not_shown : (c : DeltaCommit) → needs_other_feature c.protocol ≡ false → NeedsOtherFeature c → ⊥
 feature_not_shown c h shows =
@@ -152,7 +144,7 @@ mapping_shown c h = by c.meta refl h
     by None is e = absurd (false≢true e)
     by (Some m) is e =
         let found = any_to is_mapping m.configuration e in
-        let both = both_true (bytes_eq found.0.0 (codes "delta.columnMapping.mode")) (not (bytes_eq found.0.1 (codes "none"))) found.2 in
+        let both = and_parts (bytes_eq found.0.0 (codes "delta.columnMapping.mode")) (not (bytes_eq found.0.1 (codes "none"))) found.2 in
         let key : found.0.0 ≡ codes "delta.columnMapping.mode" = (bytes_eq-Decides found.0.0 (codes "delta.columnMapping.mode")).0 both.0 in
         (m, found.0.1, is, subst (λ k. Contains m.configuration (k, found.0.1)) key found.1, λ none. false≢true (sym (not_true _ both.1) ∙ (bytes_eq-Decides found.0.1 (codes "none")).1 none))
 
@@ -208,7 +200,7 @@ no_stray : (schema : ColumnTrees) (names : List (List ℕ)) → list_all (is_col
 unfolding HasStray
 no_stray schema [] h stray = Contains-none stray.0 stray.1
 no_stray schema (n ∷ ns) h stray =
-    let both = both_true (is_column schema n) (list_all (is_column schema) ns) h in
+    let both = and_parts (is_column schema n) (list_all (is_column schema) ns) h in
     ⊎_elim
     (λ e. false≢true (ap is_some (sym (ap (column_type schema) e ∙ stray.2)) ∙ both.0))
     (λ later. no_stray schema ns both.1 (stray.0, later, stray.2))
@@ -227,7 +219,7 @@ all_false p (n ∷ ns) h = by (λ e. all_false p ns e) (p n) refl h
 all_true : (p : List ℕ → Bool) (ns : List (List ℕ)) → list_all p ns ≡ true → (x : List ℕ) → Contains ns x → p x ≡ true
 all_true p [] h x there = absurd (Contains-none x there)
 all_true p (n ∷ ns) h x there =
-    let both = both_true (p n) (list_all p ns) h in
+    let both = and_parts (p n) (list_all p ns) h in
     ⊎_elim (λ e. subst (λ y. p y ≡ true) e both.0) (λ later. all_true p ns both.1 x later) (Contains-cases n ns x there)
 
 named_in : (names : List (List ℕ)) (name : List ℕ) → is_named names name ≡ true → Contains names name
@@ -388,7 +380,7 @@ module _ (c : DeltaCommit) (m : MetaData) (base : Option Table) (is : c.meta ≡
     not_changed h changed =
         let t = changed.0 in
         let neither : changes_partition t m schema ≡ false = sym (ap (λ o. changes_base o m schema) changed.1) ∙ h in
-        let parts = both_false (not (pointwise bytes_eq m.partition t.partition)) (has_other_kind t.schema schema m.partition) neither in
+        let parts = or_parts (not (pointwise bytes_eq m.partition t.partition)) (has_other_kind t.schema schema m.partition) neither in
         ⊎_elim
         (λ other. other ((names_same m.partition t.partition).0 (not_false _ parts.0)))
         (λ kind. no_other t.schema schema m.partition parts.1 kind)
@@ -599,7 +591,7 @@ lacks_first c (Some t) h = absurd (false≢true h)
 
 has_first : (c : DeltaCommit) (base : Option Table) → lacks_first_actions c base ≡ false → LacksFirstActions c base → ⊥
 has_first c None h lacks =
-    let parts = both_false (is_none c.protocol) (is_none c.meta) h in
+    let parts = or_parts (is_none c.protocol) (is_none c.meta) h in
     ⊎_elim (λ p. false≢true (sym parts.0 ∙ ap is_none p)) (λ m. false≢true (sym parts.1 ∙ ap is_none m)) lacks.1
 has_first c (Some t) h lacks = let e = lacks.0 in absurd cc
 

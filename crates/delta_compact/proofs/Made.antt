@@ -4,6 +4,7 @@ use Rattle.std.specs.Prelude.{min, unwrap_or}
 use Rattle.std.specs.FinMap as map
 use Rattle.std.proofs.lemmas.Bool.{cases_eq, cases_lt}
 use Rattle.std.proofs.lemmas.List.Elements.{All-nil, All-push}
+use Rattle.std.proofs.lemmas.Option.{same_Some}
 use Rattle.lake_basics.specs.declared.limits.TheConstants.{MAX_DELTA_VERSION}
 use Rattle.lake_store.specs.Disk.{Files}
 use Rattle.table_history.specs.Row.{Row}
@@ -217,9 +218,6 @@ versions_before blocks part = part + 9 * min part blocks
 none_made : (files : Files) → IsMadeBefore files 0 None
 none_made files = record { said = []; have = tt; many = refl; made = refl }
 
-some_once : (x y : List ℕ) → Some x ≡ Some y → x ≡ y
-some_once x y e = cc
-
 module _ (files : Files) (head blocks : ℕ) (compacted : AllCompacted files head) (are : AreBlocksOf head blocks) (within : head ≤ MAX_DELTA_VERSION) where
   -- a block's log compaction
   made_block : (part : ℕ) (path : List ℕ) (base : Option Table) (c : DeltaCommit) (next : Table) → part < blocks → IsBlockPath path part → SaysFile files path c → IsStep c base next
@@ -228,7 +226,7 @@ module _ (files : Files) (head blocks : ℕ) (compacted : AllCompacted files hea
       let inside = block_under head blocks part are under in
       let h = compacted part inside in
       let same : path ≡ h.there.path = one_path part path h.there.path (omega (arith, inside, within)) is h.there.is in
-      let text : says.bytes ≡ h.text = some_once says.bytes h.text (sym says.there ∙ ap (map.get files) same ∙ h.there.there) in
+      let text : says.bytes ≡ h.text = same_Some says.bytes h.text (sym says.there ∙ ap (map.get files) same ∙ h.there.there) in
       let readable = subst (λ b. IsReadableCommit b c) text says.readable in
       let first : versions_before blocks part ≡ 10 * part = omega (arith, under) in
       let count : versions_before blocks part + 10 ≡ versions_before blocks (suc part) = omega (arith, under) in
@@ -283,9 +281,6 @@ table_of_log files count t log = before_of files count t (log_made files count (
 
 -- ---- one table
 
-some_meta : (m n : MetaData) → Some m ≡ Some n → m ≡ n
-some_meta m n e = cc
-
 meta_none : (m : MetaData) (o : Option MetaData) → o ≡ Some m → o ≡ None → ⊥
 meta_none m o is none = cc
 
@@ -293,7 +288,7 @@ pub one_meta : (files : Files) (count : ℕ) (m n : MetaData) → IsNewestMeta f
 one_meta files count m n x y = ⊎_elim
     (λ (here : x.version ≡ y.version).
     let same = says_once files y.version x.commit y.commit (subst (λ v. SaysCommit files v x.commit) here x.says) y.says in
-    some_meta m n (sym x.is ∙ ap (λ (c : DeltaCommit). c.meta) same ∙ y.is))
+    same_Some m n (sym x.is ∙ ap (λ (c : DeltaCommit). c.meta) same ∙ y.is))
     (λ (apart : x.version ≡ y.version → ⊥). ⊎_elim
     (λ (less : x.version < y.version). absurd (meta_none n y.commit.meta y.is (x.last y.version y.commit less y.within y.says)))
     (λ (most : y.version ≤ x.version). absurd (meta_none m x.commit.meta x.is (y.last x.version x.commit (omega (arith, most, apart)) x.within x.says)))

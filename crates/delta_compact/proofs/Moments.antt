@@ -1,6 +1,7 @@
 -- How log compactions come one after another, at each moment.
 use Rattle.std.proofs.Common.{◌≡◌, ◌≢◌, ◌⊎◌, inl, inr, ⊎_elim, ℕ, List, Option, Some, None, refl, sym, ap, subst, ◌∙◌}
 use Rattle.std.specs.FinMap as map
+use Rattle.std.proofs.lemmas.Option.{none-some}
 use Rattle.lake_store.specs.Disk.{Disk, Files, IsClean}
 use Rattle.lake_store.specs.Publication.{IsAbsentOrWhole, IsPublished, IsStaged, IsStagedImage}
 use Rattle.lake_store.specs.Runs.{LeavesOnly, OnlyReads}
@@ -16,9 +17,6 @@ use Rattle.delta_compact.specs.Compacting.{Compacts, IsCompactedImage, IsCompact
 use Rattle.delta_compact.specs.Refusals.{IsStale}
 use Rattle.delta_compact.proofs.Held.{block_too}
 use Rattle.delta_compact.proofs.Paths.{not_staged, not_staged_version, not_version, one_block}
-
-none_some : (b : List ℕ) → None ≡ Some b → ⊥
-none_some b e = cc
 
 -- ---- files
 
@@ -45,8 +43,8 @@ module _ (Blocks Taken : ℕ → Type 0) (old new : Disk) (over : IsCompactedOve
   -- a file that is there stays
   stays : (path : List ℕ) (bytes : List ℕ) → path ≢ staged_path → map.get old.files path ≡ Some bytes → map.get new.files path ≡ Some bytes
   stays path bytes apart there = ⊎_elim (λ same. same ∙ there)
-      (λ other. ⊎_elim (λ (gained : IsGained Blocks old.files path (map.get new.files path)). absurd (none_some bytes (sym gained.absent ∙ there)))
-      (λ (others : IsOthers Taken old.files path). absurd (none_some bytes (sym others.absent ∙ there))) other)
+      (λ other. ⊎_elim (λ (gained : IsGained Blocks old.files path (map.get new.files path)). absurd (none-some bytes (sym gained.absent ∙ there)))
+      (λ (others : IsOthers Taken old.files path). absurd (none-some bytes (sym others.absent ∙ there))) other)
       (over.files path apart)
 
   compaction_on : (block : ℕ) (bytes : List ℕ) → HoldsCompaction old.files block bytes → HoldsCompaction new.files block bytes

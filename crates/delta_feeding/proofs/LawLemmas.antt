@@ -3,13 +3,14 @@ use Rattle.std.proofs.Common.{◌≡◌, ℕ, ◌+◌, ◌-◌, ◌^◌, ◌<◌
 use Rattle.std.proofs.lemmas.List.{append-nil}
 use Rattle.std.proofs.lemmas.List.Splits.{slice_split-cons_yes, slice_split-cons_no, length-slice_split}
 use Rattle.std.specs.List.{list_any, onto_first}
+use Rattle.std.proofs.lemmas.Bool.{or_parts}
 use Rattle.lake_basics.specs.Outcome.{◌>>=◌}
 use Rattle.delta_log.specs.declared.commit.DeltaCommit.{DeltaCommit}
 use Rattle.delta_log.specs.declared.error.Fault.{Fault}
 use Rattle.delta_log.specs.Judging.{with_line, with_lines, at_line, error_at, no_lines, is_newline, lines_of, commit_of}
 use Rattle.delta_feeding.specs.Feeding.{SoFar, State, on_line, fed, with_byte, with_end, with_next_line, ended}
 use Rattle.delta_feeding.specs.Laws.{EndIsWhole, IsJustRead}
-use Rattle.delta_feeding.proofs.PieceLemmas.{neither, fed_refused}
+use Rattle.delta_feeding.proofs.PieceLemmas.{fed_refused}
 
 -- ---- lines
 
@@ -17,20 +18,20 @@ use Rattle.delta_feeding.proofs.PieceLemmas.{neither, fed_refused}
 one_line : (bytes : List ℕ) → list_any is_newline bytes ≡ false → lines_of bytes ≡ bytes ∷ []
 one_line [] none = refl
 one_line (b ∷ bytes) none =
-    let both = neither (is_newline b) (list_any is_newline bytes) none in
+    let both = or_parts (is_newline b) (list_any is_newline bytes) none in
     slice_split-cons_no is_newline b bytes both.0 ∙ ap (onto_first b) (one_line bytes both.1)
 
 -- the first line, which a newline ends
 first_ended : (line : List ℕ) (b : ℕ) (behind : List ℕ) → list_any is_newline line ≡ false → is_newline b ≡ true → lines_of (line ++ b ∷ behind) ≡ line ∷ lines_of behind
 first_ended [] b behind none is = slice_split-cons_yes is_newline b behind is
 first_ended (x ∷ line) b behind none is =
-    let both = neither (is_newline x) (list_any is_newline line) none in
+    let both = or_parts (is_newline x) (list_any is_newline line) none in
     slice_split-cons_no is_newline x (line ++ b ∷ behind) both.0 ∙ ap (onto_first x) (first_ended line b behind both.1 is)
 
 still_none : (line : List ℕ) (b : ℕ) → list_any is_newline line ≡ false → is_newline b ≡ false → list_any is_newline (line ++ b ∷ []) ≡ false
 still_none [] b none not = rw not refl
 still_none (x ∷ line) b none not =
-    let both = neither (is_newline x) (list_any is_newline line) none in rw (both.0, still_none line b both.1 not) refl
+    let both = or_parts (is_newline x) (list_any is_newline line) none in rw (both.0, still_none line b both.1 not) refl
 
 abbrev at_place : ℕ → DeltaCommit → List ℕ → SoFar
 at_place n c rest = record { whole = record { lines = n; commit = c }; rest = rest }

@@ -1,19 +1,14 @@
 -- What pieces make of what has been read.
-use Rattle.std.proofs.Common.{◌≡◌, ℕ, List, [], ◌∷◌, ◌++◌, Bool, true, false, Ok, Err, refl, sym, ap, ◌∙◌, append_assoc}
+use Rattle.std.proofs.Common.{◌≡◌, ℕ, List, [], ◌∷◌, ◌++◌, false, Ok, Err, refl, sym, ap, ◌∙◌, append_assoc}
 use Rattle.std.proofs.lemmas.List.{append-nil}
 use Rattle.std.specs.List.{list_any}
-use Rattle.std.specs.Prelude.{◌||◌}
+use Rattle.std.proofs.lemmas.Bool.{or_parts}
 use Rattle.lake_basics.specs.Outcome.{◌>>=◌}
 use Rattle.delta_log.specs.declared.error.DeltaError.{DeltaError}
 use Rattle.delta_log.specs.Judging.{is_newline}
 use Rattle.delta_feeding.specs.Cut.{IsCut}
 use Rattle.delta_feeding.specs.Feeding.{SoFar, State, fed, with_byte, with_end, with_next_line}
 use Rattle.delta_feeding.specs.Laws.{PiecesJoin}
-
-pub neither : (a b : Bool) → (a || b) ≡ false → (a ≡ false) × (b ≡ false)
-neither true b h = absurd (cc)
-neither false true h = absurd (cc)
-neither false false h = (refl, refl)
 
 pub pieces_join : PiecesJoin
 unfolding fed
@@ -33,7 +28,7 @@ pub fed_rest : (s : SoFar) (piece : List ℕ) → list_any is_newline piece ≡ 
 unfolding fed
 fed_rest s [] none = ap (λ (r : List ℕ). Ok (record s { rest = r })) (sym (append-nil s.rest))
 fed_rest s (b ∷ piece) none =
-    let both = neither (is_newline b) (list_any is_newline piece) none in
+    let both = or_parts (is_newline b) (list_any is_newline piece) none in
     rw both.0 (fed_rest (longer s (b ∷ [])) piece both.1 ∙ ap (λ (r : List ℕ). Ok (record s { rest = r })) (append_assoc s.rest (b ∷ []) piece))
 
 ended_by : (s : SoFar) (line : List ℕ) → with_end (longer s line) [] ≡ with_end s line

@@ -17,6 +17,7 @@ use Rattle.partition_map.specs.declared.kind.PartKind.{PartKind}
 use Rattle.partition_map.proofs.Laws.{delta_of_kind, kind_of_type}
 use Rattle.partition_map.proofs.StandsLemmas.{delta_same}
 use Rattle.std.specs.Option.{option_and_then}
+use Rattle.std.proofs.lemmas.Option.{none-some}
 use Rattle.delta_log.specs.declared.commit.FileAction.{FileAction}
 use Rattle.delta_log.specs.declared.commit.FileAction.TheVariants as file
 use Rattle.delta_log.specs.declared.error.DeltaError.{DeltaError}
@@ -172,11 +173,8 @@ has_values columns (file.Remove p ∷ files) rows f c h there column none =
 
 -- ---- values and their columns
 
-none_some : {A : Type 0} (x : A) → None ≡ Some x → ⊥
-none_some x e = absurd cc
-
 pub fits_kind : (o : Option TypeTree) (k : PartKind) (v : PartValue) → option_and_then part_kind_of o ≡ Some k → IsOfKind k v → FitsColumn o v
-fits_kind None k v e h = absurd (none_some k e)
+fits_kind None k v e h = absurd (none-some k e)
 fits_kind (Some t) k v e h = (kind_of_type t k e v).0 h
 
 pub values_fit : (schema : ColumnTrees) (names : List (List ℕ)) (columns : PartColumns) (texts : Texts) (vs : List PartValue) → ArePartColumns schema names columns → AreValues columns texts vs → FitColumns schema names vs

@@ -4,9 +4,10 @@ use Rattle.std.proofs.lemmas.Cmp.{nat_list_eq_equiv}
 use Rattle.std.proofs.lemmas.Grind.{common_steps, flat_map-append}
 use Rattle.std.proofs.lemmas.List.{append-nil}
 use Rattle.std.proofs.lemmas.Map.Keys.{IsDistinct-head, IsDistinct-tail}
-use Rattle.std.specs.Prelude.{is_some, option_to_list, flat_map, nat_le, ◌||◌}
+use Rattle.std.specs.Prelude.{is_some, option_to_list, flat_map, nat_le}
 use Rattle.std.specs.List.{AllByRecursion, IsDistinct, list_any}
 use Rattle.std.specs.Str.{bytes_eq}
+use Rattle.std.proofs.lemmas.Bool.{or_from}
 use Rattle.lake_basics.specs.declared.limits.TheConstants.{MAX_ACTIONS}
 use Rattle.lake_basics.specs.Outcome.{◌>>=◌, with_fault}
 use Rattle.table_history.specs.declared.feature.Feature.TheVariants.{DeletionVector, OutsideTable, NoRecordCount, FileFormat}
@@ -41,14 +42,10 @@ apart_last : (x y : List ℕ) (xs : List (List ℕ)) → AllByRecursion (λ z. b
 apart_last x y [] all = nat_list_eq_equiv.symm y x ∙ all.0
 apart_last x y (z ∷ xs) all = apart_last x y xs all.1
 
-both_false : (a b : Bool) → a ≡ false → b ≡ false → (a || b) ≡ false
-both_false true b e f = e
-both_false false b e f = f
-
 -- the last of distinct texts isn't among those before it
 pub distinct_last : (xs : List (List ℕ)) (y : List ℕ) → IsDistinct bytes_eq (xs ++ y ∷ []) → list_any (bytes_eq y) xs ≡ false
 distinct_last [] y distinct = refl
-distinct_last (x ∷ xs) y distinct = both_false _ _ (apart_last x y xs (IsDistinct-head bytes_eq x (xs ++ y ∷ []) distinct)) (distinct_last xs y (IsDistinct-tail bytes_eq x (xs ++ y ∷ []) distinct))
+distinct_last (x ∷ xs) y distinct = or_from _ _ (apart_last x y xs (IsDistinct-head bytes_eq x (xs ++ y ∷ []) distinct)) (distinct_last xs y (IsDistinct-tail bytes_eq x (xs ++ y ∷ []) distinct))
 
 -- ---- one action
 

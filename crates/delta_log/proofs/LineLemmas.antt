@@ -1,6 +1,6 @@
 -- Lines that are left, and paths that are held.
 use Rattle.std.proofs.Common.{◌≡◌, ℕ, ◌+◌, ◌<◌, ◌≤◌, List, [], ◌∷◌, ◌++◌, length, take, drop, Option, Some, None, option_map, IfSome, Bool, true, false, cond, not, nat_lt, Result, Ok, Err, Bor, refl, sym, ap, subst, ◌∙◌, arith, le_refl}
-use Rattle.std.proofs.lemmas.Bool.{cond-false, cond-true, le-ltb, lt-ltb}
+use Rattle.std.proofs.lemmas.Bool.{cond-false, cond-true, false_from_ne_true, le-ltb, lt-ltb}
 use Rattle.std.proofs.lemmas.Cmp.{nat_list_eq_equiv}
 use Rattle.std.proofs.lemmas.List.Folds.{list_any-append}
 use Rattle.std.proofs.lemmas.List.{map-append}
@@ -33,18 +33,14 @@ left_shorter (Some s) n h = omega arith
 
 -- ---- the first line
 
-fails_by : (b : Bool) → (b ≡ true → ⊥) → b ≡ false
-fails_by true passes = absurd (passes refl)
-fails_by false passes = refl
-
 none_passes : (bytes : List ℕ) → Nowhere (Passes is_newline bytes) 0 (length bytes) → position is_newline bytes ≡ None
 none_passes bytes none =
-    let all : position_or_len is_newline bytes ≡ length bytes = position_or_len_is is_newline bytes (length bytes) 0 (le_refl (length bytes)) (λ k lt. fails_by _ (none k (omega arith) lt)) (λ lt. absurd (omega arith)) in
+    let all : position_or_len is_newline bytes ≡ length bytes = position_or_len_is is_newline bytes (length bytes) 0 (le_refl (length bytes)) (λ k lt. false_from_ne_true _ (none k (omega arith) lt)) (λ lt. absurd (omega arith)) in
     ap (λ (n : ℕ). cond (nat_lt n (length bytes)) (Some n) None) all ∙ cond-false _ _ _ (le-ltb (length bytes) (length bytes) (le_refl (length bytes)))
 
 first_passes : (bytes : List ℕ) (i : ℕ) → NoneBefore (Passes is_newline bytes) 0 (length bytes) i → Passes is_newline bytes i → position is_newline bytes ≡ Some i
 first_passes bytes i before passes =
-    let at : position_or_len is_newline bytes ≡ i = position_or_len_is is_newline bytes i 0 (omega (arith, before.high)) (λ k lt. fails_by _ (before.before k (omega arith) lt)) (λ lt. passes) in
+    let at : position_or_len is_newline bytes ≡ i = position_or_len_is is_newline bytes i 0 (omega (arith, before.high)) (λ k lt. false_from_ne_true _ (before.before k (omega arith) lt)) (λ lt. passes) in
     ap (λ (n : ℕ). cond (nat_lt n (length bytes)) (Some n) None) at ∙ cond-true _ _ _ (lt-ltb i (length bytes) before.high)
 
 -- The first byte that is a newline stands at its position.

@@ -1,5 +1,5 @@
 -- Versions as digits.
-use Rattle.std.proofs.Common.{◌≡◌, ◌≢◌, ℕ, zero, suc, ◌+◌, ◌-◌, ◌^◌, ◌<◌, ◌≤◌, List, [], ◌∷◌, ◌++◌, length, get_or, take, drop, replicate, Option, Some, None, MatchOption, Result, Ok, Err, cond, false, refl, sym, ap, subst, ◌∙◌, length-append, arith, codes}
+use Rattle.std.proofs.Common.{◌≡◌, ◌≢◌, ℕ, zero, suc, ◌+◌, ◌-◌, ◌^◌, ◌<◌, ◌≤◌, List, [], ◌∷◌, ◌++◌, length, get_or, take, drop, replicate, Option, Some, None, MatchOption, Result, Ok, Err, false, refl, sym, ap, subst, ◌∙◌, length-append, arith, codes}
 use Rattle.std.specs.Prelude.{◌==◌}
 use Rattle.std.proofs.Math.Seq.{take-length}
 use Rattle.std.specs.Result.{result_ok}
@@ -8,7 +8,7 @@ use Rattle.std.specs.Str.Parse.{IsNumeral, AllDigits, digits_value, without_lead
 use Rattle.std.proofs.lemmas.Bool.Decides.{nat_tests}
 use Rattle.std.proofs.lemmas.Fmt.{decimal_is_IsNumeral, length-decimal-le}
 use Rattle.std.proofs.lemmas.List.{append-nil, take-append-drop, take-append-le, drop-append-le}
-use Rattle.std.proofs.lemmas.Str.Parse.{digit_at}
+use Rattle.std.proofs.lemmas.Str.Parse.{digit_at, without_leading_plus_none}
 use Rattle.lake_basics.specs.declared.limits.TheConstants.{MAX_DELTA_VERSION}
 use Rattle.delta_log.specs.VersionName.{IsVersionDigits, IsVersionName}
 
@@ -44,16 +44,13 @@ padded_text n =
 pub no_plus : (bs : List ℕ) → IsNumeral 10 bs → get_or bs 0 0 ≢ 43
 no_plus bs h e = let at = digit_at bs 0 h.1 h.0 in omega (arith, at, e)
 
-without_plus : (bs : List ℕ) → get_or bs 0 0 ≢ 43 → without_leading_plus bs ≡ bs
-without_plus bs h = let no : (get_or bs 0 0 == 43) ≡ false = grind (arith, nat_tests) in ap (λ b. drop (cond b 1 0) bs) no
-
 pub parsed : {E : Type 0} (text : List ℕ) (r : Result ℕ E) → length text ≡ 20 → get_or text 0 0 ≢ 43 → ParsesUnsigned 64 10 text r
     → MatchOption (result_ok r) ((n : ℕ) → n < 2 ^ 64 → IsVersionDigits text n → ⊥) (IsVersionDigits text)
 parsed text (Ok n) len first h =
-    let same = without_plus text first in
+    let same = without_leading_plus_none text first in
     record { len = len; numeral = subst (IsNumeral 10) same h.0.0; value = h.1 ∙ ap (digits_value 10) same }
 parsed text (Err e) len first h =
-    let same = without_plus text first in
+    let same = without_leading_plus_none text first in
     λ n small d. h (subst (λ bs. IsNumeral 10 bs × (digits_value 10 bs < 2 ^ 64)) (sym same) (d.numeral, subst (λ k. k < 2 ^ 64) d.value small))
 
 -- ---- names

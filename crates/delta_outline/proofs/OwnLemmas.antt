@@ -3,7 +3,7 @@ use Rattle.std.proofs.Common.{◌≡◌, ◌⊎◌, ℕ, Bool, true, false, ◌&
 use Rattle.std.specs.Prelude.{unwrap_or}
 use Rattle.std.specs.List.{IsDistinct}
 use Rattle.std.specs.Str.{bytes_eq}
-use Rattle.std.proofs.lemmas.Bool.{cases_Bool, false≢true}
+use Rattle.std.proofs.lemmas.Bool.{and_cases, cases_Bool, false≢true}
 use Rattle.std.proofs.lemmas.Slice.Eq.{bytes_eq-Decides}
 use Rattle.avro_schema.specs.Names.{are_distinct}
 use Rattle.lake_basics.specs.Outcome.{◌>>=◌, required, each}
@@ -54,10 +54,6 @@ gone (Some x) e = absurd (false≢true (sym e))
 
 some_none : {A : Type 0} (o : Option A) (x : A) → o ≡ Some x → o ≡ None → ⊥
 some_none o x a b = absurd (let e : Some x ≡ None = sym a ∙ b in cc)
-
-either_false : (a b : Bool) → (a && b) ≡ false → (a ≡ false) ⊎ (b ≡ false)
-either_false true b e = inr e
-either_false false b e = inl refl
 
 one_gone : (a : Option Bool) (b : Option Data) → (a ≡ None) ⊎ (b ≡ None) → (is_some a && is_some b) ≡ false
 one_gone None b h = refl
@@ -195,12 +191,12 @@ nested_bad d no_word h = by (text_member (codes "type") d) refl h
         at false true c ea eb ec f =
             inr (inr (inl (
               named_word d w (codes "array") is eb,
-              ⊎_elim (λ x. inl (gone _ x)) (λ x. inr (gone _ x)) (either_false _ _ (form_bad _ f)),
+              ⊎_elim (λ x. inl (gone _ x)) (λ x. inr (gone _ x)) (and_cases _ _ (form_bad _ f)),
             )))
         at false false true ea eb ec f =
             inr (inr (inr (
               named_word d w (codes "map") is ec,
-              ⊎_elim (λ x. inl (gone _ x)) (λ more. inr (⊎_elim (λ x. inl (gone _ x)) (λ x. inr (gone _ x)) (either_false _ _ more))) (either_false _ _ (form_bad _ f)),
+              ⊎_elim (λ x. inl (gone _ x)) (λ more. inr (⊎_elim (λ x. inl (gone _ x)) (λ x. inr (gone _ x)) (and_cases _ _ more))) (and_cases _ _ (form_bad _ f)),
             )))
         at false false false ea eb ec f = absurd (other_bad f)
 

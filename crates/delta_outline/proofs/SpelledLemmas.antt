@@ -1,7 +1,8 @@
 -- A text that spells a schema is in the grammar, has types of the table of types alone, and names the schema's columns.
-use Rattle.std.proofs.Common.{◌≡◌, ℕ, zero, suc, Bool, true, false, cond, ◌&&◌, List, ◌∷◌, map, Option, Some, is_some, Ok, Err, codes, refl, sym, ap, subst, ◌∙◌}
+use Rattle.std.proofs.Common.{◌≡◌, ℕ, zero, suc, Bool, true, false, cond, List, ◌∷◌, map, Option, Some, is_some, Ok, Err, codes, refl, sym, ap, subst, ◌∙◌}
 use Rattle.std.specs.Prelude.{option_and_then}
 use Rattle.std.specs.Str.{bytes_eq}
+use Rattle.std.proofs.lemmas.Bool.{and_from}
 use Rattle.avro_schema.specs.Names.{are_distinct}
 use Rattle.serde_json.specs.Data.{Data, boolean, string, array, object, Items, Members}
 use Rattle.serde_json.specs.Find.{get_member, as_str, as_bool, as_array}
@@ -31,9 +32,6 @@ as_text o = option_and_then as_str o
 
 has_text : (k : List ℕ) (ms : Members) (s : List ℕ) → get_member k ms ≡ Some (string s) → text_member k (object ms) ≡ Some s
 has_text k ms s is = ap (λ o. option_and_then as_str o) is
-
-both_there : (a b : Bool) → a ≡ true → b ≡ true → (a && b) ≡ true
-both_there a b x y = ap (λ z. z && b) x ∙ y
 
 -- ---- types without parts
 
@@ -82,13 +80,13 @@ own_list : (ms : Members) (b : Bool) (e : Data) → get_member (codes "type") ms
 own_list ms b e word nullable element =
     let d : Data = object ms in
     ap (λ o. named_form o d) (has_text (codes "type") ms (codes "array") word)
-    ∙ ap form_if (both_there _ _ (ap (λ o. is_some (option_and_then as_bool o)) nullable) (ap is_some element))
+    ∙ ap form_if (and_from _ _ (ap (λ o. is_some (option_and_then as_bool o)) nullable) (ap is_some element))
 
 own_map : (ms : Members) (b : Bool) (k v : Data) → get_member (codes "type") ms ≡ Some (string (codes "map")) → get_member (codes "valueContainsNull") ms ≡ Some (boolean b) → get_member (codes "keyType") ms ≡ Some k → get_member (codes "valueType") ms ≡ Some v → own_form (object ms) ≡ Known
 own_map ms b k v word nullable key value =
     let d : Data = object ms in
     ap (λ o. named_form o d) (has_text (codes "type") ms (codes "map") word)
-    ∙ ap form_if (both_there _ _ (ap (λ o. is_some (option_and_then as_bool o)) nullable) (both_there _ _ (ap is_some key) (ap is_some value)))
+    ∙ ap form_if (and_from _ _ (ap (λ o. is_some (option_and_then as_bool o)) nullable) (and_from _ _ (ap is_some key) (ap is_some value)))
 
 both_known : (f g : Form) → f ≡ Known → g ≡ Known → worse f g ≡ Known
 both_known f g a b = ap (λ x. worse x g) a ∙ b

@@ -2,6 +2,7 @@
 use Rattle.std.proofs.Common.{◌≡◌, ◌⊎◌, ℕ, zero, suc, ◌+◌, ◌<◌, ◌≤◌, Contains, Option, Some, None, Bool, true, false, refl, sym, ap, subst, ◌∙◌, arith, inl, inr, ⊎_elim}
 use Rattle.std.specs.Prelude.{nat_lt, unwrap_or}
 use Rattle.std.proofs.lemmas.Bool.Decides.{nat_tests}
+use Rattle.std.proofs.lemmas.Option.{none-some, same_Some}
 use Rattle.lake_basics.specs.declared.limits.TheConstants.{MAX_COMMITS}
 use Rattle.lake_store.specs.Disk.{Files}
 use Rattle.table_history.specs.Row.{Row}
@@ -156,15 +157,9 @@ columns_stay c t next columns step were = by c.meta refl step.schema
     by None is schema = go None (subst (λ m. StatesSchema m None) (sym is) refl) schema
     by (Some m) is schema = go (Some next.schema) (subst (λ o. StatesSchema o (Some next.schema)) (sym is) schema) refl
 
-pub none_some : (t : Table) → None ≡ Some t → ⊥
-none_some t e = cc
-
-pub some_once : (a b : Table) → Some a ≡ Some b → a ≡ b
-some_once a b e = cc
-
 none_zero : (files : Files) (version : ℕ) → IsLog files version None → version ≡ 0
 none_zero files zero log = refl
-none_zero files (suc version) log = absurd (none_some log.4 log.6)
+none_zero files (suc version) log = absurd (none-some log.4 log.6)
 
 module _ (files : Files) (version : ℕ) (c : DeltaCommit) (says : SaysCommit files version c) (columns : PartColumns) where
   -- what the commit adds is live behind it
@@ -227,7 +222,7 @@ live_rows files zero table log = absurd (some_none table log)
 live_rows files (suc version) table log =
     let next = log.4 in
     let made = of_base (λ t before. live_rows files version t before) log.0 log.1 log.2 log.3 next log.5 in
-    let same : next ≡ table = some_once next table (sym log.6) in
+    let same : next ≡ table = same_Some next table (sym log.6) in
     let count : version + 1 ≡ suc version = omega arith in
     subst (HasLiveRows files (suc version)) same (subst (λ n. HasLiveRows files n next) count made)
   where

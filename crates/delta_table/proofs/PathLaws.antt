@@ -8,6 +8,7 @@ use Rattle.std.proofs.lemmas.List.Elements.{All-contains, All-from_recursion, Co
 use Rattle.std.proofs.lemmas.Str.Parse.{digit_at, digit_from_value}
 use Rattle.std.proofs.lemmas.Bool.Decides.{nat_tests}
 use Rattle.std.specs.Prelude.{IsSome, nat_lt}
+use Rattle.std.proofs.lemmas.Option.{same_Some}
 use Rattle.lake_store.specs.Disk.{Files, IsName, ListsFolder}
 use Rattle.delta_log.specs.VersionName.{IsVersionDigits, IsVersionName}
 use Rattle.delta_log.specs.declared.commit.DeltaCommit.{DeltaCommit}
@@ -67,12 +68,9 @@ path_once version p q ip iq =
     let digits = digits_once version a.digits b.digits a.padded b.padded in
     ip.split ∙ ap (λ n. codes "_delta_log/" ++ n) (a.split ∙ ap (λ d. d ++ codes ".json") digits ∙ sym b.split) ∙ sym iq.split
 
-some_once : (x y : List ℕ) → Some x ≡ Some y → x ≡ y
-some_once x y e = cc
-
 -- a version has one file
 pub bytes_once : (files : Files) (version : ℕ) (x y : List ℕ) → HoldsVersion files version x → HoldsVersion files version y → x ≡ y
-bytes_once files version x y hx hy = some_once x y (sym hx.there ∙ ap (map.get files) (path_once version hx.path hy.path hx.is hy.is) ∙ hy.there)
+bytes_once files version x y hx hy = same_Some x y (sym hx.there ∙ ap (map.get files) (path_once version hx.path hy.path hx.is hy.is) ∙ hy.there)
 
 ok_once : (r : Result DeltaCommit DeltaError) (c d : DeltaCommit) → r ≡ Ok c → r ≡ Ok d → c ≡ d
 ok_once r c d a b = cc

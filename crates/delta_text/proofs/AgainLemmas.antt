@@ -12,6 +12,7 @@ use Rattle.std.specs.Prelude.{◌&&◌, ◌==◌, flat_map, option_to_list, Fits
 use Rattle.std.specs.Int.{w64}
 use Rattle.std.specs.List.{list_any, slice_split, onto_first, AllByRecursion, IsDistinct}
 use Rattle.std.specs.Str.{bytes_eq, is_utf8}
+use Rattle.std.proofs.lemmas.Bool.{or_parts}
 use Rattle.serde_json.specs.Data.{Data, string, object, Members, no_members}
 use Rattle.serde_json.specs.Find.{as_i64, of_integer}
 use Rattle.serde_json.specs.Read.{read}
@@ -38,7 +39,7 @@ use Rattle.delta_text.specs.Again.{HasReadableStats, HasReadableUri, IsFileAgain
 use Rattle.delta_log.proofs.FaultLemmas.{distinct_last}
 use Rattle.delta_log.proofs.ReadableLemmas.{distinct_front}
 use Rattle.delta_text.proofs.SortedLemmas.{sorted_pairs_same}
-use Rattle.delta_text.proofs.WrittenLemmas.{is_line, or_false, is_line-compact_text, each-members_with}
+use Rattle.delta_text.proofs.WrittenLemmas.{is_line, is_line-compact_text, each-members_with}
 
 -- ---- parts
 
@@ -126,7 +127,7 @@ object_line c e ms a again says judged = rw (again, says) judged
 split_line : (xs ys : List ℕ) → is_line xs → slice_split is_newline (xs ++ 10 ∷ ys) ≡ xs ∷ slice_split is_newline ys
 split_line [] ys line = refl
 split_line (x ∷ xs) ys line =
-    let parts = or_false _ _ line in
+    let parts = or_parts _ _ line in
     slice_split-cons_no is_newline x (xs ++ 10 ∷ ys) parts.0 ∙ ap (onto_first x) (split_line xs ys parts.1)
 
 -- behind these bytes, reading goes on from this commit

@@ -2,7 +2,7 @@
 use Rattle.std.proofs.Common.{◌≡◌, ℕ, zero, suc, ◌/◌, ◌%◌, ℤ, pos, negsuc, List, [], ◌∷◌, ◌++◌, Bool, true, false, cond, Ordering, Less, Equal, Greater, Result, Ok, Err, refl, sym, ◌∙◌, nat_lt, nat_cmp, arith, max}
 use Rattle.std.proofs.lemmas.Grind.{common_steps}
 use Rattle.std.proofs.lemmas.List.Folds.{list_any-append}
-use Rattle.std.specs.Prelude.{◌||◌, ◌==◌, decimal}
+use Rattle.std.specs.Prelude.{◌==◌, decimal}
 use Rattle.std.specs.BTreeMap.{insert_entry}
 use Rattle.std.specs.Cmp.Lexicographic.{slice_cmp}
 use Rattle.std.specs.Fmt.{digits, digits_onto, digit_glyph, signed_decimal}
@@ -10,6 +10,7 @@ use Rattle.std.specs.List.{list_any}
 use Rattle.std.specs.Ordering.{match_ordering}
 use Rattle.json.specs.Print.{escape_letter, escape_byte, escape, quoted}
 use Rattle.std.specs.Char.{digit_char}
+use Rattle.std.proofs.lemmas.Bool.{or_from, or_parts}
 use Rattle.serde_json.specs.Data.{Data, null, boolean, number, string, array, object, unsigned, negative, float, Items, no_items, item, Members, no_members, member, put, depth, members_depth}
 use Rattle.serde_json.specs.Written.{compact_text, items_text, members_text, comma_if, has_float, members_have_float}
 use Rattle.delta_log.specs.declared.error.LineFault.{LineFault}
@@ -25,16 +26,8 @@ use Rattle.delta_log.proofs.EachLemmas.{Splits, split_each, each_cons}
 abbrev pub is_line : List ℕ → Type 0
 is_line s = list_any is_newline s ≡ false
 
-pub or_false : (a b : Bool) → (a || b) ≡ false → (a ≡ false) × (b ≡ false)
-or_false true b e = absurd (cc)
-or_false false b e = (refl, e)
-
-both_false : (a b : Bool) → a ≡ false → b ≡ false → (a || b) ≡ false
-both_false true b e f = e
-both_false false b e f = f
-
 pub is_line-append : (s t : List ℕ) → is_line s → is_line t → is_line (s ++ t)
-is_line-append s t one other = list_any-append is_newline s t ∙ both_false _ _ one other
+is_line-append s t one other = list_any-append is_newline s t ∙ or_from _ _ one other
 
 glyph : (d : ℕ) → is_newline (digit_glyph false d) ≡ false
 glyph d = grind (arith, common_steps)
@@ -42,7 +35,7 @@ glyph d = grind (arith, common_steps)
 is_line-digits_onto : (k n : ℕ) (acc : List ℕ) → is_line acc → is_line (digits_onto k 10 false n acc)
 is_line-digits_onto zero n acc line = line
 is_line-digits_onto (suc k) n acc line =
-    let more : is_line (digit_glyph false (n % 10) ∷ acc) = both_false _ _ (glyph (n % 10)) line in
+    let more : is_line (digit_glyph false (n % 10) ∷ acc) = or_from _ _ (glyph (n % 10)) line in
     elim (n / 10 == 0) as (λ b. is_line (cond b (digit_glyph false (n % 10) ∷ acc) (digits_onto k 10 false (n / 10) (digit_glyph false (n % 10) ∷ acc)))) [ true ↦ more | false ↦ is_line-digits_onto k (n / 10) _ more ]
 
 is_line-decimal : (n : ℕ) → is_line (decimal n)
@@ -56,14 +49,14 @@ letter : (x : ℕ) → is_newline (escape_letter x) ≡ false
 letter x = grind (arith, common_steps)
 
 plain : (x : ℕ) (b : Bool) → nat_lt x 32 ≡ b → is_line (cond b (92 ∷ 117 ∷ 48 ∷ 48 ∷ digit_char (x / 16) ∷ digit_char (x % 16) ∷ []) (x ∷ []))
-plain x true low = both_false _ _ (digit (x / 16)) (both_false _ _ (digit (x % 16)) refl)
-plain x false high = both_false _ _ (grind (arith, common_steps)) refl
+plain x true low = or_from _ _ (digit (x / 16)) (or_from _ _ (digit (x % 16)) refl)
+plain x false high = or_from _ _ (grind (arith, common_steps)) refl
 
 is_line-escape_byte : (x : ℕ) → is_line (escape_byte x)
 unfolding escape_byte
 is_line-escape_byte x =
     elim (nat_lt 0 (escape_letter x)) as (λ b. is_line (cond b (92 ∷ escape_letter x ∷ []) (cond (nat_lt x 32) (92 ∷ 117 ∷ 48 ∷ 48 ∷ digit_char (x / 16) ∷ digit_char (x % 16) ∷ []) (x ∷ [])))) [
-      | true ↦ both_false _ _ (letter x) refl
+      | true ↦ or_from _ _ (letter x) refl
       | false ↦ plain x (nat_lt x 32) refl
     ]
 
@@ -117,13 +110,13 @@ pub record IsFlat (d : Data) : Type 0 where
   pub shallow : depth d ≡ 0
 
 cons_flat : (k : List ℕ) (d : Data) (ms : Members) → IsFlat d → AreFlat ms → AreFlat (member k d ms)
-cons_flat k d ms flat more = record { no_float = both_false _ _ flat.no_float more.no_float; shallow = omega (arith, flat.shallow, more.shallow) }
+cons_flat k d ms flat more = record { no_float = or_from _ _ flat.no_float more.no_float; shallow = omega (arith, flat.shallow, more.shallow) }
 
 head_flat : (k : List ℕ) (d : Data) (ms : Members) → AreFlat (member k d ms) → IsFlat d
-head_flat k d ms flat = record { no_float = (or_false _ _ flat.no_float).0; shallow = let h : max (depth d) (members_depth ms) ≡ 0 = flat.shallow in omega (arith, h) }
+head_flat k d ms flat = record { no_float = (or_parts _ _ flat.no_float).0; shallow = let h : max (depth d) (members_depth ms) ≡ 0 = flat.shallow in omega (arith, h) }
 
 tail_flat : (k : List ℕ) (d : Data) (ms : Members) → AreFlat (member k d ms) → AreFlat ms
-tail_flat k d ms flat = record { no_float = (or_false _ _ flat.no_float).1; shallow = let h : max (depth d) (members_depth ms) ≡ 0 = flat.shallow in omega (arith, h) }
+tail_flat k d ms flat = record { no_float = (or_parts _ _ flat.no_float).1; shallow = let h : max (depth d) (members_depth ms) ≡ 0 = flat.shallow in omega (arith, h) }
 
 put_flat : (k : List ℕ) (d : Data) (ms : Members) → IsFlat d → AreFlat ms → AreFlat (put k d ms)
 put_flat k d no_members flat all = cons_flat k d no_members flat all

@@ -5,7 +5,7 @@ use Rattle.std.proofs.lemmas.List.{length-append, length-replicate}
 use Rattle.std.proofs.Math.ListN.{get_or-eq_default}
 use Rattle.file_links.specs.declared.chains.Chains.{Chains}
 use Rattle.file_links.specs.Chains.{chain_count, slot_count, chain_of, slots_in, AreSound, AddsChain, AddsSlot, Grows}
-use Rattle.std.proofs.lemmas.Option.{slice_get_past, slice_get_within}
+use Rattle.std.proofs.lemmas.Option.{same_Some, slice_get_past, slice_get_within}
 use Rattle.file_links.specs.declared.slots.Held.{Held}
 use Rattle.file_links.specs.declared.slots.Links.TheInside.{Inside}
 use Rattle.file_links.specs.Linked.{Has}
@@ -14,7 +14,7 @@ use Rattle.file_links.specs.Buckets.{AreBuckets}
 use Rattle.file_links.specs.Rows.{OwnedRows, rows_of, Reserves}
 use Rattle.file_links.specs.Slots.{with_entry, entries, tabulate, view_of, AreLinks}
 use Rattle.file_links.proofs.ChainLemmas.{counted}
-use Rattle.file_links.proofs.SlotLemmas.{some_same, slot_within, in_use_within, rows_at, rows_in_use, no_rows}
+use Rattle.file_links.proofs.SlotLemmas.{slot_within, in_use_within, rows_at, rows_in_use, no_rows}
 
 pub free_kept : (v v' : Chains) → AreSound v → AddsChain v v' → length (slots_in v' 0) ≡ length (slots_in v 0)
 free_kept v v' sound a =
@@ -53,7 +53,7 @@ grown_slot w v v' n m g a = record {
 
 pub past_none : (xs : List (Option Held)) (n t : ℕ) (v : Option Held) → length xs ≤ t → slice_get (xs ++ replicate n None) t ≡ Some v → v ≡ None
 past_none [] zero t v h e = absurd (let f : None ≡ Some v = sym (slice_get_past [] t (omega arith)) ∙ e in let z : ⊥ = cc in z)
-past_none [] (suc n) zero v h e = sym (some_same None v e)
+past_none [] (suc n) zero v h e = sym (same_Some None v e)
 past_none [] (suc n) (suc t) v h e = past_none [] n t v (omega arith) e
 past_none (x ∷ xs) n zero v h e = absurd (let z : ⊥ = omega arith in z)
 past_none (x ∷ xs) n (suc t) v h e = past_none xs n t v (omega arith) e

@@ -2,7 +2,7 @@
 use Rattle.std.proofs.Common.{◌≡◌, ◌≢◌, ◌⊎◌, ◌+◌, ◌<◌, ◌≤◌, ℕ, zero, suc, List, [], ◌∷◌, ◌++◌, length, Option, None, Some, cond, nat_eq, slice_get, slice_set, slice_index, option_map, refl, sym, ◌∙◌, ap, subst, inl, inr, arith, get_or, IsSome, add-zero, not, Contains, slice_index_or}
 use Rattle.std.proofs.lemmas.Bool.{eq-eqb, ne_eqb, cases_eq, cases_lt}
 use Rattle.std.proofs.lemmas.List.{get_or-set_same, get_or-set_other, length-set, length-append}
-use Rattle.std.proofs.lemmas.Option.{slice_get_past, slice_get_within, slice_get-get_or}
+use Rattle.std.proofs.lemmas.Option.{same_Some, slice_get-get_or, slice_get_past, slice_get_within}
 use Rattle.std.proofs.Math.ListN.{get_or-eq_default}
 use Rattle.file_links.specs.declared.slots.Held.{Held}
 use Rattle.file_links.specs.declared.slots.Links.TheInside.{Inside}
@@ -24,9 +24,6 @@ get_set_other xs i j v n =
       | inl h ↦ slice_get-get_or (slice_set xs i v) j v (let e = length-set xs i v in omega arith) ∙ ap Some (get_or-set_other xs i j v v n) ∙ sym (slice_get-get_or xs j v h)
       | inr h ↦ slice_get_past (slice_set xs i v) j (let e = length-set xs i v in omega arith) ∙ sym (slice_get_past xs j h)
     ]
-
-pub some_same : {X : Type 0} (x y : X) → Some x ≡ Some y → x ≡ y
-some_same x y e = cc
 
 -- an entry is in a list, by recursion
 abbrev pub HasEntry : List Entry → Entry → Type 0
@@ -175,7 +172,7 @@ rows_at a links o =
 pub some_rows : (a : Inside) → AreLinks a → (o : ℕ) (rows : List Entry) → rows_of (view_of a) o ≡ Some rows → (chain_of a.owners o ≡ 1) × (entries a.held.items (slots_in a.rows (o + 1)) ≡ rows)
 some_rows a links o rows e =
     elim (cases_eq (chain_of a.owners o) 1) [
-      | inl u ↦ (u, some_same _ _ (sym (rows_in_use a o u) ∙ sym (rows_at a links o) ∙ e))
+      | inl u ↦ (u, same_Some _ _ (sym (rows_in_use a o u) ∙ sym (rows_at a links o) ∙ e))
       | inr n ↦ absurd (let f : None ≡ Some rows = sym (rows_unused a o n) ∙ sym (rows_at a links o) ∙ e in let z : ⊥ = cc in z)
     ]
 
@@ -312,10 +309,10 @@ insertion_links a a' o s h links i = record {
     set_here = ap (λ l. slice_get l s) i.held ∙ get_set_same a.held.items s (Some h) (let e = links.row_slots in let k = i.slot in omega arith)
 
     now : (t : ℕ) (k : Held) → t ≡ s → slice_get a'.held.items t ≡ Some (Some k) → h ≡ k
-    now t k f e = some_same h k (some_same (Some h) (Some k) (sym set_here ∙ ap (slice_get a'.held.items) (sym f) ∙ e))
+    now t k f e = same_Some h k (same_Some (Some h) (Some k) (sym set_here ∙ ap (slice_get a'.held.items) (sym f) ∙ e))
 
     not_free : (t : ℕ) → t ≡ s → slice_get a'.held.items t ≡ Some None → ⊥
-    not_free t f e = let g : Some h ≡ None = some_same (Some h) None (sym set_here ∙ ap (slice_get a'.held.items) (sym f) ∙ e) in cc
+    not_free t f e = let g : Some h ≡ None = same_Some (Some h) None (sym set_here ∙ ap (slice_get a'.held.items) (sym f) ∙ e) in cc
 
 pub insertion : (a a' : Inside) (o s : ℕ) (h : Held) → AreLinks a → IsInsertion a a' o s h → Inserts (view_of a) (view_of a') o s h
 insertion a a' o s h links i = record {
@@ -354,7 +351,7 @@ insertion a a' o s h links i = record {
 
 pub has_at : (xs : List ℕ) (k s : ℕ) → slice_get xs k ≡ Some s → Has xs s
 has_at [] k s e = absurd (let f : None ≡ Some s = sym (slice_get_past [] k (omega arith)) ∙ e in let z : ⊥ = cc in z)
-has_at (x ∷ xs) zero s e = inl (some_same x s e)
+has_at (x ∷ xs) zero s e = inl (same_Some x s e)
 has_at (x ∷ xs) (suc k) s e = inr (has_at xs k s e)
 
 pub place_of : (xs : List ℕ) (s : ℕ) → Has xs s → (i : ℕ) × (i < length xs) × (slice_get xs i ≡ Some s)
@@ -370,7 +367,7 @@ pub linked-at : (next previous : ℕ → ℕ) (start : ℕ) (xs : List ℕ) (end
     → slice_get xs (k + 1) ≡ cond (nat_eq (next s) end) None (Some (next s))
 linked-at next previous start [] end k s h gone e = absurd (let f : None ≡ Some s = sym (slice_get_past [] k (omega arith)) ∙ e in let z : ⊥ = cc in z)
 linked-at next previous start (x ∷ xs) end zero s h gone e =
-    ap (slice_get (x ∷ xs)) (let f : 0 + 1 ≡ suc 0 = omega arith in f) ∙ first-linked next previous x xs end h.2 (λ m. gone (inr m)) ∙ ap (λ v. cond (nat_eq (next v) end) None (Some (next v))) (some_same x s e)
+    ap (slice_get (x ∷ xs)) (let f : 0 + 1 ≡ suc 0 = omega arith in f) ∙ first-linked next previous x xs end h.2 (λ m. gone (inr m)) ∙ ap (λ v. cond (nat_eq (next v) end) None (Some (next v))) (same_Some x s e)
 linked-at next previous start (x ∷ xs) end (suc k) s h gone e =
     ap (slice_get (x ∷ xs)) (let f : suc k + 1 ≡ suc (k + 1) = omega arith in f) ∙ linked-at next previous x xs end k s h.2 (λ m. gone (inr m)) e
 
@@ -447,7 +444,7 @@ removal_links a a' s links i = record {
     set_here = ap (λ l. slice_get l s) i.held ∙ get_set_same a.held.items s None (slice_get_within a.held.items s (Some held_now.0) held_now.1)
 
     emptied : (t : ℕ) (k : Held) → t ≡ s → slice_get a'.held.items t ≡ Some (Some k) → ⊥
-    emptied t k f e = let g : None ≡ Some k = some_same None (Some k) (sym set_here ∙ ap (slice_get a'.held.items) (sym f) ∙ e) in cc
+    emptied t k f e = let g : None ≡ Some k = same_Some None (Some k) (sym set_here ∙ ap (slice_get a'.held.items) (sym f) ∙ e) in cc
 
 pub removal : (a a' : Inside) (s : ℕ) → AreLinks a → IsRemoval a a' s → Unlinks (view_of a) (view_of a') s
 removal a a' s links i = record {
@@ -594,7 +591,7 @@ nonempty_chain w sound c s m =
 
 pub first_has : (xs : List ℕ) (s : ℕ) → slice_get xs 0 ≡ Some s → Has xs s
 first_has [] s e = absurd (let f : None ≡ Some s = e in let z : ⊥ = cc in z)
-first_has (x ∷ xs) s e = inl (some_same x s e)
+first_has (x ∷ xs) s e = inl (same_Some x s e)
 
 -- the first slot of a chain is a slot, and in this chain
 pub first_slot : (w : Chains) → AreSound w → (c s : ℕ) → slice_get (slots_in w c) 0 ≡ Some s → (s < slot_count w) × (chain_of w s ≡ c) × (c < chain_count w)
@@ -619,7 +616,7 @@ first_row v o s rows e f = split rows e f
         x ∷ xs,
         e,
         has-contains (x ∷ xs) (record { slot = s; held = x.held })
-            (inl (let g : s ≡ x.slot = some_same s x.slot f in ap (λ k. record { slot = k; held = x.held }) (sym g))),
+            (inl (let g : s ≡ x.slot = same_Some s x.slot f in ap (λ k. record { slot = k; held = x.held }) (sym g))),
       ),
     )
 
@@ -752,4 +749,4 @@ pub one_row : (a : Inside) (v : OwnedRows) → view_of a ≡ v → AreLinks a �
 one_row a v e links s h k x f =
     let P : OwnedRows → Type 0 = λ z. Holds z s h in
     let x' = subst P (sym e) x in
-    some_same h k (some_same (Some h) (Some k) (sym (holds_slot a links x'.0 s h x'.1).1 ∙ f))
+    same_Some h k (same_Some (Some h) (Some k) (sym (holds_slot a links x'.0 s h x'.1).1 ∙ f))

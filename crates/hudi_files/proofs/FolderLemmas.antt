@@ -2,7 +2,7 @@
 use Rattle.std.proofs.Common.{◌≡◌, ℕ, ◌+◌, ◌-◌, ◌<◌, nat_le, Bool, true, false, ◌&&◌, if◌then◌else◌, List, [], ◌∷◌, ◌++◌, length, take, drop, get_or, All, Option, Some, None, IfSome, Vec, Bor, Global, refl, sym, ap, ◌∙◌, inr, ⊎_elim, arith}
 use Rattle.std.specs.List.{slice_split, onto_first}
 use Rattle.std.specs.Option.{option_map, option_and_then, is_some}
-use Rattle.std.proofs.lemmas.Bool.{cases_Bool, false≢true}
+use Rattle.std.proofs.lemmas.Bool.{cases_Bool, false_from_ne_true, false≢true}
 use Rattle.std.proofs.lemmas.List.{drop_more, get_or-drop, length-append, length-drop, length-map, take-append-drop}
 use Rattle.std.proofs.lemmas.List.Elements.{All-from_get_or}
 use Rattle.std.proofs.Math.Seq.{take-append_seam}
@@ -42,15 +42,11 @@ split_at_last p (x ∷ xs) y last hit one =
 all_but_one : {X : Type 0} (xs : List X) (x : X) → take (length (xs ++ x ∷ []) - 1) (xs ++ x ∷ []) ≡ xs
 all_but_one xs x = ap (λ n. take n (xs ++ x ∷ [])) (omega (arith, length-append xs (x ∷ []))) ∙ take-append_seam xs (x ∷ [])
 
-fails_by : (b : Bool) → (b ≡ true → ⊥) → b ≡ false
-fails_by true passes = absurd (passes refl)
-fails_by false passes = refl
-
 components_before : (path : List ℕ) (k : ℕ) → NoneAfter (Passes (is_byte 47) path) 0 (length path) k → Passes (is_byte 47) path k → folder_components path ≡ slice_split is_slash (take k path)
 components_before path k last here =
     let name = drop (k + 1) path in
     let none : All (λ b. is_slash b ≡ false) name =
-    All-from_get_or (λ b. is_slash b ≡ false) name 0 (λ i within. ap is_slash (get_or-drop (k + 1) path i 0) ∙ fails_by _ (last.after (k + 1 + i) (omega arith) (omega (arith, within, length-drop (k + 1) path)))) in
+    All-from_get_or (λ b. is_slash b ≡ false) name 0 (λ i within. ap is_slash (get_or-drop (k + 1) path i 0) ∙ false_from_ne_true _ (last.after (k + 1 + i) (omega arith) (omega (arith, within, length-drop (k + 1) path)))) in
     let cut : path ≡ take k path ++ get_or path k 0 ∷ name = sym (take-append-drop k path) ∙ ap (λ rest. take k path ++ rest) (drop_more path k 0 last.high) in
     let parts : slice_split is_slash path ≡ slice_split is_slash (take k path) ++ name ∷ [] =
     ap (slice_split is_slash) cut ∙ split_at_last is_slash (take k path) (get_or path k 0) name here (slice_split_none is_slash name none) in

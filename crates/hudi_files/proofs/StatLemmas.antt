@@ -1,7 +1,7 @@
 -- The write stats of an instant, against the files and the rows that they make.
 use Rattle.std.proofs.Common.{◌≡◌, ℕ, ◌<◌, ◌^◌, ◌&&◌, Bool, true, false, cond, nat_lt, List, [], ◌∷◌, Result, Ok, Err, IfErr, Option, None, Contains, refl, sym, ap, subst, ◌∙◌, inr, ⊎_elim}
 use Rattle.std.specs.List.{list_all, ends_with}
-use Rattle.std.proofs.lemmas.Bool.{cases_Bool, false≢true, ltb-true}
+use Rattle.std.proofs.lemmas.Bool.{and_parts, cases_Bool, false≢true, ltb-true}
 use Rattle.lake_basics.specs.Outcome.{◌>>=◌, each}
 use Rattle.table_history.specs.Path.{is_path_of_any_length}
 use Rattle.table_history.specs.declared.feature.Feature.{Feature}
@@ -62,15 +62,11 @@ each_fault {A} {B} {E} f (x ∷ xs) e h = by (each_fault f xs e) (f x) (each f x
     by rec (Err fault) r first others h = let same : fault ≡ e = cc in (x, Contains-head x xs, first ∙ ap Err same)
 
 -- ---- tests of each of a list
-both_true : (a b : Bool) → (a && b) ≡ true → (a ≡ true) × (b ≡ true)
-both_true true true h = (refl, refl)
-both_true true false h = absurd (false≢true h)
-both_true false b h = absurd (false≢true h)
 
 pub all_at : {X : Type 0} (p : X → Bool) (xs : List X) (x : X) → list_all p xs ≡ true → Contains xs x → p x ≡ true
 all_at p [] x h there = absurd (Contains-none x there)
 all_at p (y ∷ ys) x h there =
-    let both = both_true (p y) (list_all p ys) h in ⊎_elim (λ e. ap p (sym e) ∙ both.0) (λ later. all_at p ys x both.1 later) (Contains-cases y ys x there)
+    let both = and_parts (p y) (list_all p ys) h in ⊎_elim (λ e. ap p (sym e) ∙ both.0) (λ later. all_at p ys x both.1 later) (Contains-cases y ys x there)
 
 pub not_all : {X : Type 0} (p : X → Bool) (xs : List X) → list_all p xs ≡ false → (x : X) × Contains xs x × (p x ≡ false)
 not_all p [] h = absurd (false≢true (sym h))
@@ -101,8 +97,8 @@ bare_sound suffix s row h = by (has_sound_path suffix s) (has_sound_numbers s) r
         → (is_path_of_any_length (without_end suffix s.path) ≡ true) × (s.writes < 2 ^ 63) × (s.size < 2 ^ 63) × (bare suffix s ≡ row)
     by true true path numbers e =
         let same : bare suffix s ≡ row = cc in
-        let sound = both_true (ends_with _ s.path suffix) (is_path_of_any_length (without_end suffix s.path)) path in
-        let small = both_true (nat_lt s.writes (2 ^ 63)) (nat_lt s.size (2 ^ 63)) numbers in
+        let sound = and_parts (ends_with _ s.path suffix) (is_path_of_any_length (without_end suffix s.path)) path in
+        let small = and_parts (nat_lt s.writes (2 ^ 63)) (nat_lt s.size (2 ^ 63)) numbers in
         (sound.1, ltb-true s.writes (2 ^ 63) small.0, ltb-true s.size (2 ^ 63) small.1, same)
     by true false path numbers e = absurd cc
     by false b path numbers e = absurd cc

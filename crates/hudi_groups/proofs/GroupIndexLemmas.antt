@@ -8,7 +8,7 @@ use Rattle.std.specs.HashSet.{UpdatesBy}
 use Rattle.std.specs.HashMap.{get_by}
 use Rattle.std.specs.Map.{IsKeyTest, AreApart}
 use Rattle.std.specs.declared.alloc.Global.{Global}
-use Rattle.std.proofs.lemmas.Bool.{cases_Bool, cond-true, cond-false, false≢true}
+use Rattle.std.proofs.lemmas.Bool.{and_from, and_parts, cases_Bool, cond-false, cond-true, false≢true, or_left, or_right}
 use Rattle.std.proofs.lemmas.Cmp.{nat_list_eq_equiv}
 use Rattle.std.proofs.lemmas.List.Elements.{Contains-append_left, Contains-append_right, Contains-append_cases}
 use Rattle.std.proofs.lemmas.Map.Keys.{IsDistinct-head, IsDistinct-tail}
@@ -30,21 +30,6 @@ use Rattle.hudi_groups.proofs.GroupChangeLemmas.{distinct_append, distinct_none}
 use Rattle.hudi_groups.proofs.GroupPathLemmas.{row_in_group-is, row_in_group-has, row_in_group-distinct}
 
 -- ---- tests
-both : (a b : Bool) → (a && b) ≡ true → (a ≡ true) × (b ≡ true)
-both true b h = (refl, h)
-both false b h = absurd (false≢true h)
-
-and_both : (a b : Bool) → a ≡ true → b ≡ true → (a && b) ≡ true
-and_both true b a_is b_is = b_is
-and_both false b a_is b_is = absurd (false≢true a_is)
-
-or_left : (a b : Bool) → a ≡ true → (a || b) ≡ true
-or_left true b h = refl
-or_left false b h = absurd (false≢true h)
-
-or_right : (a b : Bool) → b ≡ true → (a || b) ≡ true
-or_right true b h = refl
-or_right false b h = h
 
 -- two tests that hold in the same cases
 same_tests : (a b : Bool) → (a ≡ true → b ≡ true) → (b ≡ true → a ≡ true) → a ≡ b
@@ -148,7 +133,7 @@ module _ (old : Table) (change : Change) (new : Table) (after : IsAfter old chan
   test = is_row_of q p
 
   path_is : (path : List ℕ) → is_path_of q p path ≡ true → p ≡ path
-  path_is path t = (bytes_eq-Decides p path).0 (both (bytes_eq q (group_name Base path)) (bytes_eq p path) t).1
+  path_is path t = (bytes_eq-Decides p path).0 (and_parts (bytes_eq q (group_name Base path)) (bytes_eq p path) t).1
 
   stays : (row : FileRow) → test row ≡ true → (Contains change.removed row.path → ⊥) → not (list_any (is_path_of q p) change.removed) ≡ true
   stays row t there =
@@ -159,7 +144,7 @@ module _ (old : Table) (change : Change) (new : Table) (after : IsAfter old chan
       let some = any_to test new.rows h in
       ⊎_elim
       (λ fresh. or_left (list_any test change.added) _ (any_from test change.added some.0 fresh some.2))
-      (λ kept. or_right (list_any test change.added) _ (and_both _ _ (stays some.0 some.2 kept.1) (any_from test old.rows some.0 kept.0 some.2)))
+      (λ kept. or_right (list_any test change.added) _ (and_from _ _ (stays some.0 some.2 kept.1) (any_from test old.rows some.0 kept.0 some.2)))
       ((after.rows some.0).0 some.1)
 
   or_cases : (a b : Bool) → (a || b) ≡ true → (a ≡ true) ⊎ (b ≡ true)
@@ -171,7 +156,7 @@ module _ (old : Table) (change : Change) (new : Table) (after : IsAfter old chan
       ⊎_elim
       (λ fresh. let some = any_to test change.added fresh in any_from test new.rows some.0 ((after.rows some.0).1 (inl some.1)) some.2)
       (λ kept.
-      let two = both (not (list_any (is_path_of q p) change.removed)) (list_any test old.rows) kept in
+      let two = and_parts (not (list_any (is_path_of q p) change.removed)) (list_any test old.rows) kept in
       let some = any_to test old.rows two.1 in
       any_from test new.rows some.0
       ((after.rows some.0).1 (inr (some.1, λ gone. false≢true (sym (ap not (any_from (is_path_of q p) change.removed some.0.path gone some.2)) ∙ two.0))))
@@ -236,7 +221,7 @@ module _ (rows : List FileRow) where
       in_index : (row : FileRow) → Contains rows row → (k : Key) × Contains (paths_at index (group_name Base row.path)) k × (row.path ≡ k.items)
       in_index row there =
           let q = group_name Base row.path in
-          let t : is_row_of q row.path row ≡ true = and_both _ _ ((bytes_eq-Decides q q).1 refl) ((bytes_eq-Decides row.path row.path).1 refl) in
+          let t : is_row_of q row.path row ≡ true = and_from _ _ ((bytes_eq-Decides q q).1 refl) ((bytes_eq-Decides row.path row.path).1 refl) in
           let has : has_path index q row.path ≡ true = exact q row.path ∙ any_from (is_row_of q row.path) rows row there t in
           let some = any_to (λ k. bytes_eq row.path k.items) (paths_at index q) has in
           (some.0, some.1, (bytes_eq-Decides row.path some.0.items).0 some.2)

@@ -1,8 +1,8 @@
 -- The file group of a path is spelled by the path's beginning.
-use Rattle.std.proofs.Common.{◌≡◌, ℕ, ◌+◌, ◌-◌, ◌<◌, ◌≤◌, ◌==◌, Bool, true, false, not, List, [], ◌∷◌, ◌++◌, length, take, drop, get_or, Option, Some, None, refl, sym, ap, ◌∙◌, arith}
+use Rattle.std.proofs.Common.{◌≡◌, ℕ, ◌+◌, ◌-◌, ◌<◌, ◌≤◌, ◌==◌, not, List, [], ◌∷◌, ◌++◌, length, take, drop, get_or, Option, Some, None, refl, sym, ap, ◌∙◌, arith}
 use Rattle.std.specs.List.{position_or_len, suffix_len}
 use Rattle.std.specs.Option.{unwrap_or}
-use Rattle.std.proofs.lemmas.Bool.{eqb-true}
+use Rattle.std.proofs.lemmas.Bool.{eqb-true, false_from_ne_true}
 use Rattle.std.proofs.lemmas.List.{append_assoc, take-append-drop, take-take, drop-take, take_more, length-take}
 use Rattle.std.proofs.lemmas.List.Sums.{position_or_len_is, suffix_len_is}
 use Rattle.memchr.specs.Find.{IsFirstByte, NoneAfter, Nowhere, Passes, is_byte}
@@ -40,16 +40,12 @@ joined_whole path start above within slash =
 
 -- ---- searches for a byte
 
-fails_by : (b : Bool) → (b ≡ true → ⊥) → b ≡ false
-fails_by true passes = absurd (passes refl)
-fails_by false passes = refl
-
 -- all behind a place is of one segment
 name_behind : (path : List ℕ) (start : ℕ) → start ≤ length path → Nowhere (Passes (is_byte 47) path) start (length path)
     → (0 < start → get_or path (start - 1) 0 ≡ 47) → start ≡ length path - suffix_len (λ b. not (b == 47)) path
 name_behind path start within none slash =
     let behind = suffix_len_is (λ b. not (b == 47)) path start 0 within
-    (λ k low high. ap not (fails_by _ (none k low high)))
+    (λ k low high. ap not (false_from_ne_true _ (none k low high)))
     (λ above. ap (λ b. not (b == 47)) (slash above)) in
     omega (arith, behind, within)
 
@@ -64,6 +60,6 @@ last_slash path k last here =
 -- the first `_`, or the end
 pub first_underscore : (name : List ℕ) (r : Option ℕ) → IsFirstByte (is_byte 95) name r → unwrap_or r (length name) ≡ position_or_len (λ b. b == 95) name
 first_underscore name None none =
-    sym (position_or_len_is (λ b. b == 95) name (length name) 0 (omega arith) (λ k below. fails_by _ (none k (omega arith) below)) (λ below. absurd (omega (arith, below))))
+    sym (position_or_len_is (λ b. b == 95) name (length name) 0 (omega arith) (λ k below. false_from_ne_true _ (none k (omega arith) below)) (λ below. absurd (omega (arith, below))))
 first_underscore name (Some i) first =
-    sym (position_or_len_is (λ b. b == 95) name i 0 (omega (arith, first.0.high)) (λ k below. fails_by _ (first.0.before k (omega arith) below)) (λ below. first.1))
+    sym (position_or_len_is (λ b. b == 95) name i 0 (omega (arith, first.0.high)) (λ k below. false_from_ne_true _ (first.0.before k (omega arith) below)) (λ below. first.1))

@@ -1,31 +1,25 @@
 -- The names of instants, as a relation.
-use Rattle.std.proofs.Common.{◌≡◌, ◌≢◌, ◌↔◌, ◌⊎◌, ℕ, ◌+◌, ◌-◌, ◌<◌, ◌==◌, nat_lt, Bool, true, false, cond, ◌||◌, ◌&&◌, nat_eq, List, ◌∷◌, ◌++◌, length, take, drop, get_or, Option, Some, None, option_map, codes, refl, sym, ap, subst, ◌∙◌, inl, inr, ⊎_elim, arith}
+use Rattle.std.proofs.Common.{◌≡◌, ◌≢◌, ◌↔◌, ◌⊎◌, ℕ, ◌+◌, ◌-◌, ◌<◌, ◌==◌, nat_lt, Bool, true, false, cond, ◌&&◌, nat_eq, List, ◌∷◌, ◌++◌, length, take, drop, get_or, Option, Some, None, option_map, codes, refl, sym, ap, subst, ◌∙◌, inl, inr, ⊎_elim, arith}
 use Rattle.std.specs.Char.{is_ascii_digit}
 use Rattle.std.specs.List.{list_all, ends_with}
 use Rattle.std.specs.Str.{bytes_eq}
 use Rattle.std.proofs.Math.ListN.{get_or-append, get_or-eq_default}
 use Rattle.std.proofs.Math.Seq.{drop-append-add, take-append_seam}
-use Rattle.std.proofs.lemmas.Bool.{cases_Bool, false≢true, ltb-true, ltb-false}
+use Rattle.std.proofs.lemmas.Bool.{and_parts, cases_Bool, false≢true, ltb-false, ltb-true, or_cases}
 use Rattle.std.proofs.lemmas.Bool.Decides.{Decides-eqb}
 use Rattle.std.proofs.lemmas.List.{drop_more, get_or_at, length-take-le, take-append-drop}
 use Rattle.std.proofs.lemmas.List.Folds.{list_all_at}
 use Rattle.std.proofs.lemmas.Slice.Eq.{bytes_eq-Decides, ends_is}
+use Rattle.std.proofs.lemmas.Option.{none-some}
 use Rattle.hudi_names.specs.Name.{has_time, time_len, is_ignored, is_merge_on_read, action_of, inflight_action_of, front_before, with_suffixes, rest_says, instant_of, IsWordOf, IsRestOf, IsSplit, IsInstantName}
 use Rattle.hudi_names.specs.declared.name.Action.{Action}
 use Rattle.hudi_names.specs.declared.name.Action.TheVariants.{Commit, ReplaceCommit, Ignored, MergeOnRead, Restore, Unknown}
 use Rattle.hudi_names.specs.declared.name.State.{State}
 use Rattle.hudi_names.specs.declared.name.State.TheVariants.{Requested, Inflight, Completed}
 
-none_some : {A : Type 0} (x : A) → None ≡ Some x → ⊥
-none_some x e = absurd cc
-
 by_test : {X : Type 0} (P : X → Type 0) (b : Bool) (x y : X) → (b ≡ true → P x) → (b ≡ false → P y) → P (cond b x y)
 by_test P true x y holds fails = holds refl
 by_test P false x y holds fails = fails refl
-
-either : (a b : Bool) → (a || b) ≡ true → (a ≡ true) ⊎ (b ≡ true)
-either true b h = inl refl
-either false b h = inr h
 
 is : (word text : List ℕ) → bytes_eq word text ≡ true → word ≡ text
 is word text h = (bytes_eq-Decides word text).0 h
@@ -38,18 +32,18 @@ ignored_word : (word : List ℕ) → is_ignored word ≡ true → IsWordOf Ignor
 ignored_word word h =
     ⊎_elim
     (λ first. ⊎_elim
-    (λ two. ⊎_elim (λ t. inl (is word (codes "clean") t)) (λ t. inr (inl (is word (codes "savepoint") t))) (either _ _ two))
+    (λ two. ⊎_elim (λ t. inl (is word (codes "clean") t)) (λ t. inr (inl (is word (codes "savepoint") t))) (or_cases _ _ two))
     (λ t. inr (inr (inl (is word (codes "rollback") t))))
-    (either _ _ first))
+    (or_cases _ _ first))
     (λ t. inr (inr (inr (is word (codes "indexing") t))))
-    (either _ _ h)
+    (or_cases _ _ h)
 
 merge_word : (word : List ℕ) → is_merge_on_read word ≡ true → IsWordOf MergeOnRead word
 merge_word word h =
     ⊎_elim
-    (λ two. ⊎_elim (λ t. inl (is word (codes "deltacommit") t)) (λ t. inr (inl (is word (codes "compaction") t))) (either _ _ two))
+    (λ two. ⊎_elim (λ t. inl (is word (codes "deltacommit") t)) (λ t. inr (inl (is word (codes "compaction") t))) (or_cases _ _ two))
     (λ t. inr (inr (is word (codes "logcompaction") t)))
-    (either _ _ h)
+    (or_cases _ _ h)
 
 action_fits : (word : List ℕ) → Fits (action_of word) word
 action_fits word =
@@ -74,7 +68,7 @@ front_is suffix rest word h = by (ends_with nat_eq rest suffix) refl h
   where
     by : (b : Bool) → ends_with nat_eq rest suffix ≡ b → cond b (Some (take (length rest - length suffix) rest)) None ≡ Some word → rest ≡ word ++ suffix
     by true e some = let same : take (length rest - length suffix) rest ≡ word = cc (some) in (ends_is Decides-eqb rest suffix _ refl).0 e ∙ ap (λ l. l ++ suffix) same
-    by false e some = absurd (none_some word some)
+    by false e some = absurd (none-some word some)
 
 abbrev Says : Action × State → List ℕ → Type 0
 Says p rest = p.0 ≢ Unknown → (word : List ℕ) × IsWordOf p.0 word × IsRestOf word p.1 rest
@@ -129,9 +123,6 @@ says_rest action Inflight word rest named h =
     h
 
 -- ---- the time
-both : (a b : Bool) → (a && b) ≡ true → (a ≡ true) × (b ≡ true)
-both true b h = (refl, h)
-both false b h = absurd (false≢true h)
 
 within : (name : List ℕ) (n : ℕ) → get_or name n 0 ≡ 46 → n < length name
 within name n at =
@@ -145,7 +136,7 @@ within name n at =
 module _ (name : List ℕ) (n : ℕ) (form : (n ≡ 14) ⊎ (n ≡ 17)) (h : has_time n name ≡ true) where
   tests : (get_or name n 0 ≡ 46) × (list_all is_ascii_digit (take n name) ≡ true)
   tests =
-      let parts = both (get_or name n 0 == 46) (list_all is_ascii_digit (take n name)) h in
+      let parts = and_parts (get_or name n 0 == 46) (list_all is_ascii_digit (take n name)) h in
       ((Decides-eqb (get_or name n 0) 46).0 parts.0, parts.1)
 
   inside : n < length name
@@ -181,7 +172,7 @@ module _ (name : List ℕ) (digits : ℕ) (action : Action) (state : State) wher
       by : (x : Bool) → has_time 14 name ≡ x → (y : Bool) → has_time 17 name ≡ y → option_map (parts_at name) (cond x (Some 14) (cond y (Some 17) None)) ≡ Some (digits, action, state) → IsInstantName name digits action state
       by true ex y ey e = at_time 14 (inl refl) ex known e
       by false ex true ey e = at_time 17 (inr refl) ey known e
-      by false ex false ey e = absurd (none_some (digits, action, state) e)
+      by false ex false ey e = absurd (none-some (digits, action, state) e)
 
 -- ---- a name that is put together
 module _ (time rest : List ℕ) (numeral : list_all is_ascii_digit time ≡ true) where
@@ -240,4 +231,4 @@ named_exactly name digits action state known = (named_to name digits action stat
 
 -- It is that of no instant at all exactly where it isn't a time, a dot and a rest.
 pub none_exactly : (name : List ℕ) → (instant_of name ≡ None) ↔ ((time rest : List ℕ) → IsSplit name time rest → ⊥)
-none_exactly name = (λ h time rest i. none_some _ (sym h ∙ split_reads name time rest i), none_from name)
+none_exactly name = (λ h time rest i. none-some _ (sym h ∙ split_reads name time rest i), none_from name)

@@ -1,5 +1,5 @@
 -- Times as digits.
-use Rattle.std.proofs.Common.{◌≡◌, ◌≢◌, ℕ, zero, suc, ℤ, pos, negsuc, ◌+◌, ◌-◌, ◌*◌, ◌/◌, ◌%◌, ◌^◌, ◌<◌, ◌≤◌, ◌<ℤ◌, ◌≤ℤ◌, ◌+ℤ◌, ◌*ℤ◌, List, [], ◌∷◌, ◌++◌, length, get_or, drop, replicate, MatchOption, IfSome, Result, Ok, Err, cond, false, refl, sym, ap, subst, ◌∙◌, neg_ℤ, inl, inr, codes, arith, rules}
+use Rattle.std.proofs.Common.{◌≡◌, ◌≢◌, ℕ, zero, suc, ℤ, pos, negsuc, ◌+◌, ◌-◌, ◌*◌, ◌/◌, ◌%◌, ◌^◌, ◌<◌, ◌≤◌, ◌<ℤ◌, ◌≤ℤ◌, ◌+ℤ◌, ◌*ℤ◌, List, [], ◌∷◌, ◌++◌, length, get_or, drop, replicate, MatchOption, IfSome, Result, Ok, Err, false, refl, sym, ap, subst, ◌∙◌, neg_ℤ, inl, inr, codes, arith, rules}
 use Rattle.std.specs.Prelude.{◌==◌}
 use Rattle.std.specs.Int.{int_div_euclid, int_rem_euclid}
 use Rattle.std.specs.Char.{digit_value}
@@ -23,7 +23,7 @@ use Rattle.std.proofs.lemmas.Int.{ints, by_lt_z}
 use Rattle.hudi_names.proofs.DateLemmas.{date_of_day, later_day, same_day}
 use Rattle.std.proofs.lemmas.Int.Digits.{digits_value-lt}
 use Rattle.std.proofs.lemmas.Str.{digit_value_digit}
-use Rattle.std.proofs.lemmas.Str.Parse.{digit_at}
+use Rattle.std.proofs.lemmas.Str.Parse.{digit_at, without_leading_plus_none}
 use Rattle.hudi_names.specs.Time.{IsDigits, IsTimeOfDay, IsDay, IsTimeNumber, IsSomeTimeAt, IsTime, IsPast9999}
 
 -- ---- a time is a day and a time of the day
@@ -72,20 +72,17 @@ padded_digits n text small is =
 pub no_plus : (bs : List ℕ) → IsNumeral 10 bs → get_or bs 0 0 ≢ 43
 no_plus bs h e = let at = digit_at bs 0 h.1 h.0 in omega (arith, at, e)
 
-pub without_plus : (bs : List ℕ) → get_or bs 0 0 ≢ 43 → without_leading_plus bs ≡ bs
-without_plus bs h = let no : (get_or bs 0 0 == 43) ≡ false = grind (arith, nat_tests) in ap (λ b. drop (cond b 1 0) bs) no
-
 pub parsed : {E : Type 0} (text : List ℕ) (r : Result ℕ E) → length text ≡ 17 → get_or text 0 0 ≢ 43 → ParsesUnsigned 64 10 text r
     → MatchOption (result_ok r) (IsDigits text → ⊥) (λ n. IsDigits text × (n ≡ digits_value 10 text)) × IfSome (result_ok r) (λ n. n < 10 ^ 17)
 parsed text (Ok n) len first h =
-    let same = without_plus text first in
+    let same = without_leading_plus_none text first in
     let numeral : IsNumeral 10 text = subst (IsNumeral 10) same h.0.0 in
     let value : n ≡ digits_value 10 text = h.1 ∙ ap (digits_value 10) same in
     let small : digits_value 10 text < 10 ^ length text = digits_value-lt 10 text numeral.1 in
     let power : 10 ^ length text ≡ 10 ^ 17 = ap (λ k. 10 ^ k) len in
     ((record { len = len; numeral = numeral }, value), omega arith)
 parsed text (Err e) len first h =
-    let same = without_plus text first in (
+    let same = without_leading_plus_none text first in (
       λ d.
           let small : digits_value 10 text < 10 ^ length text = digits_value-lt 10 text d.numeral.1 in
           let power : 10 ^ length text ≡ 10 ^ 17 = ap (λ k. 10 ^ k) len in

@@ -1,6 +1,6 @@
 -- Properties that were written, read again.
 use Rattle.std.proofs.Common.{◌≡◌, ℕ, ◌+◌, ◌-◌, ◌/◌, ◌%◌, ◌<◌, ◌≤◌, List, [], ◌∷◌, ◌++◌, length, get_or, take, drop, map, Some, None, Ok, Bool, true, false, cond, not, nat_lt, refl, sym, ap, subst, ◌∙◌, append_assoc, arith, inl, inr, ◌⊎◌}
-use Rattle.std.specs.Prelude.{◌==◌, ◌&&◌, take_while, filter, is_some}
+use Rattle.std.specs.Prelude.{◌==◌, take_while, filter, is_some}
 use Rattle.std.specs.Option.{unwrap_or}
 use Rattle.std.specs.Char.{IsScalar}
 use Rattle.std.specs.Char.Escape.{encode_utf16}
@@ -12,6 +12,7 @@ use Rattle.std.proofs.lemmas.Grind.{flat_map-append}
 use Rattle.std.proofs.lemmas.List.{append-nil, take_more}
 use Rattle.std.proofs.lemmas.List.Sums.{take_while-cons}
 use Rattle.std.proofs.lemmas.Str.{encodes-chars, scalars-chars, utf16_chars-nil, utf16_chars_lone, utf16_chars_pair}
+use Rattle.std.proofs.lemmas.Bool.{and_parts}
 use Rattle.hudi_properties.specs.declared.escape.Escape.TheVariants.{Outside}
 use Rattle.hudi_properties.specs.Escapes.{units_from, utf16_text, unescaped}
 use Rattle.hudi_properties.specs.Lines.{is_white, onto_first, lines_after, natural_lines, ends_escaped, trimmed, is_comment, is_continued, stepped, logical_from, logical_lines}
@@ -23,13 +24,9 @@ use Rattle.hudi_properties.proofs.WrittenLemmas.{IsPiece, IsStart, onto_front, p
 scalar_small : (c : ℕ) → IsScalar c → c < 0x11_0000
 scalar_small c is = grind (arith, nat_tests)
 
-both : (a b : Bool) → (a && b) ≡ true → (a ≡ true) × (b ≡ true)
-both true b h = (refl, h)
-both false b h = absurd (cc)
-
 pub pieces : (cs : List ℕ) → all_scalars cs ≡ true → IsPiece (flat_map escaped_char cs) (flat_map encode_utf16 cs)
 pieces [] h = piece_none
-pieces (c ∷ cs) h = let parts = both _ _ h in piece_append _ _ _ _ (piece_char c (scalar_small c parts.0)) (pieces cs parts.1)
+pieces (c ∷ cs) h = let parts = and_parts _ _ h in piece_append _ _ _ _ (piece_char c (scalar_small c parts.0)) (pieces cs parts.1)
 
 -- ---- units are the characters' again
 
@@ -52,7 +49,7 @@ char_again false c us near is = far_chars c us (grind (arith, nat_tests)) (scala
 
 chars_again : (cs : List ℕ) → all_scalars cs ≡ true → utf16_chars (flat_map encode_utf16 cs) ≡ map Some cs
 chars_again [] h = utf16_chars-nil
-chars_again (c ∷ cs) h = let parts = both _ _ h in char_again (nat_lt c 65536) c (flat_map encode_utf16 cs) refl parts.0 ∙ ap (λ l. Some c ∷ l) (chars_again cs parts.1)
+chars_again (c ∷ cs) h = let parts = and_parts _ _ h in char_again (nat_lt c 65536) c (flat_map encode_utf16 cs) refl parts.0 ∙ ap (λ l. Some c ∷ l) (chars_again cs parts.1)
 
 pub none_unpaired : (cs : List ℕ) → list_any (λ o. not (is_some o)) (map Some cs) ≡ false
 none_unpaired [] = refl

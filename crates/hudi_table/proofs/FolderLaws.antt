@@ -6,7 +6,7 @@ use Rattle.std.specs.Cmp.Lexicographic.{slice_cmp}
 use Rattle.std.specs.Str.{bytes_eq}
 use Rattle.std.specs.declared.cmp.Ordering.{Ordering}
 use Rattle.std.specs.declared.cmp.Ordering.TheVariants.{Less, Equal, Greater}
-use Rattle.std.proofs.lemmas.Bool.{false≢true}
+use Rattle.std.proofs.lemmas.Bool.{and_parts, false≢true}
 use Rattle.std.proofs.lemmas.Slice.Eq.{bytes_eq-Decides}
 use Rattle.lake_store.specs.Disk.{Files, names_in}
 use Rattle.lake_store.proofs.OrderLaws.{names_in_sorted}
@@ -58,10 +58,6 @@ done_state state.Requested done = cc
 done_state state.Inflight done = cc
 done_state state.Completed done = refl
 
-both : (a b : Bool) → (a && b) ≡ true → (a ≡ true) × (b ≡ true)
-both true b h = (refl, h)
-both false b h = absurd (false≢true h)
-
 lt_less : (o : Ordering) → is_lt o ≡ true → o ≡ Less
 lt_less Less is = refl
 lt_less Equal is = cc
@@ -73,7 +69,7 @@ module _ (names : List (List ℕ)) where
     where
       by : (b : Bool) → (is_commit i.action && is_done i.state) ≡ b → cond b (Some (record { name = i.name; time = i.time; is_second = is_second names i })) None ≡ Some c → (is_commit i.action ≡ true) × (i.state ≡ state.Completed) × (i.time ≡ c.time) × (i.name ≡ c.name)
       by true passes found =
-          let parts = both (is_commit i.action) (is_done i.state) passes in
+          let parts = and_parts (is_commit i.action) (is_done i.state) passes in
           let same : record { name = i.name; time = i.time; is_second = is_second names i } ≡ c = cc (found) in
           (parts.0, done_state i.state parts.1, ap (λ (d : CompletedInstant). d.time) same, ap (λ (d : CompletedInstant). d.name) same)
       by false fails found = cc

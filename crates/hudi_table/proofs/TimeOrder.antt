@@ -1,5 +1,5 @@
 -- Names in byte order have times in byte order.
-use Rattle.std.proofs.Common.{◌≡◌, ◌≢◌, ℕ, ◌+◌, ◌<◌, ◌&&◌, ◌==◌, List, [], ◌∷◌, ◌++◌, take, cond, not, Bool, true, false, Some, refl, sym, ap, ◌∙◌, arith}
+use Rattle.std.proofs.Common.{◌≡◌, ◌≢◌, ℕ, ◌+◌, ◌<◌, ◌==◌, List, [], ◌∷◌, ◌++◌, take, cond, not, true, false, Some, refl, sym, ap, ◌∙◌, arith}
 use Rattle.std.specs.Prelude.{suc, nat_lt}
 use Rattle.std.specs.Char.{is_ascii_digit}
 use Rattle.std.specs.List.{before_first, list_all, position_or_len}
@@ -7,7 +7,7 @@ use Rattle.std.specs.Ordering.{nat_cmp, ordering_reverse, ordering_then}
 use Rattle.std.specs.Cmp.Lexicographic.{slice_cmp}
 use Rattle.std.specs.declared.cmp.Ordering.{Ordering}
 use Rattle.std.specs.declared.cmp.Ordering.TheVariants.{Less, Equal, Greater}
-use Rattle.std.proofs.lemmas.Bool.{false≢true}
+use Rattle.std.proofs.lemmas.Bool.{and_parts, false≢true}
 use Rattle.std.proofs.lemmas.Bool.Decides.{nat_tests}
 use Rattle.std.proofs.lemmas.Cmp.{nat_list_cmp_total, tied_itself}
 use Rattle.hudi_names.specs.Name.{instant_of}
@@ -20,10 +20,6 @@ use Rattle.hudi_table.specs.Folder.{IsEarlier, IsUpTo}
 
 abbrev cmp : List ℕ → List ℕ → Ordering
 cmp = slice_cmp nat_cmp
-
-both : (a b : Bool) → (a && b) ≡ true → (a ≡ true) × (b ≡ true)
-both true b h = (refl, h)
-both false b h = absurd (false≢true h)
 
 above_dot : (c : ℕ) → is_ascii_digit c ≡ true → 46 < c
 above_dot c h = grind (arith, nat_tests)
@@ -53,11 +49,11 @@ rise : (s t r q : List ℕ) → list_all is_ascii_digit s ≡ true → list_all 
 rise [] [] r q ds dt less e = equal_greater e
 rise [] (y ∷ t) r q ds dt less e = less_greater e
 rise (x ∷ s) [] r q ds dt less e =
-    let digit = (both (is_ascii_digit x) (list_all is_ascii_digit s) ds).0 in
+    let digit = (and_parts (is_ascii_digit x) (list_all is_ascii_digit s) ds).0 in
     greater_less (sym (ap (λ o. ordering_then o (cmp (s ++ 46 ∷ r) q)) (past_dot x (above_dot x digit))) ∙ less)
 rise (x ∷ s) (y ∷ t) r q ds dt less e =
-    let rest_s = (both (is_ascii_digit x) (list_all is_ascii_digit s) ds).1 in
-    let rest_t = (both (is_ascii_digit y) (list_all is_ascii_digit t) dt).1 in
+    let rest_s = (and_parts (is_ascii_digit x) (list_all is_ascii_digit s) ds).1 in
+    let rest_t = (and_parts (is_ascii_digit y) (list_all is_ascii_digit t) dt).1 in
     then_by (nat_cmp x y) (cmp (s ++ 46 ∷ r) (t ++ 46 ∷ q)) (cmp s t) less (λ l. rise s t r q rest_s rest_t l) e
 
 take_one_more : (k : ℕ) (x : ℕ) (xs : List ℕ) → take (1 + k) (x ∷ xs) ≡ x ∷ take k xs
@@ -67,7 +63,7 @@ take_one_more k x xs = let one : 1 + k ≡ suc k = omega arith in ap (λ n. take
 before_dot : (s r : List ℕ) → list_all is_ascii_digit s ≡ true → before_first (λ b. b == 46) (s ++ 46 ∷ r) ≡ s
 before_dot [] r ds = refl
 before_dot (x ∷ s) r ds =
-    let parts = both (is_ascii_digit x) (list_all is_ascii_digit s) ds in
+    let parts = and_parts (is_ascii_digit x) (list_all is_ascii_digit s) ds in
     let far = above_dot x parts.0 in
     let other : (x == 46) ≡ false = grind (arith, nat_tests) in
     let k = position_or_len (λ b. b == 46) (s ++ 46 ∷ r) in

@@ -4,6 +4,7 @@ use Rattle.std.specs.List.{list_any, IsDistinct}
 use Rattle.std.specs.Option.{is_some}
 use Rattle.std.specs.Str.{bytes_eq}
 use Rattle.std.proofs.lemmas.Bool.{false≢true}
+use Rattle.std.proofs.lemmas.Option.{none-some}
 use Rattle.lake_basics.specs.Outcome.{each, FailsUnlessMemory}
 use Rattle.table_history.specs.First.{IsFirst, NoneOf}
 use Rattle.table_history.specs.TypeTree.{ColumnTrees}
@@ -31,9 +32,6 @@ use Rattle.hudi_files.specs.Values.{style_of, value_parts, is_in_folder, are_in_
 use Rattle.hudi_groups.proofs.AnyLemmas.{any_from, any_to}
 use Rattle.hudi_files.proofs.StatLemmas.{bare, bare_path, each_all, each_from, each_fault, all_at, not_all, row_of_file}
 
-none_some : {A : Type 0} (x : A) → None ≡ Some x → ⊥
-none_some x e = absurd cc
-
 -- ---- kinds
 pub has_kind : (f : List ℕ → Option PartKind) (names : List (List ℕ)) (kinds : List PartKind) → map f names ≡ map Some kinds → (name : List ℕ) → Contains names name → (k : PartKind) × (f name ≡ Some k)
 has_kind f [] kinds e name there = absurd (Contains-none name there)
@@ -58,13 +56,13 @@ none_lacks schema names kinds distinct are lacks =
     (λ twice. twice distinct)
     (λ bad.
     let has = has_kind (column_kind schema) names kinds are bad.0 bad.1 in
-    none_some has.0 (sym bad.2 ∙ has.1))
+    none-some has.0 (sym bad.2 ∙ has.1))
     lacks
 
 -- ---- the schema
 pub none_after : (stated : Option ColumnTrees) (base : Option Table) → schema_after (Ok stated) base ≡ None → (stated ≡ None) × (base ≡ None)
-none_after (Some schema) base e = absurd (none_some schema (sym e))
-none_after None (Some before) e = absurd (none_some before.schema (sym e))
+none_after (Some schema) base e = absurd (none-some schema (sym e))
+none_after None (Some before) e = absurd (none-some before.schema (sym e))
 none_after None None e = (refl, refl)
 
 -- ---- a file
@@ -132,7 +130,7 @@ module _ (u : Completed) (table : HudiTable) (base : Option Table) where
         only_schema other h = let e : Some other ≡ Some schema = sym h ∙ in_force in cc
 
         has_schema : Shows u table base feature.NoSchema → ⊥
-        has_schema lacks = none_some schema (sym (λ i. schema_after (lacks.0 i) (lacks.1 i)) ∙ in_force)
+        has_schema lacks = none-some schema (sym (λ i. schema_after (lacks.0 i) (lacks.1 i)) ∙ in_force)
 
         can_type : Shows u table base feature.SchemaType → ⊥
         can_type bad = let e : Ok stated ≡ Err (map_errors.SchemaType bad.0) = sym states ∙ bad.1 in absurd cc
@@ -205,7 +203,7 @@ module _ (u : Completed) (table : HudiTable) (base : Option Table) where
               by false false true one two three e =
                   let is : shown ≡ feature.FileFormat = cc in
                   inr (stat_test external one, inr (stat_test other_id two, inl (is, any_to other_file u.instant.stats three)))
-              by false false false one two three e = absurd (none_some shown e)
+              by false false false one two three e = absurd (none-some shown e)
 
           name_none : name_fault u.form (suffix_of u.form) u.instant.stats ≡ None
               → (Shows u table base feature.ExternalFile → ⊥) × (Shows u table base feature.FileId → ⊥) × (Shows u table base feature.FileFormat → ⊥)
@@ -214,9 +212,9 @@ module _ (u : Completed) (table : HudiTable) (base : Option Table) where
               by : (a b c : Bool) → list_any external u.instant.stats ≡ a → list_any other_id u.instant.stats ≡ b → list_any other_file u.instant.stats ≡ c
                   → cond a (Some feature.ExternalFile) (cond b (Some feature.FileId) (cond c (Some feature.FileFormat) None)) ≡ None
                   → (Shows u table base feature.ExternalFile → ⊥) × (Shows u table base feature.FileId → ⊥) × (Shows u table base feature.FileFormat → ⊥)
-              by true b c one two three e = absurd (none_some feature.ExternalFile (sym e))
-              by false true c one two three e = absurd (none_some feature.FileId (sym e))
-              by false false true one two three e = absurd (none_some feature.FileFormat (sym e))
+              by true b c one two three e = absurd (none-some feature.ExternalFile (sym e))
+              by false true c one two three e = absurd (none-some feature.FileId (sym e))
+              by false false true one two three e = absurd (none-some feature.FileFormat (sym e))
               by false false false one two three e = (stat_test external one, stat_test other_id two, stat_test other_file three)
 
           -- ---- the folders of the files

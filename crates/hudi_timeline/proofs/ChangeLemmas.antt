@@ -5,6 +5,7 @@ use Rattle.std.specs.Option.{unwrap_or}
 use Rattle.std.specs.Str.{bytes_eq}
 use Rattle.std.proofs.lemmas.Bool.{cases_Bool, false≢true, ltb-false, le-leb}
 use Rattle.std.proofs.lemmas.List.Elements.{Contains-append_cases}
+use Rattle.std.proofs.lemmas.Option.{none-some}
 use Rattle.lake_basics.specs.declared.limits.TheConstants.{MAX_COLUMNS, MAX_PARTITION_COLUMNS, MAX_PATH_BYTES, MAX_LIVE_FILES}
 use Rattle.table_history.specs.History.{FitColumns}
 use Rattle.table_history.specs.Path.{IsPath, is_path_of_any_length}
@@ -36,9 +37,6 @@ use Rattle.hudi_groups.proofs.GroupChangeLemmas.{new_there, touched}
 use Rattle.hudi_timeline.proofs.KindLemmas.{values_fit, values_still_fit, kinds_kept}
 use Rattle.hudi_files.proofs.StatLemmas.{bare_path, bare_sound}
 use Rattle.hudi_timeline.proofs.LiveLemmas.{stat_of_row}
-
-none_some : {A : Type 0} (x : A) → None ≡ Some x → ⊥
-none_some x e = absurd cc
 
 -- ---- the table before
 pub before_rows : (table : HudiTable) (base : Option Table) → (table_before table base).rows ≡ rows_before base
@@ -144,7 +142,7 @@ module _ (u : Completed) (table : HudiTable) (base : Option Table) (schema : Col
         partition_distinct = subst (IsDistinct bytes_eq) (sym new_partition) distinct;
         partition_kinds = λ name there none.
             let has = has_kind (column_kind schema) table.partition kinds kinds_are name (subst (λ names. Contains names name) new_partition there) in
-            none_some has.0 (sym (ap (λ s. column_kind s name) (sym new_schema) ∙ none) ∙ has.1);
+            none-some has.0 (sym (ap (λ s. column_kind s name) (sym new_schema) ∙ none) ∙ has.1);
         sound = record {
           distinct = is.distinct;
           values = λ row there.

@@ -7,6 +7,7 @@ use Rattle.std.proofs.lemmas.Bool.{false≢true, lt-ltb, ltb-true, ltb-false}
 use Rattle.std.proofs.lemmas.List.{length-append}
 use Rattle.std.proofs.lemmas.List.Elements.{Contains-append_left, Contains-append_right, Contains-append_cases}
 use Rattle.std.proofs.lemmas.Map.Keys.{IsDistinct-head, IsDistinct-tail}
+use Rattle.std.proofs.lemmas.Option.{none-some}
 use Rattle.lake_basics.specs.declared.limits.TheConstants.{MAX_COLUMNS, MAX_PARTITION_COLUMNS, MAX_PATH_BYTES, MAX_LIVE_FILES}
 use Rattle.table_history.specs.First.{IsFirst, NoneOf}
 use Rattle.table_history.specs.Rows.{HasDistinctPaths, paths_of}
@@ -28,9 +29,6 @@ use Rattle.hudi_groups.proofs.AnyLemmas.{any_from, any_to}
 use Rattle.hudi_groups.proofs.GroupChangeLemmas.{at_path}
 use Rattle.hudi_files.proofs.StatLemmas.{bare_path}
 use Rattle.hudi_timeline.proofs.LiveLemmas.{live_after, row_of_stat, stat_of_row}
-
-none_some : {A : Type 0} (x : A) → None ≡ Some x → ⊥
-none_some x e = absurd cc
 
 -- ---- rows that are all among others
 split_at : (xs : List FileRow) (x : FileRow) → Contains xs x → (before : List FileRow) × (after : List FileRow) × (xs ≡ before ++ x ∷ after)
@@ -71,11 +69,11 @@ few_parts table schema has_long live h =
     by : (a b c d e : Bool) → nat_lt MAX_COLUMNS (column_count schema) ≡ a → nat_lt max_type_levels (column_levels schema) ≡ b → nat_lt MAX_PARTITION_COLUMNS (length table.partition) ≡ c → has_long ≡ d → nat_lt MAX_LIVE_FILES live ≡ e
         → option_or (cond a (Some limit.Columns) (cond b (Some limit.Depth) None)) (cond c (Some limit.PartitionColumns) (cond d (Some limit.Path) (cond e (Some limit.LiveFiles) None))) ≡ None
         → AreFew table schema has_long live
-    by true b c d e one two three four five h = absurd (none_some limit.Columns (sym h))
-    by false true c d e one two three four five h = absurd (none_some limit.Depth (sym h))
-    by false false true d e one two three four five h = absurd (none_some limit.PartitionColumns (sym h))
-    by false false false true e one two three four five h = absurd (none_some limit.Path (sym h))
-    by false false false false true one two three four five h = absurd (none_some limit.LiveFiles (sym h))
+    by true b c d e one two three four five h = absurd (none-some limit.Columns (sym h))
+    by false true c d e one two three four five h = absurd (none-some limit.Depth (sym h))
+    by false false true d e one two three four five h = absurd (none-some limit.PartitionColumns (sym h))
+    by false false false true e one two three four five h = absurd (none-some limit.Path (sym h))
+    by false false false false true one two three four five h = absurd (none-some limit.LiveFiles (sym h))
     by false false false false false one two three four five h = record { columns = one; levels = two; names = three; paths = four; rows = five }
 
 module _ (u : Completed) (table : HudiTable) (base : Option Table) (schema : ColumnTrees) (kinds : List PartKind) (rows : List FileRow)
@@ -128,7 +126,7 @@ module _ (u : Completed) (table : HudiTable) (base : Option Table) (schema : Col
       by false true c one two three e = let is : which ≡ limit.Path = cc in inr (few_names one, inl (is, long_path two))
       by false false true one two three e =
           let is : which ≡ limit.LiveFiles = cc in inr (few_names one, inr (short_paths two, inl (is, many_rows distinct three)))
-      by false false false one two three e = absurd (none_some which e)
+      by false false false one two three e = absurd (none-some which e)
 
   pub number_first : (which : LimitKind) → HasDistinctPaths after → limit_passed table schema (list_any is_long rows) (length after) ≡ Some which → IsFirst (Passes u table base) change_limits which
   number_first which distinct h = by (nat_lt MAX_COLUMNS (column_count schema)) (nat_lt max_type_levels (column_levels schema)) refl refl h

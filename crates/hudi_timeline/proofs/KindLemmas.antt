@@ -2,6 +2,7 @@
 use Rattle.std.proofs.Common.{◌≡◌, ◌≢◌, ◌⊎◌, ◌↔◌, ℕ, pos, Bool, true, false, List, [], ◌∷◌, map, Option, Some, None, MatchOption, Contains, Vec, Global, refl, sym, ap, subst, ◌∙◌, inl, inr, ⊎_elim}
 use Rattle.std.specs.Option.{option_and_then}
 use Rattle.std.proofs.lemmas.Bool.{cases_Bool, false≢true}
+use Rattle.std.proofs.lemmas.Option.{none-some}
 use Rattle.table_history.specs.TypeTree.{TypeTree, ColumnTrees}
 use Rattle.table_history.specs.History.{IsOfType, column_type, FitsColumn, FitColumns}
 use Rattle.table_history.specs.declared.row.PartValue.{PartValue}
@@ -16,9 +17,6 @@ use Rattle.partition_map.specs.declared.folder.FolderStyle.{FolderStyle}
 use Rattle.partition_map.specs.Columns.{column_kind, HasOtherKind, is_same_kind}
 use Rattle.hudi_timeline.specs.Schemas.{AreKindsOf}
 use Rattle.hudi_files.specs.Values.{PartsStand}
-
-none_some : {A : Type 0} (x : A) → None ≡ Some x → ⊥
-none_some x e = absurd cc
 
 -- ---- the same kind
 same_kind : (a b : PartKind) → is_same_kind a b ≡ true → a ≡ b
@@ -41,7 +39,7 @@ other_kind a b h e = false≢true (sym h ∙ ap (λ k. is_same_kind a k) (sym e)
 
 -- ---- a value and its column
 fits_kind : (o : Option TypeTree) (k : PartKind) (v : PartValue) → option_and_then part_kind_of o ≡ Some k → IsOfKind k v → FitsColumn o v
-fits_kind None k v e h = absurd (none_some k e)
+fits_kind None k v e h = absurd (none-some k e)
 fits_kind (Some t) k v e h = (kind_of_type t k e v).0 h
 
 kind_of : (t : TypeTree) (v : PartValue) → IsOfType t v → (v ≡ value.Null) ⊎ ((k : PartKind) × (part_kind_of t ≡ Some k) × IsOfKind k v)
@@ -75,7 +73,7 @@ kinded : (o : Option TypeTree) → ((t : TypeTree) × (v : PartValue) × (o ≡ 
 kinded o h none =
     ⊎_elim
     (λ null. h.3 null)
-    (λ has. none_some has.0 (sym none ∙ ap (option_and_then part_kind_of) h.2 ∙ has.1))
+    (λ has. none-some has.0 (sym none ∙ ap (option_and_then part_kind_of) h.2 ∙ has.1))
     (kind_of h.0 h.1 h.4)
 
 -- A column has a kind exactly where some value other than null is of its type.
@@ -148,10 +146,10 @@ module _ (schema : ColumnTrees) (names : List (List ℕ)) (found : List (Option 
   pub unknown : (o : Option (Vec PartKind Global)) → MatchOption o (Contains found None) (λ kinds. found ≡ map Some kinds.items) → o ≡ None
       → (name : List ℕ) × Contains names name × (column_kind schema name ≡ None)
   unknown None h e = lacks_kind (column_kind schema) names (subst (λ l. Contains l None) found_is h)
-  unknown (Some kinds) h e = absurd (none_some kinds (sym e))
+  unknown (Some kinds) h e = absurd (none-some kinds (sym e))
 
   pub known : (o : Option (Vec PartKind Global)) (kinds : Vec PartKind Global) → MatchOption o (Contains found None) (λ ks. found ≡ map Some ks.items) → o ≡ Some kinds → AreKindsOf schema names kinds.items
-  known None kinds h e = absurd (none_some kinds e)
+  known None kinds h e = absurd (none-some kinds e)
   known (Some ks) kinds h e = let same : ks ≡ kinds = cc in sym found_is ∙ h ∙ ap (λ (v : Vec PartKind Global). map Some v.items) same
 
   pub changed : (base : Option Table) (b : Bool) → MatchOption base (b ≡ false) (λ before. (b ≡ true) ↔ HasOtherKind before.schema schema names) → b ≡ true
@@ -161,7 +159,7 @@ module _ (schema : ColumnTrees) (names : List (List ℕ)) (found : List (Option 
 
   pub unchanged : (base : Option Table) (b : Bool) → MatchOption base (b ≡ false) (λ before. (b ≡ true) ↔ HasOtherKind before.schema schema names) → b ≡ false
       → (before : Table) → base ≡ Some before → HasOtherKind before.schema schema names → ⊥
-  unchanged None b h stays before e = absurd (none_some before e)
+  unchanged None b h stays before e = absurd (none-some before e)
   unchanged (Some old) b h stays before e =
       let same : old ≡ before = cc in
       subst (λ (t : Table). HasOtherKind t.schema schema names → ⊥) same (λ other. false≢true (sym stays ∙ h.1 other))

@@ -1,6 +1,6 @@
 -- Snapshots by their ids, and the way from one to its parents.
 use Rattle.std.proofs.Common.{◌≡◌, ◌≢◌, suc, ◌+◌, ℤ, List, [], ◌∷◌, ◌++◌, length, Bool, true, false, cond, ◌||◌, Option, Some, None, option_map, refl, sym, ap, subst, ◌∙◌, Bor, arith, length-append}
-use Rattle.std.specs.Prelude.{option_and_then, is_some, unwrap_or}
+use Rattle.std.specs.Prelude.{option_and_then, is_some}
 use Rattle.std.specs.BTreeMap as tree
 use Rattle.std.specs.BTreeMap.{BTreeMap}
 use Rattle.std.specs.List.{list_any}
@@ -9,7 +9,7 @@ use Rattle.std.proofs.lemmas.Bool.{false≢true}
 use Rattle.std.proofs.lemmas.Bool.Decides.{Decides-int_eq}
 use Rattle.std.proofs.lemmas.Cmp.{int_eq_equiv}
 use Rattle.std.proofs.lemmas.List.Folds.{list_any-append}
-use Rattle.std.proofs.lemmas.Option.{none-some}
+use Rattle.std.proofs.lemmas.Option.{none-some, same_Some}
 use Rattle.iceberg_metadata.specs.declared.metadata.Metadata.{Metadata}
 use Rattle.iceberg_metadata.specs.declared.metadata.Snapshot.{Snapshot}
 use Rattle.iceberg_ancestry.specs.Ancestry.{held, held_at, LeadsTo, FormsCycle}
@@ -21,9 +21,6 @@ use Rattle.iceberg_ancestry.specs.ById.{is_at, has_id, value_at, held_beside, ta
 abbrev pub HoldsOthers : BTreeMap ℤ (Bor Snapshot) → List Snapshot → List Snapshot → Type 0
 HoldsOthers left found snapshots = (q : ℤ) → value_at left q ≡ held_beside found snapshots q
 
-some_is : {A : Type 0} (a b : A) → Some a ≡ Some b → a ≡ b
-some_is a b e = ap (λ o. unwrap_or o a) e
-
 some_first : (b r : Bool) (s : Snapshot) (o : Option Snapshot) → is_some o ≡ r → is_some (cond b (Some s) o) ≡ (b || r)
 some_first true r s o is = refl
 some_first false r s o is = is
@@ -33,7 +30,7 @@ is_some_held [] id = refl
 is_some_held (s ∷ ss) id = some_first (int_eq s.id id) (list_any (has_id id) ss) s (held ss id) (is_some_held ss id)
 
 id_first : (b : Bool) (s t : Snapshot) (id : ℤ) (o : Option Snapshot) → int_eq s.id id ≡ b → cond b (Some s) o ≡ Some t → (o ≡ Some t → int_eq t.id id ≡ true) → int_eq t.id id ≡ true
-id_first true s t id o same is more = subst (λ (u : Snapshot). int_eq u.id id ≡ true) (some_is s t is) same
+id_first true s t id o same is more = subst (λ (u : Snapshot). int_eq u.id id ≡ true) (same_Some s t is) same
 id_first false s t id o other is more = more is
 
 pub held_id : (xs : List Snapshot) (id : ℤ) (t : Snapshot) → held xs id ≡ Some t → int_eq t.id id ≡ true
@@ -122,7 +119,7 @@ front_of : (xs : List Snapshot) (start : Option ℤ) (ss : List Snapshot) (stop 
 front_of xs start ss stop [] at chain ends way = (ss, refl, subst (λ o. LeadsTo xs o ss stop) way chain)
 front_of xs start [] stop (b ∷ bs) at chain ends way = absurd (none-some b (sym ends ∙ ap (held_at xs) (sym chain) ∙ way.0))
 front_of xs start (s ∷ ss) stop (b ∷ bs) at chain ends way =
-    let same : s ≡ b = some_is s b (sym chain.0 ∙ way.0) in
+    let same : s ≡ b = same_Some s b (sym chain.0 ∙ way.0) in
     let more = front_of xs b.parent ss stop bs at (subst (λ (t : Snapshot). LeadsTo xs t.parent ss stop) same chain.1) ends way.1 in
     (more.0, ap (λ t. t ∷ ss) same ∙ ap (λ l. b ∷ l) more.1, more.2)
 

@@ -1,7 +1,7 @@
 -- The derived `==` of columns decides whether two are one.
-use Rattle.std.proofs.Common.{◌≡◌, ◌&&◌, ◌⊎◌, Bool, true, false, List, Option, Some, Decides, rules, refl, ap, subst, ◌∙◌, ⊎_elim}
+use Rattle.std.proofs.Common.{◌≡◌, ◌⊎◌, Bool, true, List, Option, Some, Decides, rules, refl, ap, subst, ◌∙◌, ⊎_elim}
 use Rattle.std.specs.Cmp.Lexicographic.{pointwise}
-use Rattle.std.proofs.lemmas.Bool.{cases_Bool, false≢true}
+use Rattle.std.proofs.lemmas.Bool.{and_parts, cases_Bool}
 use Rattle.std.proofs.lemmas.Bool.Decides.{Decides-int_eq}
 use Rattle.std.proofs.lemmas.Slice.Eq.{slice_eq-Decides}
 use denote.Enum.Bare.{same_false, same_true}
@@ -14,13 +14,9 @@ use Rattle.iceberg_manifest.specs.declared.partition.PartColumn.{PartColumn}
 kind_decides : (a b : PartKind) → Decides (kind.eq-value.it a b) (a ≡ b)
 kind_decides a b = (λ is. same_true the_type (search rules) a b is, λ same. ⊎_elim (λ is. is) (λ is. absurd (same_false the_type a b is same)) (cases_Bool (kind.eq-value.it a b)))
 
-and_both : (a b : Bool) → (a && b) ≡ true → (a ≡ true) × (b ≡ true)
-and_both true b h = (refl, h)
-and_both false b h = absurd (false≢true h)
-
 column_same : (a b : PartColumn) → column.eq-value.it a b ≡ true → a ≡ b
 column_same a b h =
-    let both = and_both _ _ h in
+    let both = and_parts _ _ h in
     let id : a.field_id ≡ b.field_id = (Decides-int_eq a.field_id b.field_id).0 both.0 in
     let of : a.kind ≡ b.kind = (kind_decides a.kind b.kind).0 both.1 in
     λ i. record { field_id = id i; kind = of i }

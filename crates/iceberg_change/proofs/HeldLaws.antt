@@ -4,15 +4,13 @@ use Rattle.std.specs.Prelude.{IfSome, slice_set}
 use Rattle.std.specs.List.Sorted.{IsPermutation}
 use Rattle.std.proofs.lemmas.List.{drop_more, map-append, take_more}
 use Rattle.std.proofs.lemmas.List.Sorted.{IsPermutation-append, IsPermutation-append_comm, IsPermutation-refl, IsPermutation-trans}
+use Rattle.std.proofs.lemmas.Option.{same_Some}
 use Rattle.table_history.specs.declared.row.FileRow.{FileRow}
 use Rattle.table_history.proofs.RowListLemmas.{Contains-cases, Contains-head, Contains-none, Contains-tail}
 use Rattle.iceberg_table.specs.Tables.{rows_in, rows_of}
 use Rattle.iceberg_table.specs.declared.manifest.Manifest.{Manifest}
 use Rattle.iceberg_table.proofs.EachLaws.{left_none}
 use Rattle.iceberg_change.specs.Behind.{slot_rows, slots_rows}
-
-some_is : {X : Type 0} (a b : X) → Some a ≡ Some b → a ≡ b
-some_is a b is = cc
 
 -- the first two of three parts change places
 pub swapped : (xs ys zs : List FileRow) → IsPermutation (xs ++ (ys ++ zs)) (ys ++ (xs ++ zs))
@@ -25,7 +23,7 @@ emptied_rows slots after i r at is = subst (λ l. IsPermutation (slots_rows slot
   where
     by : (xs : List (Option Manifest)) (k : ℕ) → slice_get xs k ≡ Some r → IsPermutation (slots_rows xs) (slot_rows r ++ slots_rows (slice_set xs k None))
     by [] k at = absurd (cc)
-    by (x ∷ xs) zero at = subst (λ (o : Option Manifest). IsPermutation (slot_rows x ++ slots_rows xs) (slot_rows o ++ slots_rows xs)) (some_is x r at) (IsPermutation-refl (slot_rows x ++ slots_rows xs))
+    by (x ∷ xs) zero at = subst (λ (o : Option Manifest). IsPermutation (slot_rows x ++ slots_rows xs) (slot_rows o ++ slots_rows xs)) (same_Some x r at) (IsPermutation-refl (slot_rows x ++ slots_rows xs))
     by (x ∷ xs) (suc k) at =
         let rest = slots_rows (slice_set xs k None) in
         IsPermutation-trans (slot_rows x ++ slots_rows xs) (slot_rows x ++ (slot_rows r ++ rest)) (slot_rows r ++ (slot_rows x ++ rest))
@@ -46,7 +44,7 @@ emptied_left slots after i m is there = by slots i (subst (λ (l : List (Option 
 
 pub at_slot : (slots : List (Option Manifest)) (i : ℕ) (r : Option Manifest) → slice_get slots i ≡ Some r → Contains slots r
 at_slot [] i r at = absurd (cc)
-at_slot (x ∷ xs) zero r at = subst (Contains (x ∷ xs)) (some_is x r at) (Contains-head x xs)
+at_slot (x ∷ xs) zero r at = subst (Contains (x ∷ xs)) (same_Some x r at) (Contains-head x xs)
 at_slot (x ∷ xs) (suc k) r at = Contains-tail x xs r (at_slot xs k r at)
 
 -- ---- at the beginning
@@ -57,7 +55,7 @@ filled_rows (m ∷ ms) = ap (λ (l : List FileRow). rows_in m.rows ++ l) (filled
 
 pub filled_with : (ms : List Manifest) (m : Manifest) → Contains (map Some ms) (Some m) → Contains ms m
 filled_with [] m there = absurd (Contains-none (Some m) there)
-filled_with (x ∷ ms) m there = ⊎_elim (λ same. subst (Contains (x ∷ ms)) (some_is x m same) (Contains-head x ms)) (λ later. Contains-tail x ms m (filled_with ms m later)) (Contains-cases (Some x) (map Some ms) (Some m) there)
+filled_with (x ∷ ms) m there = ⊎_elim (λ same. subst (Contains (x ∷ ms)) (same_Some x m same) (Contains-head x ms)) (λ later. Contains-tail x ms m (filled_with ms m later)) (Contains-cases (Some x) (map Some ms) (Some m) there)
 
 pub some_held : (slots : List (Option Manifest)) (i : ℕ) (r : Option Manifest) → slice_get slots i ≡ Some r → IfSome r (λ m. Contains slots (Some m))
 some_held slots i None at = tt

@@ -10,6 +10,7 @@ use Rattle.std.proofs.lemmas.List.Folds.{list_all-map}
 use Rattle.std.proofs.lemmas.Map.Keys.{IsDistinct-prop}
 use Rattle.std.proofs.lemmas.Option.{slice_get-get_or}
 use Rattle.std.proofs.lemmas.Slice.Eq.{bytes_eq-Decides}
+use Rattle.std.proofs.lemmas.Bool.{and_from, and_parts}
 use Rattle.lake_basics.specs.declared.limits.TheConstants.{MAX_LIVE_FILES, MAX_MANIFEST_ENTRIES}
 use Rattle.schema_map.specs.Image.{wide_columns}
 use Rattle.schema_map.proofs.ImageTwice.{columns_twice}
@@ -27,7 +28,7 @@ use Rattle.table_history.proofs.TableLemmas.{distinct_order}
 use Rattle.file_links.specs.Rows.{Entry, HoldsPath, OwnedRows, Owns, joined, rows_of}
 use Rattle.file_links.specs.declared.slots.Held.{Held}
 use Rattle.iceberg_manifest.specs.declared.info.ManifestInfo.{ManifestInfo}
-use Rattle.iceberg_metadata.proofs.ListLemmas.{all_from, any_from, any_to, both_are, both_true}
+use Rattle.iceberg_metadata.proofs.ListLemmas.{all_from, any_from, any_to}
 use Rattle.target_core.specs.Conditions.{CanPublish, IsPublishable}
 use Rattle.target_core.specs.Held.{are_held}
 use Rattle.target_core.proofs.HeldRows.{held_of}
@@ -97,8 +98,8 @@ record AreFew (rows : List Held) : Type 0 where
 
 few_by : (o : Option (List Entry)) → (is_some o && (nat_le (length (unwrap_or o [])) MAX_LIVE_FILES && list_all is_born (unwrap_or o []))) ≡ true → AreFew (map (λ e. e.held) (unwrap_or o []))
 few_by o is =
-    let rest = (both_true (is_some o) _ is).1 in
-    let parts = both_true (nat_le (length (unwrap_or o [])) MAX_LIVE_FILES) (list_all is_born (unwrap_or o [])) rest in
+    let rest = (and_parts (is_some o) _ is).1 in
+    let parts = and_parts (nat_le (length (unwrap_or o [])) MAX_LIVE_FILES) (list_all is_born (unwrap_or o [])) rest in
     record {
       count = let long = length-map (unwrap_or o []) (λ (e : Entry). e.held) in let few = le_by (length (unwrap_or o [])) MAX_LIVE_FILES parts.0 in omega (arith, long, few);
       born = λ h there. let e = of_map (λ (x : Entry). x.held) (unwrap_or o []) h there in subst (λ (x : Held). x.born < 2 ^ 63) e.2 (lt_by e.0.held.born (2 ^ 63) (all_from is_born (unwrap_or o []) e.0 parts.1 e.1));
@@ -108,7 +109,7 @@ sound_by : (o : Option (List Entry)) → IsSome o → AreFew (map (λ e. e.held)
 sound_by o some few =
     let long = length-map (unwrap_or o []) (λ (e : Entry). e.held) in
     let count = few.count in
-    both_are (is_some o) _ some (both_are (nat_le (length (unwrap_or o [])) MAX_LIVE_FILES) (list_all is_born (unwrap_or o [])) (le_test (length (unwrap_or o [])) MAX_LIVE_FILES (omega (arith, long, count)))
+    and_from (is_some o) _ some (and_from (nat_le (length (unwrap_or o [])) MAX_LIVE_FILES) (list_all is_born (unwrap_or o [])) (le_test (length (unwrap_or o [])) MAX_LIVE_FILES (omega (arith, long, count)))
     (all_tested is_born (unwrap_or o []) (λ e there. lt_test e.held.born (2 ^ 63) (few.born e.held (in_map (λ (x : Entry). x.held) (unwrap_or o []) e there)))))
 
 filter_few : (p : Held → Bool) (rows : List Held) → length (filter p rows) ≤ length rows
@@ -145,7 +146,7 @@ module _ (kept : IcebergKept) (commit : Commit) (can : CanPublish (view_of kept)
   sound_owner m is = all_from (λ (k : KeptManifest). is_sound_owner kept.links k.owner) kept.manifests m kept.owners is
 
   pub owner_there_before : (m : KeptManifest) → Contains kept.manifests m → IsSome (rows_of kept.links m.owner)
-  owner_there_before m is = (both_true (is_some (rows_of kept.links m.owner)) _ (sound_owner m is)).0
+  owner_there_before m is = (and_parts (is_some (rows_of kept.links m.owner)) _ (sound_owner m is)).0
 
   pub owners_apart : IsDistinct nat_eq (map (λ (m : KeptManifest). m.owner) kept.manifests)
   owners_apart = ∥∥₁_elim kept.own_owners (IsDistinct-prop nat_eq (map (λ (m : KeptManifest). m.owner) kept.manifests)) (λ d. d)

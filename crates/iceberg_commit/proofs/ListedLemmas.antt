@@ -1,6 +1,7 @@
 -- What is kept of the manifests of a new version's list is what the list has.
 use Rattle.std.proofs.Common.{◌≡◌, ◌++◌, true, List, [], ◌∷◌, ℕ, map, filter, length, drop, Contains, refl, sym, ap, subst, ◌∙◌, ◌+◌}
 use Rattle.std.specs.List.{list_all}
+use Rattle.std.proofs.lemmas.Bool.{and_from}
 use Rattle.lake_basics.specs.declared.limits.TheConstants.{MAX_MANIFEST_ENTRIES}
 use Rattle.table_history.specs.Row.{Row}
 use Rattle.table_history.specs.Rows.{IsInPathOrder, SameRows}
@@ -8,7 +9,6 @@ use Rattle.table_history.specs.declared.table.Change.{Change}
 use Rattle.table_history.proofs.Laws.{in_order_same}
 use Rattle.table_history.proofs.RowListLemmas.{Contains-head, Contains-tail}
 use Rattle.file_links.specs.Rows.{OwnedRows}
-use Rattle.iceberg_metadata.proofs.ListLemmas.{both_are}
 use Rattle.iceberg_manifest.specs.Entry.{EntryData}
 use Rattle.iceberg_manifest.specs.declared.info.ManifestInfo.{ManifestInfo}
 use Rattle.iceberg_version.specs.Advance.{Advances, live_rows}
@@ -67,12 +67,12 @@ listed_contents front version place number [] [] (l ∷ ls) old are = absurd are
 listed_contents front version place number [] (t ∷ ts) ls old are = absurd are
 listed_contents front version place number (stays m ∷ next) texts [] old are = absurd are
 listed_contents front version place number (stays m ∷ next) texts (l ∷ ls) old are =
-    both_are (has_content l.info) (list_all (λ x. has_content x.info) ls) (ap (λ (x : LiveManifest). has_content x.info) are.0 ∙ old m (Contains-head (stays m) next))
+    and_from (has_content l.info) (list_all (λ x. has_content x.info) ls) (ap (λ (x : LiveManifest). has_content x.info) are.0 ∙ old m (Contains-head (stays m) next))
     (listed_contents front version (place + 1) number next texts ls (λ k there. old k (Contains-tail (stays m) next (stays k) there)) are.1)
 listed_contents front version place number (new entries rows ∷ next) [] ls old are = absurd are
 listed_contents front version place number (new entries rows ∷ next) (t ∷ ts) [] old are = absurd are
 listed_contents front version place number (new entries rows ∷ next) (t ∷ ts) (l ∷ ls) old are =
-    both_are (has_content l.info) (list_all (λ x. has_content x.info) ls) (made_content front version number entries t place l.info are.1)
+    and_from (has_content l.info) (list_all (λ x. has_content x.info) ls) (made_content front version number entries t place l.info are.1)
     (listed_contents front version (place + 1) (number + 1) next ts ls (λ k there. old k (Contains-tail (new entries rows) next (stays k) there)) are.2)
 
 -- ---- what is kept of it

@@ -4,7 +4,7 @@ use Rattle.std.specs.Prelude.{◌≤ℤ◌, is_some, IfSome}
 use Rattle.std.specs.List.{IsDistinct, list_all}
 use Rattle.std.specs.Ordering.{int_eq}
 use Rattle.std.specs.Str.{bytes_eq}
-use Rattle.std.proofs.lemmas.Bool.{false≢true}
+use Rattle.std.proofs.lemmas.Bool.{and_parts, false≢true}
 use Rattle.std.proofs.lemmas.Int.{ints}
 use Rattle.std.proofs.lemmas.List.{append_cancel_left, drop-map, length-append}
 use Rattle.std.proofs.lemmas.List.Elements.{All-cons, All-nil, Contains-append_cases, Contains-append_right}
@@ -28,7 +28,7 @@ use Rattle.iceberg_metadata.specs.Writing.{CanBeHeld, HaveOwnNames, IsWritable}
 use Rattle.iceberg_metadata.specs.declared.metadata.Metadata.{Metadata}
 use Rattle.iceberg_metadata.specs.declared.metadata.Snapshot.{Snapshot}
 use Rattle.iceberg_metadata.specs.declared.metadata.SpecField.{SpecField}
-use Rattle.iceberg_metadata.proofs.ListLemmas.{both_true, distinct_Decides}
+use Rattle.iceberg_metadata.proofs.ListLemmas.{distinct_Decides}
 use Rattle.iceberg_table.specs.Folder.{path_of}
 use Rattle.target_core.specs.declared.mark.Mark.{Mark}
 use Rattle.iceberg_version.specs.Names.{list_name}
@@ -131,7 +131,7 @@ module _ (version : ℕ) (m : Metadata) (before : IsSoundMetadata version m) (st
       (snapshot_cases s there)
 
   first_ids : are_distinct new_ids ≡ true
-  first_ids = (both_true (are_distinct new_ids) (list_all (λ (s : HeldSchema). is_under (length next.held) s.0) next.held) held.first_ids).0
+  first_ids = (and_parts (are_distinct new_ids) (list_all (λ (s : HeldSchema). is_under (length next.held) s.0) next.held) held.first_ids).0
 
   consistent : IsConsistent made new_ids
   consistent = record {

@@ -8,6 +8,7 @@ use Rattle.std.proofs.lemmas.Bool.Decides.{nat_tests}
 use Rattle.std.proofs.lemmas.List.{length-map}
 use Rattle.std.proofs.lemmas.List.Elements.{Contains-append_right}
 use Rattle.std.proofs.lemmas.Map.Keys.{IsDistinct-prop}
+use Rattle.std.proofs.lemmas.Bool.{and_parts}
 use Rattle.lake_basics.specs.declared.limits.TheConstants.{MAX_LIVE_FILES, MAX_PARTITION_COLUMNS}
 use Rattle.file_links.specs.Rows.{Entry, Owns, rows_of}
 use Rattle.file_links.specs.declared.slots.Held.{Held}
@@ -23,7 +24,7 @@ use Rattle.table_history.specs.declared.table.Commit.{Commit}
 use Rattle.table_history.specs.declared.table.Table.{Table}
 use Rattle.table_history.proofs.RowListLemmas.{Contains-cases, Contains-none, Contains-paths}
 use Rattle.table_history.proofs.TableLemmas.{Contains-paths_cases}
-use Rattle.iceberg_metadata.proofs.ListLemmas.{all_from, both_true}
+use Rattle.iceberg_metadata.proofs.ListLemmas.{all_from}
 use Rattle.target_core.specs.Conditions.{CanPublish, IsPublishable}
 use Rattle.iceberg_version.specs.KeptEnd.{held_rows, view_of}
 use Rattle.iceberg_commit.specs.NewVersion.{ChangesKinds, kinds_in, schema_behind}
@@ -112,20 +113,20 @@ module _ (kept : IcebergKept) (commit : Commit) (can : CanPublish (view_of kept)
   sound_owner m in_list = all_from (λ (k : KeptManifest). is_sound_owner kept.links k.owner) kept.manifests m kept.owners in_list
 
   pub owner_there : (m : KeptManifest) → Contains kept.manifests m → IsSome (rows_of kept.links m.owner)
-  owner_there m in_list = (both_true (is_some (rows_of kept.links m.owner)) _ (sound_owner m in_list)).0
+  owner_there m in_list = (and_parts (is_some (rows_of kept.links m.owner)) _ (sound_owner m in_list)).0
 
   pub rows_few : (m : KeptManifest) → Contains kept.manifests m → length (held_rows kept.links m.owner) ≤ MAX_LIVE_FILES
   rows_few m in_list =
-      let parts = both_true (is_some (rows_of kept.links m.owner)) _ (sound_owner m in_list) in
-      let less = (both_true _ (list_all is_born (entries_of kept.links m.owner)) parts.1).0 in
+      let parts = and_parts (is_some (rows_of kept.links m.owner)) _ (sound_owner m in_list) in
+      let less = (and_parts _ (list_all is_born (entries_of kept.links m.owner)) parts.1).0 in
       let len = length-map (entries_of kept.links m.owner) (λ (e : Entry). e.held) in
       let few : length (entries_of kept.links m.owner) ≤ MAX_LIVE_FILES = grind (arith, nat_tests, less) in
       omega (arith, len, few)
 
   pub rows_born : (m : KeptManifest) (held : Held) → Contains kept.manifests m → Contains (held_rows kept.links m.owner) held → held.born < 2 ^ 63
   rows_born m held in_list is_held =
-      let parts = both_true (is_some (rows_of kept.links m.owner)) _ (sound_owner m in_list) in
-      let all = (both_true _ (list_all is_born (entries_of kept.links m.owner)) parts.1).1 in
+      let parts = and_parts (is_some (rows_of kept.links m.owner)) _ (sound_owner m in_list) in
+      let all = (and_parts _ (list_all is_born (entries_of kept.links m.owner)) parts.1).1 in
       let e = of_map (λ (x : Entry). x.held) (entries_of kept.links m.owner) held is_held in
       let is = all_from is_born (entries_of kept.links m.owner) e.0 all e.1 in
       let less : e.0.held.born < 2 ^ 63 = grind (arith, nat_tests, is) in

@@ -9,6 +9,7 @@ use Rattle.std.proofs.lemmas.Bool.Decides.{Decides-int_eq, nat_tests}
 use Rattle.std.proofs.lemmas.List.{length-append, length-drop, length-map}
 use Rattle.std.proofs.lemmas.List.Elements.{Contains-append_cases}
 use Rattle.std.specs.Coded.{le_prop}
+use Rattle.std.proofs.lemmas.Bool.{and_parts}
 use Rattle.lake_basics.specs.declared.limits.TheConstants.{MAX_AVRO_VALUES, MAX_LIVE_FILES, MAX_MANIFEST_ENTRIES}
 use Rattle.file_links.specs.Rows.{Entry, OwnedRows, Owns, rows_of}
 use Rattle.file_links.specs.declared.slots.Held.{Held}
@@ -23,7 +24,7 @@ use Rattle.iceberg_manifest.specs.Entry.{EntryData}
 use Rattle.iceberg_manifest.specs.Lists.{AreEach}
 use Rattle.iceberg_manifest.specs.ListWriting.{HasContent, IsWritableList}
 use Rattle.iceberg_manifest.specs.declared.info.ManifestInfo.{ManifestInfo}
-use Rattle.iceberg_metadata.proofs.ListLemmas.{all_from, both_true}
+use Rattle.iceberg_metadata.proofs.ListLemmas.{all_from}
 use Rattle.iceberg_version.specs.Carrying.{IsNextList, IsNextOf, parts_at, rows_at}
 use Rattle.iceberg_version.specs.KeptEnd.{held_rows, live_manifest, manifests_of, view_of}
 use Rattle.iceberg_version.specs.Manifests.{AreParts, LiveManifest, NextManifest, added_entry, added_manifest, carried, has_rows, is_lost, new, new_entries, rewritten_entries, stays}
@@ -155,7 +156,7 @@ module _ (kept : IcebergKept) (commit : Commit) (can : CanPublish (view_of kept)
 
   few_before : length (filter has_rows (manifests_of kept)) ≤ MAX_LIVE_FILES
   few_before =
-      let tests = both_true _ (list_all (λ (row : Row). is_path row.path) kept.table.rows) kept.rows_held in
+      let tests = and_parts _ (list_all (λ (row : Row). is_path row.path) kept.table.rows) kept.rows_held in
       let rows : length kept.table.rows ≤ MAX_LIVE_FILES = (let less = tests.0 in grind (arith, nat_tests, less)) in
       ∥∥₁_elim kept.rows_linked le_prop (λ (linked : AreRowsOf kept.table.rows kept.links).
       ∥∥₁_elim kept.own_owners le_prop (λ (distinct : IsDistinct nat_eq (map (λ (m : KeptManifest). m.owner) kept.manifests)).

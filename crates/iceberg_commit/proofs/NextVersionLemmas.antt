@@ -3,7 +3,7 @@ use Rattle.std.proofs.Common.{◌≡◌, inl, inr, ⊎_elim, ◌+◌, ◌<◌, �
 use Rattle.std.specs.Prelude.{option_map, unwrap_or}
 use Rattle.std.specs.List.{All, list_all, list_any}
 use Rattle.std.specs.Ordering.{int_eq}
-use Rattle.std.proofs.lemmas.Bool.{false≢true}
+use Rattle.std.proofs.lemmas.Bool.{and_parts, false≢true}
 use Rattle.std.proofs.lemmas.Bool.Decides.{Decides-int_eq}
 use Rattle.std.proofs.lemmas.List.{length-map}
 use Rattle.std.proofs.lemmas.List.Elements.{Contains-append_cases, Contains-append_right}
@@ -26,7 +26,7 @@ use Rattle.iceberg_metadata.specs.Judging.{are_distinct, is_among, metadata_of a
 use Rattle.iceberg_metadata.specs.Paths.{current_schema, held_schema}
 use Rattle.iceberg_metadata.specs.Schemas.{HeldSchema}
 use Rattle.iceberg_metadata.specs.declared.metadata.Metadata.{Metadata}
-use Rattle.iceberg_metadata.proofs.ListLemmas.{all_from, among_Decides, both_true, not_true}
+use Rattle.iceberg_metadata.proofs.ListLemmas.{all_from, among_Decides, not_true}
 use Rattle.iceberg_table.specs.Lists.{AreRows}
 use Rattle.iceberg_table.specs.Manifests.{AreEntries}
 use Rattle.target_core.specs.Conditions.{CanPublish}
@@ -65,7 +65,7 @@ held_found : (ss : List HeldSchema) (t : HeldSchema) → are_distinct (map (λ s
 held_found [] t distinct there = absurd (Contains-none t there)
 held_found (s ∷ ss) t distinct there =
     let ids : List ℤ = map (λ (x : HeldSchema). x.0) ss in
-    let parts = both_true (not (is_among ids s.0)) (are_distinct ids) distinct in
+    let parts = and_parts (not (is_among ids s.0)) (are_distinct ids) distinct in
     ⊎_elim
     (λ (same : s ≡ t). found_by (int_eq s.0 t.0) s t (held_schema ss t.0) (λ _. same) (λ other. absurd (false≢true (sym other ∙ (Decides-int_eq s.0 t.0).1 (ap (λ (x : HeldSchema). x.0) same)))))
     (λ (later : Contains ss t). found_by (int_eq s.0 t.0) s t (held_schema ss t.0)
@@ -88,7 +88,7 @@ current_columns m stated next (inr adds) = ap (λ (s : HeldSchema). s.1) adds.1.
 pub current_kept : (kept : IcebergKept) (m : Metadata) (stated : ColumnTrees) (next : Schemas) → AreNextSchemas m stated next → kept.metadata.schemas ≡ next.held → kept.metadata.current_schema ≡ next.current.0 → option_map (λ s. s.1) (current_schema kept.metadata) ≡ Some (wide_columns stated)
 current_kept kept m stated next are held current =
     let first : have_first_ids next.held ≡ true = subst (λ (l : List HeldSchema). have_first_ids l ≡ true) held kept.schema_ids in
-    let distinct = (both_true (are_distinct (map (λ (s : HeldSchema). s.0) next.held)) (list_all (λ s. is_under (length next.held) s.0) next.held) first).0 in
+    let distinct = (and_parts (are_distinct (map (λ (s : HeldSchema). s.0) next.held)) (list_all (λ s. is_under (length next.held) s.0) next.held) first).0 in
     ap (option_map (λ (s : HeldSchema). s.1)) ((λ i. held_schema (held i) (current i)) ∙ held_found next.held next.current distinct (current_there m stated next are))
     ∙ ap (λ (cs : ColumnTrees). Some cs) (current_columns m stated next are)
 

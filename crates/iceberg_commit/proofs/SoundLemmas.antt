@@ -5,7 +5,7 @@ use Rattle.std.specs.Bool.{Decides}
 use Rattle.std.specs.Cmp.Lexicographic.{pointwise}
 use Rattle.std.specs.List.{list_all}
 use Rattle.std.specs.Ordering.{int_eq}
-use Rattle.std.proofs.lemmas.Bool.{false≢true}
+use Rattle.std.proofs.lemmas.Bool.{and_from, and_parts, false_from_ne_true, false≢true, not_from_false}
 use Rattle.std.proofs.lemmas.Bool.Decides.{Decides-int_eq}
 use Rattle.std.proofs.lemmas.Int.{ints}
 use Rattle.std.proofs.lemmas.Slice.Eq.{slice_eq-Decides}
@@ -23,15 +23,11 @@ use Rattle.iceberg_metadata.specs.Schemas.{HeldSchema}
 use Rattle.iceberg_metadata.specs.Writing.{CanBeHeld, schema_data}
 use Rattle.iceberg_metadata.specs.declared.metadata.Metadata.{Metadata}
 use Rattle.iceberg_metadata.specs.declared.metadata.Snapshot.{Snapshot}
-use Rattle.iceberg_metadata.proofs.ListLemmas.{all_from, among_Decides, both_are, both_true, distinct_Decides, not_true}
+use Rattle.iceberg_metadata.proofs.ListLemmas.{all_from, among_Decides, distinct_Decides, not_true}
 use Rattle.iceberg_metadata.proofs.LocationLemmas.{names_Decides}
 use Rattle.iceberg_metadata.proofs.PathLemmas.{renamed_Decides}
 use Rattle.iceberg_version.specs.Sound.{IsSoundMetadata, held_field_ids, held_schema_ids, is_read_again, is_same_schema, is_sound_metadata, is_sound_snapshot, is_upto}
-use Rattle.iceberg_version.proofs.Shared.{all_tested, false_by}
-
-not_by : (b : Bool) → b ≡ false → not b ≡ true
-not_by true h = absurd (false≢true (sym h))
-not_by false h = refl
+use Rattle.iceberg_version.proofs.Shared.{all_tested}
 
 -- ---- schemas
 
@@ -40,14 +36,14 @@ ids_Decides xs ys = slice_eq-Decides Decides-int_eq xs ys (pointwise int_eq xs y
 
 same_read : (s : HeldSchema) (r : Result (ColumnTrees × List ℤ) MapError) → is_same_schema s r ≡ true → r ≡ Ok (s.1, s.2)
 same_read s (Ok p) h =
-    let both = both_true (columns_eq p.0 s.1) (pointwise int_eq p.1 s.2) h in
+    let both = and_parts (columns_eq p.0 s.1) (pointwise int_eq p.1 s.2) h in
     let one = (columns_eq-Decides p.0 s.1).0 both.0 in
     let two = (ids_Decides p.1 s.2).0 both.1 in
     (λ i. Ok (one i, two i))
 same_read s (Err e) h = absurd (false≢true h)
 
 read_same : (s : HeldSchema) (r : Result (ColumnTrees × List ℤ) MapError) → r ≡ Ok (s.1, s.2) → is_same_schema s r ≡ true
-read_same s r is = ap (is_same_schema s) is ∙ both_are (columns_eq s.1 s.1) (pointwise int_eq s.2 s.2) ((columns_eq-Decides s.1 s.1).1 refl) ((ids_Decides s.2 s.2).1 refl)
+read_same s r is = ap (is_same_schema s) is ∙ and_from (columns_eq s.1 s.1) (pointwise int_eq s.2 s.2) ((columns_eq-Decides s.1 s.1).1 refl) ((ids_Decides s.2 s.2).1 refl)
 
 read_Decides : (s : HeldSchema) → Decides (is_read_again s) (CanBeHeld s)
 read_Decides s = (
@@ -60,7 +56,7 @@ read_Decides s = (
 upto_Decides : (last id : ℤ) → Decides (is_upto last id) (id ≤ℤ last)
 upto_Decides last id = (
   λ h. let is : int_lt last id ≡ false = not_true (int_lt last id) h in grind (arith, ints, is),
-  λ within. not_by (int_lt last id) (false_by (int_lt last id) (λ (over : int_lt last id ≡ true). absurd (grind (arith, ints, over, within)))),
+  λ within. not_from_false (int_lt last id) (false_from_ne_true (int_lt last id) (λ (over : int_lt last id ≡ true). absurd (grind (arith, ints, over, within)))),
 )
 
 -- ---- snapshots
@@ -89,13 +85,13 @@ module _ (version : ℕ) (m : Metadata) where
 
   pub sound_from : is_sound_metadata version m ≡ true → IsSoundMetadata version m
   sound_from h =
-      let a = both_true schemas_read (ids_given && (none_renamed && (own_snapshots && snapshots_sound))) h in
-      let b = both_true ids_given (none_renamed && (own_snapshots && snapshots_sound)) a.1 in
-      let c = both_true none_renamed (own_snapshots && snapshots_sound) b.1 in
-      let d = both_true own_snapshots snapshots_sound c.1 in
+      let a = and_parts schemas_read (ids_given && (none_renamed && (own_snapshots && snapshots_sound))) h in
+      let b = and_parts ids_given (none_renamed && (own_snapshots && snapshots_sound)) a.1 in
+      let c = and_parts none_renamed (own_snapshots && snapshots_sound) b.1 in
+      let d = and_parts own_snapshots snapshots_sound c.1 in
       let each : (s : Snapshot) → Contains m.snapshots s → (is_upto (pos version) s.id ≡ true) × ((is_among_if_any (held_schema_ids m) s.schema_id ≡ true) × (names_path (front_of m.location) s.list ≡ true)) = λ s there.
-      let one = both_true (is_upto (pos version) s.id) (is_among_if_any (held_schema_ids m) s.schema_id && names_path (front_of m.location) s.list) (all_from (is_sound_snapshot version m) m.snapshots s d.1 there) in
-      (one.0, both_true (is_among_if_any (held_schema_ids m) s.schema_id) (names_path (front_of m.location) s.list) one.1) in
+      let one = and_parts (is_upto (pos version) s.id) (is_among_if_any (held_schema_ids m) s.schema_id && names_path (front_of m.location) s.list) (all_from (is_sound_snapshot version m) m.snapshots s d.1 there) in
+      (one.0, and_parts (is_among_if_any (held_schema_ids m) s.schema_id) (names_path (front_of m.location) s.list) one.1) in
       record {
         schemas = λ s there. (read_Decides s).0 (all_from is_read_again m.schemas s a.0 there);
         field_ids = λ id there. (upto_Decides m.last_column_id id).0 (all_from (is_upto m.last_column_id) (held_field_ids m) id b.0 there);
@@ -108,17 +104,17 @@ module _ (version : ℕ) (m : Metadata) where
 
   pub sound_to : IsSoundMetadata version m → is_sound_metadata version m ≡ true
   sound_to sound =
-      both_are schemas_read (ids_given && (none_renamed && (own_snapshots && snapshots_sound)))
+      and_from schemas_read (ids_given && (none_renamed && (own_snapshots && snapshots_sound)))
       (all_tested is_read_again m.schemas (λ s there. (read_Decides s).1 (sound.schemas s there)))
-      (both_are ids_given (none_renamed && (own_snapshots && snapshots_sound))
+      (and_from ids_given (none_renamed && (own_snapshots && snapshots_sound))
       (all_tested (is_upto m.last_column_id) (held_field_ids m) (λ id there. (upto_Decides m.last_column_id id).1 (sound.field_ids id there)))
-      (both_are none_renamed (own_snapshots && snapshots_sound)
-      (not_by (is_renamed (flat_map path_ids m.schemas)) (false_by (is_renamed (flat_map path_ids m.schemas)) (λ is. sound.renamed ((renamed_Decides (flat_map path_ids m.schemas)).0 is))))
-      (both_are own_snapshots snapshots_sound
+      (and_from none_renamed (own_snapshots && snapshots_sound)
+      (not_from_false (is_renamed (flat_map path_ids m.schemas)) (false_from_ne_true (is_renamed (flat_map path_ids m.schemas)) (λ is. sound.renamed ((renamed_Decides (flat_map path_ids m.schemas)).0 is))))
+      (and_from own_snapshots snapshots_sound
       ((distinct_Decides (snapshot_ids m)).1 sound.own_snapshots)
       (all_tested (is_sound_snapshot version m) m.snapshots (λ s there.
-      both_are (is_upto (pos version) s.id) (is_among_if_any (held_schema_ids m) s.schema_id && names_path (front_of m.location) s.list)
+      and_from (is_upto (pos version) s.id) (is_among_if_any (held_schema_ids m) s.schema_id && names_path (front_of m.location) s.list)
       ((upto_Decides (pos version) s.id).1 (sound.numbers s there))
-      (both_are (is_among_if_any (held_schema_ids m) s.schema_id) (names_path (front_of m.location) s.list)
+      (and_from (is_among_if_any (held_schema_ids m) s.schema_id) (names_path (front_of m.location) s.list)
       ((among_if_any (held_schema_ids m) s.schema_id).1 (sound.snapshot_schemas s there))
       ((names_Decides m.location s.list).1 (sound.lists s there))))))))

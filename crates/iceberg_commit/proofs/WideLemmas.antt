@@ -2,6 +2,7 @@
 use Rattle.std.proofs.Common.{◌≡◌, ◌⊎◌, ⊎_elim, ℕ, Bool, true, false, List, [], ◌∷◌, Option, Some, None, refl, sym, ap, subst, ◌∙◌, cond}
 use Rattle.std.specs.Prelude.{option_map}
 use Rattle.std.specs.Str.{bytes_eq}
+use Rattle.std.proofs.lemmas.Option.{none-some}
 use Rattle.table_history.specs.History.{FitColumns, FitsColumn, IsOfType, column_type}
 use Rattle.table_history.specs.TypeTree as tree
 use Rattle.table_history.specs.TypeTree.{ColumnTrees, TypeTree, column, no_columns}
@@ -22,17 +23,14 @@ pub wide_column : (schema : ColumnTrees) (name : List ℕ) → column_type (wide
 wide_column no_columns name = refl
 wide_column (column n t b cs) name = found_by (bytes_eq n name) t (column_type (wide_columns cs) name) (column_type cs name) (wide_column cs name)
 
-unkinded : (k : PartKind) → None ≡ Some k → ⊥
-unkinded k e = absurd cc
-
 -- A type without a kind takes null alone.
 only_null : (t : TypeTree) (v : PartValue) → part_kind_of t ≡ None → IsOfType t v → v ≡ value.Null
 only_null t value.Null none of = refl
-only_null t (value.Boolean b) none of = absurd (unkinded kinds.Boolean (sym none ∙ ap part_kind_of of))
-only_null t (value.Int n) none of = absurd (unkinded kinds.Int (sym none ∙ ⊎_elim (λ e. ap part_kind_of e) (λ (other : (t ≡ tree.short) ⊎ (t ≡ tree.int)). ⊎_elim (λ e. ap part_kind_of e) (λ e. ap part_kind_of e) other) of))
-only_null t (value.Long n) none of = absurd (unkinded kinds.Long (sym none ∙ ap part_kind_of of))
-only_null t (value.Text s) none of = absurd (unkinded kinds.Text (sym none ∙ ap part_kind_of of))
-only_null t (value.Date days) none of = absurd (unkinded kinds.Date (sym none ∙ ap part_kind_of of))
+only_null t (value.Boolean b) none of = absurd (none-some kinds.Boolean (sym none ∙ ap part_kind_of of))
+only_null t (value.Int n) none of = absurd (none-some kinds.Int (sym none ∙ ⊎_elim (λ e. ap part_kind_of e) (λ (other : (t ≡ tree.short) ⊎ (t ≡ tree.int)). ⊎_elim (λ e. ap part_kind_of e) (λ e. ap part_kind_of e) other) of))
+only_null t (value.Long n) none of = absurd (none-some kinds.Long (sym none ∙ ap part_kind_of of))
+only_null t (value.Text s) none of = absurd (none-some kinds.Text (sym none ∙ ap part_kind_of of))
+only_null t (value.Date days) none of = absurd (none-some kinds.Date (sym none ∙ ap part_kind_of of))
 
 -- Types of one kind, or both without a kind, take the same values.
 pub of_same : (t u : TypeTree) (o : Option PartKind) → part_kind_of t ≡ o → part_kind_of u ≡ o → (v : PartValue) → IsOfType t v → IsOfType u v

@@ -12,6 +12,7 @@ use Rattle.std.proofs.lemmas.Int.{ints}
 use Rattle.std.proofs.lemmas.List.{append_cancel_left}
 use Rattle.std.proofs.lemmas.Map.Keys.{IsDistinct-cons}
 use Rattle.std.proofs.lemmas.Slice.Eq.{bytes_eq-Decides}
+use Rattle.std.proofs.lemmas.Bool.{false_from_ne_true}
 use Rattle.lake_basics.specs.declared.limits.TheConstants.{MAX_AVRO_VALUES, MAX_LIVE_FILES, MAX_PARTITION_COLUMNS}
 use Rattle.partition_map.specs.Columns.{column_kind}
 use Rattle.partition_map.specs.Kind.{IsOfKind}
@@ -33,7 +34,7 @@ use Rattle.iceberg_metadata.specs.declared.metadata.SpecField.{SpecField}
 use Rattle.iceberg_version.specs.Schemas.{AreSpecFields, FIRST_PARTITION_ID}
 use Rattle.iceberg_version.specs.Writing.{AreColumns}
 use Rattle.iceberg_version.proofs.BehindLemmas.{of_kind}
-use Rattle.iceberg_version.proofs.Shared.{false_by, nothing_twice}
+use Rattle.iceberg_version.proofs.Shared.{nothing_twice}
 
 -- ---- the columns
 
@@ -66,7 +67,7 @@ apart_numbers : (j k : ℕ) (names : List (List ℕ)) → j < k → AllByRecursi
 unfolding numbers
 apart_numbers j k [] less = tt
 apart_numbers j k (n ∷ names) less = (
-  false_by (int_eq (pos j) (pos k)) (λ is. let same = (Decides-int_eq (pos j) (pos k)).0 is in omega (arith, ints, same, less)),
+  false_from_ne_true (int_eq (pos j) (pos k)) (λ is. let same = (Decides-int_eq (pos j) (pos k)).0 is in omega (arith, ints, same, less)),
   apart_numbers j (k + 1) names (omega arith),
 )
 
@@ -82,7 +83,7 @@ apart_names : (j k : ℕ) (names : List (List ℕ)) → j < k → k + length nam
 unfolding numbers name_of
 apart_names j k [] less small = tt
 apart_names j k (n ∷ names) less small = (
-  false_by (bytes_eq (name_of (pos j)) (name_of (pos k))) (λ is.
+  false_from_ne_true (bytes_eq (name_of (pos j)) (name_of (pos k))) (λ is.
       let same = (bytes_eq-Decides (name_of (pos j)) (name_of (pos k))).0 is in
       let digits : decimal j ≡ decimal k = append_cancel_left (codes "p") (decimal j) (decimal k) same in
       let one = decimal_injective j k (omega arith) (omega arith) digits in

@@ -1,8 +1,8 @@
 -- No two paths of a schema get one id.
 use Rattle.std.proofs.Common.{◌≡◌, ℕ, List, [], ◌∷◌, ◌++◌, map, Bool, true, false, Ok, Err, refl, sym, ap, subst, ◌∙◌, arith, cond}
-use Rattle.std.specs.Prelude.{◌⊎◌, ◌≤ℤ◌, ◌<ℤ◌, ◌+ℤ◌, ℤ, pos, int_lt, Option, Some, None, codes, not, ◌&&◌, ◌||◌}
+use Rattle.std.specs.Prelude.{◌⊎◌, ◌≤ℤ◌, ◌<ℤ◌, ◌+ℤ◌, ℤ, pos, int_lt, Option, Some, None, codes, not, ◌&&◌}
 use Rattle.std.proofs.lemmas.Int.{ints}
-use Rattle.std.proofs.lemmas.Bool.{true≢false}
+use Rattle.std.proofs.lemmas.Bool.{or_left, or_right, true≢false}
 use Rattle.std.proofs.lemmas.Slice.Eq.{bytes_eq-Decides, slice_eq-Decides}
 use Rattle.std.specs.Cmp.Lexicographic.{pointwise}
 use Rattle.std.specs.List.{AllByRecursion}
@@ -93,14 +93,6 @@ mutual
   column_full : (cs : ColumnTrees) → IsAmong [] (column_paths cs) → ⊥
   column_full no_columns h = h
   column_full (column n t b cs) h = elim (among_append [] (below n (inner_paths t)) (column_paths cs) h) as (λ _. ⊥) [ inl a ↦ below_full _ _ a | inr c ↦ column_full cs c ]
-
-or_right : (a b : Bool) → b ≡ true → (a || b) ≡ true
-or_right true b e = refl
-or_right false b e = e
-
-or_left : (a b : Bool) → a ≡ true → (a || b) ≡ true
-or_left true b e = refl
-or_left false b e = absurd (cc)
 
 -- a path of these columns begins with the name of one
 unfoldable Named : ColumnTrees → Path → Type 0

@@ -4,6 +4,7 @@ use Rattle.std.specs.BTreeSet as sorted
 use Rattle.std.specs.BTreeSet.{BTreeSet}
 use Rattle.std.specs.Ordering.{int_cmp, int_eq}
 use Rattle.std.proofs.lemmas.Cmp.{int_eq_equiv}
+use Rattle.std.proofs.lemmas.Bool.{and_right}
 use Rattle.iceberg_metadata.specs.IdSets.{HoldsIds}
 use Rattle.iceberg_metadata.specs.Judging.{is_among, are_distinct}
 use Rattle.iceberg_metadata.proofs.ListLemmas.{not_true, not_false}
@@ -12,14 +13,10 @@ or_cond : (b c : Bool) → cond b true c ≡ (b || c)
 or_cond true c = refl
 or_cond false c = refl
 
-and_false : (a b : Bool) → b ≡ false → (a && b) ≡ false
-and_false true b e = e
-and_false false b e = refl
-
 behind_false : (ids : List ℤ) (i : ℕ) → are_distinct (drop i ids) ≡ false → are_distinct ids ≡ false
 behind_false ids zero e = e
 behind_false [] (suc i) e = e
-behind_false (x ∷ xs) (suc i) e = and_false (not (is_among xs x)) (are_distinct xs) (behind_false xs i e)
+behind_false (x ∷ xs) (suc i) e = and_right (not (is_among xs x)) (are_distinct xs) (behind_false xs i e)
 
 suc_before : (n : ℕ) → 0 < n → suc (n - 1) ≡ n
 suc_before n some = omega (arith, some)

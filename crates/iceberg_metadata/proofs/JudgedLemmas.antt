@@ -5,7 +5,7 @@ use Rattle.std.specs.Bool.{Decides}
 use Rattle.std.specs.List.{list_any, IsDistinct}
 use Rattle.std.specs.Ordering.{int_eq}
 use Rattle.std.specs.Str.{bytes_eq}
-use Rattle.std.proofs.lemmas.Bool.{false≢true}
+use Rattle.std.proofs.lemmas.Bool.{false≢true, or_cases}
 use Rattle.std.proofs.lemmas.Slice.Eq.{bytes_eq-Decides}
 use Rattle.table_history.specs.First.{IsFirst, NoneOf}
 use Rattle.table_history.specs.declared.limit.LimitKind.TheVariants as limit
@@ -17,7 +17,7 @@ use Rattle.iceberg_metadata.specs.declared.metadata.SpecField.{SpecField}
 use Rattle.iceberg_metadata.specs.Schemas.{HeldUnread}
 use Rattle.iceberg_metadata.specs.Paths.{default_fields, current_kinds, sources, HasOtherTransform, HasOtherPartition}
 use Rattle.iceberg_metadata.specs.Judging.{are_distinct, is_schema_type, is_limit_of_columns, is_limit_of_depth, is_other_transform, lacks_kinds, has_other_partition, first_that}
-use Rattle.iceberg_metadata.proofs.ListLemmas.{any_from, any_to, either_true, not_true, distinct_Decides}
+use Rattle.iceberg_metadata.proofs.ListLemmas.{any_from, any_to, not_true, distinct_Decides}
 
 -- ---- the first of several tests
 
@@ -139,7 +139,7 @@ lacks_to fields kinds h =
     ⊎_elim
     (λ twice. inl (λ own. false≢true (sym (not_true (are_distinct (sources fields)) twice) ∙ (distinct_Decides (sources fields)).1 own)))
     (λ any. let found = any_to (λ (f : SpecField). is_none (kinds f.source_id)) fields any in inr (found.0, found.1, none_is (kinds found.0.source_id) found.2))
-    (either_true (not (are_distinct (sources fields))) (list_any (λ (f : SpecField). is_none (kinds f.source_id)) fields) h)
+    (or_cases (not (are_distinct (sources fields))) (list_any (λ (f : SpecField). is_none (kinds f.source_id)) fields) h)
 
 lacks_by : (fields : List SpecField) (kinds : Kinds) (b : Bool) → are_distinct (sources fields) ≡ b → Lacks fields kinds → (not b || list_any (λ f. is_none (kinds f.source_id)) fields) ≡ true
 lacks_by fields kinds false is lacks = refl

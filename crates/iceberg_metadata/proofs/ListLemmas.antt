@@ -1,9 +1,9 @@
 -- Tests of the members of a list.
-use Rattle.std.proofs.Common.{◌≡◌, ℤ, Bool, true, false, not, ◌&&◌, ◌||◌, List, [], ◌∷◌, Contains, refl, sym, ap, subst, ◌∙◌, inl, inr, ◌⊎◌, ⊎_elim}
+use Rattle.std.proofs.Common.{◌≡◌, ℤ, Bool, true, false, not, ◌&&◌, ◌||◌, List, [], ◌∷◌, Contains, refl, sym, ap, subst, ◌∙◌, ◌⊎◌, ⊎_elim}
 use Rattle.std.specs.List.{list_any, list_all, IsDistinct, AllByRecursion}
 use Rattle.std.specs.Ordering.{int_eq}
 use Rattle.std.specs.Bool.{Decides}
-use Rattle.std.proofs.lemmas.Bool.{cases_Bool, false≢true}
+use Rattle.std.proofs.lemmas.Bool.{and_parts, cases_Bool, false≢true, or_parts}
 use Rattle.std.proofs.lemmas.Bool.Decides.{Decides-int_eq}
 use Rattle.std.proofs.lemmas.Map.Keys.{IsDistinct-cons, IsDistinct-head, IsDistinct-tail}
 use Rattle.table_history.proofs.RowListLemmas.{Contains-none, Contains-head, Contains-tail, Contains-cases}
@@ -16,26 +16,6 @@ or_true false = refl
 and_false : (b : Bool) → (b && false) ≡ false
 and_false true = refl
 and_false false = refl
-
-pub both_true : (a b : Bool) → (a && b) ≡ true → (a ≡ true) × (b ≡ true)
-both_true true b h = (refl, h)
-both_true false b h = absurd (false≢true h)
-
-pub both_are : (a b : Bool) → a ≡ true → b ≡ true → (a && b) ≡ true
-both_are true b h more = more
-both_are false b h more = absurd (false≢true h)
-
-pub not_both : (a b : Bool) → (a && b) ≡ false → (a ≡ false) ⊎ (b ≡ false)
-not_both true b h = inr h
-not_both false b h = inl refl
-
-pub both_false : (a b : Bool) → (a || b) ≡ false → (a ≡ false) × (b ≡ false)
-both_false true b h = absurd (false≢true (sym h))
-both_false false b h = (refl, h)
-
-pub either_true : (a b : Bool) → (a || b) ≡ true → (a ≡ true) ⊎ (b ≡ true)
-either_true true b h = inl refl
-either_true false b h = inr h
 
 pub not_true : (b : Bool) → not b ≡ true → b ≡ false
 not_true true e = absurd (false≢true e)
@@ -65,7 +45,7 @@ module _ {X : Type 0} (p : X → Bool) where
   pub all_from : (xs : List X) (x : X) → list_all p xs ≡ true → Contains xs x → p x ≡ true
   all_from [] x all there = absurd (Contains-none x there)
   all_from (y ∷ ys) x all there =
-      let both = both_true (p y) (list_all p ys) all in
+      let both = and_parts (p y) (list_all p ys) all in
       ⊎_elim (λ e. sym (ap p e) ∙ both.0) (λ later. all_from ys x both.1 later) (Contains-cases y ys x there)
 
   pub all_false : (xs : List X) → list_all p xs ≡ false → (x : X) × Contains xs x × (p x ≡ false)
@@ -84,7 +64,7 @@ among_Decides ids id =
 
 not_again : (x : ℤ) (xs : List ℤ) → is_among xs x ≡ false → AllByRecursion (λ y. int_eq x y ≡ false) xs
 not_again x [] h = tt
-not_again x (y ∷ ys) h = let both = both_false (int_eq x y) (is_among ys x) h in (both.0, not_again x ys both.1)
+not_again x (y ∷ ys) h = let both = or_parts (int_eq x y) (is_among ys x) h in (both.0, not_again x ys both.1)
 
 none_again : (x : ℤ) (xs : List ℤ) → AllByRecursion (λ y. int_eq x y ≡ false) xs → is_among xs x ≡ false
 none_again x [] h = refl
@@ -96,7 +76,7 @@ distinct_nothing = tt
 
 distinct_to : (xs : List ℤ) → are_distinct xs ≡ true → IsDistinct int_eq xs
 distinct_to [] h = distinct_nothing
-distinct_to (x ∷ xs) h = let both = both_true (not (is_among xs x)) (are_distinct xs) h in IsDistinct-cons int_eq x xs (not_again x xs (not_true (is_among xs x) both.0)) (distinct_to xs both.1)
+distinct_to (x ∷ xs) h = let both = and_parts (not (is_among xs x)) (are_distinct xs) h in IsDistinct-cons int_eq x xs (not_again x xs (not_true (is_among xs x) both.0)) (distinct_to xs both.1)
 
 distinct_from : (xs : List ℤ) → IsDistinct int_eq xs → are_distinct xs ≡ true
 distinct_from [] d = refl

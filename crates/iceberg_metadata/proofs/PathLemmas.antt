@@ -5,14 +5,15 @@ use Rattle.std.specs.Cmp.Lexicographic.{pointwise}
 use Rattle.std.specs.List.{list_all}
 use Rattle.std.specs.Ordering.{int_eq}
 use Rattle.std.specs.Str.{bytes_eq}
-use Rattle.std.proofs.lemmas.Bool.{false≢true}
+use Rattle.std.proofs.lemmas.Bool.{and_cases, and_parts, false≢true}
 use Rattle.std.proofs.lemmas.Bool.Decides.{Decides-int_eq}
 use Rattle.std.proofs.lemmas.Slice.Eq.{bytes_eq-Decides, slice_eq-Decides}
+use Rattle.std.proofs.lemmas.Option.{same_Some}
 use Rattle.table_history.proofs.RowListLemmas.{Contains-none, Contains-head, Contains-tail, Contains-cases}
 use Rattle.schema_map.specs.Paths.{Path, known_id}
 use Rattle.iceberg_metadata.specs.Judging.{is_path, is_id, is_first, is_renamed}
 use Rattle.iceberg_metadata.specs.Paths.{PathId, path_of, IsRenamed}
-use Rattle.iceberg_metadata.proofs.ListLemmas.{all_from, all_false, both_true, not_both, not_true}
+use Rattle.iceberg_metadata.proofs.ListLemmas.{all_from, all_false, not_true}
 
 path_Decides : (p q : Path) → Decides (pointwise bytes_eq p q) (p ≡ q)
 path_Decides p q = slice_eq-Decides bytes_eq-Decides p q (pointwise bytes_eq p q) refl
@@ -63,11 +64,8 @@ id_is : (o : Option ℤ) (i : ℤ) → is_id o i ≡ true → o ≡ Some i
 id_is None i h = absurd (false≢true h)
 id_is (Some j) i h = ap Some ((Decides-int_eq j i).0 h)
 
-some_is : {A : Type 0} (a b : A) → Some a ≡ Some b → a ≡ b
-some_is a b e = cc e
-
 renamed_shown : (ps : List PathId) → is_renamed ps ≡ true → IsRenamed ps
-renamed_shown ps h = by (not_both (is_path (path_of ps found.0.1) found.0.0) (is_id (known_id ps found.0.0) found.0.1) found.2)
+renamed_shown ps h = by (and_cases (is_path (path_of ps found.0.1) found.0.0) (is_id (known_id ps found.0.0) found.0.1) found.2)
   where
     found : (p : PathId) × Contains ps p × (is_first ps p ≡ false)
     found = all_false (is_first ps) ps (not_true (list_all (is_first ps) ps) h)
@@ -94,13 +92,13 @@ renamed_shown ps h = by (not_both (is_path (path_of ps found.0.1) found.0.0) (is
 
 firsts_agree : (ps : List PathId) (p q : PathId) → is_first ps p ≡ true → is_first ps q ≡ true → (((p.1 ≡ q.1) × (p.0 ≡ q.0 → ⊥)) ⊎ ((p.0 ≡ q.0) × (p.1 ≡ q.1 → ⊥))) → ⊥
 firsts_agree ps p q first second (inl differ) =
-    let a = path_is (path_of ps p.1) p.0 (both_true (is_path (path_of ps p.1) p.0) (is_id (known_id ps p.0) p.1) first).0 in
-    let b = path_is (path_of ps q.1) q.0 (both_true (is_path (path_of ps q.1) q.0) (is_id (known_id ps q.0) q.1) second).0 in
-    differ.1 (some_is p.0 q.0 (sym a ∙ ap (path_of ps) differ.0 ∙ b))
+    let a = path_is (path_of ps p.1) p.0 (and_parts (is_path (path_of ps p.1) p.0) (is_id (known_id ps p.0) p.1) first).0 in
+    let b = path_is (path_of ps q.1) q.0 (and_parts (is_path (path_of ps q.1) q.0) (is_id (known_id ps q.0) q.1) second).0 in
+    differ.1 (same_Some p.0 q.0 (sym a ∙ ap (path_of ps) differ.0 ∙ b))
 firsts_agree ps p q first second (inr differ) =
-    let a = id_is (known_id ps p.0) p.1 (both_true (is_path (path_of ps p.1) p.0) (is_id (known_id ps p.0) p.1) first).1 in
-    let b = id_is (known_id ps q.0) q.1 (both_true (is_path (path_of ps q.1) q.0) (is_id (known_id ps q.0) q.1) second).1 in
-    differ.1 (some_is p.1 q.1 (sym a ∙ ap (known_id ps) differ.0 ∙ b))
+    let a = id_is (known_id ps p.0) p.1 (and_parts (is_path (path_of ps p.1) p.0) (is_id (known_id ps p.0) p.1) first).1 in
+    let b = id_is (known_id ps q.0) q.1 (and_parts (is_path (path_of ps q.1) q.0) (is_id (known_id ps q.0) q.1) second).1 in
+    differ.1 (same_Some p.1 q.1 (sym a ∙ ap (known_id ps) differ.0 ∙ b))
 
 renamed_not : (ps : List PathId) → IsRenamed ps → (b : Bool) → list_all (is_first ps) ps ≡ b → not b ≡ true
 renamed_not ps r true all =

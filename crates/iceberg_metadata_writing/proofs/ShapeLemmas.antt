@@ -1,10 +1,11 @@
 -- The JSON of metadata holds no float and is shallow.
-use Rattle.std.proofs.Common.{◌≡◌, ℕ, suc, ◌+◌, ◌*◌, ◌≤◌, max, ℤ, pos, negsuc, List, [], ◌∷◌, map, Bool, true, false, Option, Some, None, Less, Equal, Greater, All, Ok, codes, refl, arith, nat_cmp}
+use Rattle.std.proofs.Common.{◌≡◌, ℕ, suc, ◌+◌, ◌*◌, ◌≤◌, max, ℤ, pos, negsuc, List, [], ◌∷◌, map, false, Option, Some, None, Less, Equal, Greater, All, Ok, codes, refl, arith, nat_cmp}
 use Rattle.std.proofs.lemmas.List.Elements.{All-head, All-tail}
-use Rattle.std.specs.Prelude.{◌||◌, unwrap_or}
+use Rattle.std.specs.Prelude.{unwrap_or}
 use Rattle.std.specs.Cmp.Lexicographic.{slice_cmp}
 use Rattle.std.specs.List.{AllByRecursion}
 use Rattle.std.specs.Ordering.{match_ordering}
+use Rattle.std.proofs.lemmas.Bool.{or_from, or_parts}
 use Rattle.serde_json.specs.Data.{Data, string, array, object, Items, Members, no_members, member, put, depth, items_depth, members_depth}
 use Rattle.serde_json.specs.Find.{of_integer, is_float}
 use Rattle.serde_json.specs.Read.{max_depth}
@@ -37,10 +38,6 @@ pub record MembersWithin (n : ℕ) (ms : Members) : Type 0 where
   pub no_float : members_have_float ms ≡ false
   pub shallow : members_depth ms ≤ n
 
-both_false : (a b : Bool) → a ≡ false → b ≡ false → (a || b) ≡ false
-both_false true b e f = e
-both_false false b e f = f
-
 whole_within : (n : ℕ) (z : ℤ) → Within n (whole_data z)
 whole_within n (pos m) = record { no_float = refl; shallow = omega arith }
 whole_within n (negsuc m) = record { no_float = refl; shallow = omega arith }
@@ -52,7 +49,7 @@ none_within : (n : ℕ) → MembersWithin n no_members
 none_within n = record { no_float = refl; shallow = omega arith }
 
 with_member : {n : ℕ} {k : List ℕ} {d : Data} {ms : Members} → Within n d → MembersWithin n ms → MembersWithin n (member k d ms)
-with_member {n} {k} {d} {ms} one others = let a = one.shallow in let b = others.shallow in record { no_float = both_false _ _ one.no_float others.no_float; shallow = omega (arith, a, b) }
+with_member {n} {k} {d} {ms} one others = let a = one.shallow in let b = others.shallow in record { no_float = or_from _ _ one.no_float others.no_float; shallow = omega (arith, a, b) }
 
 object_within : {n : ℕ} {ms : Members} → MembersWithin n ms → Within (suc n) (object ms)
 object_within {n} {ms} all = let a = all.shallow in record { no_float = all.no_float; shallow = omega (arith, a) }
@@ -69,7 +66,7 @@ items_within n f (x ∷ xs) all =
     let others = items_within n f xs all.1 in
     let a = all.0.shallow in
     let b = others.shallow in
-    record { no_float = both_false _ _ all.0.no_float others.no_float; shallow = omega (arith, a, b) }
+    record { no_float = or_from _ _ all.0.no_float others.no_float; shallow = omega (arith, a, b) }
 
 each_within : {A : Type 0} (n : ℕ) (f : A → Data) → ((x : A) → Within n (f x)) → (xs : List A) → ItemsWithin n (items_of (map f xs))
 each_within n f all [] = record { no_float = refl; shallow = omega arith }
@@ -78,19 +75,15 @@ each_within n f all (x ∷ xs) =
     let others = each_within n f all xs in
     let a = here.shallow in
     let b = others.shallow in
-    record { no_float = both_false _ _ here.no_float others.no_float; shallow = omega (arith, a, b) }
+    record { no_float = or_from _ _ here.no_float others.no_float; shallow = omega (arith, a, b) }
 
 -- ---- members put in
 
-or_false : (a b : Bool) → (a || b) ≡ false → (a ≡ false) × (b ≡ false)
-or_false true b e = absurd (cc)
-or_false false b e = (refl, e)
-
 first_member : {n : ℕ} {k : List ℕ} {d : Data} {ms : Members} → MembersWithin n (member k d ms) → Within n d
-first_member {n} {k} {d} {ms} all = let a : max (depth d) (members_depth ms) ≤ n = all.shallow in record { no_float = (or_false _ _ all.no_float).0; shallow = omega (arith, a) }
+first_member {n} {k} {d} {ms} all = let a : max (depth d) (members_depth ms) ≤ n = all.shallow in record { no_float = (or_parts _ _ all.no_float).0; shallow = omega (arith, a) }
 
 other_members : {n : ℕ} {k : List ℕ} {d : Data} {ms : Members} → MembersWithin n (member k d ms) → MembersWithin n ms
-other_members {n} {k} {d} {ms} all = let a : max (depth d) (members_depth ms) ≤ n = all.shallow in record { no_float = (or_false _ _ all.no_float).1; shallow = omega (arith, a) }
+other_members {n} {k} {d} {ms} all = let a : max (depth d) (members_depth ms) ≤ n = all.shallow in record { no_float = (or_parts _ _ all.no_float).1; shallow = omega (arith, a) }
 
 put_within : (n : ℕ) (k : List ℕ) (d : Data) (ms : Members) → Within n d → MembersWithin n ms → MembersWithin n (put k d ms)
 put_within n k d no_members one all = with_member one all
@@ -149,17 +142,17 @@ mutual
   flat_type tree.timestamp ids = refl
   flat_type tree.timestamp_ntz ids = refl
   flat_type (tree.decimal p s) ids = refl
-  flat_type (tree.struct_of cs) ids = both_false _ _ (flat_fields cs ids) refl
-  flat_type (tree.list_of t b) ids = both_false _ _ (flat_type t (ids_behind ids)) (both_false _ _ (integer_flat (first_id ids)) refl)
+  flat_type (tree.struct_of cs) ids = or_from _ _ (flat_fields cs ids) refl
+  flat_type (tree.list_of t b) ids = or_from _ _ (flat_type t (ids_behind ids)) (or_from _ _ (integer_flat (first_id ids)) refl)
   flat_type (tree.map_of k v b) ids =
       let key = iceberg_data k (ids_behind ids) in
-      both_false _ _ (flat_type k (ids_behind ids)) (both_false _ _ (integer_flat (first_id ids)) (both_false _ _ (flat_type v (ids_behind key.1)) (both_false _ _ (integer_flat (first_id key.1)) refl)))
+      or_from _ _ (flat_type k (ids_behind ids)) (or_from _ _ (integer_flat (first_id ids)) (or_from _ _ (flat_type v (ids_behind key.1)) (or_from _ _ (integer_flat (first_id key.1)) refl)))
 
   flat_fields : (cs : ColumnTrees) (ids : List ℤ) → items_have_float (items_of (iceberg_fields cs ids).0) ≡ false
   flat_fields no_columns ids = refl
   flat_fields (column m t b cs) ids =
       let kind = iceberg_data t (ids_behind ids) in
-      both_false _ _ (both_false _ _ (integer_flat (first_id ids)) (both_false _ _ (flat_type t (ids_behind ids)) refl)) (flat_fields cs kind.1)
+      or_from _ _ (or_from _ _ (integer_flat (first_id ids)) (or_from _ _ (flat_type t (ids_behind ids)) refl)) (flat_fields cs kind.1)
 
 mutual
   -- a type of so many levels takes fewer than three levels of JSON for each
@@ -196,7 +189,7 @@ held_within s held =
     let found = given_found held.0 (Ok (s.1, s.2)) held.1 in
     let small = found.1.levels in
     let h = few_field_depths s.1 s.2 in
-    record { no_float = both_false _ _ (flat_fields s.1 s.2) (both_false _ _ (integer_flat s.0) refl); shallow = omega (arith, small, h) }
+    record { no_float = or_from _ _ (flat_fields s.1 s.2) (or_from _ _ (integer_flat s.0) refl); shallow = omega (arith, small, h) }
 
 schemas_within : (ss : List HeldSchema) → All CanBeHeld ss → AllByRecursion (λ s. Within 95 (schema_data s)) ss
 schemas_within [] held = tt

@@ -1,15 +1,15 @@
 -- Metadata that is written, read back.
 use Rattle.std.proofs.Common.{◌≡◌, ◌≢◌, ℕ, ◌<◌, ◌^◌, ◌++◌, inr, ℤ, pos, negsuc, List, [], ◌∷◌, map, nat_lt, nat_cmp, Bool, true, false, Ordering, Less, Equal, Greater, Option, Some, None, Result, Ok, All, refl, sym, ap, ◌∙◌, subst, arith, is_eq, FitsSigned, w32, w64, length}
-use Rattle.std.proofs.lemmas.Bool.{le-leb, lt-ltb, true≢false}
+use Rattle.std.proofs.lemmas.Bool.{le-leb, lt-ltb, or_from, or_parts, true≢false}
 use Rattle.std.proofs.lemmas.Bool.Decides.{Decides-int_eq, Decides-ltb}
 use Rattle.std.proofs.lemmas.Int.{ints}
 use Rattle.std.proofs.lemmas.List.{append-nil}
 use Rattle.std.proofs.lemmas.List.Elements.{All-head, All-tail}
-use Rattle.std.proofs.lemmas.List.Sorted.{IsPermutation-cons, IsPermutation-trans, IsPermutation-swap, list_any-IsPermutation}
+use Rattle.std.proofs.lemmas.List.Sorted.{IsPermutation-cons, IsPermutation-refl, IsPermutation-swap, IsPermutation-trans, list_any-IsPermutation}
 use Rattle.std.proofs.lemmas.Map.Keys.{IsDistinct-head, IsDistinct-tail}
 use Rattle.std.proofs.lemmas.Map.Text.{is_eq-slice_cmp}
 use Rattle.std.proofs.lemmas.Cmp.{nat_list_eq_equiv}
-use Rattle.std.specs.Prelude.{◌||◌, codes, unwrap_or, IfSome}
+use Rattle.std.specs.Prelude.{codes, unwrap_or, IfSome}
 use Rattle.std.specs.Bool.{Decides}
 use Rattle.std.specs.Cmp.Lexicographic.{slice_cmp}
 use Rattle.std.specs.List.{AllByRecursion, list_any}
@@ -130,19 +130,8 @@ is_named name p = bytes_eq name p.0
 abbrev AreProperties : Members → List Property → Type 0
 AreProperties ms ps = each property (pairs ms) ≡ Ok ps
 
-same_list : {X : Type 0} (xs : List X) → IsPermutation xs xs
-same_list xs = record { moves = []; below = tt; is = refl }
-
 front_two : {X : Type 0} (x y : X) (xs : List X) → IsPermutation (x ∷ y ∷ xs) (y ∷ x ∷ xs)
 front_two x y xs = IsPermutation-swap (x ∷ y ∷ xs) (y ∷ x ∷ xs) 0 1 (omega arith) (omega arith) refl
-
-either_false : (a b : Bool) → (a || b) ≡ false → (a ≡ false) × (b ≡ false)
-either_false true b e = absurd (cc)
-either_false false b e = (refl, e)
-
-both_false : (a b : Bool) → a ≡ false → b ≡ false → (a || b) ≡ false
-both_false true b e f = e
-both_false false b e f = f
 
 -- these members are read as the properties and one more
 record IsPut (name text : List ℕ) (ms : Members) (ps : List Property) : Type 0 where
@@ -153,14 +142,14 @@ record IsPut (name text : List ℕ) (ms : Members) (ps : List Property) : Type 0
 put_behind : (o : Ordering) (k text l : List ℕ) (d : Data) (ms : Members) (entry : Property) (others : List Property)
     → slice_cmp nat_cmp k l ≡ o → entry.0 ≡ l → property (l, d) ≡ Ok entry → AreProperties ms others → list_any (is_named k) (entry ∷ others) ≡ false → IsPut k text (put k (string text) ms) others
     → IsPut k text (match_ordering o (member k (string text) (member l d ms)) (member l (string text) ms) (member l d (put k (string text) ms))) (entry ∷ others)
-put_behind Less k text l d ms entry others is named first rest new later = record { found = (k, text) ∷ entry ∷ others; are = rw (first, rest) refl; same = same_list ((k, text) ∷ entry ∷ others) }
+put_behind Less k text l d ms entry others is named first rest new later = record { found = (k, text) ∷ entry ∷ others; are = rw (first, rest) refl; same = IsPermutation-refl ((k, text) ∷ entry ∷ others) }
 put_behind Equal k text l d ms entry others is named first rest new later =
-    let other : bytes_eq k l ≡ false = subst (λ (n : List ℕ). bytes_eq k n ≡ false) named (either_false _ _ new).0 in
+    let other : bytes_eq k l ≡ false = subst (λ (n : List ℕ). bytes_eq k n ≡ false) named (or_parts _ _ new).0 in
     absurd (true≢false (sym (ap is_eq is) ∙ is_eq-slice_cmp k l ∙ other))
 put_behind Greater k text l d ms entry others is named first rest new later = record { found = entry ∷ later.found; are = rw (first, later.are) refl; same = IsPermutation-trans _ _ _ (front_two (k, text) entry others) (IsPermutation-cons entry _ _ later.same) }
 
 put_new : (k text : List ℕ) (ms : Members) (ps : List Property) → AreProperties ms ps → list_any (is_named k) ps ≡ false → IsPut k text (put k (string text) ms) ps
-put_new k text no_members ps are new = subst (IsPut k text (member k (string text) no_members)) (ok_is [] ps are) (record { found = (k, text) ∷ []; are = refl; same = same_list ((k, text) ∷ []) })
+put_new k text no_members ps are new = subst (IsPut k text (member k (string text) no_members)) (ok_is [] ps are) (record { found = (k, text) ∷ []; are = refl; same = IsPermutation-refl ((k, text) ∷ []) })
 put_new k text (member l d ms) ps are new =
     let a = bind_ok (property (l, d)) _ ps are in
     let b = bind_ok (each property (pairs ms)) _ ps a.2 in
@@ -168,7 +157,7 @@ put_new k text (member l d ms) ps are new =
     let t = bind_ok (json_values.text Malformed d) _ a.0 a.1 in
     let entry : (l, t.0) ≡ a.0 = ok_is (l, t.0) a.0 t.2 in
     let new_here : list_any (is_named k) (a.0 ∷ b.0) ≡ false = subst (λ (qs : List Property). list_any (is_named k) qs ≡ false) (sym whole) new in
-    let later = put_new k text ms b.0 b.1 (either_false _ _ new_here).1 in
+    let later = put_new k text ms b.0 b.1 (or_parts _ _ new_here).1 in
     subst (IsPut k text (put k (string text) (member l d ms))) whole (put_behind (slice_cmp nat_cmp k l) k text l d ms a.0 b.0 refl (sym (ap (λ (p : Property). p.0) entry)) a.1 b.1 new_here later)
 
 abbrev AreNew : List Property → List Property → Type 0
@@ -177,10 +166,10 @@ AreNew found ps = AllByRecursion (λ q. list_any (is_named q.0) found ≡ false)
 still_new : (p : Property) (found more ps : List Property) → IsPermutation (p ∷ found) more → AllByRecursion (λ name. bytes_eq p.0 name ≡ false) (map (λ q. q.0) ps) → AreNew found ps → AreNew more ps
 still_new p found more [] same apart new = tt
 still_new p found more (q ∷ ps) same apart new =
-    (sym (list_any-IsPermutation (is_named q.0) (p ∷ found) more same) ∙ both_false _ _ (nat_list_eq_equiv.symm q.0 p.0 ∙ apart.0) new.0, still_new p found more ps same apart.1 new.1)
+    (sym (list_any-IsPermutation (is_named q.0) (p ∷ found) more same) ∙ or_from _ _ (nat_list_eq_equiv.symm q.0 p.0 ∙ apart.0) new.0, still_new p found more ps same apart.1 new.1)
 
 moved : {X : Type 0} (y : X) (xs ys : List X) → IsPermutation (y ∷ (xs ++ ys)) (xs ++ y ∷ ys)
-moved y [] ys = same_list (y ∷ ys)
+moved y [] ys = IsPermutation-refl (y ∷ ys)
 moved y (x ∷ xs) ys = IsPermutation-trans _ _ _ (front_two y x (xs ++ ys)) (IsPermutation-cons x _ _ (moved y xs ys))
 
 under : {X : Type 0} (zs xs ys : List X) → IsPermutation xs ys → IsPermutation (zs ++ xs) (zs ++ ys)
@@ -194,7 +183,7 @@ record AreAgain (ms : Members) (ps : List Property) : Type 0 where
   same : IsPermutation ps found
 
 all_put : (ps found : List Property) (ms : Members) → AreProperties ms found → HaveOwnNames ps → AreNew found ps → AreAgain (members_with string ps ms) (ps ++ found)
-all_put [] found ms are own new = record { found = found; are = are; same = same_list found }
+all_put [] found ms are own new = record { found = found; are = are; same = IsPermutation-refl found }
 all_put (p ∷ ps) found ms are own new =
     let names = map (λ (q : Property). q.0) ps in
     let one = put_new p.0 p.1 ms found are new.0 in

@@ -1,6 +1,7 @@
 -- What is read of a manifest, from its bytes.
-use Rattle.std.proofs.Common.{◌≡◌, ◌≢◌, ◌⊎◌, [], pos, ℕ, ◌-◌, ◌^◌, ◌<◌, ◌≤◌, List, length, Result, Ok, Err, Some, refl, sym, subst, ◌∙◌, inl, inr, ⊎_elim, arith}
+use Rattle.std.proofs.Common.{◌≡◌, ◌≢◌, ◌⊎◌, [], pos, ℕ, ◌-◌, ◌^◌, ◌<◌, ◌≤◌, List, length, Result, Ok, Err, refl, sym, subst, ◌∙◌, inl, inr, ⊎_elim, arith}
 use Rattle.std.specs.Prelude.{IfOk, IfErr}
+use Rattle.std.proofs.lemmas.Option.{same_Some}
 use Rattle.lake_basics.specs.declared.outcome.ReadError.{ReadError}
 use Rattle.lake_basics.specs.declared.outcome.ReadError.TheVariants as read
 use Rattle.lake_basics.specs.declared.limits.TheConstants.{MAX_FILE_BYTES}
@@ -65,12 +66,9 @@ bytes_refused location columns file before bytes e is =
 pub counted : (bytes : List ℕ) → length bytes ≤ MAX_FILE_BYTES → length bytes < 2 ^ 64 - 1
 counted bytes short = omega (arith, short)
 
-some_once : (a b : List ℕ) → Some a ≡ Some b → a ≡ b
-some_once a b is = cc is
-
 -- two readings of one file are one
 pub held_once : (files : Files) (path a b : List ℕ) → HoldsFile files path a → HoldsFile files path b → a ≡ b
-held_once files path a b ha hb = some_once a b (sym ha ∙ hb)
+held_once files path a b ha hb = same_Some a b (sym ha ∙ hb)
 
 pub data_read : (files : Files) (location : List ℕ) (columns : List PartColumn) (file : ManifestFile) (bytes : List ℕ) (c : Content) → HoldsFile files file.path bytes → IsContent location columns file bytes c
     → HasEntries files location columns (record { file = file; entries = c.entries; rows = c.rows })

@@ -3,7 +3,7 @@ use Rattle.std.proofs.Common.{◌≡◌, ◌≢◌, ◌+◌, ◌<◌, ℕ, Bool,
 use Rattle.std.specs.Prelude.{is_some, unwrap_or}
 use Rattle.std.specs.List.{list_any}
 use Rattle.std.specs.Str.{bytes_eq}
-use Rattle.std.proofs.lemmas.Bool.{false≢true}
+use Rattle.std.proofs.lemmas.Bool.{false_from_ne_true, false≢true}
 use Rattle.std.proofs.lemmas.List.{append-nil, append_assoc, drop_all, drop_more, get_or-map, length-map}
 use Rattle.std.proofs.lemmas.Slice.Eq.{bytes_eq-Decides}
 use Rattle.file_links.specs.Rows.{Entry, IsFirstOf, OwnedRows, rows_of, slot_at}
@@ -17,7 +17,7 @@ use Rattle.iceberg_version.specs.declared.carrying.Next.{Next}
 use Rattle.iceberg_version.specs.declared.kept.KeptManifest.{KeptManifest}
 use Rattle.iceberg_version.specs.declared.carrying.Next.TheVariants.{Anew, Stays}
 use Rattle.iceberg_version.proofs.RowLemmas.{entries_of, there}
-use Rattle.iceberg_version.proofs.Shared.{false_by, in_map, of_map}
+use Rattle.iceberg_version.proofs.Shared.{in_map, of_map}
 
 -- ---- rows that are removed
 
@@ -37,7 +37,7 @@ touched_by links owner paths h any =
     record { entry = e.0; owned = (entries_of links owner, there links owner h, e.1); lost = subst (λ (q : List ℕ). Contains paths q) (sym path) p.1 }
 
 pub none_lost : (links : OwnedRows) (owner : ℕ) (paths : List (List ℕ)) → IsSome (rows_of links owner) → (IsTouched links paths owner → ⊥) → list_any (is_lost paths) (held_rows links owner) ≡ false
-none_lost links owner paths h untouched = false_by (list_any (is_lost paths) (held_rows links owner)) (λ any. untouched (touched_by links owner paths h any))
+none_lost links owner paths h untouched = false_from_ne_true (list_any (is_lost paths) (held_rows links owner)) (λ any. untouched (touched_by links owner paths h any))
 
 -- ---- live rows
 

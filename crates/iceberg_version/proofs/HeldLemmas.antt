@@ -4,7 +4,7 @@ use Rattle.std.specs.Prelude.{◌≤ℤ◌, ◌||◌, flat_map, fold, is_some}
 use Rattle.std.specs.Int.{int_max}
 use Rattle.std.specs.List.{list_all, list_any, zip}
 use Rattle.std.specs.Ordering.{int_eq}
-use Rattle.std.proofs.lemmas.Bool.{false≢true}
+use Rattle.std.proofs.lemmas.Bool.{and_from, and_parts, false≢true}
 use Rattle.std.proofs.lemmas.Bool.Decides.{Decides-int_eq, nat_tests}
 use Rattle.std.proofs.lemmas.Int.{fold-int_max_bounds, ints}
 use Rattle.std.proofs.lemmas.List.{append-nil, length-append}
@@ -26,7 +26,7 @@ use Rattle.iceberg_metadata.specs.Paths.{IsRenamed, PathId, current_schema, held
 use Rattle.iceberg_metadata.specs.Schemas.{HeldSchema}
 use Rattle.iceberg_metadata.specs.Writing.{CanBeHeld, schema_data}
 use Rattle.iceberg_metadata.specs.declared.metadata.Metadata.{Metadata}
-use Rattle.iceberg_metadata.proofs.ListLemmas.{all_from, both_are, both_true, not_true}
+use Rattle.iceberg_metadata.proofs.ListLemmas.{all_from, not_true}
 use Rattle.iceberg_version.specs.Schemas.{AddsSchema, AreNextSchemas, KeepsSchemas, Schemas, known_ids}
 use Rattle.iceberg_version.specs.Sound.{IsSoundMetadata, have_first_ids, is_under}
 use Rattle.iceberg_version.proofs.IdLemmas.{known_there, own_paths, still_agree}
@@ -36,11 +36,11 @@ use Rattle.iceberg_version.proofs.Shared.{in_flat, map_push, of_flat, of_map}
 
 all_by : {A : Type 0} (p q : A → Bool) (xs : List A) → ((x : A) → p x ≡ true → q x ≡ true) → list_all p xs ≡ true → list_all q xs ≡ true
 all_by p q [] so all = refl
-all_by p q (x ∷ xs) so all = let parts = both_true (p x) (list_all p xs) all in both_are (q x) (list_all q xs) (so x parts.0) (all_by p q xs so parts.1)
+all_by p q (x ∷ xs) so all = let parts = and_parts (p x) (list_all p xs) all in and_from (q x) (list_all q xs) (so x parts.0) (all_by p q xs so parts.1)
 
 all_push : {A : Type 0} (p : A → Bool) (xs : List A) (x : A) → list_all p xs ≡ true → p x ≡ true → list_all p (xs ++ x ∷ []) ≡ true
-all_push p [] x all one = both_are (p x) true one refl
-all_push p (y ∷ xs) x all one = let parts = both_true (p y) (list_all p xs) all in both_are (p y) (list_all p (xs ++ x ∷ [])) parts.0 (all_push p xs x parts.1 one)
+all_push p [] x all one = and_from (p x) true one refl
+all_push p (y ∷ xs) x all one = let parts = and_parts (p y) (list_all p xs) all in and_from (p y) (list_all p (xs ++ x ∷ [])) parts.0 (all_push p xs x parts.1 one)
 
 any_push : {A : Type 0} (p : A → Bool) (xs : List A) (x : A) → list_any p xs ≡ false → p x ≡ false → list_any p (xs ++ x ∷ []) ≡ false
 any_push p [] x none last = rw last refl
@@ -62,9 +62,9 @@ other_id a b other = by (int_eq a b) refl
 pub distinct_push : (ids : List ℤ) (id : ℤ) → are_distinct ids ≡ true → ((i : ℤ) → Contains ids i → i ≢ id) → are_distinct (ids ++ id ∷ []) ≡ true
 distinct_push [] id distinct others = refl
 distinct_push (x ∷ ids) id distinct others =
-    let parts = both_true (not (is_among ids x)) (are_distinct ids) distinct in
+    let parts = and_parts (not (is_among ids x)) (are_distinct ids) distinct in
     let apart = any_push (int_eq x) ids id (not_true (is_among ids x) parts.0) (other_id x id (others x (Contains-head x ids))) in
-    both_are (not (is_among (ids ++ id ∷ []) x)) (are_distinct (ids ++ id ∷ [])) (ap not apart) (distinct_push ids id parts.1 (λ i there. others i (Contains-tail x ids i there)))
+    and_from (not (is_among (ids ++ id ∷ []) x)) (are_distinct (ids ++ id ∷ [])) (ap not apart) (distinct_push ids id parts.1 (λ i there. others i (Contains-tail x ids i there)))
 
 under_bound : (n : ℕ) (i : ℤ) → is_under n i ≡ true → i ≢ pos n
 under_bound n (pos i) under same = let less : i < n = grind (arith, nat_tests) in omega (arith, ints, less, same)
@@ -161,7 +161,7 @@ module _ (m : Metadata) (stated : ColumnTrees) (next : Schemas) (first_ids : hav
     new_id = ap (λ (s : HeldSchema). s.0) is.current
 
     parts : (are_distinct (ids_of m.schemas) ≡ true) × (list_all (λ s. is_under count s.0) m.schemas ≡ true)
-    parts = both_true (are_distinct (ids_of m.schemas)) (list_all (λ s. is_under count s.0) m.schemas) first_ids
+    parts = and_parts (are_distinct (ids_of m.schemas)) (list_all (λ s. is_under count s.0) m.schemas) first_ids
 
     other_ids : (s : HeldSchema) → Contains m.schemas s → s.0 ≢ next.current.0
     other_ids s there same = under_bound count s.0 (all_from (λ (t : HeldSchema). is_under count t.0) m.schemas s parts.1 there) (same ∙ new_id)
@@ -176,7 +176,7 @@ module _ (m : Metadata) (stated : ColumnTrees) (next : Schemas) (first_ids : hav
         ∙ distinct_push (ids_of m.schemas) next.current.0 parts.0 (λ i there. let s = of_map (λ (t : HeldSchema). t.0) m.schemas i there in subst (λ j. j ≢ next.current.0) s.2 (other_ids s.0 s.1)) in
         let old : list_all (λ s. is_under total s.0) m.schemas ≡ true = all_by (λ (s : HeldSchema). is_under count s.0) (λ s. is_under total s.0) m.schemas (λ s under. under_more count total s.0 (omega (arith, more)) under) parts.1 in
         let last : is_under total next.current.0 ≡ true = ap (is_under total) new_id ∙ last_under count total more in
-        both_are (are_distinct (ids_of (m.schemas ++ next.current ∷ []))) (list_all (λ s. is_under total s.0) (m.schemas ++ next.current ∷ [])) ids (all_push (λ (s : HeldSchema). is_under total s.0) m.schemas next.current old last)
+        and_from (are_distinct (ids_of (m.schemas ++ next.current ∷ []))) (list_all (λ s. is_under total s.0) (m.schemas ++ next.current ∷ [])) ids (all_push (λ (s : HeldSchema). is_under total s.0) m.schemas next.current old last)
 
     pub found_added : held_schema next.held next.current.0 ≡ Some next.current
     found_added = ap (λ (l : List HeldSchema). held_schema l next.current.0) is.held ∙ schema_last m.schemas next.current other_ids

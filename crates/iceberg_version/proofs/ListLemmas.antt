@@ -2,7 +2,7 @@
 use Rattle.std.proofs.Common.{zero, suc, ◌≡◌, ◌≢◌, ◌+◌, ◌-◌, ◌<◌, ◌≤◌, ℕ, Bool, true, false, cond, Contains, List, [], ◌∷◌, ◌++◌, Option, Some, None, map, drop, length, get_or, not, slice_get, refl, sym, ap, subst, ◌∙◌, ⊎_elim, arith}
 use Rattle.std.specs.Prelude.{option_map, unwrap_or}
 use Rattle.std.specs.List.{flat_map, list_any, range_with_len}
-use Rattle.std.proofs.lemmas.Bool.{cases_eq, false≢true}
+use Rattle.std.proofs.lemmas.Bool.{cases_eq, false≢true, or_parts}
 use Rattle.std.proofs.lemmas.List.{drop-drop, get_or-drop, length-drop, length-map, take-append-drop}
 use Rattle.std.proofs.lemmas.List.Elements.{Contains-append_cases, Contains-append_left}
 use Rattle.std.proofs.lemmas.Option.{slice_get-map, slice_get_read, slice_get_within}
@@ -10,7 +10,6 @@ use Rattle.table_history.specs.Row.{Row}
 use Rattle.table_history.proofs.RowListLemmas.{Contains-cases, Contains-head, Contains-none, Contains-tail}
 use Rattle.file_links.specs.Rows.{OwnedRows}
 use Rattle.file_links.specs.declared.slots.Held.{Held}
-use Rattle.iceberg_metadata.proofs.ListLemmas.{both_false}
 use Rattle.iceberg_version.specs.Advance.{IsPlaced, Source, added, added_rows, all_new, before, live_rows, new_rows, owners_of, source_of}
 use Rattle.iceberg_version.specs.Carrying.{AreCarriedOn, AreNext, IsNextList, IsNextOf}
 use Rattle.iceberg_version.specs.KeptEnd.{held_rows, live_manifest}
@@ -151,7 +150,7 @@ left_by removed h rows false is same = ap (λ (hs : List Held). h ∷ hs) same
 left_whole : (removed : List (List ℕ)) (rows : List Held) → list_any (is_lost removed) rows ≡ false → left removed rows ≡ rows
 left_whole removed [] none = refl
 left_whole removed (h ∷ rows) none =
-    let both = both_false (is_lost removed h) (list_any (is_lost removed) rows) none in
+    let both = or_parts (is_lost removed h) (list_any (is_lost removed) rows) none in
     left_by removed h rows (is_lost removed h) both.0 (left_whole removed rows both.1)
 
 stays_by : (b : Bool) (p k : ℕ) → Stays p ≡ cond b (Anew k) (Stays k) → (b ≡ false) × (k ≡ p)

@@ -2,19 +2,14 @@
 use Rattle.std.proofs.Common.{◌≡◌, ⊎_elim, ℕ, zero, suc, ◌<◌, ◌≤◌, Bool, true, false, not, nat_le, nat_lt, List, [], ◌∷◌, ◌++◌, map, length, take, drop, Contains, Some, slice_get, refl, sym, ap, subst, arith}
 use Rattle.std.specs.Prelude.{flat_map}
 use Rattle.std.specs.List.{IsDistinct, list_all}
-use Rattle.std.proofs.lemmas.Bool.{false≢true}
+use Rattle.std.proofs.lemmas.Bool.{and_from, false≢true}
 use Rattle.std.proofs.lemmas.Bool.Decides.{nat_tests}
 use Rattle.std.proofs.lemmas.List.Elements.{Contains-append_cases, Contains-append_left, Contains-append_right}
 use Rattle.std.proofs.lemmas.Option.{get_or_from_slice_get, slice_get_within}
 use Rattle.table_history.proofs.RowListLemmas.{Contains-cases, Contains-head, Contains-none, Contains-tail}
 use Rattle.iceberg_manifest.specs.Lists.{AreEach}
-use Rattle.iceberg_metadata.proofs.ListLemmas.{both_are}
 
 -- ---- truth values
-
-pub false_by : (b : Bool) → (b ≡ true → ⊥) → b ≡ false
-false_by true h = absurd (h refl)
-false_by false h = refl
 
 pub is_not : (b : Bool) → (b ≡ true → ⊥) → not b ≡ true
 is_not true h = absurd (h refl)
@@ -42,7 +37,7 @@ lt_test n m is = grind (arith, nat_tests)
 
 pub all_tested : {X : Type 0} (p : X → Bool) (xs : List X) → ((x : X) → Contains xs x → p x ≡ true) → list_all p xs ≡ true
 all_tested p [] all = refl
-all_tested p (x ∷ xs) all = both_are (p x) (list_all p xs) (all x (Contains-head x xs)) (all_tested p xs (λ y there. all y (Contains-tail x xs y there)))
+all_tested p (x ∷ xs) all = and_from (p x) (list_all p xs) (all x (Contains-head x xs)) (all_tested p xs (λ y there. all y (Contains-tail x xs y there)))
 
 pub nothing_twice : {K : Type 0} (eq : K → K → Bool) → IsDistinct eq []
 unfolding IsDistinct

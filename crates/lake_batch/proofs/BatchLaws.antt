@@ -3,6 +3,7 @@ use Rattle.std.proofs.Common.{◌≡◌, ◌≢◌, ℕ, Bool, true, false, ◌&
 use Rattle.std.specs.Prelude.{codes, Some, Result, Ok, Err}
 use Rattle.std.specs.Str.{bytes_eq}
 use Rattle.std.proofs.lemmas.Slice.Eq.{bytes_eq-Decides}
+use Rattle.std.proofs.lemmas.Bool.{and_parts}
 use Rattle.toml.specs.Data.{Data, string, integer, float, boolean, datetime, array, table, Items, no_items, item, Members, no_members, member}
 use Rattle.toml.specs.View.{items_of}
 use Rattle.lake_basics.specs.Outcome.{◌>>=◌, each}
@@ -58,15 +59,11 @@ if_ok : {A : Type 0} (b : Bool) (r : Result A Why) (x : A) → (if b then r else
 if_ok true r x is = (refl, is)
 if_ok false r x is = absurd (cc is)
 
-both_true : (a b : Bool) → (a && b) ≡ true → (a ≡ true) × (b ≡ true)
-both_true true b is = (refl, is)
-both_true false b is = absurd (cc is)
-
 members_given : (k : List ℕ) (d : Data) (l : List ℕ) (e : Data) (it : Item) → item_of_members (Some ((k, d), (l, e))) ≡ Ok it → table (member k d (member l e no_members)) ≡ table_data it
 unfolding item_of_members
 members_given k d l e it is =
     let keys = if_ok (bytes_eq k (codes "command") && bytes_eq l (codes "folder")) (texts_in d >>= (λ texts. text_in e >>= (λ text. Ok (record { folder = text; command = texts })))) it is in
-    let named = both_true (bytes_eq k (codes "command")) (bytes_eq l (codes "folder")) keys.0 in
+    let named = and_parts (bytes_eq k (codes "command")) (bytes_eq l (codes "folder")) keys.0 in
     let texts = bind_ok (texts_in d) (λ texts. text_in e >>= (λ text. Ok (record { folder = text; command = texts }))) it keys.1 in
     let text = bind_ok (text_in e) (λ text. Ok (record { folder = text; command = texts.0 })) it texts.2 in
     (λ i. table (member ((bytes_eq-Decides k (codes "command")).0 named.0 i) (texts_given d texts.0 texts.1 i) (member ((bytes_eq-Decides l (codes "folder")).0 named.1 i) (text_given e text.0 text.1 i) no_members)))

@@ -4,6 +4,7 @@ use Rattle.std.specs.Prelude.{Some, slice_get, Contains, Ok, Err}
 use Rattle.std.proofs.lemmas.List.{append-nil}
 use Rattle.std.proofs.lemmas.List.Elements.{Contains-append_right}
 use Rattle.std.proofs.lemmas.List.Sums.{count_by-le-length, sum_by_push}
+use Rattle.std.proofs.lemmas.Option.{same_Some}
 use Rattle.lake_store.specs.Cause.{Rose}
 use Rattle.lake_store.specs.Runs.{LeavesAlone}
 use Rattle.lake_store.specs.declared.sink.Sink as sinks
@@ -65,9 +66,6 @@ length_more : (statuses : List Status) (s : Status) → length (statuses ++ s �
 length_more [] s = omega arith
 length_more (t ∷ statuses) s = let more = length_more statuses s in omega (arith, more)
 
-same_some : (x y : Item) → Some x ≡ Some y → x ≡ y
-same_some x y is = cc is
-
 -- ---- counts
 
 rose_wider : (a b c d : ℕ) → a ≤ b → c ≤ d → Rose b c → Rose a d
@@ -119,7 +117,7 @@ module _ {S O : Type 0} (store : Ghosts S) (sink : sinks.Ghosts O) (formats : Fo
     run_more [] [] item s old mid new out_old out_mid out_new at ran run = absurd (cc at)
     run_more [] (t ∷ statuses) item s old mid new out_old out_mid out_new at ran run = absurd ran
     run_more (first ∷ items) [] item s old mid new out_old out_mid out_new at ran run =
-        let same : first ≡ item = same_some first item at in (
+        let same : first ≡ item = same_Some first item at in (
           new,
           out_new,
           subst (λ i. RunsTable store sink formats gives place i old new out_old out_new s) (sym same)

@@ -4,7 +4,7 @@ use Rattle.std.specs.Prelude.{String, Some, string_bytes}
 use Rattle.std.specs.Option.{option_map}
 use Rattle.std.specs.declared.alloc.Global.{Global}
 use Rattle.std.proofs.lemmas.List.{map_push, take_more}
-use Rattle.std.proofs.lemmas.Option.{slice_get_read}
+use Rattle.std.proofs.lemmas.Option.{same_Some, slice_get_read}
 use Rattle.lake_store.specs.declared.sink.Sink as sinks
 use Rattle.lake_store.specs.declared.store.Store.{Ghosts}
 use Rattle.target_sync.specs.declared.status.Status.{Status}
@@ -28,15 +28,12 @@ words_more first words w command i d lt is so_far =
 pub word_is : (words : Words) (place : ℕ) (w : String Global) (text : List ℕ) → place < length words → w ≡ get_or words place w → text ≡ string_bytes w → word words place ≡ Some text
 word_is words place w text lt at is = ap (option_map string_bytes) (slice_get_read words (length words) place w refl lt at) ∙ ap Some (sym is)
 
-same_text : (x y : List ℕ) → Some x ≡ Some y → x ≡ y
-same_text x y is = cc is
-
 -- words are a batch of one place and one file
 pub one_batch : {S O : Type 0} (store : Ghosts S) (sink : sinks.Ghosts O) (formats : Formats) (gives : ℕ → Type 0) (words : Words) (place file other_place other_file : List ℕ) (old new : S) (out_old out_new : O) (given : BatchStatus)
     → IsBatchCommand words place file → IsBatchCommand words other_place other_file → RunsFile store sink formats gives place file old new out_old out_new given → RunsFile store sink formats gives other_place other_file old new out_old out_new given
 one_batch store sink formats gives words place file other_place other_file old new out_old out_new given is other runs =
-    let places : place ≡ other_place = same_text place other_place (sym is.place_is.0 ∙ other.place_is.0) in
-    let files : file ≡ other_file = same_text file other_file (sym is.file_is ∙ other.file_is) in
+    let places : place ≡ other_place = same_Some place other_place (sym is.place_is.0 ∙ other.place_is.0) in
+    let files : file ≡ other_file = same_Some file other_file (sym is.file_is ∙ other.file_is) in
     subst (λ p. RunsFile store sink formats gives p other_file old new out_old out_new given) places (subst (λ f. RunsFile store sink formats gives place f old new out_old out_new given) files runs)
 
 cut_status : (why : Why) (cut : Status) → ¬ (cut ≡ status.Done) → Run cut ≡ file_status why cut

@@ -3,6 +3,7 @@ use Rattle.std.proofs.Common.{◌≡◌, ◌≢◌, ℕ, zero, suc, ◌+◌, ◌
 use Rattle.std.specs.List.{AllByRecursion}
 use Rattle.std.specs.Prelude.{slice_get}
 use Rattle.std.proofs.lemmas.List.{append-nil, append_assoc, length-append}
+use Rattle.std.proofs.lemmas.Option.{none-some, same_Some}
 use Rattle.conformance.specs.Histories.{AreInOrder, IsHistoryFrom, extensions}
 use Rattle.conformance.specs.declared.event.Event.{Event}
 use Rattle.conformance.specs.declared.event.Event.TheVariants as event
@@ -18,7 +19,6 @@ use Rattle.target_sync.specs.declared.status.Status.{Status}
 use Rattle.lake_play.specs.Playing.{Crashes, Extends, IsSynced, PlaysAll, with_answer}
 use Rattle.lake_play.specs.Standing.{floor_behind}
 use Rattle.lake_play.specs.declared.playing.Progress.{Progress}
-use Rattle.lake_play.proofs.Logs.{some_same}
 use Rattle.lake_play.proofs.Plays.{Keeps, crash_keeps, extend_keeps, nothing_keeps, sync_keeps}
 
 -- Nothing but commits, syncs behind a first commit, stops and crashes.
@@ -87,9 +87,6 @@ pub record IsSyncAt (history : History) (now : ℕ) (P : ℕ → List (List ℕ)
   pub holds : P spent commits old
   pub synced : IsSynced target modes.Sync now old new given
 
-none_there : (given : Status) → None ≡ Some given → ⊥
-none_there given is = cc
-
 -- the answers before this place ended so
 abbrev pub EndBefore : (Status → Type 0) → List Status → ℕ → Type 0
 EndBefore Ends answers place = (i : ℕ) (given : Status) → i < place → slice_get answers i ≡ Some given → Ends given
@@ -109,7 +106,7 @@ module _ (history : History) (total now : ℕ) (small : total ≤ 2 ^ 64) (Ends 
       → PlaysAll now events before old after new → AreInOrder (length commits) events → IsHistoryFrom (length commits) (last_table None front) (extensions events) behind
       → Found spent commits old new before after
   syncs_on [] some spent commits front behind hudi iceberg before old after new plain behind_some few keeps first next sum whole plays order made =
-      record { answers = []; told = sym (ap (λ (p : Progress). p.answers) plays.0) ∙ sym (append-nil before.answers); end = λ holds ended. (spent, commits, omega (arith, few), subst (P spent commits) plays.1 holds); at = λ holds place given is ended. absurd (none_there given is) }
+      record { answers = []; told = sym (ap (λ (p : Progress). p.answers) plays.0) ∙ sym (append-nil before.answers); end = λ holds ended. (spent, commits, omega (arith, few), subst (P spent commits) plays.1 holds); at = λ holds place given is ended. absurd (none-some given is) }
   syncs_on (event.Extend bytes ∷ events) some spent commits front [] hudi iceberg before old after new plain behind_some few keeps first next sum whole plays order made = absurd made
   syncs_on (event.Extend bytes ∷ events) some spent commits front (entry ∷ more) hudi iceberg before old after new plain behind_some few keeps first next sum whole plays order made =
       let between = plays.1 in
@@ -143,7 +140,7 @@ module _ (history : History) (total now : ℕ) (small : total ≤ 2 ^ 64) (Ends 
       by : (answer : Status) (between : FuseStore) → target ≢ Delta → length commits ≤ 2 ^ 64 → 0 < length commits → IsSynced target modes.Sync now old between answer → (ends : Found (spent + weight (event.Sync target)) commits between new (with_answer before answer) after)
           → P spent commits old → (place : ℕ) (given : Status) → slice_get (answer ∷ ends.answers) place ≡ Some given → EndBefore Ends (answer ∷ ends.answers) place → IsSyncAt history now P all most given
       by answer between other fit there synced ends holds zero given is ended =
-          let same : answer ≡ given = some_same answer given is in
+          let same : answer ≡ given = same_Some answer given is in
           record {
             target = target;
             other = other;

@@ -4,6 +4,7 @@ use Rattle.std.specs.Prelude.{unwrap_or}
 use Rattle.std.specs.Fmt.{decimal}
 use Rattle.std.proofs.lemmas.Bool.{cases_lt}
 use Rattle.std.proofs.lemmas.List.Elements.{Contains-append_right}
+use Rattle.std.proofs.lemmas.Option.{same_Some}
 use Rattle.lake_store.specs.Disk.{Files}
 use Rattle.lake_store.specs.Fuse.{CanFail, FuseCanBeContested, FuseCanFail, contests_of, fuse_disk, room_of, with_stop}
 use Rattle.lake_store.specs.declared.fuse.FuseStore.{FuseStore}
@@ -119,9 +120,6 @@ module _ (script : Script) (stopped : Bool) (old new : FuseStore) (may : MayFail
 pub marked_none : (view : View) (standing : Standing) → IsUnpublished view → view.mark ≡ Some standing → ⊥
 marked_none view standing unpublished mark = let no : view.mark ≡ None = ap (λ (v : View). v.mark) unpublished in cc
 
-same_standing : (a b : Standing) → Some a ≡ Some b → a ≡ b
-same_standing a b e = cc
-
 module _ (target : TargetFacts) (views : Views target) (history : History) (files : Files) where
   -- what reads the same files shows the same table
   pub shows_start : (n : ℕ) (view start : View) → target.files.reads files view → target.files.reads files start → ShowsTable Delta target.files.image history n view → ShowsTable Delta target.files.image history n start
@@ -208,7 +206,7 @@ module _ (target : TargetFacts) (views : Views target) (mode : Mode) (now : ℕ)
       let at = entry_of 0 None commits front is k entry shows.1 in
       let len = whole in
       let none_added : 0 + k ≡ k = omega arith in
-      let one : since.0 ≡ shows.2.standing = same_standing since.0 shows.2.standing (sym since.1 ∙ shows.2.mark) in
+      let one : since.0 ≡ shows.2.standing = same_Some since.0 shows.2.standing (sym since.1 ∙ shows.2.mark) in
       let to : since.0.to ≡ decimal k = ap (λ (s : Standing). s.to) one ∙ shows.2.position ∙ at.position ∙ ap decimal none_added in
       from_position_fault commits first (fuse_disk old) log front is k entry start.table e shows.1 (omega (arith, le, len, few)) (like_entry target views front files entry start shows.2)
       (subst (λ (p : List ℕ). ShowsFromPosition files p start.table e) to since.2.1)

@@ -5,6 +5,7 @@ use Rattle.std.specs.FinSet as set
 use Rattle.std.specs.Ordering.{nat_cmp}
 use Rattle.std.specs.Cmp.Lexicographic.{slice_cmp}
 use Rattle.std.proofs.lemmas.List.{append-nil, length-append}
+use Rattle.std.proofs.lemmas.Option.{same_Some}
 use Rattle.conformance.specs.Drill.{AreSaid, drill_bytes, numbers_under}
 use Rattle.conformance.specs.Events.{drill_events}
 use Rattle.conformance.specs.Histories.{IsHistoryFrom, IsHistoryOf}
@@ -35,7 +36,7 @@ use Rattle.lake_play.proofs.DrillLog.{IsDrillLog, at_head_small, drill_log, from
 use Rattle.lake_play.proofs.Ends.{at_place}
 use Rattle.lake_play.proofs.Faults.{at_head_fault, from_scratch_fault}
 use Rattle.lake_play.proofs.Histories.{holds_history, same_length}
-use Rattle.lake_play.proofs.Logs.{HoldsCommits, some_same}
+use Rattle.lake_play.proofs.Logs.{HoldsCommits}
 use Rattle.lake_play.proofs.Once.{Counts}
 use Rattle.lake_play.proofs.Places.{numbers_back}
 
@@ -43,7 +44,7 @@ use Rattle.lake_play.proofs.Places.{numbers_back}
 
 last_at : {X : Type 0} (xs : List X) (k : ℕ) (x : X) → slice_get xs k ≡ Some x → length xs ≡ k + 1 → (front : List X) × (xs ≡ front ++ x ∷ [])
 last_at [] k x at count = absurd (omega (arith, count))
-last_at (y ∷ []) zero x at count = ([], ap (λ z. z ∷ []) (some_same y x at))
+last_at (y ∷ []) zero x at count = ([], ap (λ z. z ∷ []) (same_Some y x at))
 last_at (y ∷ z ∷ xs) zero x at count = absurd (omega (arith, count))
 last_at (y ∷ xs) (suc k) x at count =
     let rest = last_at xs k x at (omega (arith, count)) in (y ∷ rest.0, ap (λ l. y ∷ l) rest.1)
@@ -55,7 +56,7 @@ last_once history a b x y =
     let same : length x.0 ≡ length y.0 = omega (arith, long_a, long_b) in
     let at_a : slice_get history (length x.0) ≡ Some a = ap (λ (l : History). slice_get l (length x.0)) x.1 ∙ at_place x.0 a [] in
     let at_b : slice_get history (length y.0) ≡ Some b = ap (λ (l : History). slice_get l (length y.0)) y.1 ∙ at_place y.0 b [] in
-    some_same a b (sym at_a ∙ ap (slice_get history) same ∙ at_b)
+    same_Some a b (sym at_a ∙ ap (slice_get history) same ∙ at_b)
 
 one_rows : (history : History) (xs ys : List Row) → AreLastRows history xs → AreLastRows history ys → xs ≡ ys
 one_rows history xs ys a b =

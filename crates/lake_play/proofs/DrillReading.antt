@@ -2,6 +2,7 @@
 use Rattle.std.proofs.Common.{◌≡◌, inl, inr, ⊎_elim, ℕ, zero, suc, List, Some, sym, ap, subst, ◌∙◌, arith}
 use Rattle.std.specs.Fmt.{decimal}
 use Rattle.std.proofs.lemmas.Fmt.{decimal_injective}
+use Rattle.std.proofs.lemmas.Option.{same_Some}
 use Rattle.lake_store.specs.Disk.{Files}
 use Rattle.table_history.specs.declared.kind.Kind.TheVariants.{Delta}
 use Rattle.table_history.specs.declared.limit.LimitKind.{LimitKind}
@@ -26,9 +27,6 @@ use Rattle.lake_play.proofs.Causes.{Views, like_entry, marked_none, shows_start}
 use Rattle.lake_play.proofs.DrillLog.{AreFirst, IsDrillLog, at_head_small, drill_log, from_position_small, from_scratch_small}
 use Rattle.lake_play.proofs.Places.{numbers_back}
 
-same_standing : (a b : Standing) → Some a ≡ Some b → a ≡ b
-same_standing a b e = cc
-
 module _ (number : ℕ) (said : AreSaid number) (target : TargetFacts) (views : Views target) (mode : Mode) (now : ℕ) (commits : List (List ℕ)) (first : AreFirst number commits) (which : LimitKind) (n : ℕ) {files : Files}
     (passes : PassesNumber target mode now (drill_history number 200) commits files (status.Limit side.Source which n)) where
   log : IsDrillLog number files
@@ -38,7 +36,7 @@ module _ (number : ℕ) (said : AreSaid number) (target : TargetFacts) (views : 
   since_by zero start none since = marked_none start since.0 none since.1
   since_by (suc k) start shows since =
       let at = numbers_back (entry_after number) 200 k shows.0 shows.1 in
-      let one : since.0 ≡ shows.2.standing = same_standing since.0 shows.2.standing (sym since.1 ∙ shows.2.mark) in
+      let one : since.0 ≡ shows.2.standing = same_Some since.0 shows.2.standing (sym since.1 ∙ shows.2.mark) in
       let to : since.0.to ≡ decimal k = ap (λ (s : Standing). s.to) one ∙ shows.2.position ∙ sym (ap (λ (e : List ℕ × Table). e.0) at.1) in
       let like : IsLike start.table (table_after number (suc k)) = subst (λ (t : Table). IsLike start.table t) (sym (ap (λ (e : List ℕ × Table). e.1) at.1)) (like_entry target views (drill_history number 200) files shows.0 start shows.2) in
       let small = at.0 in

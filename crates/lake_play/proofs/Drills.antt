@@ -3,6 +3,7 @@ use Rattle.std.proofs.Common.{◌≡◌, ◌≢◌, inl, inr, ⊎_elim, ℕ, zer
 use Rattle.std.proofs.lemmas.List.{append-nil}
 use Rattle.std.specs.List.{AllByRecursion}
 use Rattle.std.specs.Prelude.{slice_get}
+use Rattle.std.proofs.lemmas.Option.{none-some, same_Some}
 use Rattle.conformance.specs.Drill.{AreSaid, drill_bytes, drill_schema, drill_time, numbers_under}
 use Rattle.conformance.specs.Events.{drill_events}
 use Rattle.conformance.specs.Histories.{AreInOrder, AreLegal, IsHistoryFrom, IsHistoryOf, extensions}
@@ -46,7 +47,6 @@ use Rattle.lake_play.proofs.DrillNumbers.{none_at_sync}
 use Rattle.lake_play.proofs.DrillReading.{source_within}
 use Rattle.lake_play.proofs.Ends.{all_at, at_place}
 use Rattle.lake_play.proofs.Folds.{Folds, GoWell, IsGood, drill_folds, none_removed}
-use Rattle.lake_play.proofs.Logs.{some_same}
 use Rattle.lake_play.proofs.OneSchema.{types_keep}
 use Rattle.lake_play.proofs.Places.{numbers_at}
 use Rattle.lake_play.proofs.Targets.{first_get}
@@ -92,9 +92,6 @@ record IsAnswered (faulty : Before → Type 0) (now : ℕ) (history : History) (
   first : before.commits ++ behind ≡ all
   cause : IsCause target modes.Sync now history before files (faulty before) given
 
-none_there : (given : Status) → None ≡ Some given → ⊥
-none_there given is = cc
-
 not_empty : (xs : List (List ℕ)) (x : List ℕ) → xs ++ x ∷ [] ≡ [] → ⊥
 not_empty [] x is = cc
 not_empty (y ∷ xs) x is = cc
@@ -103,12 +100,12 @@ module _ (faulty : Before → Type 0) (now : ℕ) (history : History) (all : Lis
   answered : (events : List Event) (some : Bool) (count : ℕ) (before : Before) (so_far : Progress) (old : FuseStore) (after : Progress) (new : FuseStore) (plays : PlaysAll now events so_far old after new)
       → IsPlain some events → AreInOrder count events → AreCaused faulty now history before events so_far old after new plays → before.shortened ≡ false → (some ≡ true → before.commits ≡ [] → ⊥) → before.commits ++ extensions events ≡ all
       → (place : ℕ) (given : Status) → slice_get (answers_in now events so_far old after new plays) place ≡ Some given → IsAnswered faulty now history all given
-  answered [] some count before so_far old after new plays _ order caused kept behind_some whole place given at = absurd (none_there given at)
+  answered [] some count before so_far old after new plays _ order caused kept behind_some whole place given at = absurd (none-some given at)
   answered (event.Extend bytes ∷ events) some count before so_far old after new plays plain order caused kept behind_some whole place given at =
       answered events true (count + 1) (behind (event.Extend bytes) before) plays.0 plays.1 after new plays.3 plain order caused kept (λ is. not_empty before.commits bytes) (append_assoc before.commits (bytes ∷ []) (extensions events) ∙ whole) place given at
   answered (event.Shorten below ∷ events) some count before so_far old after new plays plain order caused kept behind_some whole place given at = absurd plain
   answered (event.Sync target ∷ events) some count before so_far old after new plays plain order caused kept behind_some whole zero given at =
-      subst (IsAnswered faulty now history all) (some_same plays.2.0 given at)
+      subst (IsAnswered faulty now history all) (same_Some plays.2.0 given at)
       (record { target = target; other = order.0; before = before; files = (fuse_disk old).files; kept = kept; some = behind_some plain.0; behind = extensions events; first = whole; cause = caused.0 })
   answered (event.Sync target ∷ events) some count before so_far old after new plays plain order caused kept behind_some whole (suc place) given at =
       answered events some count before plays.0 plays.1 after new plays.3 plain.1 order.1 caused.1 kept behind_some whole place given at

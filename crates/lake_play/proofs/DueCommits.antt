@@ -3,6 +3,7 @@ use Rattle.std.proofs.Common.{◌≡◌, ◌⊎◌, ⊎_elim, inl, inr, ℕ, zer
 use Rattle.std.specs.Prelude.{slice_get}
 use Rattle.std.proofs.lemmas.List.{map-append}
 use Rattle.std.proofs.lemmas.List.Elements.{Contains-append_left, Contains-append_right}
+use Rattle.std.proofs.lemmas.Option.{same_Some}
 use Rattle.delta_log.specs.declared.commit.DeltaCommit.{DeltaCommit}
 use Rattle.delta_log.specs.declared.commit.MetaData.{MetaData}
 use Rattle.delta_table.proofs.PathLaws.{says_once}
@@ -97,12 +98,6 @@ module _ (number : ℕ) where
 
 -- ---- what marks say of the source
 
-some_text : (a b : List ℕ) → Some a ≡ Some b → a ≡ b
-some_text a b is = cc
-
-some_meta : (a b : MetaData) → Some a ≡ Some b → a ≡ b
-some_meta a b is = cc
-
 front_at : {A : Type 0} (xs : List A) (x y : A) → slice_get xs 0 ≡ Some x → slice_get (xs ++ y ∷ []) 0 ≡ Some x
 front_at [] x y is = absurd cc
 front_at (z ∷ xs) x y is = is
@@ -129,7 +124,7 @@ module _ (number : ℕ) (said : AreSaid number) (commits later : List (List ℕ)
   id_by None none start id is = absurd (none (drill_bytes number 0, first_held))
   id_by (Some stated) of start id is =
       let commit : of.0 ≡ drill_commit number 0 = says_once disk.files 0 of.0 (drill_commit number 0) of.3 first_says in
-      let meta : of.1 ≡ drill_meta = some_meta of.1 drill_meta (sym of.4 ∙ ap (λ (c : DeltaCommit). c.meta) commit) in
+      let meta : of.1 ≡ drill_meta = same_Some of.1 drill_meta (sym of.4 ∙ ap (λ (c : DeltaCommit). c.meta) commit) in
       is ∙ ap (λ (text : List ℕ). Some text) (of.5 ∙ ap (λ (m : MetaData). m.id) meta)
 
   -- The marks of what is due say of a Delta source, and of the drill's table.
@@ -138,7 +133,7 @@ module _ (number : ℕ) (said : AreSaid number) (commits later : List (List ℕ)
       let id = id_by due.head.table due.is_head.table start due.id due.is_id in
       record {
         source = refl;
-        table = λ text states. let same = ap (λ (t : List ℕ). length t) (some_text (codes "drill") text (sym id ∙ states)) in omega (arith, same);
+        table = λ text states. let same = ap (λ (t : List ℕ). length t) (same_Some (codes "drill") text (sym id ∙ states)) in omega (arith, same);
       }
 
 -- ---- a sync of a drill

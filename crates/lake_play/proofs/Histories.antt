@@ -25,6 +25,7 @@ use Rattle.std.specs.List.{AllByRecursion}
 use Rattle.std.proofs.lemmas.Bool.{false_from_ne_true}
 use Rattle.std.proofs.lemmas.List.Elements.{All-from_recursion}
 use Rattle.std.proofs.lemmas.Slice.Eq.{bytes_eq-Decides}
+use Rattle.std.proofs.lemmas.Option.{none-some, same_Some}
 use Rattle.delta_change.specs.TableBehind.{IsSchemaBehind, StatesSchema, rows_before}
 use Rattle.delta_change.proofs.KindLemmas.{KeepKinds}
 use Rattle.delta_live.specs.Live.{ActsOn, AddsRow}
@@ -38,13 +39,12 @@ use Rattle.delta_log.specs.declared.commit.MetaData.{MetaData}
 use Rattle.delta_log.specs.declared.error.LineFault.{LineFault}
 use Rattle.delta_table.specs.Versions.{AreVersions, HasVersion}
 use Rattle.delta_table.specs.declared.versions.Versions.{Versions}
-use Rattle.delta_table.proofs.LogLaws.{none_some}
 use Rattle.delta_table.proofs.PathLaws.{bytes_once}
 use Rattle.lake_basics.specs.Outcome.{each}
 use Rattle.source_delta.specs.Heads.{IsAbsent}
 use Rattle.source_delta.specs.Histories.{HoldsHistory, table_before}
 use Rattle.table_history.specs.TypeTree.{ColumnTrees}
-use Rattle.lake_play.proofs.Logs.{HoldsCommits, some_same}
+use Rattle.lake_play.proofs.Logs.{HoldsCommits}
 
 -- ---- one table after another
 
@@ -94,7 +94,7 @@ sound_all version base [] (entry ∷ history) is ok = absurd is
 sound_all version base (bytes ∷ commits) [] is ok = absurd is
 sound_all version base (bytes ∷ commits) (entry ∷ history) is ok =
     let sound = sound_step is.1.commit base entry.1 is.1.step ok in
-    (sound, sound_all (version + 1) (Some entry.1) commits history is.2 (λ t same. subst IsSoundTable (some_same entry.1 t same) sound))
+    (sound, sound_all (version + 1) (Some entry.1) commits history is.2 (λ t same. subst IsSoundTable (same_Some entry.1 t same) sound))
 
 abbrev IsOther : ℕ → List ℕ → Type 0
 IsOther version position = bytes_eq (decimal version) position ≡ false
@@ -123,7 +123,7 @@ distinct_positions version base (bytes ∷ commits) (entry ∷ history) is few =
 pub is_history : (commits : List (List ℕ)) (history : History) → IsHistoryFrom 0 None commits history → length commits ≤ 2 ^ 64 → IsHistory history
 is_history commits history is few = record {
   distinct = distinct_positions 0 None commits history is (omega (arith, few));
-  tables = All-from_recursion Sound history (sound_all 0 None commits history is (λ t same. absurd (none_some t same)));
+  tables = All-from_recursion Sound history (sound_all 0 None commits history is (λ t same. absurd (none-some t same)));
 }
 
 pub same_length : (version : ℕ) (base : Option Table) (commits : List (List ℕ)) (history : History) → IsHistoryFrom version base commits history → length history ≡ length commits
@@ -154,7 +154,7 @@ entry_of version base [] [] is place entry at = absurd cc
 entry_of version base [] (e ∷ history) is place entry at = absurd is
 entry_of version base (b ∷ commits) [] is place entry at = absurd is
 entry_of version base (b ∷ commits) (e ∷ history) is zero entry at =
-    let same : e ≡ entry = some_same e entry at in
+    let same : e ≡ entry = same_Some e entry at in
     let none : version ≡ version + 0 = omega arith in
     subst (IsEntryOf version base (b ∷ commits) (e ∷ history) 0) same (record { bytes = b; at = refl; position = is.0 ∙ ap decimal none; extends = is.1 })
 entry_of version base (b ∷ commits) (e ∷ history) is (suc place) entry at =

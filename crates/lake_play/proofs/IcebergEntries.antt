@@ -45,7 +45,7 @@ use Rattle.std.proofs.lemmas.Bool.{false≢true}
 use Rattle.std.proofs.lemmas.Fmt.{decimal_injective}
 use Rattle.std.proofs.lemmas.List.{length-append, length-take-le}
 use Rattle.std.proofs.lemmas.List.Elements.{Contains-append_left}
-use Rattle.std.proofs.lemmas.Option.{slice_get_within}
+use Rattle.std.proofs.lemmas.Option.{none-some, same_Some, slice_get_within}
 use Rattle.conformance.proofs.Bounds.{drill_history, entry_after, row_from}
 use Rattle.conformance.proofs.Numbers.{from_map, length_map}
 use Rattle.conformance.proofs.Tables.{distinct_rows, rows_after, table_after}
@@ -97,7 +97,7 @@ use Rattle.lake_play.proofs.EntryCounts.{once_up_to, one_up_to}
 use Rattle.lake_play.proofs.Gains.{HasCome, stays_or_comes}
 use Rattle.lake_play.proofs.Histories.{entry_of, holds_history, is_history, same_length}
 use Rattle.lake_play.proofs.IcebergNumbers.{HasManyEntries}
-use Rattle.lake_play.proofs.Logs.{HoldsCommits, extended_elsewhere, some_same}
+use Rattle.lake_play.proofs.Logs.{HoldsCommits, extended_elsewhere}
 use Rattle.lake_play.proofs.Newest.{AllMay, SameNewest, again_is, first_may, left_newest, newest_behind, of_behind, reached_newest, version_by}
 use Rattle.lake_play.proofs.Once.{advanced_count}
 use Rattle.lake_play.proofs.OneSchema as same_schema
@@ -179,7 +179,7 @@ module _ (number : ℕ) (image : ColumnTrees) (own_image : wide_columns image �
   small : length (metadata_text writes.written.metadata) ≤ MAX_FILE_BYTES
   small =
       let low = says.small in
-      let same = ap (λ (l : List ℕ). length l) (some_same says.bytes (metadata_text writes.written.metadata) (sym says.holds ∙ writes.metadata)) in
+      let same = ap (λ (l : List ℕ). length l) (same_Some says.bytes (metadata_text writes.written.metadata) (sym says.holds ∙ writes.metadata)) in
       omega (arith, low, same)
 
   distinct_by : Reads before (view_of kept) → HasDistinctPaths kept.table.rows
@@ -362,12 +362,9 @@ entries_from number p (entry ∷ history) each =
           subst (λ (q : ℕ). (other ≡ entry_after number q) × (q < 200)) sum (each (suc i) other at)),
     )
 
-none_is : {X : Type 0} (x : X) → None ≡ Some x → ⊥
-none_is x is = cc
-
 drop_at : {X : Type 0} (n : ℕ) (xs : List X) (i : ℕ) (x : X) → slice_get (drop n xs) i ≡ Some x → slice_get xs (n + i) ≡ Some x
 drop_at zero xs i x is = let same : i ≡ 0 + i = omega arith in subst (λ (m : ℕ). slice_get xs m ≡ Some x) same is
-drop_at (suc n) [] i x is = absurd (none_is x is)
+drop_at (suc n) [] i x is = absurd (none-some x is)
 drop_at (suc n) (y ∷ xs) i x is = let sum : suc (n + i) ≡ suc n + i = omega arith in subst (λ (m : ℕ). slice_get (y ∷ xs) m ≡ Some x) sum (drop_at n xs i x is)
 
 last_at : (history : History) (front : History) (entry : List ℕ × Table) → history ≡ front ++ entry ∷ [] → slice_get history (length front) ≡ Some entry

@@ -7,6 +7,7 @@ use Rattle.std.specs.Ordering.{nat_cmp}
 use Rattle.std.specs.Cmp.Lexicographic.{slice_cmp}
 use Rattle.std.proofs.lemmas.Bool.{cases_lt}
 use Rattle.std.proofs.lemmas.List.{append_cancel_left, length-append}
+use Rattle.std.proofs.lemmas.Option.{none-some, same_Some}
 use Rattle.lake_store.specs.Disk.{Disk, Files, IsClean, MayLeave, empty_disk, removed, synced, written}
 use Rattle.lake_store.specs.Runs.{IsIn}
 use Rattle.lake_store.proofs.DiskLaws.{clean-synced, contains-remove_here, contains-remove_other, get-insert_here, get-insert_other, get-remove_here, get-remove_other, path_cases}
@@ -37,9 +38,6 @@ pub record HoldsCommits (commits : List (List ℕ)) (first : ℕ) (disk : Disk) 
   pub alone : HasVersionsAlone disk.files
   pub clean : (path : List ℕ) → IsIn log_folder path → IsClean disk path
 
-some_none : (x : List ℕ) → None ≡ Some x → ⊥
-some_none x is = cc
-
 -- what is there stays so in files that are the same in the log's folder
 alone_too : (a b : Files) → SameIn log_folder a b → HasVersionsAlone a → HasVersionsAlone b
 alone_too a b same alone path within there = alone path within (subst (λ (o : Option (List ℕ)). IsSome o) (same path within) there)
@@ -47,8 +45,8 @@ alone_too a b same alone path within there = alone path within (subst (λ (o : O
 pub no_commits : HoldsCommits [] 0 empty_disk
 no_commits = record {
   newest = inl (refl, refl);
-  holds = λ version bytes from is. absurd (some_none bytes is);
-  only = λ version has. absurd (some_none has.0 (sym (map.get-empty (slice_cmp nat_cmp) has.1.path) ∙ has.1.there));
+  holds = λ version bytes from is. absurd (none-some bytes is);
+  only = λ version has. absurd (none-some has.0 (sym (map.get-empty (slice_cmp nat_cmp) has.1.path) ∙ has.1.there));
   alone = λ path within there. absurd (none_there (map.get empty_disk.files path) (map.get-empty (slice_cmp nat_cmp) path) there);
   clean = λ path within. set.contains-empty (slice_cmp nat_cmp) path;
 }
@@ -77,11 +75,8 @@ left_commits commits first disk image may h =
 
 -- ---- one commit more
 
-pub some_same : {X : Type 0} (a b : X) → Some a ≡ Some b → a ≡ b
-some_same a b is = cc
-
 at_end : {X : Type 0} (xs : List X) (x y : X) (i : ℕ) → slice_get (xs ++ x ∷ []) i ≡ Some y → ((i < length xs) × (slice_get xs i ≡ Some y)) ⊎ ((i ≡ length xs) × (x ≡ y))
-at_end [] x y zero is = inr (refl, some_same x y is)
+at_end [] x y zero is = inr (refl, same_Some x y is)
 at_end [] x y (suc i) is = absurd cc
 at_end (z ∷ xs) x y zero is = inl (omega arith, is)
 at_end (z ∷ xs) x y (suc i) is = ⊎_elim (λ before. let less = before.0 in inl (omega (arith, less), before.1)) (λ last. let here = last.0 in inr (omega (arith, here), last.1)) (at_end xs x y i is)
@@ -169,7 +164,7 @@ module _ (commits : List (List ℕ)) (first to : ℕ) (old new : Disk) (sheds : 
               let one = one_path has.1.path of.0 version of.3 has.1.is in let from = of.1 in omega (arith, low, one, from))) ∙ has.1.there;
         },
       ) in let from = was.0 in omega (arith, low, from))
-      (λ (from : first ≤ version). some_none has.0 (sym (sheds.gone has.1.path (version, from, less, has.1.is)) ∙ has.1.there))
+      (λ (from : first ≤ version). none-some has.0 (sym (sheds.gone has.1.path (version, from, less, has.1.is)) ∙ has.1.there))
       (cases_lt version first)))
       (λ (from : to ≤ version). (from, (has.0, record { path = has.1.path; is = has.1.is; there = sym (kept version has.1.path from has.1.is) ∙ has.1.there })))
       (cases_lt version to)

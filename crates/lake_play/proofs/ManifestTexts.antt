@@ -6,6 +6,7 @@ use Rattle.std.specs.Prelude.{IfSome, not, sum_by}
 use Rattle.std.proofs.lemmas.List.{length-append, length-drop, length-map}
 use Rattle.std.proofs.lemmas.List.Elements.{Contains-append_cases}
 use Rattle.std.proofs.lemmas.List.Filters.{length-filter_both}
+use Rattle.std.proofs.lemmas.Option.{same_Some}
 use Rattle.serde_json.specs.Data.{array}
 use Rattle.serde_json.specs.View.{items_of}
 use Rattle.serde_json.specs.Written.{compact_text}
@@ -279,12 +280,9 @@ module _ (front : List ℕ) (short : length front ≤ 80) (version : ℕ) (lt : 
 abbrev pub drill_column : PartColumn
 drill_column = record { field_id = pos 1000; kind = kind.Int }
 
-some_kind : (a b : PartKind) → Some a ≡ Some b → a ≡ b
-some_kind a b is = cc
-
 pub columns_are : (columns : List PartColumn) → AreColumns drill_schema (codes "d" ∷ []) (drill_field ∷ []) columns → columns ≡ drill_column ∷ []
 columns_are [] are = absurd are
-columns_are (c ∷ []) are = let kind_is : kind.Int ≡ c.kind = some_kind kind.Int c.kind are.1 in λ i. record { field_id = are.0 i; kind = sym kind_is i } ∷ []
+columns_are (c ∷ []) are = let kind_is : kind.Int ≡ c.kind = same_Some kind.Int c.kind are.1 in λ i. record { field_id = are.0 i; kind = sym kind_is i } ∷ []
 columns_are (c ∷ (d ∷ columns)) are = absurd are.2
 
 schema_json_most : length (schema_json drill_held) ≤ 2000

@@ -5,6 +5,7 @@ use Rattle.std.specs.Int.{int_max}
 use Rattle.std.specs.Prelude.{IfSome, flat_map, fold, int_lt, negsuc, unwrap_or}
 use Rattle.std.proofs.lemmas.List.{length-append, length-drop}
 use Rattle.std.proofs.lemmas.List.Elements.{Contains-append_cases}
+use Rattle.std.proofs.lemmas.Option.{none-some, same_Some}
 use Rattle.serde_json.specs.Data.{Data, array, object, string, Members, no_members, member, put}
 use Rattle.serde_json.specs.View.{items_of}
 use Rattle.json_reading.specs.Json.{members_with}
@@ -73,12 +74,6 @@ pub record IsDrillMetadata (m : Metadata) : Type 0 where
 ok_ids : (a b : List ℤ) → ◌≡◌ {A = Result (List ℤ) MapError} (Ok a) (Ok b) → a ≡ b
 ok_ids a b is = cc
 
-some_held : (a b : HeldSchema) → Some a ≡ Some b → a ≡ b
-some_held a b is = cc
-
-no_held : (a : HeldSchema) → None ≡ Some a → ⊥
-no_held a is = cc
-
 -- the schemas behind a commit after which the table has the drill's schema
 pub record HasDrillSchemas (next : Schemas) : Type 0 where
   pub current : next.current ≡ drill_held
@@ -89,7 +84,7 @@ first_ids : ids_for [] (pos 0) (column_paths drill_schema) ≡ Ok (pos 1 ∷ pos
 first_ids = refl
 
 schemas_by : (m : Metadata) (next : Schemas) → HoldsDrill m → AreNextSchemas m drill_schema next → HasDrillSchemas next
-schemas_by m next (inl (none, last)) (inl keeps) = absurd (no_held next.current (sym (ap (λ (l : List HeldSchema). held_schema l m.current_schema) none) ∙ keeps.current.held))
+schemas_by m next (inl (none, last)) (inl keeps) = absurd (none-some next.current (sym (ap (λ (l : List HeldSchema). held_schema l m.current_schema) none) ∙ keeps.current.held))
 schemas_by m next (inl (none, last)) (inr (other, adds)) =
     let known : ids_for [] (pos 0) (column_paths drill_schema) ≡ ids_for (known_ids m) m.last_column_id (column_paths drill_schema) = λ i. ids_for (flat_map path_ids (sym none i)) (sym last i) (column_paths drill_schema) in
     let ids : pos 1 ∷ pos 2 ∷ [] ≡ adds.ids = ok_ids (pos 1 ∷ pos 2 ∷ []) adds.ids (sym first_ids ∙ known ∙ adds.are) in
@@ -101,7 +96,7 @@ schemas_by m next (inl (none, last)) (inr (other, adds)) =
     }
 schemas_by m next (inr (held, current, last)) (inl keeps) =
     record {
-      current = some_held next.current drill_held (sym keeps.current.held ∙ (λ i. held_schema (held i) (current i)));
+      current = same_Some next.current drill_held (sym keeps.current.held ∙ (λ i. held_schema (held i) (current i)));
       held = keeps.held ∙ held;
       last_id = keeps.last_id ∙ last;
     }
@@ -112,12 +107,9 @@ next_schemas m stated next holds is are = schemas_by m next holds (subst (λ (sc
 
 -- ---- its partition spec
 
-some_id : (a b : ℤ) → Some a ≡ Some b → a ≡ b
-some_id a b is = cc
-
 pub field_is : (f : SpecField) → IsSpecField (path_ids drill_held) 1000 (codes "d") f → f ≡ drill_field
 field_is f is =
-    let source : f.source_id ≡ pos 2 = sym (some_id (pos 2) f.source_id is.source) in
+    let source : f.source_id ≡ pos 2 = sym (same_Some (pos 2) f.source_id is.source) in
     λ i. record { field_id = is.field_id i; source_id = source i; name = is.name_is i; transform = is.transform i }
 
 pub fields_are : (fields : List SpecField) → AreSpecFields drill_held 1000 (codes "d" ∷ []) fields → fields ≡ drill_field ∷ []

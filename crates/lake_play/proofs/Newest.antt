@@ -1,6 +1,7 @@
 -- What stays true of the newest version of an Iceberg target while commits are published.
 use Rattle.std.proofs.Common.{◌≡◌, ◌⊎◌, inl, inr, ℕ, zero, suc, ◌+◌, ◌≤◌, ◌<◌, List, [], ◌∷◌, length, take, Contains, Ok, refl, sym, ap, subst, ◌∙◌, arith}
 use Rattle.std.specs.FinMap as map
+use Rattle.std.proofs.lemmas.Option.{same_Some}
 use Rattle.lake_basics.specs.Outcome.{required}
 use Rattle.lake_basics.specs.declared.limits.TheConstants.{MAX_ICEBERG_VERSION}
 use Rattle.lake_store.specs.Disk.{Files}
@@ -46,7 +47,6 @@ use Rattle.target_sync.specs.Targets.{HaveWritten, IsKept, TargetFacts, target_f
 use Rattle.target_sync.specs.declared.plan.Mode.{Mode}
 use Rattle.lake_play.specs.Formats.{to_iceberg}
 use Rattle.lake_play.proofs.Gains.{HasCome, StaysOrComes}
-use Rattle.lake_play.proofs.Logs.{some_same}
 use Rattle.lake_play.proofs.Once.{advanced_count}
 
 -- ---- files of one newest version
@@ -142,7 +142,7 @@ module _ (id location : List ℕ) (kept : IcebergKept) (before after : Files) (o
   again_is m says =
       let again = writes.back.metadata in
       let text = metadata_text writes.written.metadata in
-      let bytes : says.bytes ≡ text = some_same says.bytes text (sym says.holds ∙ writes.metadata) in
+      let bytes : says.bytes ≡ text = same_Some says.bytes text (sym says.holds ∙ writes.metadata) in
       read_once text m again.0 (subst (λ (b : List ℕ). IsRead b m) bytes says.read) (read_found text again.0 again.1)
 
   -- What is true of the metadata that is read again is true of the newest version's.

@@ -5,7 +5,7 @@ use Rattle.std.specs.Prelude.{slice_get}
 use Rattle.std.proofs.lemmas.Bool.{cases_lt}
 use Rattle.std.proofs.lemmas.Fmt.{decimal_injective}
 use Rattle.std.proofs.lemmas.List.{length-take-le}
-use Rattle.std.proofs.lemmas.Option.{slice_get_within}
+use Rattle.std.proofs.lemmas.Option.{same_Some, slice_get_within}
 use Rattle.conformance.specs.Histories.{IsHistoryFrom}
 use Rattle.delta_log.specs.Readable.{IsReadableCommit}
 use Rattle.delta_log.specs.declared.commit.DeltaCommit.{DeltaCommit}
@@ -37,7 +37,7 @@ use Rattle.lake_play.specs.Formats.{from_delta}
 use Rattle.lake_play.specs.Playing.{Brings, scripted}
 use Rattle.lake_play.specs.Scripted.{scripted_store}
 use Rattle.lake_play.proofs.Histories.{entry_of, has_kept, holds_history, is_history, same_length, some_at}
-use Rattle.lake_play.proofs.Logs.{HoldsCommits, some_same}
+use Rattle.lake_play.proofs.Logs.{HoldsCommits}
 use Rattle.lake_play.proofs.Syncs.{alone}
 use Rattle.lake_play.proofs.Targets.{shows_front, shows_whole}
 
@@ -51,9 +51,6 @@ pub record Counts (target : Meaning) : Type 0 where
 
 pub unmarked : (view : View) (standing : Standing) → IsUnpublished view → view.mark ≡ Some standing → ⊥
 unmarked view standing unpublished mark = let no : view.mark ≡ None = ap (λ (v : View). v.mark) unpublished in cc
-
-same_standing : (a b : Standing) → Some a ≡ Some b → a ≡ b
-same_standing a b e = cc
 
 pub advanced_count : (image : ColumnTrees → Option ColumnTrees) (origin : Origin) (start view : View) (commits : List Commit) → IsAdvancedAll image origin start commits view → view.commits ≡ start.commits + length commits
 advanced_count image origin start view [] leads = let same = leads.commits in omega (arith, same)
@@ -99,7 +96,7 @@ module _ (target : Meaning) (counts : Counts target) (commits : List (List ℕ))
   same_place (suc a) (suc b) v w rv rw sv sw =
       ⊎_elim
       (λ (same : SameView v w).
-      let one : sv.2.standing ≡ sw.2.standing = same_standing sv.2.standing sw.2.standing (sym sv.2.mark ∙ same.mark ∙ sw.2.mark) in
+      let one : sv.2.standing ≡ sw.2.standing = same_Some sv.2.standing sw.2.standing (sym sv.2.mark ∙ same.mark ∙ sw.2.mark) in
       let first = place_of a sv.0 sv.1 in
       let second = place_of b sw.0 sw.1 in
       let to : decimal a ≡ decimal b = sym first.0 ∙ sym sv.2.position ∙ ap (λ (s : Standing). s.to) one ∙ sw.2.position ∙ second.0 in
@@ -170,7 +167,7 @@ module _ (target : TargetFacts) (counts : Counts target.files) (now : ℕ) (old 
       (first.0, heads first.0 first.1, subst (λ (b : List ℕ). IsReadableCommit b c) same says.readable)
 
   one_bytes : (a b : List ℕ) → slice_get all 0 ≡ Some a → slice_get all 0 ≡ Some b → a ≡ b
-  one_bytes a b x y = some_same a b (sym x ∙ y)
+  one_bytes a b x y = same_Some a b (sym x ∙ y)
 
   -- ---- the ids
 
@@ -288,7 +285,7 @@ module _ (target : TargetFacts) (counts : Counts target.files) (now : ℕ) (old 
             ⊎_elim
             (λ (same : by.gained.view.mark ≡ start.mark). was.named standing (sym same ∙ is))
             (λ (newer : (position : List ℕ) × (by.gained.view.mark ≡ Some (standing_at (origin_of by.due) position))).
-            subst (IsNamed all) (same_standing (standing_at (origin_of by.due) newer.0) standing (sym newer.1 ∙ is)) (due_named by.due by.due.head.table refl newer.0))
+            subst (IsNamed all) (same_Some (standing_at (origin_of by.due) newer.0) standing (sym newer.1 ∙ is)) (due_named by.due by.due.head.table refl newer.0))
             (advanced_mark target.files.image (origin_of by.due) base by.gained.view (take by.count by.due.commits) by.gained.leads)),
       )
     where

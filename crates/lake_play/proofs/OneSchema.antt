@@ -5,6 +5,7 @@ use Rattle.std.specs.Prelude.{IsSome, pos, slice_get}
 use Rattle.std.proofs.lemmas.Bool.{false≢true}
 use Rattle.std.proofs.lemmas.List.{append-nil, length-append}
 use Rattle.std.proofs.lemmas.List.Elements.{Contains-append_cases, Contains-append_left}
+use Rattle.std.proofs.lemmas.Option.{none-some, same_Some}
 use Rattle.lake_basics.specs.declared.limits.TheConstants.{MAX_PUBLISHED_COMMITS}
 use Rattle.lake_store.specs.Disk.{Disk, Files, empty_disk}
 use Rattle.lake_store.specs.Fuse.{FuseCanBeContested, fuse_disk, room_of}
@@ -68,7 +69,7 @@ use Rattle.lake_play.specs.declared.playing.Progress.{Progress}
 use Rattle.lake_play.proofs.Causes.{due_states, iceberg_views, marked_none}
 use Rattle.lake_play.proofs.Gains.{stays_or_comes}
 use Rattle.lake_play.proofs.Histories.{same_length}
-use Rattle.lake_play.proofs.Logs.{HoldsCommits, extended_elsewhere, shed_elsewhere, some_same}
+use Rattle.lake_play.proofs.Logs.{HoldsCommits, extended_elsewhere, shed_elsewhere}
 use Rattle.lake_play.proofs.Plays.{Keeps, begins, crash_keeps, extend_keeps, nothing_keeps, shorten_keeps, sync_keeps}
 use Rattle.lake_play.proofs.Newest.{of_same, sync_holds}
 use Rattle.lake_play.proofs.Schemas.{BeginsStated, HasOnly, HoldsOnly, MayState, StateOnly, all_state, begins_later, only_none, only_step, only_too, schemas_only, stated_image, table_only}
@@ -344,12 +345,9 @@ module _ (schema : ColumnTrees) (history : History) (one : (entry : List ℕ × 
 
 -- ---- from the start
 
-no_answer : (given : Status) → None ≡ Some given → ⊥
-no_answer given is = cc
-
 keeps_at : (answers : List Status) → AllByRecursion KeepsTypes answers → (place : ℕ) (given : Status) → slice_get answers place ≡ Some given → KeepsTypes given
-keeps_at [] keep _ given at = absurd (no_answer given at)
-keeps_at (first ∷ answers) keep zero given at = subst KeepsTypes (some_same first given at) keep.0
+keeps_at [] keep _ given at = absurd (none-some given at)
+keeps_at (first ∷ answers) keep zero given at = subst KeepsTypes (same_Some first given at) keep.0
 keeps_at (first ∷ answers) keep (suc place) given at = keeps_at answers keep.1 place given at
 
 -- No sync is answered that the type of a column of the Iceberg target would change, where all tables have one schema.

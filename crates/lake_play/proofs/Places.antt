@@ -3,11 +3,10 @@ use Rattle.std.proofs.Common.{◌≡◌, ⊎_elim, ℕ, zero, suc, ◌≤◌, �
 use Rattle.std.specs.Prelude.{slice_get}
 use Rattle.std.proofs.lemmas.Bool.{cases_lt}
 use Rattle.std.proofs.lemmas.List.{map-append}
-use Rattle.std.proofs.lemmas.Option.{slice_get_within}
+use Rattle.std.proofs.lemmas.Option.{same_Some, slice_get_within}
 use Rattle.conformance.specs.Drill.{numbers_under}
 use Rattle.conformance.proofs.Numbers.{length_map}
 use Rattle.lake_play.proofs.Ends.{at_place}
-use Rattle.lake_play.proofs.Logs.{some_same}
 use Rattle.lake_play.proofs.Targets.{first_get}
 
 pub numbers_at : {A : Type 0} (f : ℕ → A) (n i : ℕ) → i < n → slice_get (map f (numbers_under n)) i ≡ Some (f i)
@@ -30,4 +29,4 @@ numbers_back f n i x at =
     let count = length_map f n in
     let within : i < length (map f (numbers_under n)) = slice_get_within (map f (numbers_under n)) i x at in
     let less : i < n = omega (arith, within, count) in
-    (less, some_same (f i) x (sym (numbers_at f n i less) ∙ at))
+    (less, same_Some (f i) x (sym (numbers_at f n i less) ∙ at))

@@ -7,6 +7,7 @@ use Rattle.std.proofs.lemmas.List.{append-nil, append_assoc, length-append}
 use Rattle.std.specs.FinSet as set
 use Rattle.std.specs.Ordering.{nat_cmp}
 use Rattle.std.specs.Cmp.Lexicographic.{slice_cmp}
+use Rattle.std.proofs.lemmas.Option.{same_Some}
 use Rattle.conformance.specs.Histories.{AreInOrder, IsExtension, IsHistoryFrom, IsHistoryOf, extensions}
 use Rattle.conformance.specs.declared.event.Event.{Event}
 use Rattle.conformance.specs.declared.event.Event.TheVariants as event
@@ -36,7 +37,7 @@ use Rattle.lake_play.specs.Formats.{place, to_hudi, to_iceberg}
 use Rattle.lake_play.specs.Playing.{Brings, Crashes, Extends, IsSynced, Plays, PlaysAll, Shortens, nothing_played, with_answer}
 use Rattle.lake_play.specs.Standing.{BothStand, IsFresh, LogHolds, Stands, answer_count, is_done, first_from, floor_behind, floor_from, floor_of, meaning_of_hudi, meaning_of_iceberg}
 use Rattle.lake_play.specs.declared.playing.Progress.{Progress}
-use Rattle.lake_play.proofs.Logs.{HoldsCommits, some_same, extended_clean, extended_elsewhere, fewer_commits, left_commits, no_commits, one_commit_more, same_commits, shed_elsewhere}
+use Rattle.lake_play.proofs.Logs.{HoldsCommits, extended_clean, extended_elsewhere, fewer_commits, left_commits, no_commits, one_commit_more, same_commits, shed_elsewhere}
 use Rattle.lake_play.proofs.Syncs.{brought, clean_beside, floor_other, floor_stays, same_beside, still_uncontested}
 use Rattle.lake_play.proofs.Targets.{IsPlayed, at_nothing, crash_played, hudi_laws, iceberg_laws, later_played, left_standing, same_played}
 
@@ -322,7 +323,7 @@ one_more now (event.Crash choices) before old after new plays = let is : after.n
 
 pub drop_here : {X : Type 0} (xs : List X) (i : ℕ) (x : X) → slice_get xs i ≡ Some x → drop i xs ≡ x ∷ drop (i + 1) xs
 drop_here [] i x is = cc
-drop_here (y ∷ xs) zero x is = let same : y ≡ x = some_same y x is in ap (λ z. z ∷ xs) same
+drop_here (y ∷ xs) zero x is = let same : y ≡ x = same_Some y x is in ap (λ z. z ∷ xs) same
 drop_here (y ∷ xs) (suc i) x is =
     let one : suc (i + 1) ≡ suc i + 1 = omega arith in
     drop_here xs i x is ∙ ap (λ (n : ℕ). x ∷ drop n (y ∷ xs)) one

@@ -3,6 +3,7 @@ use Rattle.std.proofs.Common.{◌≡◌, ◌≢◌, ◌⊎◌, inl, inr, ⊎_eli
 use Rattle.std.specs.Prelude.{IfSome, option_map, replicate}
 use Rattle.std.proofs.lemmas.List.{length-take, length-replicate}
 use Rattle.std.specs.FinMap as map
+use Rattle.std.proofs.lemmas.Option.{none-some, same_Some}
 use Rattle.lake_basics.specs.declared.limits.TheConstants.{MAX_FILE_BYTES}
 use Rattle.lake_store.specs.Crash.{IsCrashed, all_torn, left_by, torn}
 use Rattle.lake_store.specs.Disk.{AddsShort, Disk, Files, with_file}
@@ -21,12 +22,6 @@ module _ (folder : List ℕ) where
   pub short_same_in : (a b : Files) → SameIn folder a b → HoldsShort folder a → HoldsShort folder b
   short_same_in a b same short path bytes within there = short path bytes within (sym (same path within) ∙ there)
 
-none_some : (bytes : List ℕ) → None ≡ Some bytes → ⊥
-none_some bytes is = cc
-
-some_same : (a b : List ℕ) → Some a ≡ Some b → a ≡ b
-some_same a b is = cc is
-
 chosen : {A : Type 0} (b : Bool) (x y z : A) → cond b x y ≡ z → ((b ≡ true) × (x ≡ z)) ⊎ ((b ≡ false) × (y ≡ z))
 chosen true x y z is = inl (refl, is)
 chosen false x y z is = inr (refl, is)
@@ -34,25 +29,25 @@ chosen false x y z is = inr (refl, is)
 -- What a choice leaves of a file that can be read can be read.
 torn_bytes : (choice : ℕ) (before : Option (List ℕ)) (bytes : List ℕ) → IfSome before (λ b. length b ≤ MAX_FILE_BYTES) → left_by choice before ≡ Some bytes → length bytes ≤ MAX_FILE_BYTES
 torn_bytes choice before bytes short is = ⊎_elim
-    (λ none. absurd (none_some bytes none.1))
+    (λ none. absurd (none-some bytes none.1))
     (λ other. ⊎_elim
     (λ all. whole before short all.1)
     (λ less. ⊎_elim
     (λ front. part before short front.1)
-    (λ marks. subst (λ (b : List ℕ). length b ≤ MAX_FILE_BYTES) (some_same (replicate (min (choice / 2) 65536) 35) bytes marks.1) filled)
+    (λ marks. subst (λ (b : List ℕ). length b ≤ MAX_FILE_BYTES) (same_Some (replicate (min (choice / 2) 65536) 35) bytes marks.1) filled)
     (chosen (choice % 2 == 1) (option_map (take (choice / 2)) before) (Some (replicate (min (choice / 2) 65536) 35)) (Some bytes) less.1))
     (chosen (choice == 1) before (cond (choice % 2 == 1) (option_map (take (choice / 2)) before) (Some (replicate (min (choice / 2) 65536) 35))) (Some bytes) other.1))
     (chosen (choice == 0) None (cond (choice == 1) before (cond (choice % 2 == 1) (option_map (take (choice / 2)) before) (Some (replicate (min (choice / 2) 65536) 35)))) (Some bytes) is)
   where
     whole : (before : Option (List ℕ)) → IfSome before (λ b. length b ≤ MAX_FILE_BYTES) → before ≡ Some bytes → length bytes ≤ MAX_FILE_BYTES
-    whole None short is = absurd (none_some bytes is)
-    whole (Some b) short is = subst (λ (x : List ℕ). length x ≤ MAX_FILE_BYTES) (some_same b bytes is) short
+    whole None short is = absurd (none-some bytes is)
+    whole (Some b) short is = subst (λ (x : List ℕ). length x ≤ MAX_FILE_BYTES) (same_Some b bytes is) short
 
     part : (before : Option (List ℕ)) → IfSome before (λ b. length b ≤ MAX_FILE_BYTES) → option_map (take (choice / 2)) before ≡ Some bytes → length bytes ≤ MAX_FILE_BYTES
-    part None short is = absurd (none_some bytes is)
+    part None short is = absurd (none-some bytes is)
     part (Some b) short is =
         let few = length-take (choice / 2) b in
-        subst (λ (x : List ℕ). length x ≤ MAX_FILE_BYTES) (some_same (take (choice / 2) b) bytes is) (omega (arith, few, short))
+        subst (λ (x : List ℕ). length x ≤ MAX_FILE_BYTES) (same_Some (take (choice / 2) b) bytes is) (omega (arith, few, short))
 
     marks_of : ℕ → List ℕ
     marks_of n = replicate n 35
@@ -62,7 +57,7 @@ torn_bytes choice before bytes short is = ⊎_elim
 
 -- A file that is put there, or none.
 put_here : (files : Files) (path bytes : List ℕ) (put : Option (List ℕ)) → map.get (with_file files path put) path ≡ Some bytes → put ≡ Some bytes
-put_here files path bytes None there = absurd (none_some bytes (sym (get-remove_here files path) ∙ there))
+put_here files path bytes None there = absurd (none-some bytes (sym (get-remove_here files path) ∙ there))
 put_here files path bytes (Some b) there = sym (get-insert_here files path b) ∙ there
 
 put_other : (files : Files) (path other : List ℕ) (put : Option (List ℕ)) → other ≢ path → map.get (with_file files path put) other ≡ map.get files other

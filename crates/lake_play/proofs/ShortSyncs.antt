@@ -1,6 +1,7 @@
 -- Nothing that events do makes a file of a target too large to be read, so reading a target never passes the bytes of a file.
-use Rattle.std.proofs.Common.{◌≡◌, ◌⊎◌, inl, inr, ℕ, List, [], ◌∷◌, length, Contains, codes, None, Some, refl, sym, ◌∙◌, ap, subst, arith}
+use Rattle.std.proofs.Common.{◌≡◌, ◌⊎◌, inl, inr, ℕ, List, [], ◌∷◌, length, Contains, codes, refl, sym, ◌∙◌, ap, subst, arith}
 use Rattle.std.specs.FinMap as map
+use Rattle.std.proofs.lemmas.Option.{none-some}
 use Rattle.conformance.specs.declared.event.Event.{Event}
 use Rattle.conformance.specs.declared.event.Event.TheVariants as event
 use Rattle.delta_table.specs.SameVersions.{version_in}
@@ -97,15 +98,12 @@ short_stays history now Ends = record {
   crashed = λ syncs commits front behind hudi iceberg old new choices keeps is was. crashed_short choices old new is was;
 }
 
-none_some : (bytes : List ℕ) → None ≡ Some bytes → ⊥
-none_some bytes is = cc
-
 -- before the first event
 pub fresh_short : (store : FuseStore) → IsFresh store → BothShort store
 fresh_short store fresh = (none (folder_of Hudi), none (folder_of Iceberg))
   where
     none : (folder : List ℕ) → HoldsShort folder (fuse_disk store).files
-    none folder path bytes within there = absurd (none_some bytes (sym (ap (λ (d : Disk). map.get d.files path) fresh.disk ∙ map.get-empty _ path) ∙ there))
+    none folder path bytes within there = absurd (none-some bytes (sym (ap (λ (d : Disk). map.get d.files path) fresh.disk ∙ map.get-empty _ path) ∙ there))
 
 -- ---- reading
 

@@ -1,12 +1,12 @@
 -- The names of a folder are in byte order, each once. For the crates above too.
 use Rattle.std.proofs.Common.{◌≡◌, ◌⊎◌, ⊎_elim, inl, inr, ℕ, ◌==◌, Bool, true, false, not, ◌&&◌, ◌||◌, List, [], ◌∷◌, ◌++◌, map, filter_map, refl, sym, ◌∙◌, ap, subst, arith}
-use Rattle.std.specs.Prelude.{T, Option, Some, None, Contains, ◌↔◌}
+use Rattle.std.specs.Prelude.{T, Some, None, Contains, ◌↔◌}
 use Rattle.std.specs.Str.{bytes_eq}
 use Rattle.std.specs.Ordering.{nat_cmp, is_eq, is_lt, ordering_then}
 use Rattle.std.specs.Cmp.Lexicographic.{slice_cmp, texts_ties}
 use Rattle.std.specs.List.{AllByRecursion, cons_option, dedup, list_any}
 use Rattle.std.specs.List.Retain.{DiffersFromLast, IsFiltered}
-use Rattle.std.proofs.lemmas.Bool.{eqb-true}
+use Rattle.std.proofs.lemmas.Bool.{and_from, eqb-true}
 use Rattle.std.proofs.lemmas.List.Elements.{Contains-append_cases, Contains-append_right, Contains-push_cases}
 use Rattle.std.specs.List.Sorted.{IsPermutation, IsSorted, IsStrictlySortedBy}
 use Rattle.std.proofs.lemmas.Cmp.{nat_list_cmp_total, nat_list_eq_equiv}
@@ -121,10 +121,6 @@ and_second : (a b : Bool) → (a && b) ≡ true → b ≡ true
 and_second true b is = is
 and_second false b is = cc
 
-and_both : (a b : Bool) → a ≡ true → b ≡ true → (a && b) ≡ true
-and_both true b p q = q
-and_both false b p q = cc
-
 slash_found : (b : ℕ) → (b == 47) ≡ true → b ≡ 47
 slash_found b is = eqb-true b 47 is
 
@@ -158,7 +154,7 @@ names_in_listed files folder = record {
             let both = sym (any-names_in files folder name) ∙ any_from_Contains (is_path name) name found finds (names_in files folder) within in
             (name_is name (and_first _ _ both), and_second _ _ both)),
         (λ is. Contains-from_any (is_path name) name found finds (names_in files folder)
-            (any-names_in files folder name ∙ and_both _ _ (is_name_of name is.0) is.1)),
+            (any-names_in files folder name ∙ and_from _ _ (is_name_of name is.0) is.1)),
       );
 }
 

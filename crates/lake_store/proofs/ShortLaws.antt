@@ -1,7 +1,8 @@
 -- No call leaves a file that is longer than those before and what was to be written. For the crates above too.
 use Rattle.std.proofs.Common.{◌≡◌, ◌≢◌, ◌⊎◌, inl, inr, ⊎_elim, ℕ, ◌≤◌, List, sym, ◌∙◌, ap, subst, arith}
-use Rattle.std.specs.Prelude.{None, Some, Result, Ok, Err, IsErrOf, OnErr, OnOk, length}
+use Rattle.std.specs.Prelude.{Some, Result, Ok, Err, IsErrOf, OnErr, OnOk, length}
 use Rattle.std.specs.FinMap as map
+use Rattle.std.proofs.lemmas.Option.{none-some}
 use Rattle.lake_basics.specs.declared.limits.TheConstants.{MAX_FILE_BYTES}
 use Rattle.lake_store.specs.Disk.{AddsShort, Disk, Files, IsPartlySynced, Moves, moved, removed, stored, synced, written}
 use Rattle.lake_store.specs.Fuse.{counted, fuse_disk, inner_of, others_file}
@@ -36,12 +37,9 @@ short_insert most old name bytes le path other there = ⊎_elim
     (λ same. inr (subst (λ (b : List ℕ). length b ≤ most) (sym same) le))
     (inserted old name bytes path other there)
 
-none_some : (bytes : List ℕ) → None ≡ Some bytes → ⊥
-none_some bytes is = cc
-
 pub short_remove : (most : ℕ) (old : Files) (name : List ℕ) → AddsShort most old (map.remove old name)
 short_remove most old name path bytes there = ⊎_elim
-    (λ (same : path ≡ name). absurd (none_some bytes (sym (ap (λ (p : List ℕ). map.get (map.remove old name) p) same ∙ get-remove_here old name) ∙ there)))
+    (λ (same : path ≡ name). absurd (none-some bytes (sym (ap (λ (p : List ℕ). map.get (map.remove old name) p) same ∙ get-remove_here old name) ∙ there)))
     (λ (apart : path ≢ name). inl (sym (get-remove_other old name path apart) ∙ there))
     (path_cases path name)
 

@@ -1,9 +1,9 @@
 -- Sets of texts, by the lists of their keys.
-use Rattle.std.proofs.Common.{◌≡◌, ◌⊎◌, inl, inr, ⊎_elim, ℕ, ◌+◌, ◌<◌, ◌||◌, Bool, true, false, cond, List, [], ◌∷◌, ◌++◌, length, take, get_or, Contains, refl, sym, ap, subst, ◌∙◌}
+use Rattle.std.proofs.Common.{◌≡◌, ◌⊎◌, inl, inr, ⊎_elim, ℕ, ◌+◌, ◌<◌, Bool, true, false, cond, List, [], ◌∷◌, ◌++◌, length, take, get_or, Contains, sym, ap, subst, ◌∙◌}
 use Rattle.std.specs.Prelude.{◌↔◌}
 use Rattle.std.specs.List.{IsDistinct, list_any}
 use Rattle.std.specs.Str.{bytes_eq}
-use Rattle.std.proofs.lemmas.Bool.{cases_Bool, false≢true}
+use Rattle.std.proofs.lemmas.Bool.{cases_Bool, false≢true, or_cases}
 use Rattle.std.proofs.lemmas.Cmp.{nat_list_eq_equiv}
 use Rattle.std.proofs.lemmas.List.{take_more}
 use Rattle.std.proofs.lemmas.List.Elements.{Contains-append_left, Contains-push, Contains-push_cases}
@@ -14,16 +14,12 @@ use Rattle.table_history.proofs.RowListLemmas.{Contains-head, Contains-none, Con
 use Rattle.iceberg_table.specs.declared.list.ManifestFile.{ManifestFile}
 use Rattle.lake_sweep.specs.Reading.{IsNamedIn}
 
-either : (a b : Bool) → (a || b) ≡ true → (a ≡ true) ⊎ (b ≡ true)
-either true b h = inl refl
-either false b h = inr h
-
 pub in_keys : (keys : List (List ℕ)) (q : List ℕ) → list_any (bytes_eq q) keys ≡ true → Contains keys q
 in_keys [] q h = absurd (false≢true h)
 in_keys (x ∷ keys) q h = ⊎_elim
     (λ here. subst (λ (p : List ℕ). Contains (x ∷ keys) p) (sym ((bytes_eq-Decides q x).0 here)) (Contains-head x keys))
     (λ later. Contains-tail x keys q (in_keys keys q later))
-    (either (bytes_eq q x) (list_any (bytes_eq q) keys) h)
+    (or_cases (bytes_eq q x) (list_any (bytes_eq q) keys) h)
 
 pub has_key : (keys : List (List ℕ)) (q : List ℕ) → Contains keys q → list_any (bytes_eq q) keys ≡ true
 has_key keys q within = list_any_at (bytes_eq q) keys within.0 q within.1 ((bytes_eq-Decides q _).1 (sym within.2))

@@ -4,7 +4,7 @@ use Rattle.std.specs.List.{list_any, IsDistinct, AllByRecursion}
 use Rattle.std.specs.Map.{update}
 use Rattle.std.specs.Option.{option_and_then, unwrap_or}
 use Rattle.std.specs.Str.{bytes_eq}
-use Rattle.std.proofs.lemmas.Bool.{cases_Bool, false≢true}
+use Rattle.std.proofs.lemmas.Bool.{cases_Bool, false≢true, or_parts}
 use Rattle.std.proofs.lemmas.List.{drop_more, drop_all, take_more, map-append}
 use Rattle.std.proofs.lemmas.Slice.Eq.{bytes_eq-Decides}
 use Rattle.std.proofs.lemmas.Map.Keys.{IsDistinct-cons, IsDistinct-head, IsDistinct-tail}
@@ -158,13 +158,10 @@ differ_as old new was is was_as is_as names =
     same_tests (λ name. is_other_kind (was name) (is name)) (changes_kind old new) (λ name i. is_other_kind (was_as name i) (is_as name i)) names
 
 -- ---- distinct names
-both_false : (a b : Bool) → (a || b) ≡ false → (a ≡ false) × (b ≡ false)
-both_false true b h = absurd (false≢true (sym h))
-both_false false b h = (refl, h)
 
 not_again : (x : List ℕ) (xs : List (List ℕ)) → list_any (bytes_eq x) xs ≡ false → AllByRecursion (λ y. bytes_eq x y ≡ false) xs
 not_again x [] h = tt
-not_again x (y ∷ ys) h = let both = both_false (bytes_eq x y) (list_any (bytes_eq x) ys) h in (both.0, not_again x ys both.1)
+not_again x (y ∷ ys) h = let both = or_parts (bytes_eq x y) (list_any (bytes_eq x) ys) h in (both.0, not_again x ys both.1)
 
 none_again : (x : List ℕ) (xs : List (List ℕ)) → AllByRecursion (λ y. bytes_eq x y ≡ false) xs → list_any (bytes_eq x) xs ≡ false
 none_again x [] h = refl

@@ -1,6 +1,7 @@
 -- Columns that the same partition values fit are of one kind.
 use Rattle.std.proofs.Common.{◌≡◌, ◌↔◌, ◌⊎◌, ℕ, pos, true, List, [], Option, Some, None, refl, sym, ap, ⊎_elim}
 use Rattle.std.specs.Option.{option_and_then}
+use Rattle.std.proofs.lemmas.Option.{none-some}
 use Rattle.table_history.specs.History.{FitsColumn, column_type}
 use Rattle.table_history.specs.TypeTree.{ColumnTrees, TypeTree, short, int}
 use Rattle.table_history.specs.declared.row.PartValue.{PartValue}
@@ -10,9 +11,6 @@ use Rattle.partition_map.specs.Kind.{IsOfKind, part_kind_of}
 use Rattle.partition_map.specs.declared.kind.PartKind.{PartKind}
 use Rattle.partition_map.specs.declared.kind.PartKind.TheVariants as kind
 use Rattle.partition_map.proofs.Laws.{kind_of_type}
-
-none_some : {A : Type 0} (x : A) → None ≡ Some x → ⊥
-none_some x e = absurd cc
 
 -- ---- one value of each kind
 abbrev sample : PartKind → PartValue
@@ -31,7 +29,7 @@ of_kind kind.Date = tt
 
 -- It fits just the columns of its kind.
 fits_sample : (o : Option TypeTree) (k : PartKind) → option_and_then part_kind_of o ≡ Some k → FitsColumn o (sample k)
-fits_sample None k is = absurd (none_some k is)
+fits_sample None k is = absurd (none-some k is)
 fits_sample (Some t) k is = (kind_of_type t k is (sample k)).0 (of_kind k)
 
 kind_of_sample : (o : Option TypeTree) (k : PartKind) → FitsColumn o (sample k) → option_and_then part_kind_of o ≡ Some k
@@ -53,7 +51,7 @@ kind_kept a b name fits k is = kind_of_sample (column_type b name) k (fits (samp
 
 by : (a b : Option PartKind) → ((k : PartKind) → a ≡ Some k → b ≡ Some k) → ((k : PartKind) → b ≡ Some k → a ≡ Some k) → a ≡ b
 by None None there back = refl
-by None (Some k) there back = absurd (none_some k (back k refl))
+by None (Some k) there back = absurd (none-some k (back k refl))
 by (Some k) b there back = sym (there k refl)
 
 pub same_kind : (a b : ColumnTrees) (name : List ℕ) → ((v : PartValue) → FitsColumn (column_type a name) v ↔ FitsColumn (column_type b name) v) → column_kind a name ≡ column_kind b name

@@ -7,6 +7,7 @@ use Rattle.serde_json.specs.Data.{Data, depth}
 use Rattle.serde_json.specs.Read.{max_depth}
 use Rattle.json_reading.specs.Json.{IsReadAgain}
 use Rattle.std.specs.declared.alloc.AllocError.{AllocError}
+use Rattle.std.proofs.lemmas.Bool.{and_right, or_from}
 use Rattle.lake_basics.specs.Outcome.{GivesUnlessMemory, FailsUnlessMemory}
 use Rattle.table_history.specs.TypeTree as tree
 use Rattle.table_history.specs.TypeTree.{TypeTree, ColumnTrees, no_columns, column}
@@ -15,18 +16,17 @@ use Rattle.schema_map.specs.declared.fault.MapError.{MapError}
 use Rattle.schema_map.specs.Errors.{is_memory}
 use Rattle.schema_map.specs.Image.{image, wide_columns, is_avro_name, has_text_keys, have_text_keys, has_avro_names, have_avro_names}
 use Rattle.schema_avro.specs.AvroWriting.{key_fault, name_fault, avro_schema_text, avro_data, avro_fields, avro_text, nullable_data, avro_field_data}
-use Rattle.schema_map.proofs.Entries.{both_flat}
 use Rattle.schema_map.proofs.ImageTwice.{image_twice}
 
 -- ---- no float
 
 flat_nullable : (b : Bool) (t : TypeTree) (n : ℕ) → has_float (avro_data t n).0 ≡ false → has_float (nullable_data b (avro_data t n).0) ≡ false
-flat_nullable true t n e = both_flat _ _ e refl
+flat_nullable true t n e = or_from _ _ e refl
 flat_nullable false t n e = e
 
 flat_field : (b : Bool) (m : List ℕ) (t : TypeTree) (n : ℕ) → has_float (avro_data t n).0 ≡ false → has_float (avro_field_data b m (avro_data t n).0) ≡ false
-flat_field true m t n e = both_flat _ _ (both_flat _ _ e refl) refl
-flat_field false m t n e = both_flat _ _ e refl
+flat_field true m t n e = or_from _ _ (or_from _ _ e refl) refl
+flat_field false m t n e = or_from _ _ e refl
 
 mutual
   pub flat_avro : (t : TypeTree) (n : ℕ) → has_float (avro_data t n).0 ≡ false
@@ -43,13 +43,13 @@ mutual
   flat_avro tree.timestamp n = refl
   flat_avro tree.timestamp_ntz n = refl
   flat_avro (tree.decimal p s) n = refl
-  flat_avro (tree.struct_of cs) n = both_flat _ _ (flat_avro_fields cs (n + 1)) refl
-  flat_avro (tree.list_of t b) n = both_flat _ _ (flat_nullable b t n (flat_avro t n)) refl
-  flat_avro (tree.map_of k v b) n = both_flat _ _ (flat_nullable b v n (flat_avro v n)) refl
+  flat_avro (tree.struct_of cs) n = or_from _ _ (flat_avro_fields cs (n + 1)) refl
+  flat_avro (tree.list_of t b) n = or_from _ _ (flat_nullable b t n (flat_avro t n)) refl
+  flat_avro (tree.map_of k v b) n = or_from _ _ (flat_nullable b v n (flat_avro v n)) refl
 
   flat_avro_fields : (cs : ColumnTrees) (n : ℕ) → items_have_float (items_of (avro_fields cs n).0) ≡ false
   flat_avro_fields no_columns n = refl
-  flat_avro_fields (column m t b cs) n = both_flat _ _ (flat_field b m t n (flat_avro t n)) (flat_avro_fields cs (avro_data t n).1)
+  flat_avro_fields (column m t b cs) n = or_from _ _ (flat_field b m t n (flat_avro t n)) (flat_avro_fields cs (avro_data t n).1)
 
 -- ---- what Avro can spell
 
@@ -84,16 +84,12 @@ record Spelled (cs : ColumnTrees) (r : Result (List ℕ) MapError) : Type 0 wher
 said_text : (cs : ColumnTrees) (text : List ℕ) → ◌≡◌ {A = Result (List ℕ) MapError} (Ok (avro_text cs)) (Ok text) → text ≡ avro_text cs
 said_text cs text e = let same : avro_text cs ≡ text = cc in sym same
 
-and_false : (a b : Bool) → b ≡ false → (a && b) ≡ false
-and_false true b e = e
-and_false false b e = refl
-
 spelled_by : (cs : ColumnTrees) (k n : Option (List ℕ)) → key_fault cs ≡ k → name_fault cs ≡ n → Spelled cs (avro_schema_text cs)
 spelled_by cs (Some name) n k_is n_is =
     let undefined : image Hudi cs ≡ None = rw ((keys_judged cs).some name k_is) in
     rw k_is (record { said = λ text e. absurd (cc); ok = λ text e. absurd (cc); err = λ e same. undefined })
 spelled_by cs None (Some name) k_is n_is =
-    let undefined : image Hudi cs ≡ None = rw (and_false (have_text_keys cs) (have_avro_names cs) ((names_judged cs).some name n_is)) in
+    let undefined : image Hudi cs ≡ None = rw (and_right (have_text_keys cs) (have_avro_names cs) ((names_judged cs).some name n_is)) in
     rw (k_is, n_is) (record { said = λ text e. absurd (cc); ok = λ text e. absurd (cc); err = λ e same. undefined })
 spelled_by cs None None k_is n_is =
     let defined : image Hudi cs ≡ Some (wide_columns cs) = rw ((keys_judged cs).none k_is, (names_judged cs).none n_is) in

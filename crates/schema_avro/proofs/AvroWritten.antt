@@ -3,7 +3,7 @@ use Rattle.std.proofs.Common.{◌≡◌, inl, inr, ℕ, ◌+◌, ◌*◌, ◌%�
 use Rattle.std.specs.Prelude.{codes, decimal, ◌==◌, ◌^◌, nat_lt, nat_le, option_and_then}
 use Rattle.std.specs.List.{list_any}
 use Rattle.std.specs.Str.{bytes_eq}
-use Rattle.std.proofs.lemmas.Bool.{ne_eqb, le-leb, lt-ltb}
+use Rattle.std.proofs.lemmas.Bool.{and_parts, le-leb, lt-ltb, ne_eqb, or_from, or_parts}
 use Rattle.std.proofs.lemmas.Slice.Eq.{bytes_eq-Decides}
 use Rattle.std.proofs.lemmas.Fmt.{decimal_by_steps, decimal_injective}
 use Rattle.serde_json.specs.Data.{Data, string, number, unsigned, depth, items_depth, no_items, item}
@@ -63,17 +63,9 @@ abbrev mutual
 
 -- ---- the names of records
 
-neither : (a b : Bool) → a ≡ false → b ≡ false → (a || b) ≡ false
-neither true b e f = e
-neither false b e f = f
-
-either_of : (a b : Bool) → (a || b) ≡ false → (a ≡ false) × (b ≡ false)
-either_of true b e = absurd cc
-either_of false b e = (refl, e)
-
 none_in_both : (f : ℕ → Bool) (xs ys : List ℕ) → list_any f xs ≡ false → list_any f ys ≡ false → list_any f (xs ++ ys) ≡ false
 none_in_both f [] ys e g = g
-none_in_both f (x ∷ xs) ys e g = let parts = either_of (f x) (list_any f xs) e in neither _ _ parts.0 (none_in_both f xs ys parts.1 g)
+none_in_both f (x ∷ xs) ys e g = let parts = or_parts (f x) (list_any f xs) e in or_from _ _ parts.0 (none_in_both f xs ys parts.1 g)
 
 one_dotless : (n : ℕ) → n < 10 → has_dot ((48 + n) ∷ []) ≡ false
 one_dotless n small = rw (ne_eqb (48 + n) 46 (λ same. omega (arith, same)))
@@ -119,7 +111,7 @@ AllDefined n (d ∷ ds) = ((k : ℕ) × (k < n) × (d.0 ≡ record_name k)) × A
 
 unopened : (n : ℕ) (names : List (List ℕ)) → n < 2 ^ 64 → AllBefore n names → list_any (bytes_eq (record_name n)) names ≡ false
 unopened n [] small all = refl
-unopened n (x ∷ xs) small ((k, less, is), rest) = neither _ _ (ap (bytes_eq (record_name n)) is ∙ other_name k n less small) (unopened n xs small rest)
+unopened n (x ∷ xs) small ((k, less, is), rest) = or_from _ _ (ap (bytes_eq (record_name n)) is ∙ other_name k n less small) (unopened n xs small rest)
 
 undefined : (n : ℕ) (ds : List Definition) → n < 2 ^ 64 → AllDefined n ds → definition_of (record_name n) ds ≡ None
 undefined n [] small all = refl
@@ -426,10 +418,6 @@ part_is : (b : Bool) (t : SchemaTree) → IsPart (nullable_tree b t) t b
 part_is true t = (null_tree, refl, inl refl)
 part_is false t = inl refl
 
-both_are : (a b : Bool) → (a && b) ≡ true → (a ≡ true) × (b ≡ true)
-both_are true b e = (refl, e)
-both_are false b e = absurd cc
-
 text_key : (k : TypeTree) → is_text k ≡ true → wide_type k ≡ tree.text
 text_key tree.boolean e = absurd cc
 text_key tree.byte e = absurd cc
@@ -466,13 +454,13 @@ mutual
   image_type (tree.struct_of cs) n sound keys = (record_name n, avro_field_trees cs (n + 1), refl, image_columns cs (n + 1) sound.1 keys)
   image_type (tree.list_of t b) n sound keys = (nullable_tree b (avro_tree t n), None, avro_tree t n, refl, part_is b (avro_tree t n), image_type t n sound keys)
   image_type (tree.map_of k v b) n sound keys =
-      let parts = both_are (is_text k) (has_text_keys v) keys in
+      let parts = and_parts (is_text k) (has_text_keys v) keys in
       (nullable_tree b (avro_tree v n), None, None, avro_tree v n, text_key k parts.0, refl, part_is b (avro_tree v n), image_type v n sound.1 parts.1)
 
   image_columns : (cs : ColumnTrees) (n : ℕ) → AreSound cs → have_text_keys cs ≡ true → AreAvroColumns (wide_columns cs) (avro_field_trees cs n)
   image_columns no_columns n sound keys = refl
   image_columns (column m t b cs) n sound keys =
-      let parts = both_are (has_text_keys t) (have_text_keys cs) keys in
+      let parts = and_parts (has_text_keys t) (have_text_keys cs) keys in
       (nullable_tree b (avro_tree t n), None, avro_tree t n, avro_field_trees cs (avro_data t n).1, refl, part_is b (avro_tree t n), image_type t n sound.0 parts.0, image_columns cs (avro_data t n).1 sound.1 parts.1)
 
 -- ---- texts

@@ -1,12 +1,8 @@
 -- A precision and a scale that are in range.
 use Rattle.std.proofs.Common.{◌≡◌, ℕ, ◌+◌, ◌<◌, ◌≤◌, Bool, true, false, ◌&&◌, Some, None, refl, subst, arith, cond}
 use Rattle.std.specs.Prelude.{nat_lt}
-use Rattle.std.proofs.lemmas.Bool.{ltb-true}
+use Rattle.std.proofs.lemmas.Bool.{and_parts, ltb-true}
 use Rattle.schema_map.specs.Decimal.{decimal_in_range}
-
-and_both : (a b : Bool) → (a && b) ≡ true → (a ≡ true) × (b ≡ true)
-and_both true b e = (refl, e)
-and_both false b e = absurd (cc)
 
 -- a precision and a scale in range
 abbrev pub IsDecimal : ℕ × ℕ → Type 0
@@ -14,8 +10,8 @@ IsDecimal q = (0 < q.0) × (q.0 < 39) × (q.1 ≤ q.0)
 
 range_by : (p s : ℕ) (b : Bool) (q : ℕ × ℕ) → (nat_lt 0 p && (nat_lt p 39 && nat_lt s (p + 1))) ≡ b → cond b (Some (p, s)) None ≡ Some q → IsDecimal q
 range_by p s true q is e =
-    let tests = and_both (nat_lt 0 p) (nat_lt p 39 && nat_lt s (p + 1)) is in
-    let more = and_both (nat_lt p 39) (nat_lt s (p + 1)) tests.1 in
+    let tests = and_parts (nat_lt 0 p) (nat_lt p 39 && nat_lt s (p + 1)) is in
+    let more = and_parts (nat_lt p 39) (nat_lt s (p + 1)) tests.1 in
     let some = ltb-true 0 p tests.0 in
     let small = ltb-true p 39 more.0 in
     let scale = ltb-true s (p + 1) more.1 in

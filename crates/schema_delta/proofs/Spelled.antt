@@ -1,7 +1,7 @@
 -- What is written for a sound schema is its spelling in Delta.
 use Rattle.std.proofs.Common.{◌≡◌, ℕ, ◌+◌, ◌*◌, ◌<◌, ◌≤◌, [], ◌∷◌, ◌++◌, false, refl, arith}
 use Rattle.std.specs.Prelude.{Some, decimal}
-use Rattle.std.proofs.lemmas.Bool.{lt-ltb}
+use Rattle.std.proofs.lemmas.Bool.{lt-ltb, or_from}
 use Rattle.serde_json.specs.Data.{depth, items_depth}
 use Rattle.serde_json.specs.Written.{has_float, items_have_float}
 use Rattle.serde_json.specs.Read.{max_depth}
@@ -15,7 +15,6 @@ use Rattle.table_history.specs.Sound.{IsSoundType, AreSound}
 use Rattle.schema_map.proofs.DecimalLaw.{text_found}
 use Rattle.schema_map.proofs.Columns.{one_level}
 use Rattle.schema_map.proofs.Numbers.{number_by}
-use Rattle.schema_map.proofs.Entries.{both_flat}
 
 -- ---- no float, and not too deep
 
@@ -34,13 +33,13 @@ mutual
   flat_type tree.timestamp = refl
   flat_type tree.timestamp_ntz = refl
   flat_type (tree.decimal p s) = refl
-  flat_type (tree.struct_of cs) = both_flat _ _ (flat_fields cs) refl
-  flat_type (tree.list_of t b) = both_flat _ _ (flat_type t) refl
-  flat_type (tree.map_of k v b) = both_flat _ _ (flat_type k) (both_flat _ _ (flat_type v) refl)
+  flat_type (tree.struct_of cs) = or_from _ _ (flat_fields cs) refl
+  flat_type (tree.list_of t b) = or_from _ _ (flat_type t) refl
+  flat_type (tree.map_of k v b) = or_from _ _ (flat_type k) (or_from _ _ (flat_type v) refl)
 
   pub flat_fields : (cs : ColumnTrees) → items_have_float (delta_fields cs) ≡ false
   flat_fields no_columns = refl
-  flat_fields (column n t b cs) = both_flat _ _ (both_flat _ _ (flat_type t) refl) (flat_fields cs)
+  flat_fields (column n t b cs) = or_from _ _ (or_from _ _ (flat_type t) refl) (flat_fields cs)
 
 mutual
   pub shallow_type : (t : TypeTree) → depth (delta_data t) ≤ 3 * levels t

@@ -1,6 +1,7 @@
 -- What is written has no number with a fraction or an exponent.
 use Rattle.std.proofs.Common.{◌≡◌, ℕ, List, Bool, false, Option, Some, None, refl}
 use Rattle.std.specs.Prelude.{ℤ, pos, negsuc, codes}
+use Rattle.std.proofs.lemmas.Bool.{or_from}
 use Rattle.serde_json.specs.Data.{Data}
 use Rattle.serde_json.specs.Find.{of_integer, is_float}
 use Rattle.serde_json.specs.View.{items_of}
@@ -9,7 +10,6 @@ use Rattle.table_history.specs.TypeTree as tree
 use Rattle.table_history.specs.TypeTree.{TypeTree, ColumnTrees, no_columns, column}
 use Rattle.schema_iceberg.specs.IcebergWriting.{first_id, ids_behind}
 use Rattle.schema_iceberg.specs.NameMapping.{entry_data, part_entries, column_entries, name_mapping_data}
-use Rattle.schema_map.proofs.Entries.{both_flat}
 
 pub flat_id : (id : ℤ) → is_float (of_integer id) ≡ false
 flat_id (pos n) = refl
@@ -21,8 +21,8 @@ parts_have_float None = false
 parts_have_float (Some ds) = items_have_float (items_of ds)
 
 flat_entry : (id : ℤ) (name : List ℕ) (parts : Option (List Data)) → parts_have_float parts ≡ false → has_float (entry_data id name parts) ≡ false
-flat_entry id name None e = both_flat _ _ (flat_id id) refl
-flat_entry id name (Some ds) e = both_flat _ _ (flat_id id) (both_flat _ _ e refl)
+flat_entry id name None e = or_from _ _ (flat_id id) refl
+flat_entry id name (Some ds) e = or_from _ _ (flat_id id) (or_from _ _ e refl)
 
 mutual
   flat_parts : (t : TypeTree) (ids : List ℤ) → parts_have_float (part_entries t ids).0 ≡ false
@@ -40,16 +40,16 @@ mutual
   flat_parts tree.timestamp_ntz ids = refl
   flat_parts (tree.decimal p s) ids = refl
   flat_parts (tree.struct_of cs) ids = flat_columns cs ids
-  flat_parts (tree.list_of t b) ids = both_flat _ _ (flat_entry (first_id ids) (codes "element") (part_entries t (ids_behind ids)).0 (flat_parts t (ids_behind ids))) refl
+  flat_parts (tree.list_of t b) ids = or_from _ _ (flat_entry (first_id ids) (codes "element") (part_entries t (ids_behind ids)).0 (flat_parts t (ids_behind ids))) refl
   flat_parts (tree.map_of k v b) ids =
       let kl : List ℤ = (part_entries k (ids_behind ids)).1 in
-      both_flat _ _ (flat_entry (first_id ids) (codes "key") (part_entries k (ids_behind ids)).0 (flat_parts k (ids_behind ids)))
-      (both_flat _ _ (flat_entry (first_id kl) (codes "value") (part_entries v (ids_behind kl)).0 (flat_parts v (ids_behind kl))) refl)
+      or_from _ _ (flat_entry (first_id ids) (codes "key") (part_entries k (ids_behind ids)).0 (flat_parts k (ids_behind ids)))
+      (or_from _ _ (flat_entry (first_id kl) (codes "value") (part_entries v (ids_behind kl)).0 (flat_parts v (ids_behind kl))) refl)
 
   flat_columns : (cs : ColumnTrees) (ids : List ℤ) → items_have_float (items_of (column_entries cs ids).0) ≡ false
   flat_columns no_columns ids = refl
   flat_columns (column n t b cs) ids =
-      both_flat _ _ (flat_entry (first_id ids) n (part_entries t (ids_behind ids)).0 (flat_parts t (ids_behind ids))) (flat_columns cs (part_entries t (ids_behind ids)).1)
+      or_from _ _ (flat_entry (first_id ids) n (part_entries t (ids_behind ids)).0 (flat_parts t (ids_behind ids))) (flat_columns cs (part_entries t (ids_behind ids)).1)
 
 pub flat_mapping : (cs : ColumnTrees) (ids : List ℤ) → has_float (name_mapping_data cs ids) ≡ false
 flat_mapping cs ids = flat_columns cs ids

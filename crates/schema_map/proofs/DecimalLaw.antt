@@ -2,7 +2,7 @@
 use Rattle.std.proofs.Common.{◌≡◌, ℕ, ◌+◌, ◌-◌, ◌*◌, ◌<◌, ◌≤◌, List, [], ◌∷◌, ◌++◌, Bool, true, false, ◌&&◌, cond, Option, Some, None, refl, sym, ap, subst, ◌∙◌, arith, append_assoc}
 use Rattle.std.specs.Prelude.{◌==◌, nat_lt, codes, option_and_then}
 use Rattle.std.specs.Str.{bytes_eq}
-use Rattle.std.proofs.lemmas.Bool.{lt-ltb, ltb-true, eqb-true, ne_eqb}
+use Rattle.std.proofs.lemmas.Bool.{and_parts, eqb-true, lt-ltb, ltb-true, ne_eqb}
 use Rattle.std.proofs.lemmas.Slice.Eq.{bytes_eq-Decides}
 use Rattle.schema_map.specs.Decimal.{is_digit, after_spaces, digits_at, number_at, after_byte, after_word, decimal_in_range, decimal_at_end, decimal_of}
 use Rattle.schema_map.specs.DecimalText.{AreSpaces, AreDigits, IsNumber, IsDecimalText}
@@ -90,10 +90,6 @@ steps : {A B : Type 0} (f : A → Option B) (o : Option A) (y : B) → option_an
 steps f None y e = absurd (cc)
 steps f (Some x) y e = record { value = x; first = refl; behind = e }
 
-and_both : (a b : Bool) → (a && b) ≡ true → (a ≡ true) × (b ≡ true)
-and_both true b e = (refl, e)
-and_both false b e = absurd (cc)
-
 record Split (bytes : List ℕ) : Type 0 where
   spaces : List ℕ
   are : AreSpaces spaces
@@ -120,7 +116,7 @@ record Digit (b : ℕ) : Type 0 where
 
 digit_is : (b : ℕ) → is_digit b ≡ true → Digit b
 digit_is b e =
-    let tests = and_both (nat_lt 47 b) (nat_lt b 58) e in
+    let tests = and_parts (nat_lt 47 b) (nat_lt b 58) e in
     let least = ltb-true 47 b tests.0 in
     let most = ltb-true b 58 tests.1 in
     record { small = omega (arith, least, most); is = omega (arith, least, most) }
@@ -209,8 +205,8 @@ range_found p s q end e = at (nat_lt 0 p && (nat_lt p 39 && nat_lt s.0 (p + 1)))
   where
     at : (k : Bool) → (nat_lt 0 p && (nat_lt p 39 && nat_lt s.0 (p + 1))) ≡ k → cond k (Some (p, s.0)) None ≡ Some q → EndFound p s q
     at true is h =
-        let tests = and_both (nat_lt 0 p) (nat_lt p 39 && nat_lt s.0 (p + 1)) is in
-        let more = and_both (nat_lt p 39) (nat_lt s.0 (p + 1)) tests.1 in
+        let tests = and_parts (nat_lt 0 p) (nat_lt p 39 && nat_lt s.0 (p + 1)) is in
+        let more = and_parts (nat_lt p 39) (nat_lt s.0 (p + 1)) tests.1 in
         let some = ltb-true 0 p tests.0 in
         let small = ltb-true p 39 more.0 in
         let scale = ltb-true s.0 (p + 1) more.1 in

@@ -1,5 +1,5 @@
 -- A loop that writes columns: what it has written, before what it writes of the rest.
-use Rattle.std.proofs.Common.{◌≡◌, List, [], ◌∷◌, ◌++◌, ap, append_assoc, Bool, true, false, ◌||◌}
+use Rattle.std.proofs.Common.{◌≡◌, List, [], ◌∷◌, ◌++◌, ap, append_assoc}
 use Rattle.std.proofs.lemmas.List.{append-nil}
 use Rattle.serde_json.specs.Data.{Data}
 
@@ -12,8 +12,3 @@ module _ {X : Type 0} where
 
   pub written_before-end : (front : List Data) (left : X) → written_before front ([], left) ≡ (front, left)
   written_before-end front left = ap (λ es. (es, left)) (append-nil front)
-
--- Neither has a number with a fraction or an exponent.
-pub both_flat : (a b : Bool) → a ≡ false → b ≡ false → (a || b) ≡ false
-both_flat true b e f = e
-both_flat false b e f = f

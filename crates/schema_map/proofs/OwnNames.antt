@@ -1,11 +1,12 @@
 -- Names that have been seen, from the last column to the first.
-use Rattle.std.proofs.Common.{◌≡◌, ℕ, suc, zero, ◌-◌, ◌<◌, ◌≤◌, List, [], ◌∷◌, Bool, true, false, not, ◌&&◌, ◌||◌, cond, drop, get_or, length, refl, sym, ap, subst, ◌∙◌, arith, Bor, drop-cons, rules}
+use Rattle.std.proofs.Common.{◌≡◌, ℕ, suc, zero, ◌-◌, ◌<◌, ◌≤◌, List, [], ◌∷◌, Bool, true, false, not, ◌||◌, cond, drop, get_or, length, refl, sym, ap, subst, ◌∙◌, arith, Bor, drop-cons, rules}
 use Rattle.std.specs.BTreeSet as sorted
 use Rattle.std.specs.BTreeSet.{BTreeSet}
 use Rattle.std.specs.Cmp.Lexicographic.{slice_cmp}
 use Rattle.std.specs.Ordering.{nat_cmp}
 use Rattle.std.specs.Str.{bytes_eq}
 use Rattle.std.proofs.lemmas.Map.Text.{is_eq-slice_cmp}
+use Rattle.std.proofs.lemmas.Bool.{and_right}
 use Rattle.table_history.specs.TypeTree.{TypeTree, ColumnTrees, column}
 use Rattle.table_history.specs.declared.schema.Column.{Column, the_lemmas}
 use Rattle.table_history.specs.SchemaView.{column_view, columns_view}
@@ -51,14 +52,10 @@ pub column_at : (cs : List Column) (i : ℕ) (c : Column) → i < length cs → 
 column_at cs i c within is =
     ap columns_view (drop-cons cs i c within) ∙ ap (λ d. columns_view (d ∷ drop (suc i) cs)) (sym is) ∙ ap (λ n. column n (column_view c).kind (column_view c).nullable (columns_view (drop (suc i) cs))) (name_is c)
 
-and_false : (a b : Bool) → b ≡ false → (a && b) ≡ false
-and_false true b e = e
-and_false false b e = refl
-
 pub own_behind : (cs : List Column) (i : ℕ) → have_own_names (columns_view (drop i cs)) ≡ false → have_own_names (columns_view cs) ≡ false
 own_behind cs zero e = e
 own_behind [] (suc i) e = e
-own_behind (c ∷ cs) (suc i) e = and_false _ _ (own_behind cs i e)
+own_behind (c ∷ cs) (suc i) e = and_right _ _ (own_behind cs i e)
 
 suc_before : (n : ℕ) → 0 < n → suc (n - 1) ≡ n
 suc_before n some = omega (arith, some)

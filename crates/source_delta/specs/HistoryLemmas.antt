@@ -5,6 +5,7 @@ use Rattle.std.proofs.lemmas.Fmt.{decimal_injective}
 use Rattle.std.proofs.lemmas.List.{length-append}
 use Rattle.std.specs.Fmt.{decimal}
 use Rattle.std.specs.Prelude.{option_map, slice_get, unwrap_or}
+use Rattle.std.proofs.lemmas.Option.{same_Some}
 use Rattle.lake_basics.specs.declared.limits.TheConstants.{MAX_DELTA_VERSION}
 use Rattle.lake_store.specs.Disk.{Files}
 use Rattle.table_history.specs.History.{History, positions_of}
@@ -171,12 +172,9 @@ last files history head h is =
 
 -- ---- positions
 
-some_entry : (a b : List ℕ × Table) → Some a ≡ Some b → a ≡ b
-some_entry a b e = cc
-
 position_at : (history : History) (version : ℕ) (entry : List ℕ × Table) → slice_get history version ≡ Some entry → Contains (positions_of history) entry.0
 position_at [] version entry at = absurd cc
-position_at (first ∷ history) zero entry at = subst (λ (e : List ℕ × Table). Contains (positions_of (first ∷ history)) e.0) (some_entry first entry at) (Contains-head first.0 (positions_of history))
+position_at (first ∷ history) zero entry at = subst (λ (e : List ℕ × Table). Contains (positions_of (first ∷ history)) e.0) (same_Some first entry at) (Contains-head first.0 (positions_of history))
 position_at (first ∷ history) (suc version) entry at = Contains-tail first.0 (positions_of history) entry.0 (position_at history version entry at)
 
 -- Each version up to the newest has its place in a history.

@@ -2,6 +2,7 @@
 use Rattle.std.proofs.Common.{◌≡◌, ◌≢◌, ◌⊎◌, ◌↔◌, ℕ, List, [], ◌∷◌, Contains, Option, Some, None, Result, Ok, refl, sym, ap, subst, ◌∙◌, inl, inr, ⊎_elim}
 use Rattle.std.specs.List.{IsDistinct}
 use Rattle.std.specs.Str.{bytes_eq}
+use Rattle.std.proofs.lemmas.Option.{same_Some}
 use Rattle.table_history.specs.First.{NoneOf}
 use Rattle.table_history.specs.History.{FitsColumn, column_type}
 use Rattle.table_history.specs.Row.{Row}
@@ -62,9 +63,6 @@ fits_like (Some held) (Some table) like name there v = like.kinds name there v
 
 kinds_like : (a b : Option Table) → LikeBefore a b → (name : List ℕ) → Contains (partition_before b) name → column_kind (schema_before a) name ≡ column_kind (schema_before b) name
 kinds_like a b like name there = same_kind (schema_before a) (schema_before b) name (fits_like a b like name there)
-
-some_once : (a b : Table) → Some a ≡ Some b → a ≡ b
-some_once a b e = cc
 
 one_ok : {E : Type 0} (r : Result ColumnTrees E) (a b : ColumnTrees) → r ≡ Ok a → r ≡ Ok b → a ≡ b
 one_ok r a b x y = cc
@@ -144,7 +142,7 @@ partition_changed c None None like none h = none h
 partition_changed c None (Some t) like none h = absurd like
 partition_changed c (Some t) None like none h = absurd like
 partition_changed c (Some held) (Some table) like none h =
-    changed_over c held table like none h.1 h.2 h.4 h.5 (subst (λ (t : Table). (h.1.partition ≢ t.partition) ⊎ HasOtherKind t.schema h.2 h.1.partition) (sym (some_once table h.0 h.3)) h.6)
+    changed_over c held table like none h.1 h.2 h.4 h.5 (subst (λ (t : Table). (h.1.partition ≢ t.partition) ⊎ HasOtherKind t.schema h.2 h.1.partition) (sym (same_Some table h.0 h.3)) h.6)
 
 supported_like : (c : DeltaCommit) (a b : Option Table) → LikeBefore a b → NoneOf (Shows c a) commit_features → NoneOf (Shows c b) commit_features
 supported_like c a b like s = (

@@ -2,6 +2,7 @@
 use Rattle.std.proofs.Common.{◌≡◌, ◌≤◌, ◌<◌, ◌+◌, ◌^◌, ℕ, List, [], ◌∷◌, length, Option, Some, None, refl, sym, ap, ◌∙◌, arith}
 use Rattle.std.proofs.lemmas.Fmt.{decimal_injective}
 use Rattle.std.specs.Fmt.{decimal}
+use Rattle.std.proofs.lemmas.Option.{same_Some}
 use Rattle.lake_basics.specs.declared.limits.TheConstants.{MAX_DELTA_VERSION}
 use Rattle.lake_store.specs.Disk.{Files}
 use Rattle.table_history.specs.declared.table.Commit.{Commit}
@@ -25,16 +26,13 @@ one_newest files a b x y =
     let up = y.last a x.there in
     let down = x.last b y.there in omega (arith, up, down)
 
-some_once : (m n : MetaData) → Some m ≡ Some n → m ≡ n
-some_once m n e = cc
-
 one_id : (files : Files) (a b : Option (List ℕ)) → IsTableId files a → IsTableId files b → a ≡ b
 one_id files None None x y = refl
 one_id files None (Some id) x y = absurd (x (y.3.bytes, y.3.holds))
 one_id files (Some id) None x y = absurd (y (x.3.bytes, x.3.holds))
 one_id files (Some id) (Some other) x y =
     let says = says_once files 0 x.0 y.0 x.3 y.3 in
-    let meta = some_once x.1 y.1 (sym x.4 ∙ ap (λ (c : DeltaCommit). c.meta) says ∙ y.4) in
+    let meta = same_Some x.1 y.1 (sym x.4 ∙ ap (λ (c : DeltaCommit). c.meta) says ∙ y.4) in
     ap (λ (i : List ℕ). Some i) (x.5 ∙ ap (λ (m : MetaData). m.id) meta ∙ sym y.5)
 
 abbrev head_of : List ℕ → Option (List ℕ) → Option (List ℕ) → Head

@@ -1,7 +1,8 @@
 -- Instants that are taken one after another.
-use Rattle.std.proofs.Common.{◌≡◌, ◌==◌, ◌+◌, ℕ, true, false, List, [], ◌∷◌, ◌++◌, length, Some, refl, sym, ap, subst, ◌∙◌, arith}
+use Rattle.std.proofs.Common.{◌≡◌, ◌==◌, ◌+◌, ℕ, true, false, List, [], ◌∷◌, ◌++◌, length, refl, sym, ap, subst, ◌∙◌, arith}
 use Rattle.std.proofs.lemmas.Bool.{false≢true}
 use Rattle.std.proofs.lemmas.Bool.Decides.{nat_tests}
+use Rattle.std.proofs.lemmas.Option.{same_Some}
 use Rattle.lake_store.specs.Disk.{Files}
 use Rattle.table_history.specs.Tables.{IsAfter}
 use Rattle.table_history.specs.declared.table.Commit.{Commit}
@@ -85,14 +86,11 @@ module _ (files : Files) (table : HudiTable) where
 abbrev pub Leads : HudiTable → Table → List Commit → Table → Type 0
 Leads table base commits last = LeadOn (IsTableOf table) (publishable_of table) base commits last
 
-some_same : (a b : Table) → Some a ≡ Some b → a ≡ b
-some_same a b e = cc
-
 pub goes_further : (table : HudiTable) (base : Table) (commits : List Commit) (before : Table) (more : List Commit) (after : Table) → Leads table base commits before → GoesFurther table commits before more after → Leads table base more after
 goes_further table base commits before more after fit step =
     let fits : FitsTable (IsTableOf table) (publishable_of table) before step.commit after = record {
       fits = step.goes_on.fits;
-      leaves = λ is t to. step.goes_on.leaves (λ b e. subst (λ (x : Table). IsTableOf table x) (some_same before b e) is) t to;
+      leaves = λ is t to. step.goes_on.leaves (λ b e. subst (λ (x : Table). IsTableOf table x) (same_Some before b e) is) t to;
       after = step.after;
     } in
     subst (λ (l : List Commit). Leads table base l after) (sym step.behind) (lead_further (IsTableOf table) (publishable_of table) commits base before step.commit after fit fits)

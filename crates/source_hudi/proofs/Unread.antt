@@ -4,6 +4,7 @@ use Rattle.std.specs.Prelude.{find, option_map}
 use Rattle.std.specs.Cmp.Lexicographic.{slice_cmp}
 use Rattle.std.specs.Ordering.{is_lt, nat_cmp}
 use Rattle.std.specs.declared.cmp.Ordering.TheVariants.{Less, Greater}
+use Rattle.std.proofs.lemmas.Bool.{and_parts}
 use Rattle.lake_store.specs.Disk.{Files, names_in}
 use Rattle.lake_store.proofs.OrderLaws.{names_in_sorted}
 use Rattle.hudi_names.specs.Name.{instant_of}
@@ -22,11 +23,6 @@ use Rattle.source_hudi.proofs.UpToHead.{le_of_up, up_of_le}
 
 abbrev Instant : Type 0
 Instant = ℕ × Action × State
-
-both : (a b : Bool) → (a && b) ≡ true → (a ≡ true) × (b ≡ true)
-both true true h = (refl, refl)
-both true false h = cc
-both false b h = cc
 
 not_false : (b : Bool) → not b ≡ true → b ≡ false
 not_false true h = cc
@@ -57,7 +53,7 @@ module _ (files : Files) (head : List ℕ) where
   unread_at : (i : InstantName) → Contains instants i → is_unread head i ≡ true → IsUnread files head i.name i.action
   unread_at i within passes =
       let says = instant_says names i within in
-      let parts = both (is_up_to head i.time) (not (is_read i.action)) passes in
+      let parts = and_parts (is_up_to head i.time) (not (is_read i.action)) passes in
       record {
         there = says.there;
         digits = says.digits;
@@ -104,7 +100,7 @@ module _ (files : Files) (head : List ℕ) where
     after_at : (i : InstantName) → Contains instants i → is_unread_after head position i ≡ true → IsUnreadAfter files position head i.name i.action
     after_at i within passes =
         let says = instant_says names i within in
-        let parts = both (is_later position i.time) (is_unread head i) passes in
+        let parts = and_parts (is_later position i.time) (is_unread head i) passes in
         (subst (IsEarlier position) says.time (later_earlier position i.time parts.0), unread_at i within parts.1)
 
     after_from : (name : List ℕ) (a : Action) → IsUnreadAfter files position head name a → (i : InstantName) × Contains instants i × (is_unread_after head position i ≡ true) × (i.name ≡ name)

@@ -1,6 +1,7 @@
 -- What an instant says over a table it says over each table like it, and it takes them to tables that are alike.
 use Rattle.std.proofs.Common.{◌≡◌, ◌↔◌, inl, inr, ℕ, List, [], ◌∷◌, map, Contains, Option, Some, None, refl, sym, ap, subst, ◌∙◌}
 use Rattle.std.specs.Prelude.{Ok, unwrap_or}
+use Rattle.std.proofs.lemmas.Option.{none-some}
 use Rattle.table_history.specs.First.{NoneOf}
 use Rattle.table_history.specs.History.{FitsColumn, column_type}
 use Rattle.table_history.specs.Row.{Row}
@@ -25,9 +26,6 @@ use Rattle.hudi_timeline.proofs.ChangeLemmas.{schema_is}
 use Rattle.source_core.specs.Histories.{IsLike}
 use Rattle.source_hudi.specs.Histories.{IsMadeBy, IsReadable}
 use Rattle.partition_map.proofs.KindLemmas.{same_kind}
-
-none_some : {A : Type 0} (x : A) → None ≡ Some x → ⊥
-none_some x e = absurd cc
 
 -- ---- the partition columns have one kind in two tables
 
@@ -90,7 +88,7 @@ module _ (table : HudiTable) (a b : Table) (same : SameKinds a.schema b.schema t
 
     no_feature : NoneOf (Shows u table (Some a)) change_features → NoneOf (Shows u table (Some b)) change_features
     no_feature none = (
-      λ h. none_some b (sym h.1),
+      λ h. none-some b (sym h.1),
       (
         none.1.0,
         (

@@ -1,8 +1,8 @@
 -- The names in the folder of the metadata, where no version is there.
-use Rattle.std.proofs.Common.{◌≡◌, inl, inr, ⊎_elim, ℕ, List, [], ◌∷◌, Contains, Bool, true, false, cond, Some, None, refl, sym, ap, subst, ◌∙◌}
-use Rattle.std.specs.Prelude.{find, unwrap_or}
+use Rattle.std.proofs.Common.{◌≡◌, inl, inr, ⊎_elim, ℕ, List, [], ◌∷◌, Contains, Bool, true, false, cond, Some, None, refl, sym, subst, ◌∙◌}
+use Rattle.std.specs.Prelude.{find}
 use Rattle.std.proofs.lemmas.Bool.{false≢true}
-use Rattle.std.proofs.lemmas.Option.{none-some}
+use Rattle.std.proofs.lemmas.Option.{none-some, same_Some}
 use Rattle.lake_store.specs.Disk.{Files, names_in}
 use Rattle.table_history.proofs.RowListLemmas.{Contains-cases, Contains-head, Contains-none, Contains-tail}
 use Rattle.table_history.specs.declared.feature.Feature.TheVariants.{CatalogNames, CompressedMetadata}
@@ -15,12 +15,9 @@ use Rattle.source_iceberg.specs.Reading.{HasFewNames, ShowsAtHead, TellsNames}
 
 -- ---- the first of a list
 
-some_is : {A : Type 0} (a b : A) → Some a ≡ Some b → a ≡ b
-some_is a b e = ap (λ o. unwrap_or o a) e
-
 module _ {A : Type 0} (p : A → Bool) where
   found_by : (b : Bool) (y : A) (ys : List A) (x : A) → p y ≡ b → cond b (Some y) (find p ys) ≡ Some x → (find p ys ≡ Some x → Contains ys x × (p x ≡ true)) → Contains (y ∷ ys) x × (p x ≡ true)
-  found_by true y ys x is found more = let same = some_is y x found in (subst (Contains (y ∷ ys)) same (Contains-head y ys), subst (λ z. p z ≡ true) same is)
+  found_by true y ys x is found more = let same = same_Some y x found in (subst (Contains (y ∷ ys)) same (Contains-head y ys), subst (λ z. p z ≡ true) same is)
   found_by false y ys x is found more = let rest = more found in (Contains-tail y ys x rest.0, rest.1)
 
   pub found_first : (xs : List A) (x : A) → find p xs ≡ Some x → Contains xs x × (p x ≡ true)

@@ -1,7 +1,7 @@
 -- Metadata that is refused is there, and what was read once isn't refused again.
-use Rattle.std.proofs.Common.{◌≡◌, inl, inr, ◌<◌, ℕ, ℤ, List, [], ◌∷◌, length, Option, Some, None, Result, Err, refl, sym, ap, subst, ◌∙◌, arith}
-use Rattle.std.specs.Prelude.{IfErr, unwrap_or}
-use Rattle.std.proofs.lemmas.Option.{none-some}
+use Rattle.std.proofs.Common.{◌≡◌, inl, inr, ◌<◌, ℕ, ℤ, List, [], ◌∷◌, length, Option, None, Result, Err, refl, sym, ap, subst, ◌∙◌, arith}
+use Rattle.std.specs.Prelude.{IfErr}
+use Rattle.std.proofs.lemmas.Option.{none-some, same_Some}
 use Rattle.lake_basics.specs.declared.limits.TheConstants.{MAX_FILE_BYTES}
 use Rattle.lake_basics.specs.declared.outcome.ReadError.TheVariants as read
 use Rattle.lake_store.specs.Disk.{Files}
@@ -30,9 +30,6 @@ use Rattle.source_core.specs.declared.head.Head.{Head}
 use Rattle.source_iceberg.specs.HeadLemmas.{not_absent, one_text, one_version}
 use Rattle.source_iceberg.specs.Heads.{IsAbsent, IsIcebergHead, StandsForMetadata, metadata_features}
 use Rattle.source_iceberg.specs.Reading.{HasFewNames, IsRefusedVersion, ShowsAtHead, Tells, TellsFault}
-
-some_is : {A : Type 0} (a b : A) → Some a ≡ Some b → a ≡ b
-some_is a b e = ap (λ o. unwrap_or o a) e
 
 first_in : {A : Type 0} (P : A → Type 0) (xs : List A) (x : A) → IsFirst P xs x → P x
 first_in P [] x first = absurd first
@@ -96,7 +93,7 @@ module _ (files : Files) (version : ℕ) (newest : IsNewest (HasVersion files) v
       absurd (none-some stands.states.bytes (sym h.1 ∙ subst (λ (v : ℕ). HoldsFile files (version_path v) stands.states.bytes) same stands.states.holds))
   stands_number w n stands none same (error.Large p) e h told = (_, _, told)
   stands_number w n stands none same (error.Refused p f) e h told =
-      let bytes : h.1 ≡ stands.states.bytes = some_is h.1 stands.states.bytes (sym h.2 ∙ subst (λ (v : ℕ). HoldsFile files (version_path v) stands.states.bytes) same stands.states.holds) in
+      let bytes : h.1 ≡ stands.states.bytes = same_Some h.1 stands.states.bytes (sym h.2 ∙ subst (λ (v : ℕ). HoldsFile files (version_path v) stands.states.bytes) same stands.states.holds) in
       by_limit p f e (fault_limit stands.states.bytes stands.states.readings n stands.states.text none stands.supported f (subst (λ (bs : List ℕ). IsMetadataFault bs f) bytes h.3)) told
 
   there : (e : SourceError) → (IsForNumber e → ⊥) → IsRefusedVersion files version e → IsAbsent files → ⊥
@@ -115,7 +112,7 @@ module _ (files : Files) (version : ℕ) (newest : IsNewest (HasVersion files) v
 
 module _ (files : Files) (version : ℕ) (m : Metadata) (says : SaysMetadata files version m) where
   same_bytes : (bytes : List ℕ) → HoldsFile files (version_path version) bytes → bytes ≡ says.bytes
-  same_bytes bytes holds = some_is bytes says.bytes (sym holds ∙ says.holds)
+  same_bytes bytes holds = same_Some bytes says.bytes (sym holds ∙ says.holds)
 
   faultless : (f : Fault) → IsMetadataFault says.bytes f → ⊥
   faultless f (inl (e, first, is)) = none_first (HasCause says.bytes) causes e says.supported first

@@ -1,10 +1,10 @@
 -- The newest metadata of a table is one, and so is its head.
 use Rattle.std.proofs.Common.{◌≡◌, inl, inr, ⊎_elim, ℕ, ℤ, List, [], ◌∷◌, Contains, Bool, true, false, cond, Option, Some, None, Result, Ok, refl, sym, ap, subst, ◌∙◌, arith}
-use Rattle.std.specs.Prelude.{IfSome, find, map, unwrap_or}
+use Rattle.std.specs.Prelude.{IfSome, find, map}
 use Rattle.std.specs.Fmt.{signed_decimal}
 use Rattle.std.specs.Ordering.{int_eq}
 use Rattle.std.proofs.lemmas.Bool.Decides.{Decides-int_eq}
-use Rattle.std.proofs.lemmas.Option.{none-some}
+use Rattle.std.proofs.lemmas.Option.{none-some, same_Some}
 use Rattle.lake_store.specs.Disk.{Files}
 use Rattle.table_history.specs.First.{NoneOf}
 use Rattle.table_history.proofs.RowListLemmas.{Contains-cases, Contains-none}
@@ -26,9 +26,6 @@ use Rattle.source_iceberg.specs.Heads.{IsAbsent, IsCurrent, IsIcebergHead, IsNew
 
 -- ---- what the newest metadata says
 
-some_is : {A : Type 0} (a b : A) → Some a ≡ Some b → a ≡ b
-some_is a b e = ap (λ o. unwrap_or o a) e
-
 pub one_version : (Held : ℕ → Type 0) (v w : ℕ) → IsNewest Held v → IsNewest Held w → v ≡ w
 one_version Held v w a b =
     let up = b.last v a.there in
@@ -43,7 +40,7 @@ first_is m n es fs r a b = ap (λ (p : Metadata × List HeldUnread). p.0) (pair_
 -- a text says one thing
 pub one_text : (bytes : List ℕ) (rs qs : List SchemaReading) (m n : Metadata) → IsMetadataText bytes rs m → IsMetadataText bytes qs n → m ≡ n
 one_text bytes rs qs m n a b =
-    let value : a.value ≡ b.value = some_is a.value b.value (sym a.is ∙ b.is) in
+    let value : a.value ≡ b.value = same_Some a.value b.value (sym a.is ∙ b.is) in
     let one : contents a.value ≡ Ok (m, unread rs) = contents_are a.value rs m a.says ((consistent_Decides m (schema_ids rs)).1 a.consistent) in
     let two : contents b.value ≡ Ok (n, unread qs) = contents_are b.value qs n b.says ((consistent_Decides n (schema_ids qs)).1 b.consistent) in
     first_is m n (unread rs) (unread qs) (contents a.value) one (ap contents value ∙ two)
@@ -52,7 +49,7 @@ module _ (files : Files) (v w : ℕ) (m n : Metadata) (same : v ≡ w) where
   pub one_said : (b c : List ℕ) (rs qs : List SchemaReading) → HoldsFile files (version_path v) b → HoldsFile files (version_path w) c → IsMetadataText b rs m → IsMetadataText c qs n → m ≡ n
   one_said b c rs qs hb hc tb tc =
       let held = subst (λ (k : ℕ). HoldsFile files (version_path k) b) same hb in
-      let bytes : b ≡ c = some_is b c (sym held ∙ hc) in
+      let bytes : b ≡ c = same_Some b c (sym held ∙ hc) in
       one_text c rs qs m n (subst (λ (x : List ℕ). IsMetadataText x rs m) bytes tb) tc
 
 pub one_metadata : (files : Files) (v w : ℕ) (m n : Metadata) → IsNewestMetadata files v m → IsNewestMetadata files w n → (v ≡ w) × (m ≡ n)
@@ -113,7 +110,7 @@ none_current m schemas is none = none_at m.snapshots m.current_snapshot is.curre
 pub one_current : (files : Files) (v w : ℕ) (m n : Metadata) (s t : Snapshot) → IsCurrent files v m s → IsCurrent files w n t → (v ≡ w) × (m ≡ n) × (s ≡ t)
 one_current files v w m n s t a b =
     let one = one_metadata files v w m n a.metadata b.metadata in
-    (one.0, one.1, some_is s t (sym a.held ∙ ap (λ (x : Metadata). held_at x.snapshots x.current_snapshot) one.1 ∙ b.held))
+    (one.0, one.1, same_Some s t (sym a.held ∙ ap (λ (x : Metadata). held_at x.snapshots x.current_snapshot) one.1 ∙ b.held))
 
 -- a table with a current snapshot is there
 pub not_absent : (files : Files) (v : ℕ) (m : Metadata) (s : Snapshot) → IsCurrent files v m s → IsAbsent files → ⊥

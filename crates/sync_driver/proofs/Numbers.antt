@@ -1,12 +1,12 @@
 -- Numbers as decimals.
-use Rattle.std.proofs.Common.{◌≡◌, ◌≢◌, ℕ, zero, suc, ◌^◌, ◌<◌, List, length, get_or, drop, MatchOption, Result, Ok, Err, cond, true, false, sym, ap, subst, ◌∙◌, arith}
+use Rattle.std.proofs.Common.{◌≡◌, ◌≢◌, ℕ, zero, suc, ◌^◌, ◌<◌, List, length, get_or, drop, MatchOption, Result, Ok, Err, true, sym, ap, subst, ◌∙◌, arith}
 use Rattle.std.specs.Prelude.{◌==◌}
 use Rattle.std.specs.Result.{result_ok}
 use Rattle.std.specs.Fmt.{decimal}
 use Rattle.std.specs.Str.Parse.{IsNumeral, digits_value, without_leading_plus, ParsesUnsigned}
 use Rattle.std.proofs.lemmas.Bool.Decides.{nat_tests, Decides-eqb}
 use Rattle.std.proofs.lemmas.Fmt.{decimal_is_IsNumeral, decimal_digit, first_decimal, decimal_nonempty, decimal-digits_value}
-use Rattle.std.proofs.lemmas.Str.Parse.{digit_at, numerals_by_value, tells_digits}
+use Rattle.std.proofs.lemmas.Str.Parse.{digit_at, numerals_by_value, tells_digits, without_leading_plus_none}
 
 pub decimal_some : (ds : List ℕ) → (length ds == 0) ≡ true → (v : ℕ) → v < 2 ^ 64 → ds ≡ decimal v → ⊥
 decimal_some ds none v small is = let some = decimal_nonempty v (omega (arith, small)) in let zero_long = (Decides-eqb (length ds) 0).0 none in let same = ap length is in omega (arith, some, zero_long, same)
@@ -25,9 +25,6 @@ decimal_no_zero ds first long (suc n) small is =
     let here : get_or (decimal (suc n)) 0 0 ≡ 48 = ap (λ l. get_or l 0 0) (sym is) ∙ first in
     omega (arith, some, here)
 
-without_plus : (bs : List ℕ) → get_or bs 0 0 ≢ 43 → without_leading_plus bs ≡ bs
-without_plus bs h = let no : (get_or bs 0 0 == 43) ≡ false = grind (arith, nat_tests) in ap (λ b. drop (cond b 1 0) bs) no
-
 parsed_plain : {E : Type 0} (ds : List ℕ) (r : Result ℕ E) → (get_or ds 0 0 ≡ 48 → length ds ≡ 1) → ParsesUnsigned 64 10 ds r → without_leading_plus ds ≡ ds
     → MatchOption (result_ok r) ((v : ℕ) → v < 2 ^ 64 → ds ≡ decimal v → ⊥) (λ v. (v < 2 ^ 64) × (ds ≡ decimal v))
 parsed_plain ds (Ok n) alone h same =
@@ -42,4 +39,4 @@ parsed_plain ds (Err e) alone h same = λ v small is.
 
 pub parsed : {E : Type 0} (ds text : List ℕ) (r : Result ℕ E) → text ≡ ds → get_or ds 0 0 ≢ 43 → (get_or ds 0 0 ≡ 48 → length ds ≡ 1) → ParsesUnsigned 64 10 text r
     → MatchOption (result_ok r) ((v : ℕ) → v < 2 ^ 64 → ds ≡ decimal v → ⊥) (λ v. (v < 2 ^ 64) × (ds ≡ decimal v))
-parsed ds text r is first alone h = parsed_plain ds r alone (subst (λ l. ParsesUnsigned 64 10 l r) is h) (without_plus ds first)
+parsed ds text r is first alone h = parsed_plain ds r alone (subst (λ l. ParsesUnsigned 64 10 l r) is h) (without_leading_plus_none ds first)

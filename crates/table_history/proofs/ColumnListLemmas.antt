@@ -1,20 +1,17 @@
 -- Lists of columns, one after another.
-use Rattle.std.proofs.Common.{◌≡◌, ℕ, suc, ◌+◌, ◌<◌, ◌≤◌, ◌&&◌, Bool, true, false, List, [], ◌∷◌, length, get_or, drop, map, refl, sym, ap, ◌∙◌, add-one, drop-cons}
+use Rattle.std.proofs.Common.{◌≡◌, ℕ, suc, ◌+◌, ◌<◌, ◌≤◌, ◌&&◌, true, false, List, [], ◌∷◌, length, get_or, drop, map, refl, sym, ap, ◌∙◌, add-one, drop-cons}
 use Rattle.std.proofs.lemmas.List.{length-map, drop_all}
+use Rattle.std.proofs.lemmas.Bool.{and_right}
 use Rattle.table_history.specs.SchemaView.{column_view, columns_view}
 use Rattle.table_history.specs.TypeTree.{ColumnTree, columns_of}
 use Rattle.table_history.specs.TypeEq.{column_eq, columns_eq}
 use Rattle.table_history.specs.declared.schema.Column.{Column}
 
-and_false : (b c : Bool) → c ≡ false → (b && c) ≡ false
-and_false true c e = e
-and_false false c e = refl
-
 other_length : (cs ds : List ColumnTree) → (length cs ≡ length ds → ⊥) → columns_eq (columns_of cs) (columns_of ds) ≡ false
 other_length [] [] apart = absurd (apart refl)
 other_length [] (d ∷ ds) apart = refl
 other_length (c ∷ cs) [] apart = refl
-other_length (c ∷ cs) (d ∷ ds) apart = and_false _ _ (other_length cs ds (λ e. apart (ap suc e)))
+other_length (c ∷ cs) (d ∷ ds) apart = and_right _ _ (other_length cs ds (λ e. apart (ap suc e)))
 
 pub columns_apart : (cs ds : List Column) → (length cs ≡ length ds → ⊥) → columns_eq (columns_view cs) (columns_view ds) ≡ false
 columns_apart cs ds apart = other_length (map column_view cs) (map column_view ds) (λ e. apart (sym (length-map cs column_view) ∙ e ∙ length-map ds column_view))

@@ -1,15 +1,11 @@
 -- The test whether columns have names of their own decides whether their names are distinct.
-use Rattle.std.proofs.Common.{◌≡◌, ◌↔◌, ℕ, ◌&&◌, ◌||◌, not, Bool, true, false, List, refl, sym, ◌∙◌}
+use Rattle.std.proofs.Common.{◌≡◌, ◌↔◌, ℕ, ◌&&◌, not, Bool, true, false, List, refl, ◌∙◌}
 use Rattle.std.specs.List.{IsDistinct, AllByRecursion}
 use Rattle.std.specs.Str.{bytes_eq}
-use Rattle.std.proofs.lemmas.Bool.{false≢true}
+use Rattle.std.proofs.lemmas.Bool.{false≢true, or_parts}
 use Rattle.std.proofs.lemmas.Cmp.{nat_list_eq_equiv}
 use Rattle.table_history.specs.TypeTree.{ColumnTrees, no_columns, column}
 use Rattle.table_history.specs.Sound.{is_named, have_own_names, names_of}
-
-neither : (b c : Bool) → (b || c) ≡ false → (b ≡ false) × (c ≡ false)
-neither false c h = (refl, h)
-neither true c h = absurd (false≢true (sym h))
 
 both : (b c : Bool) → (not b && c) ≡ true → (b ≡ false) × (c ≡ true)
 both false c h = (refl, h)
@@ -18,7 +14,7 @@ both true c h = absurd (false≢true h)
 unnamed : (name : List ℕ) (cs : ColumnTrees) → is_named name cs ≡ false → AllByRecursion (λ n. bytes_eq name n ≡ false) (names_of cs)
 unnamed name no_columns h = tt
 unnamed name (column n t b cs) h =
-    let parts = neither _ _ h in (nat_list_eq_equiv.symm name n ∙ parts.0, unnamed name cs parts.1)
+    let parts = or_parts _ _ h in (nat_list_eq_equiv.symm name n ∙ parts.0, unnamed name cs parts.1)
 
 other_names : (name : List ℕ) (cs : ColumnTrees) → AllByRecursion (λ n. bytes_eq name n ≡ false) (names_of cs) → is_named name cs ≡ false
 other_names name no_columns h = refl

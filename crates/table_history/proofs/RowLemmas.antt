@@ -1,8 +1,8 @@
 -- The derived `==` of rows and of their values decides whether two are one.
-use Rattle.std.proofs.Common.{◌≡◌, ◌&&◌, Bool, true, false, List, refl, sym, ap, subst, ◌∙◌, ◌⊎◌, inl, inr}
+use Rattle.std.proofs.Common.{◌≡◌, Bool, true, false, List, refl, sym, ap, subst, ◌∙◌, ◌⊎◌, inl, inr}
 use Rattle.std.specs.Bool.{Decides}
 use Rattle.std.specs.Cmp.Lexicographic.{pointwise}
-use Rattle.std.proofs.lemmas.Bool.{cases_Bool, false≢true}
+use Rattle.std.proofs.lemmas.Bool.{and_parts, cases_Bool, false≢true}
 use Rattle.std.proofs.lemmas.Bool.Decides.{Decides-eqb, Decides-int_eq}
 use Rattle.std.proofs.lemmas.Slice.Eq.{bytes_eq-Decides, slice_eq-Decides}
 use Rattle.table_history.specs.declared.row.PartValue.{PartValue}
@@ -47,15 +47,11 @@ value_eq-Decides a b = (value_same a b, λ e. subst (λ c. value_eq a c ≡ true
 pub values_eq-Decides : (xs ys : List PartValue) → Decides (pointwise value_eq xs ys) (xs ≡ ys)
 values_eq-Decides xs ys = slice_eq-Decides value_eq-Decides xs ys (pointwise value_eq xs ys) refl
 
-and_both : (a b : Bool) → (a && b) ≡ true → (a ≡ true) × (b ≡ true)
-and_both true b h = (refl, h)
-and_both false b h = absurd (false≢true h)
-
 row_same : (a b : FileRow) → row_eq a b ≡ true → a ≡ b
 row_same a b h =
-    let one = and_both _ _ h in
-    let two = and_both _ _ one.1 in
-    let three = and_both _ _ two.1 in
+    let one = and_parts _ _ h in
+    let two = and_parts _ _ one.1 in
+    let three = and_parts _ _ two.1 in
     let path : a.path ≡ b.path = (bytes_eq-Decides a.path b.path).0 one.0 in
     let values : a.values ≡ b.values = (values_eq-Decides a.values b.values).0 two.0 in
     let count : a.count ≡ b.count = (Decides-eqb a.count b.count).0 three.0 in

@@ -1,17 +1,13 @@
 -- The tests of column types and of columns decide whether two are one.
-use Rattle.std.specs.Prelude.{◌≡◌, ◌&&◌, Bool, true, false, refl}
+use Rattle.std.specs.Prelude.{◌≡◌, true, false, refl}
 use Rattle.std.proofs.Common.{ap, subst}
 use Rattle.std.specs.Bool.{Decides}
 use Rattle.std.specs.Cmp.{IsEquivalence, booleans_Decides, decided}
-use Rattle.std.proofs.lemmas.Bool.{false≢true}
+use Rattle.std.proofs.lemmas.Bool.{and_parts, false≢true}
 use Rattle.std.proofs.lemmas.Bool.Decides.{Decides-eqb}
 use Rattle.std.proofs.lemmas.Slice.Eq.{bytes_eq-Decides}
 use Rattle.table_history.specs.TypeTree.{TypeTree, boolean, byte, short, int, long, float, double, decimal, text, binary, date, timestamp, timestamp_ntz, struct_of, list_of, map_of, ColumnTrees, no_columns, column}
 use Rattle.table_history.specs.TypeEq.{type_eq, columns_eq}
-
-and_both : (a b : Bool) → (a && b) ≡ true → (a ≡ true) × (b ≡ true)
-and_both true b h = (refl, h)
-and_both false b h = absurd (false≢true h)
 
 mutual
   type_same : (s t : TypeTree) → type_eq s t ≡ true → s ≡ t
@@ -23,7 +19,7 @@ mutual
   type_same float float h = refl
   type_same double double h = refl
   type_same (decimal p s) (decimal q t) h =
-      let parts = and_both _ _ h in
+      let parts = and_parts _ _ h in
       let digits : p ≡ q = (Decides-eqb p q).0 parts.0 in
       let behind : s ≡ t = (Decides-eqb s t).0 parts.1 in
       λ i. decimal (digits i) (behind i)
@@ -34,13 +30,13 @@ mutual
   type_same timestamp_ntz timestamp_ntz h = refl
   type_same (struct_of cs) (struct_of ds) h = ap struct_of (columns_same cs ds h)
   type_same (list_of t b) (list_of u c) h =
-      let parts = and_both _ _ h in
+      let parts = and_parts _ _ h in
       let element = type_same t u parts.0 in
       let nullable : b ≡ c = (booleans_Decides b c).0 parts.1 in
       λ i. list_of (element i) (nullable i)
   type_same (map_of k v b) (map_of l w c) h =
-      let parts = and_both _ _ h in
-      let more = and_both _ _ parts.1 in
+      let parts = and_parts _ _ h in
+      let more = and_parts _ _ parts.1 in
       let key = type_same k l parts.0 in
       let value = type_same v w more.0 in
       let nullable : b ≡ c = (booleans_Decides b c).0 more.1 in
@@ -50,9 +46,9 @@ mutual
   columns_same : (cs ds : ColumnTrees) → columns_eq cs ds ≡ true → cs ≡ ds
   columns_same no_columns no_columns h = refl
   columns_same (column n t b cs) (column m u c ds) h =
-      let parts = and_both _ _ h in
-      let first = and_both _ _ parts.0 in
-      let more = and_both _ _ first.1 in
+      let parts = and_parts _ _ h in
+      let first = and_parts _ _ parts.0 in
+      let more = and_parts _ _ first.1 in
       let name : n ≡ m = (bytes_eq-Decides n m).0 first.0 in
       let kind = type_same t u more.0 in
       let nullable : b ≡ c = (booleans_Decides b c).0 more.1 in

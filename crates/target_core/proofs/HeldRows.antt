@@ -1,7 +1,7 @@
 -- What is tested of rows that are kept.
-use Rattle.std.proofs.Common.{◌≡◌, ⊎_elim, ℕ, ◌≤◌, ◌&&◌, Bool, true, false, nat_le, List, [], ◌∷◌, length, Contains, refl, ap, subst, ◌∙◌, arith}
+use Rattle.std.proofs.Common.{◌≡◌, ⊎_elim, ℕ, ◌≤◌, ◌&&◌, Bool, true, false, nat_le, List, [], ◌∷◌, length, Contains, refl, subst, ◌∙◌, arith}
 use Rattle.std.specs.List.{list_all}
-use Rattle.std.proofs.lemmas.Bool.{false≢true}
+use Rattle.std.proofs.lemmas.Bool.{and_from, false≢true}
 use Rattle.std.proofs.lemmas.Bool.Decides.{nat_tests}
 use Rattle.lake_basics.specs.declared.limits.TheConstants.{MAX_LIVE_FILES}
 use Rattle.table_history.specs.Path.{IsPath, is_path}
@@ -11,9 +11,6 @@ use Rattle.table_history.proofs.RowListLemmas.{Contains-none, Contains-head, Con
 use Rattle.target_core.specs.Conditions.{IsPublishable}
 use Rattle.table_history.specs.declared.table.Table.{Table}
 use Rattle.target_core.specs.Held.{are_held}
-
-both_true : (a b : Bool) → a ≡ true → b ≡ true → (a && b) ≡ true
-both_true a b p q = ap (λ t. t && b) p ∙ q
 
 left_true : (a b : Bool) → (a && b) ≡ true → a ≡ true
 left_true true b h = refl
@@ -31,7 +28,7 @@ le_by n m is = grind (arith, nat_tests)
 
 all_paths : (rows : List Row) → ((row : Row) → Contains rows row → IsPath row.path) → list_all (λ row. is_path row.path) rows ≡ true
 all_paths [] are = refl
-all_paths (r ∷ rows) are = both_true (is_path r.path) (list_all (λ row. is_path row.path) rows) ((path_decided r.path).1 (are r (Contains-head r rows))) (all_paths rows (λ row there. are row (Contains-tail r rows row there)))
+all_paths (r ∷ rows) are = and_from (is_path r.path) (list_all (λ row. is_path row.path) rows) ((path_decided r.path).1 (are r (Contains-head r rows))) (all_paths rows (λ row there. are row (Contains-tail r rows row there)))
 
 paths_all : (rows : List Row) → list_all (λ row. is_path row.path) rows ≡ true → (row : Row) → Contains rows row → IsPath row.path
 paths_all [] is row there = absurd (Contains-none row there)
@@ -49,7 +46,7 @@ held_few rows is = le_by (length rows) MAX_LIVE_FILES (left_true (nat_le (length
 
 -- few rows, each of which has a path
 pub are_held_by : (rows : List Row) → length rows ≤ MAX_LIVE_FILES → ((row : Row) → Contains rows row → IsPath row.path) → are_held rows ≡ true
-are_held_by rows few paths = both_true (nat_le (length rows) MAX_LIVE_FILES) (list_all (λ row. is_path row.path) rows) (le_test (length rows) MAX_LIVE_FILES few) (all_paths rows paths)
+are_held_by rows few paths = and_from (nat_le (length rows) MAX_LIVE_FILES) (list_all (λ row. is_path row.path) rows) (le_test (length rows) MAX_LIVE_FILES few) (all_paths rows paths)
 
 -- a table that may be published
 pub held_of : (table : Table) → IsPublishable table → are_held table.rows ≡ true

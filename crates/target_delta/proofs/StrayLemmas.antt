@@ -1,7 +1,7 @@
 -- The first stray name of a folder without a version, by the list of its names.
 use Rattle.std.proofs.Common.{◌≡◌, inl, ⊎_elim, ℕ, ◌==◌, ◌&&◌, Bool, true, false, not, List, [], ◌∷◌, ◌++◌, length, take, drop, find, codes, Contains, Some, None, refl, sym, ap, subst, ◌∙◌, arith, if◌then◌else◌}
 use Rattle.std.proofs.lemmas.List.{length-append, length-drop, length-take, take-append-drop}
-use Rattle.std.proofs.lemmas.Bool.{false≢true}
+use Rattle.std.proofs.lemmas.Bool.{and_from, false≢true}
 use Rattle.std.proofs.lemmas.Bool.Decides.{nat_tests}
 use Rattle.std.proofs.lemmas.Cmp.{nat_list_cmp_total}
 use Rattle.std.proofs.lemmas.Slice.Eq.{bytes_eq-Decides}
@@ -16,6 +16,7 @@ use Rattle.std.specs.Str.{all_ascii_digits, bytes_eq}
 use Rattle.std.specs.Str.Parse.{AllDigits, digits_value}
 use Rattle.std.specs.declared.cmp.Ordering.{Ordering}
 use Rattle.std.specs.declared.cmp.Ordering.TheVariants.{Greater, Less}
+use Rattle.std.proofs.lemmas.Option.{none-some, same_Some}
 use Rattle.lake_store.specs.Disk.{Files, ListsFolder}
 use Rattle.table_history.proofs.RowListLemmas.{Contains-cases, Contains-head, Contains-none, Contains-tail}
 use Rattle.table_history.specs.declared.kind.Kind.{Kind}
@@ -39,9 +40,6 @@ same_by n m is = grind (arith, nat_tests)
 
 same_test : (n m : ℕ) → n ≡ m → (n == m) ≡ true
 same_test n m is = grind (arith, nat_tests)
-
-and_is : (a b : Bool) → a ≡ true → b ≡ true → (a && b) ≡ true
-and_is a b p q = ap (λ t. t && b) p ∙ q
 
 and_left : (a b : Bool) → (a && b) ≡ true → a ≡ true
 and_left true b h = refl
@@ -94,9 +92,9 @@ leftover_of d len all =
     let numeral : list_all is_ascii_digit (take 20 (d ++ codes ".json")) ≡ true = ap (λ (l : List ℕ). list_all is_ascii_digit l) t ∙ (same_digits d ∙ own.from d all) in
     let end : bytes_eq (drop 20 (d ++ codes ".json")) (codes ".json") ≡ true = (bytes_eq-Decides (drop 20 (d ++ codes ".json")) (codes ".json")).1 u in
     let whole : length (leftover_front ++ (d ++ codes ".json")) ≡ 37 = simp length-append (omega (arith, len)) in
-    and_is (length (leftover_front ++ (d ++ codes ".json")) == 37) (bytes_eq leftover_front leftover_front && (list_all is_ascii_digit (take 20 (d ++ codes ".json")) && bytes_eq (drop 20 (d ++ codes ".json")) (codes ".json"))) (same_test (length (leftover_front ++ (d ++ codes ".json"))) 37 whole)
-    (and_is (bytes_eq leftover_front leftover_front) (list_all is_ascii_digit (take 20 (d ++ codes ".json")) && bytes_eq (drop 20 (d ++ codes ".json")) (codes ".json")) ((bytes_eq-Decides leftover_front leftover_front).1 refl)
-    (and_is (list_all is_ascii_digit (take 20 (d ++ codes ".json"))) (bytes_eq (drop 20 (d ++ codes ".json")) (codes ".json")) numeral end))
+    and_from (length (leftover_front ++ (d ++ codes ".json")) == 37) (bytes_eq leftover_front leftover_front && (list_all is_ascii_digit (take 20 (d ++ codes ".json")) && bytes_eq (drop 20 (d ++ codes ".json")) (codes ".json"))) (same_test (length (leftover_front ++ (d ++ codes ".json"))) 37 whole)
+    (and_from (bytes_eq leftover_front leftover_front) (list_all is_ascii_digit (take 20 (d ++ codes ".json")) && bytes_eq (drop 20 (d ++ codes ".json")) (codes ".json")) ((bytes_eq-Decides leftover_front leftover_front).1 refl)
+    (and_from (list_all is_ascii_digit (take 20 (d ++ codes ".json"))) (bytes_eq (drop 20 (d ++ codes ".json")) (codes ".json")) numeral end))
 
 pub leftover_test : (name : List ℕ) → IsLeftoverName name → is_leftover_name name ≡ true
 leftover_test name h = subst (λ (n : List ℕ). is_leftover_name n ≡ true) (sym h.split) (leftover_of h.digits h.len h.numeral.1)
@@ -116,12 +114,6 @@ below_in : (x : List ℕ) (xs : List (List ℕ)) (y : List ℕ) → AllByRecursi
 below_in x [] y all there = absurd (Contains-none y there)
 below_in x (z ∷ zs) y all there = ⊎_elim (λ (same : z ≡ y). subst (λ (w : List ℕ). cmp x w ≡ Less) same all.0) (λ later. below_in x zs y all.1 later) (Contains-cases z zs y there)
 
-some_once : (x y : List ℕ) → Some x ≡ Some y → x ≡ y
-some_once x y e = cc
-
-none_some : (x : List ℕ) → None ≡ Some x → ⊥
-none_some x e = absurd cc
-
 -- what is found is the first, and there is none before it
 pub record IsFirstFound (names : List (List ℕ)) (name : List ℕ) : Type 0 where
   pub there : Contains names name
@@ -130,11 +122,11 @@ pub record IsFirstFound (names : List (List ℕ)) (name : List ℕ) : Type 0 whe
 
 found_first : (names : List (List ℕ)) (name : List ℕ) → IsStrictlySortedBy cmp names → find is_stray_name names ≡ Some name → IsFirstFound names name
 unfolding IsStrictlySortedBy
-found_first [] name sorted is = absurd (none_some name is)
+found_first [] name sorted is = absurd (none-some name is)
 found_first (x ∷ xs) name sorted is =
     elim (is_stray_name x) as (λ b. is_stray_name x ≡ b → (if b then Some x else find is_stray_name xs) ≡ Some name → IsFirstFound (x ∷ xs) name) [
       | true ↦ λ stray here.
-          let same : x ≡ name = some_once x name here in
+          let same : x ≡ name = same_Some x name here in
           subst (IsFirstFound (x ∷ xs)) same (record {
             there = Contains-head x xs;
             stray = stray;
@@ -153,7 +145,7 @@ found_none : (names : List (List ℕ)) → find is_stray_name names ≡ None →
 found_none [] is name there = absurd (Contains-none name there)
 found_none (x ∷ xs) is name there =
     elim (is_stray_name x) as (λ b. is_stray_name x ≡ b → (if b then Some x else find is_stray_name xs) ≡ None → is_stray_name name ≡ false) [
-      | true ↦ λ stray here. absurd (none_some x (sym here))
+      | true ↦ λ stray here. absurd (none-some x (sym here))
       | false ↦ λ quiet later. ⊎_elim (λ (e : x ≡ name). ap is_stray_name (sym e) ∙ quiet) (λ behind. found_none xs later name behind) (Contains-cases x xs name there)
     ] refl is
 

@@ -11,7 +11,7 @@ use Rattle.std.specs.Str.{bytes_eq}
 use Rattle.std.specs.Str.Parse.{AllDigits, digits_value}
 use Rattle.std.specs.FinMap as map
 use Rattle.std.proofs.Math.ListN.{length-take}
-use Rattle.std.proofs.lemmas.Bool.{cases_Bool, cases_lt, false≢true}
+use Rattle.std.proofs.lemmas.Bool.{and_from, cases_Bool, cases_lt, false≢true, or_left, or_right}
 use Rattle.std.proofs.lemmas.Str.Parse.{digit_from_value}
 use Rattle.std.specs.Ordering.{is_eq}
 use Rattle.std.proofs.lemmas.Bool.Decides.{nat_tests}
@@ -40,9 +40,6 @@ digit_test c lt = grind (arith, nat_tests)
 digit_by : (c : ℕ) → is_digit c ≡ true → digit_value c < 10
 digit_by c is = grind (arith, nat_tests)
 
-and_is : (a b : Bool) → a ≡ true → b ≡ true → (a && b) ≡ true
-and_is a b p q = ap (λ t. t && b) p ∙ q
-
 and_left : (a b : Bool) → (a && b) ≡ true → a ≡ true
 and_left true b h = refl
 and_left false b h = h
@@ -53,7 +50,7 @@ and_right false b h = absurd (false≢true h)
 
 digits_test : (ds : List ℕ) → AllDigits 10 ds → list_all is_digit ds ≡ true
 digits_test [] all = refl
-digits_test (c ∷ ds) all = and_is (is_digit c) (list_all is_digit ds) (digit_test c all.0) (digits_test ds all.1)
+digits_test (c ∷ ds) all = and_from (is_digit c) (list_all is_digit ds) (digit_test c all.0) (digits_test ds all.1)
 
 digits_by : (ds : List ℕ) → list_all is_digit ds ≡ true → AllDigits 10 ds
 digits_by [] is = tt
@@ -83,9 +80,9 @@ named_version name v h =
     let suffix = (bytes_eq-Decides (drop 20 name) (codes ".json")).1 parts.suffix in
     let within : nat_le (digits_value 10 (take 20 name)) MAX_DELTA_VERSION ≡ true = le_test (digits_value 10 (take 20 name)) MAX_DELTA_VERSION (subst (λ (n : ℕ). n ≤ MAX_DELTA_VERSION) (sym value) h.within) in
     let is : is_version_name name ≡ true =
-    and_is (length name == 25) (list_all is_digit (take 20 name) && (bytes_eq (drop 20 name) (codes ".json") && nat_le (digits_value 10 (take 20 name)) MAX_DELTA_VERSION)) (same_test (length name) 25 parts.len)
-    (and_is (list_all is_digit (take 20 name)) (bytes_eq (drop 20 name) (codes ".json") && nat_le (digits_value 10 (take 20 name)) MAX_DELTA_VERSION) (digits_test (take 20 name) digits.numeral.1)
-    (and_is (bytes_eq (drop 20 name) (codes ".json")) (nat_le (digits_value 10 (take 20 name)) MAX_DELTA_VERSION) suffix within)) in
+    and_from (length name == 25) (list_all is_digit (take 20 name) && (bytes_eq (drop 20 name) (codes ".json") && nat_le (digits_value 10 (take 20 name)) MAX_DELTA_VERSION)) (same_test (length name) 25 parts.len)
+    (and_from (list_all is_digit (take 20 name)) (bytes_eq (drop 20 name) (codes ".json") && nat_le (digits_value 10 (take 20 name)) MAX_DELTA_VERSION) (digits_test (take 20 name) digits.numeral.1)
+    (and_from (bytes_eq (drop 20 name) (codes ".json")) (nat_le (digits_value 10 (take 20 name)) MAX_DELTA_VERSION) suffix within)) in
     ap (λ b. if b then Some (digits_value 10 (take 20 name)) else None) is ∙ ap (λ (n : ℕ). Some n) value
 
 pub version_by_name : (name : List ℕ) (v : ℕ) → version_named name ≡ Some v → IsVersionName name v
@@ -138,13 +135,6 @@ test_number q n is = grind (arith, nat_tests)
 
 number_apart : (q n : ℕ) → (q ≡ n → ⊥) → eqb q n ≡ false
 number_apart q n apart = ⊎_elim (λ is. absurd (apart (number_test q n is))) (λ is. is) (cases_Bool (eqb q n))
-
-or_left : (a b : Bool) → a ≡ true → (a || b) ≡ true
-or_left a b is = ap (λ t. t || b) is
-
-or_right : (a b : Bool) → b ≡ true → (a || b) ≡ true
-or_right true b is = refl
-or_right false b is = is
 
 any_number : (q : ℕ) (xs : List ℕ) → Contains xs q → list_any (eqb q) xs ≡ true
 any_number q [] there = absurd (Contains-none q there)

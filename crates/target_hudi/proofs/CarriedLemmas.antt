@@ -4,6 +4,7 @@ use Rattle.std.specs.Prelude.{◌≢◌, option_and_then, option_map}
 use Rattle.std.proofs.lemmas.Bool.{cond-true, le-leb}
 use Rattle.std.proofs.lemmas.List.Prefix.{end_rest}
 use Rattle.std.proofs.lemmas.Str.{is_utf8-from_IsUtf8}
+use Rattle.std.proofs.lemmas.Option.{none-some, same_Some}
 use Rattle.table_history.specs.History.{FitColumns, FitsColumn, column_type}
 use Rattle.table_history.specs.Row.{Row}
 use Rattle.table_history.specs.TypeTree.{ColumnTrees, TypeTree}
@@ -24,12 +25,6 @@ use Rattle.hudi_files.proofs.ValueLemmas.{value_parts-length}
 use Rattle.target_core.specs.Conditions.{HasKind}
 use Rattle.target_hudi.proofs.KnownLemmas.{Known, known_as, known_both, not_false, stands, stands_so}
 
-none_some : {A : Type 0} (x : A) → None ≡ Some x → ⊥
-none_some x e = absurd cc
-
-some_same : {A : Type 0} (x y : A) → Some x ≡ Some y → x ≡ y
-some_same x y e = cc
-
 -- ---- the kinds of the values
 
 -- each value is of the kind in its place
@@ -40,7 +35,7 @@ AreOfKinds (kind ∷ kinds) [] = ⊥
 AreOfKinds (kind ∷ kinds) (v ∷ vs) = IsOfKind kind v × AreOfKinds kinds vs
 
 value_kind : (type : Option TypeTree) (kind : PartKind) (v : PartValue) → option_and_then part_kind_of type ≡ Some kind → FitsColumn type v → IsOfKind kind v
-value_kind None kind v is fits = absurd (none_some kind is)
+value_kind None kind v is fits = absurd (none-some kind is)
 value_kind (Some t) kind v is fits = (kind_of_type t kind is v).1 fits
 
 pub of_kinds : (schema : ColumnTrees) (names : List (List ℕ)) (kinds : List PartKind) (vs : List PartValue) → AreKindsOf schema names kinds → FitColumns schema names vs → AreOfKinds kinds vs
@@ -122,11 +117,11 @@ module _ (style : FolderStyle) where
   part_stands kind part v = by (unescaped_text style part) refl
     where
       by : (found : Option (List ℕ)) → unescaped_text style part ≡ found → Known (PartStands style kind part v)
-      by None is = inr (λ h. none_some h.0 (sym is ∙ h.1))
+      by None is = inr (λ h. none-some h.0 (sym is ∙ h.1))
       by (Some text) is =
           known_as
           (λ (h : HiveStands kind text v). (text, is, h))
-          (λ (h : PartStands style kind part v). subst (λ t. HiveStands kind t v) (some_same h.0 text (sym h.1 ∙ is)) h.2)
+          (λ (h : PartStands style kind part v). subst (λ t. HiveStands kind t v) (same_Some h.0 text (sym h.1 ∙ is)) h.2)
           (stands kind text v)
 
   parts_stand : (kinds : List PartKind) (parts : List (List ℕ)) (vs : List PartValue) → Known (PartsStand style kinds parts vs)
@@ -152,13 +147,13 @@ bare_of row = record { path = row.path; values = []; count = row.count; size = r
 module _ (names : List (List ℕ)) (kinds : List PartKind) (counted : length kinds ≡ length names) (row : Row) (of : AreOfKinds kinds row.values)
     (carries : (CarriesValues row.path names row.values → ⊥) → ⊥) where
   has_by : (found : Option (List (List ℕ))) → value_parts hive_folders names row.path ≡ found → HasValues hive_folders names kinds (bare_of row) row
-  has_by None is = absurd (carries (λ c. let has = carried row.path names row.values c in none_some has.parts (sym is ∙ has.there)))
+  has_by None is = absurd (carries (λ c. let has = carried row.path names row.values c in none-some has.parts (sym is ∙ has.there)))
   has_by (Some parts) is = record {
     parts = parts;
     spelled = is;
     values = not_false (parts_stand hive_folders kinds parts row.values) (λ never. carries (λ c.
         let has = carried row.path names row.values c in
-        let same : has.parts ≡ parts = some_same has.parts parts (sym has.there ∙ is) in
+        let same : has.parts ≡ parts = same_Some has.parts parts (sym has.there ∙ is) in
         let long : length parts ≡ length kinds = value_parts-length hive_folders names row.path parts is ∙ sym counted in
         never (all_stand kinds parts row.values long of (subst (λ ps. PartsCarry ps row.values) same has.carry))));
     path = refl;

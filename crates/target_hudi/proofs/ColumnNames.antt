@@ -1,8 +1,8 @@
 -- Names that are Avro's, joined by commas, are read back.
-use Rattle.std.proofs.Common.{◌≡◌, ⊎_elim, ℕ, ◌+◌, ◌-◌, ◌<◌, ◌==◌, ◌&&◌, ◌||◌, Bool, true, false, cond, List, [], ◌∷◌, length, take, drop, map, filter, All, Contains, Some, refl, sym, ap, ◌∙◌, arith}
+use Rattle.std.proofs.Common.{◌≡◌, ⊎_elim, ℕ, ◌+◌, ◌-◌, ◌<◌, ◌==◌, true, false, cond, List, [], ◌∷◌, length, take, drop, map, filter, All, Contains, Some, refl, sym, ap, ◌∙◌, arith}
 use Rattle.std.specs.List.{join_with_byte, list_all, prefix_len, slice_split, suffix_len}
 use Rattle.std.proofs.Math.Seq.{take-length}
-use Rattle.std.proofs.lemmas.Bool.{cases_Bool, eqb-true, false≢true}
+use Rattle.std.proofs.lemmas.Bool.{and_parts, cases_Bool, eqb-true, false≢true, or_left}
 use Rattle.std.proofs.lemmas.Bool.Decides.{nat_tests}
 use Rattle.std.proofs.lemmas.List.Elements.{All-cons, All-get_or, All-head, All-nil}
 use Rattle.std.proofs.lemmas.List.Splits.{slice_split_at, slice_split_none}
@@ -11,13 +11,6 @@ use Rattle.table_history.proofs.RowListLemmas.{Contains-head, Contains-tail}
 use Rattle.schema_map.specs.Image.{is_avro_name, is_letter, is_name_byte}
 use Rattle.hudi_properties.specs.TableProperties.{is_name, is_space, names_in, without_spaces}
 
-either_true : (a b : Bool) → a ≡ true → (a || b) ≡ true
-either_true a b is = ap (λ t. t || b) is
-
-both_true : (a b : Bool) → (a && b) ≡ true → (a ≡ true) × (b ≡ true)
-both_true true b is = (refl, is)
-both_true false b is = absurd (false≢true is)
-
 -- a byte of a name isn't one that no name has
 apart : (c b : ℕ) → is_name_byte c ≡ false → is_name_byte b ≡ true → (b == c) ≡ false
 apart c b none is = ⊎_elim (λ same. absurd (false≢true (sym none ∙ ap is_name_byte (sym (eqb-true b c same)) ∙ is))) (λ other. other) (cases_Bool (b == c))
@@ -25,13 +18,13 @@ apart c b none is = ⊎_elim (λ same. absurd (false≢true (sym none ∙ ap is_
 all_apart : (c : ℕ) (bytes : List ℕ) → is_name_byte c ≡ false → list_all is_name_byte bytes ≡ true → All (λ b. (b == c) ≡ false) bytes
 all_apart c [] none all = All-nil (λ b. (b == c) ≡ false)
 all_apart c (b ∷ bytes) none all =
-    let parts = both_true (is_name_byte b) (list_all is_name_byte bytes) all in All-cons (λ x. (x == c) ≡ false) b bytes (apart c b none parts.0) (all_apart c bytes none parts.1)
+    let parts = and_parts (is_name_byte b) (list_all is_name_byte bytes) all in All-cons (λ x. (x == c) ≡ false) b bytes (apart c b none parts.0) (all_apart c bytes none parts.1)
 
 name_apart : (c : ℕ) (name : List ℕ) → is_name_byte c ≡ false → is_avro_name name ≡ true → All (λ b. (b == c) ≡ false) name
 name_apart c [] none is = absurd (false≢true is)
 name_apart c (b ∷ bytes) none is =
-    let parts = both_true (is_letter b) (list_all is_name_byte bytes) is in
-    All-cons (λ x. (x == c) ≡ false) b bytes (apart c b none (either_true (is_letter b) _ parts.0)) (all_apart c bytes none parts.1)
+    let parts = and_parts (is_letter b) (list_all is_name_byte bytes) is in
+    All-cons (λ x. (x == c) ≡ false) b bytes (apart c b none (or_left (is_letter b) _ parts.0)) (all_apart c bytes none parts.1)
 
 filled : (name : List ℕ) → is_avro_name name ≡ true → 0 < length name
 filled [] is = absurd (false≢true is)

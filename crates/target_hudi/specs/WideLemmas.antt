@@ -2,6 +2,7 @@
 use Rattle.std.proofs.Common.{◌≡◌, ◌⊎◌, ⊎_elim, inl, inr, ℕ, ◌+◌, Bool, true, false, ◌&&◌, List, [], ◌∷◌, Option, Some, None, Result, Ok, Err, refl, sym, ap, subst, ◌∙◌, cond}
 use Rattle.std.specs.Prelude.{◌↔◌, option_and_then, option_map}
 use Rattle.std.specs.Str.{bytes_eq}
+use Rattle.std.proofs.lemmas.Option.{none-some}
 use Rattle.serde_json.specs.Data.{Data, array}
 use Rattle.serde_json.specs.View.{items_of}
 use Rattle.serde_json.specs.Written.{compact_text}
@@ -247,17 +248,14 @@ read_wide text schema is =
 
 -- ---- what may be published
 
-unkinded : (k : PartKind) → None ≡ Some k → ⊥
-unkinded k e = absurd cc
-
 -- A type without a kind takes null alone.
 only_null : (t : TypeTree) (v : PartValue) → part_kind_of t ≡ None → IsOfType t v → v ≡ value.Null
 only_null t value.Null none of = refl
-only_null t (value.Boolean b) none of = absurd (unkinded kinds.Boolean (sym none ∙ ap part_kind_of of))
-only_null t (value.Int n) none of = absurd (unkinded kinds.Int (sym none ∙ ⊎_elim (λ e. ap part_kind_of e) (λ (other : (t ≡ tree.short) ⊎ (t ≡ tree.int)). ⊎_elim (λ e. ap part_kind_of e) (λ e. ap part_kind_of e) other) of))
-only_null t (value.Long n) none of = absurd (unkinded kinds.Long (sym none ∙ ap part_kind_of of))
-only_null t (value.Text s) none of = absurd (unkinded kinds.Text (sym none ∙ ap part_kind_of of))
-only_null t (value.Date days) none of = absurd (unkinded kinds.Date (sym none ∙ ap part_kind_of of))
+only_null t (value.Boolean b) none of = absurd (none-some kinds.Boolean (sym none ∙ ap part_kind_of of))
+only_null t (value.Int n) none of = absurd (none-some kinds.Int (sym none ∙ ⊎_elim (λ e. ap part_kind_of e) (λ (other : (t ≡ tree.short) ⊎ (t ≡ tree.int)). ⊎_elim (λ e. ap part_kind_of e) (λ e. ap part_kind_of e) other) of))
+only_null t (value.Long n) none of = absurd (none-some kinds.Long (sym none ∙ ap part_kind_of of))
+only_null t (value.Text s) none of = absurd (none-some kinds.Text (sym none ∙ ap part_kind_of of))
+only_null t (value.Date days) none of = absurd (none-some kinds.Date (sym none ∙ ap part_kind_of of))
 
 -- Types of one kind, or both without a kind, take the same values.
 of_same : (t u : TypeTree) (o : Option PartKind) → part_kind_of t ≡ o → part_kind_of u ≡ o → (v : PartValue) → IsOfType t v → IsOfType u v

@@ -5,7 +5,7 @@ use Rattle.std.specs.List.{list_all}
 use Rattle.std.specs.Cmp.Lexicographic.{pointwise}
 use Rattle.std.specs.Ordering.{int_eq}
 use Rattle.std.specs.Str.{bytes_eq}
-use Rattle.std.proofs.lemmas.Bool.{cases_Bool, cond-false, cond-true, false≢true}
+use Rattle.std.proofs.lemmas.Bool.{and_parts, cases_Bool, cond-false, cond-true, false≢true}
 use Rattle.std.proofs.lemmas.Bool.Decides.{Decides-int_eq, nat_tests}
 use Rattle.std.proofs.lemmas.Int.{ints}
 use Rattle.std.proofs.lemmas.List.{append-nil, length-append}
@@ -13,7 +13,6 @@ use Rattle.std.proofs.lemmas.List.Elements.{Contains-append_cases}
 use Rattle.iceberg_metadata.specs.Judging.{are_distinct, is_among}
 use Rattle.iceberg_metadata.specs.Paths.{held_schema}
 use Rattle.iceberg_metadata.specs.Schemas.{HeldSchema}
-use Rattle.iceberg_metadata.proofs.ListLemmas.{both_true}
 use Rattle.iceberg_metadata.proofs.LoopLemmas.{next_item}
 use Rattle.iceberg_version.specs.Sound.{have_first_ids, is_own_image, is_under}
 use Rattle.iceberg_version.proofs.Shared.{never_both}
@@ -50,7 +49,7 @@ from_pair (s ∷ schemas) x there = ⊎_elim
 all_at : (p : HeldSchema → Bool) (schemas : List HeldSchema) (s : HeldSchema) → list_all p schemas ≡ true → Contains schemas s → p s ≡ true
 all_at p [] s all there = absurd (Contains-none s there)
 all_at p (t ∷ schemas) s all there =
-    let both = both_true (p t) (list_all p schemas) all in
+    let both = and_parts (p t) (list_all p schemas) all in
     ⊎_elim (λ (here : t ≡ s). ap p (sym here) ∙ both.0) (λ later. all_at p schemas s both.1 later) (Contains-cases t schemas s there)
 
 under_it : (id : ℤ) (n : ℕ) → is_under n id ≡ true → id <ℤ pos n
@@ -77,7 +76,7 @@ among (s ∷ schemas) x id there same = ⊎_elim
 one_id : (schemas : List HeldSchema) → are_distinct (map (λ s. s.0) schemas) ≡ true → (x y : IdSchema) → Contains (pairs_of schemas) x → Contains (pairs_of schemas) y → x.0 ≡ y.0 → x ≡ y
 one_id [] distinct x y there also same = absurd (Contains-none x there)
 one_id (s ∷ schemas) distinct x y there also same =
-    let both = both_true (not (is_among (map (λ s. s.0) schemas) s.0)) (are_distinct (map (λ s. s.0) schemas)) distinct in
+    let both = and_parts (not (is_among (map (λ s. s.0) schemas) s.0)) (are_distinct (map (λ s. s.0) schemas)) distinct in
     ⊎_elim
     (λ (here : (s.0, s.1) ≡ x). ⊎_elim
     (λ (too : (s.0, s.1) ≡ y). sym here ∙ too)
@@ -91,7 +90,7 @@ one_id (s ∷ schemas) distinct x y there also same =
 
 pub first_ids : (schemas : List HeldSchema) → have_first_ids schemas ≡ true → AreFirst (pairs_of schemas)
 first_ids schemas is =
-    let both = both_true (are_distinct (map (λ s. s.0) schemas)) (list_all (λ s. is_under (length schemas) s.0) schemas) is in
+    let both = and_parts (are_distinct (map (λ s. s.0) schemas)) (list_all (λ s. is_under (length schemas) s.0) schemas) is in
     record {
       under = λ x there.
           let from = from_pair schemas x there in

@@ -7,6 +7,7 @@ use Rattle.std.specs.Str.{bytes_eq}
 use Rattle.std.proofs.lemmas.List.{length-append, length-map}
 use Rattle.std.proofs.lemmas.List.Elements.{All-contains}
 use Rattle.std.proofs.lemmas.Option.{slice_get-get_or}
+use Rattle.std.proofs.lemmas.Bool.{and_from}
 use Rattle.lake_basics.specs.Outcome.{required}
 use Rattle.lake_basics.specs.declared.limits.TheConstants.{MAX_LIVE_FILES}
 use Rattle.table_history.specs.Row.{Row}
@@ -25,7 +26,7 @@ use Rattle.iceberg_metadata.specs.Paths.{held_schema}
 use Rattle.iceberg_metadata.specs.Writing.{CanBeHeld, IsWritable}
 use Rattle.iceberg_metadata.specs.declared.metadata.Metadata.{Metadata}
 use Rattle.iceberg_metadata.specs.declared.metadata.Snapshot.{Snapshot}
-use Rattle.iceberg_metadata.proofs.ListLemmas.{any_from, both_are}
+use Rattle.iceberg_metadata.proofs.ListLemmas.{any_from}
 use Rattle.iceberg_metadata.proofs.StepLemmas.{bind_ok, required_some}
 use Rattle.iceberg_table.specs.Snapshots.{HasColumnsOf, HasManifestRows}
 use Rattle.iceberg_table.specs.Tables.{IsTableOfSnapshots, rows_in, rows_of}
@@ -91,7 +92,7 @@ rows_within (x ∷ ms) m there =
 sound_by : (v : OwnedRows) (owner : ℕ) (rows : List Entry) → owned_by v owner ≡ Some rows → length rows ≤ MAX_LIVE_FILES → list_all is_born rows ≡ true → is_sound_owner v owner ≡ true
 sound_by v owner rows is few born =
     subst (λ (o : Option (List Entry)). (is_some o && (nat_le (length (unwrap_or o [])) MAX_LIVE_FILES && list_all is_born (unwrap_or o []))) ≡ true) (sym is)
-    (both_are (nat_le (length rows) MAX_LIVE_FILES) (list_all is_born rows) (le_test (length rows) MAX_LIVE_FILES few) born)
+    (and_from (nat_le (length rows) MAX_LIVE_FILES) (list_all is_born rows) (le_test (length rows) MAX_LIVE_FILES few) born)
 
 content_tested : (info : ManifestInfo) → HasContent info → has_content info ≡ true
 content_tested info (inl is) = ap (λ n. int_eq n (pos 0) || int_eq n (pos 1)) is

@@ -13,6 +13,7 @@ use Rattle.std.specs.declared.cmp.Ordering.TheVariants.{Greater, Less}
 use Rattle.std.proofs.lemmas.Cmp.{nat_list_cmp_total}
 use Rattle.std.proofs.lemmas.List.Elements.{Contains-append_cases, Contains-append_right}
 use Rattle.std.proofs.lemmas.List.Sorted.{IsPermutation-refl}
+use Rattle.std.proofs.lemmas.Option.{none-some, same_Some}
 use Rattle.lake_basics.specs.declared.limits.TheConstants.{MAX_NAMES}
 use Rattle.lake_store.specs.Cause.{HasFault, HasNoContest}
 use Rattle.lake_store.specs.Disk.{Files, ListsFolder, names_in}
@@ -64,9 +65,6 @@ use Rattle.target_iceberg.specs.Kept.{HoldsEnd, StandsFor}
 use Rattle.target_iceberg.specs.Reading.{HasMark, IsAbsent, IsCurrent, IsOurs, Reads, SaysCurrent, property}
 
 -- ---- the mark
-
-some_once : (a b : List ℕ) → Some a ≡ Some b → a ≡ b
-some_once a b e = cc
 
 module _ (source : Kind) (version : ℕ) (m : Metadata) where
   this_of : (mark : Mark) → IsOwnMark source version m mark → IsOfThis source version m
@@ -126,13 +124,10 @@ module _ (files : Files) (source : Kind) (Shows : IcebergError → Type 0) where
   told_refusal crowded (error.Refused path (fault.Unsupported feature)) shows = tt
   told_refusal crowded (error.Refused path (fault.Limit which)) shows = crowded which _ (error.Refused path (fault.Limit which)) shows (refl, refl)
 
-no_path : (path : List ℕ) → None ≡ Some path → ⊥
-no_path path e = absurd cc
-
 pub names_foreign : (files : Files) (source : Kind) (path : List ℕ) (e : IcebergError) → HasManyNames files e → faulty_path e ≡ Some path → IsForeign source files path
 names_foreign files source path error.Memory many is = absurd many
 names_foreign files source path error.StoreFault many is = absurd many
-names_foreign files source path error.ManyNames many is = absurd (no_path path is)
+names_foreign files source path error.ManyNames many is = absurd (none-some path is)
 names_foreign files source path (error.Missing p) many is = absurd many
 names_foreign files source path (error.Large p) many is = absurd many
 names_foreign files source path (error.Refused p f) many is = absurd many
@@ -378,6 +373,6 @@ module _ {S : Type 0} (count : S → ℕ) (may : S → Type 0) (here : S) where
 -- ---- the mark of a text
 
 pub mark_read : (m : Metadata) (text : List ℕ) → property mark_property m.properties ≡ Some text → (r : Result (Option Mark) AllocError) → IfOk r (λ o. IsMark text o) → IfOk r (λ o. MatchOption o ((mark : Mark) → HasMark m mark → ⊥) (HasMark m))
-mark_read m text found (Ok None) none = λ mark has. none mark (subst (λ (t : List ℕ). IsMarkText t mark) (some_once has.text text (sym has.found ∙ found)) has.reads)
+mark_read m text found (Ok None) none = λ mark has. none mark (subst (λ (t : List ℕ). IsMarkText t mark) (same_Some has.text text (sym has.found ∙ found)) has.reads)
 mark_read m text found (Ok (Some mark)) is = record { text = text; found = found; reads = is }
 mark_read m text found (Err e) is = tt

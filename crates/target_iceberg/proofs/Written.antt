@@ -5,7 +5,7 @@ use Rattle.std.specs.FinMap as map
 use Rattle.std.specs.Fmt.{decimal}
 use Rattle.std.specs.List.{list_all}
 use Rattle.std.specs.Str.{bytes_eq}
-use Rattle.std.proofs.lemmas.Bool.{cases_Bool, false≢true}
+use Rattle.std.proofs.lemmas.Bool.{and_parts, cases_Bool, false≢true}
 use Rattle.std.proofs.lemmas.Slice.Eq.{bytes_eq-Decides}
 use Rattle.lake_basics.specs.declared.limits.TheConstants.{MAX_FILE_BYTES, MAX_ICEBERG_VERSION}
 use Rattle.lake_store.specs.Disk.{Disk, Files}
@@ -25,7 +25,6 @@ use Rattle.file_links.specs.Rows.{Entry, OwnedRows, rows_of as owned_rows}
 use Rattle.iceberg_manifest.specs.Lists.{AreEach}
 use Rattle.iceberg_metadata.specs.Writing.{SameMetadata, metadata_text}
 use Rattle.iceberg_metadata.specs.declared.metadata.Metadata.{Metadata}
-use Rattle.iceberg_metadata.proofs.ListLemmas.{both_true}
 use Rattle.iceberg_table.specs.Files.{SaysMetadata}
 use Rattle.iceberg_table.specs.Folder.{HasVersion, IsNewest, path_of}
 use Rattle.iceberg_table.specs.declared.manifest.Manifest.{Manifest}
@@ -316,9 +315,9 @@ module _ (disk : Disk) (after : Files) (id location : List ℕ) (kept : IcebergK
   kept_each links [] (m ∷ ms) owners live = absurd live
   kept_each links (r ∷ rs) [] owners live = absurd live
   kept_each links (r ∷ rs) (m ∷ ms) owners live =
-      let here = (both_true (is_sound_owner links m.owner) (list_all (λ x. is_sound_owner links x.owner) ms) owners).0 in
-      let rest = (both_true (is_sound_owner links m.owner) (list_all (λ x. is_sound_owner links x.owner) ms) owners).1 in
-      (kept_by links r m (owned_rows links m.owner) refl (both_true (is_some (owned_rows links m.owner)) _ here).0 live.0, kept_each links rs ms rest live.1)
+      let here = (and_parts (is_sound_owner links m.owner) (list_all (λ x. is_sound_owner links x.owner) ms) owners).0 in
+      let rest = (and_parts (is_sound_owner links m.owner) (list_all (λ x. is_sound_owner links x.owner) ms) owners).1 in
+      (kept_by links r m (owned_rows links m.owner) refl (and_parts (is_some (owned_rows links m.owner)) _ here).0 live.0, kept_each links rs ms rest live.1)
 
   pub holds_end : (k : IcebergKept) → IsKeptBehind k → HoldsEnd after k
   unfolding committed

@@ -123,16 +123,13 @@ module _ (removed : List (List ℕ)) where
 
 -- ---- all of them
 
-flat_append : {A B : Type 0} (f : A → List B) (xs ys : List A) → flat_map f (xs ++ ys) ≡ flat_map f xs ++ flat_map f ys
-flat_append f xs ys = flat_map-append f xs ys
-
 pub rows_behind : (front : List ℕ) (version : ℕ) (manifests : List LiveManifest) (removed : List (List ℕ)) (next : List NextManifest) (added : List Row) (parts : List (List Row)) → flat_map (λ p. p) parts ≡ added → next ≡ map (carried front version removed) (filter has_rows manifests) ++ map (added_manifest front version) parts
     → next_rows next ≡ filter (is_left removed) (live_rows manifests) ++ added
 rows_behind front version manifests removed next added parts joined is =
     let old = carried_rows removed front version manifests in
     let fresh = added_rows removed front version parts ∙ joined in
     ap next_rows is
-    ∙ flat_append (λ nx. rows_held (rows_next nx)) (map (carried front version removed) (filter has_rows manifests)) (map (added_manifest front version) parts)
+    ∙ flat_map-append (λ nx. rows_held (rows_next nx)) (map (carried front version removed) (filter has_rows manifests)) (map (added_manifest front version) parts)
     ∙ (λ i. old i ++ fresh i)
 
 -- ---- distinct paths

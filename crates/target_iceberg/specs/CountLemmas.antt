@@ -8,11 +8,11 @@ use Rattle.std.specs.Str.Parse.{digits_value}
 use Rattle.std.proofs.lemmas.Fmt.{decimal_is_IsNumeral}
 use Rattle.std.proofs.lemmas.List.{length-append}
 use Rattle.std.proofs.lemmas.Slice.Eq.{bytes_eq-Decides}
+use Rattle.std.proofs.lemmas.Bool.{and_from, and_parts}
 use Rattle.lake_basics.specs.declared.limits.TheConstants.{MAX_ICEBERG_VERSION}
 use Rattle.lake_store.specs.Disk.{Files, names_in}
 use Rattle.table_history.proofs.RowListLemmas.{Contains-cases, Contains-head, Contains-none, Contains-tail}
 use Rattle.iceberg_metadata.specs.VersionName.{IsVersionName}
-use Rattle.iceberg_metadata.proofs.ListLemmas.{both_are, both_true}
 use Rattle.iceberg_table.specs.Folder.{HasVersion, IsNewest, metadata_folder}
 use Rattle.target_core.specs.Views.{View}
 use Rattle.iceberg_version.proofs.Shared.{le_by, le_test}
@@ -45,7 +45,7 @@ named_version name v h =
     let value = name_value name v h in
     let spelled : name ≡ version_name (digits_value 10 (version_digits name)) = h.spelled ∙ ap version_name (sym value) in
     let within = subst (λ (n : ℕ). n ≤ MAX_ICEBERG_VERSION) (sym value) h.within in
-    let is = both_are (bytes_eq name (version_name (digits_value 10 (version_digits name)))) (nat_le (digits_value 10 (version_digits name)) MAX_ICEBERG_VERSION)
+    let is = and_from (bytes_eq name (version_name (digits_value 10 (version_digits name)))) (nat_le (digits_value 10 (version_digits name)) MAX_ICEBERG_VERSION)
     ((bytes_eq-Decides name (version_name (digits_value 10 (version_digits name)))).1 spelled) (le_test (digits_value 10 (version_digits name)) MAX_ICEBERG_VERSION within) in
     ap (λ b. if b then Some (digits_value 10 (version_digits name)) else None) is ∙ ap (λ (n : ℕ). Some n) value
 
@@ -53,7 +53,7 @@ version_by_name : (name : List ℕ) (v : ℕ) → version_named name ≡ Some v 
 version_by_name name v h =
     let n = digits_value 10 (version_digits name) in
     let whole = chosen (bytes_eq name (version_name n) && nat_le n MAX_ICEBERG_VERSION) n v h in
-    let parts = both_true (bytes_eq name (version_name n)) (nat_le n MAX_ICEBERG_VERSION) whole.0 in
+    let parts = and_parts (bytes_eq name (version_name n)) (nat_le n MAX_ICEBERG_VERSION) whole.0 in
     let spelled = (bytes_eq-Decides name (version_name n)).0 parts.0 in
     let within = le_by n MAX_ICEBERG_VERSION parts.1 in
     record { spelled = spelled ∙ ap version_name whole.1; within = subst (λ (m : ℕ). m ≤ MAX_ICEBERG_VERSION) whole.1 within }

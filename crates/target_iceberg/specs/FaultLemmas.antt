@@ -4,6 +4,7 @@ use Rattle.std.specs.List.{filter}
 use Rattle.std.proofs.lemmas.Grind.{flat_map-append}
 use Rattle.std.proofs.lemmas.List.{append_cancel_left}
 use Rattle.std.proofs.lemmas.List.Elements.{Contains-append_right}
+use Rattle.std.proofs.lemmas.Option.{none-some}
 use Rattle.lake_store.specs.Disk.{Files}
 use Rattle.avro_value.specs.declared.api.TheConstants.{MAX_VALUES}
 use Rattle.table_history.specs.Path.{IsPath, IsPathOfAnyLength}
@@ -61,18 +62,15 @@ IsOfFile fault.Malformed = Unit {0}
 IsOfFile (fault.Unsupported feature) = Unit {0}
 IsOfFile (fault.Limit which) = ⊥
 
-no_path_told : {A : Type 0} (x : A) → None ≡ Some x → ⊥
-no_path_told x is = none_or_some None x refl is
-
 pub told_of_file : (path told : List ℕ) (f : Fault) → faulty_path (error.Refused path f) ≡ Some told → IsOfFile f
 told_of_file path told fault.Malformed is = tt
 told_of_file path told (fault.Unsupported feature) is = tt
-told_of_file path told (fault.Limit which) is = no_path_told told is
+told_of_file path told (fault.Limit which) is = none-some told is
 
 pub told_path : (path told : List ℕ) (f : Fault) → faulty_path (error.Refused path f) ≡ Some told → told ≡ path
 told_path path told fault.Malformed is = some_once (Some path) told path is refl
 told_path path told (fault.Unsupported feature) is = some_once (Some path) told path is refl
-told_path path told (fault.Limit which) is = absurd (no_path_told told is)
+told_path path told (fault.Limit which) is = absurd (none-some told is)
 
 -- The path that is told of a file's refusal is the file's.
 pub file_told : (files : Files) (path told : List ℕ) (Shows : List ℕ → Fault → Type 0) (e : IcebergError) → IsFileFault files path Shows e → faulty_path e ≡ Some told → told ≡ path
@@ -80,7 +78,7 @@ file_told files path told Shows error.Memory h is = absurd h
 file_told files path told Shows error.StoreFault h is = absurd h
 file_told files path told Shows error.ManyNames h is = absurd h
 file_told files path told Shows (error.Missing p) h is = some_once (Some p) told p is refl ∙ h.0
-file_told files path told Shows (error.Large p) h is = absurd (no_path_told told is)
+file_told files path told Shows (error.Large p) h is = absurd (none-some told is)
 file_told files path told Shows (error.Refused p f) h is = told_path p told f is ∙ h.0
 
 -- A file whose bytes show nothing isn't refused.
@@ -89,7 +87,7 @@ shows_none files path bytes told Shows error.Memory holds none h is = h
 shows_none files path bytes told Shows error.StoreFault holds none h is = h
 shows_none files path bytes told Shows error.ManyNames holds none h is = h
 shows_none files path bytes told Shows (error.Missing p) holds none h is = none_or_some _ bytes h.1 holds
-shows_none files path bytes told Shows (error.Large p) holds none h is = no_path_told told is
+shows_none files path bytes told Shows (error.Large p) holds none h is = none-some told is
 shows_none files path bytes told Shows (error.Refused p f) holds none h is =
     none f (told_of_file p told f is) (subst (λ (bs : List ℕ). Shows bs f) (held_once files path h.1 bytes h.2 holds) h.3)
 

@@ -1,8 +1,8 @@
 -- What a commit writes under is a file's name: it isn't empty, and has no slash.
-use Rattle.std.proofs.Common.{◌≡◌, ◌==◌, ◌||◌, ℕ, Bool, false, List, [], ◌∷◌, ◌++◌, codes, length, Contains, refl, sym, ap, subst, ◌∙◌, arith}
+use Rattle.std.proofs.Common.{◌≡◌, ◌==◌, ℕ, Bool, false, List, [], ◌∷◌, ◌++◌, codes, length, Contains, refl, sym, ap, subst, ◌∙◌, arith}
 use Rattle.std.specs.List.{list_any}
 use Rattle.std.specs.Str.Parse.{AllDigits}
-use Rattle.std.proofs.lemmas.Bool.{eqb-true, false_from_ne_true}
+use Rattle.std.proofs.lemmas.Bool.{eqb-true, false_from_ne_true, or_from}
 use Rattle.std.proofs.lemmas.List.Folds.{list_any-append, list_any_at}
 use Rattle.std.proofs.lemmas.Str.Parse.{digit_at}
 use Rattle.lake_store.specs.Disk.{IsName}
@@ -12,17 +12,14 @@ use Rattle.target_leftovers.specs.Names.{IsDeltaName, IsIcebergName}
 abbrev is_slash : ℕ → Bool
 is_slash b = b == 47
 
-or_none : (a b : Bool) → a ≡ false → b ≡ false → (a || b) ≡ false
-or_none a b p q = ap (λ x. x || b) p ∙ q
-
 digits_free : (ds : List ℕ) → AllDigits 10 ds → list_any is_slash ds ≡ false
 digits_free [] all = refl
 digits_free (c ∷ ds) all =
     let first = digit_at (c ∷ ds) 0 all (omega arith) in
-    or_none (is_slash c) (list_any is_slash ds) (false_from_ne_true (is_slash c) (λ same. let is = eqb-true c 47 same in absurd (omega (arith, first, is)))) (digits_free ds all.1)
+    or_from (is_slash c) (list_any is_slash ds) (false_from_ne_true (is_slash c) (λ same. let is = eqb-true c 47 same in absurd (omega (arith, first, is)))) (digits_free ds all.1)
 
 joined_free : (xs ys : List ℕ) → list_any is_slash xs ≡ false → list_any is_slash ys ≡ false → list_any is_slash (xs ++ ys) ≡ false
-joined_free xs ys p q = list_any-append is_slash xs ys ∙ or_none (list_any is_slash xs) (list_any is_slash ys) p q
+joined_free xs ys p q = list_any-append is_slash xs ys ∙ or_from (list_any is_slash xs) (list_any is_slash ys) p q
 
 no_slash : (xs : List ℕ) → list_any is_slash xs ≡ false → Contains xs 47 → ⊥
 no_slash xs free within = absurd (cc (sym free ∙ list_any_at is_slash xs within.0 47 within.1 (ap (λ x. x == 47) within.2)))

@@ -2,6 +2,7 @@ use Rattle.std.proofs.Common.{◌≡◌, ◌⊎◌, ◌≤◌, ℕ, List, Option
 use Rattle.std.proofs.lemmas.Result.{err_from_is_err_and}
 use Rattle.std.specs.Prelude.{IfErr, IfSome, IsErrOf, length}
 use Rattle.std.specs.FinMap as map
+use Rattle.std.proofs.lemmas.Option.{none-some, same_Some}
 use Rattle.lake_basics.specs.declared.limits.TheConstants.{MAX_DELTA_VERSION, MAX_FILE_BYTES}
 use Rattle.lake_store.specs.Disk.{Disk, Files}
 use Rattle.lake_store.proofs.RunLaws.{reading_further}
@@ -23,22 +24,16 @@ use Rattle.delta_compact.proofs.publishing.compact_block.Goals as goal
 abbrev Why : Files → ℕ → CompactFault → Type 0
 Why files block e = IsUnjoinable files block e ⊎ IsToldStale files block e
 
-none_some : (b : List ℕ) → None ≡ Some b → ⊥
-none_some b e = cc
-
-some_once : (a b : List ℕ) → Some a ≡ Some b → a ≡ b
-some_once a b e = cc
-
 -- where no file is there under the block's path
 lacks : (files : Files) (block : ℕ) (path : List ℕ) → IsWithin MAX_DELTA_VERSION block → IsBlockPath path block → map.get files path ≡ None → HasCompaction files block → ⊥
 lacks files block path within is none has =
-    let held = has.1 in none_some has.0 (sym none ∙ ap (map.get files) (one_path block path held.path within is held.is) ∙ held.there)
+    let held = has.1 in none-some has.0 (sym none ∙ ap (map.get files) (one_path block path held.path within is held.is) ∙ held.there)
 
 -- a file that agrees and isn't too large isn't stale
 not_stale : (files : Files) (block : ℕ) (path bytes : List ℕ) (commits : List (List ℕ)) → IsWithin MAX_DELTA_VERSION block → IsBlockPath path block → map.get files path ≡ Some bytes → length bytes ≤ MAX_FILE_BYTES
     → HoldsBlock files block commits → Agrees bytes commits → IsStale files block → ⊥
 not_stale files block path bytes commits within is there short held agrees stale =
-    let same : bytes ≡ stale.bytes = some_once bytes stale.bytes (sym there ∙ ap (map.get files) (one_path block path stale.there.path within is stale.there.is) ∙ stale.there.there) in
+    let same : bytes ≡ stale.bytes = same_Some bytes stale.bytes (sym there ∙ ap (map.get files) (one_path block path stale.there.path within is stale.there.is) ∙ stale.there.there) in
     ⊎_elim
     (λ (long : MAX_FILE_BYTES < length stale.bytes). let len : length bytes ≡ length stale.bytes = ap length same in omega (arith, len, short, long))
     (λ (other : (xs : List (List ℕ)) × HoldsBlock files block xs × (Agrees stale.bytes xs → ⊥)).

@@ -1,4 +1,5 @@
 use Rattle.std.proofs.Common.{◌≡◌, ℕ, Some, None, inl, inr, refl, sym, subst, ◌∙◌}
+use Rattle.std.proofs.lemmas.Option.{same_Some}
 use Rattle.lake_store.specs.Disk.{Disk}
 use Rattle.lake_store.proofs.RunLaws.{reading_further}
 use Rattle.source_core.specs.Answers.{IsReadRefusal}
@@ -25,15 +26,12 @@ returns-clause-refused g c told =
     let refused = subst (λ (d : Disk). IsReadRefusal (ShowsFromScratch d.files) e) (c.in-Ok.ensures.only_reads told).disk (c.in-Err-whole.ensures.refused told) in
     subst (HasCause (IsUnread files)) (sym c.source_fault-in-Err-whole.ensures) (cause_of (IsUnread files) (of_source e) (e, inr (c.in-Ok.head, (c.in-Ok.ensures.head told).1, refused), refl))
 
-some_same : (a b : ℕ) → Some a ≡ Some b → a ≡ b
-some_same a b e = cc
-
 pub returns-in-Ok-whole-clause-whole : goal.returns-in-Ok-whole-clause-whole
 returns-in-Ok-whole-clause-whole g c told =
     let files = (g.S.Store.disk c.args.store.now).files in
     let head = (c.in-Ok.ensures.head told).1 in
     let known = c.version_at.ensures.known head.newest (version_within files head.newest head.is.there) (c.as_str.ensures.value ∙ head.position) in
-    let newest : head.newest ≡ c.in-Some.newest = some_same head.newest c.in-Some.newest (sym known ∙ c.in-Some.is) in
+    let newest : head.newest ≡ c.in-Some.newest = same_Some head.newest c.in-Some.newest (sym known ∙ c.in-Some.is) in
     let table = subst (λ (d : Disk). IsTableAtHead d.files c.in-Ok-whole.table) (c.in-Ok.ensures.only_reads told).disk (c.in-Ok-whole.ensures.table told) in
     (c.in-Ok-whole.table, record { few = head.few; is = subst (λ n. IsNewest files n) newest head.is; head = table }, c.len.ensures.len)
 

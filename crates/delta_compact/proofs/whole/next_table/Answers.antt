@@ -1,11 +1,12 @@
 use Rattle.std.proofs.Common.{◌≡◌, Some, sym, subst}
 use Rattle.std.proofs.lemmas.Result.{IfErr-weaker, IfOk-weaker}
+use Rattle.std.proofs.lemmas.Option.{same_Some}
 use Rattle.table_history.specs.Tables.{IsAfter}
 use Rattle.delta_change.specs.Change.{IsChangeRefusal, IsTableOfLog}
 use Rattle.delta_log.specs.declared.error.DeltaError.{DeltaError}
 use Rattle.delta_log.specs.declared.error.DeltaError.TheVariants.{Memory}
 use Rattle.delta_table.specs.Log.{IsTaken}
-use Rattle.delta_table.proofs.LogLaws.{some_once, step_made}
+use Rattle.delta_table.proofs.LogLaws.{step_made}
 use Rattle.delta_compact.proofs.whole.next_table.Goals as goal
 
 pub returns-clause-taken : goal.returns-clause-taken
@@ -19,7 +20,7 @@ returns-clause-taken c =
 pub returns-clause-sound : goal.returns-clause-sound
 returns-clause-sound c =
     IfOk-weaker c.table_after.result (IsAfter c.args.table c.in_ok-change.change) IsTableOfLog
-    (λ t after. c.in_ok-change.ensures.goes_on.leaves (λ before is. subst IsTableOfLog (some_once c.args.table before is) c.requires.table) t after) c.table_after.ensures.after
+    (λ t after. c.in_ok-change.ensures.goes_on.leaves (λ before is. subst IsTableOfLog (same_Some c.args.table before is) c.requires.table) t after) c.table_after.ensures.after
 
 pub returns-clause-refused : goal.returns-clause-refused
 returns-clause-refused c =

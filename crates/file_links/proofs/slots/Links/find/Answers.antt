@@ -1,7 +1,8 @@
 use Rattle.std.proofs.Common.{arith, sym, ◌∙◌, ap, ◌≡◌, inl, inr, Some, None, slice_get, length}
 use Rattle.std.proofs.lemmas.Bool.{cases_eq}
+use Rattle.std.proofs.lemmas.Option.{same_Some}
 use Rattle.file_links.specs.Chains.{slots_in}
-use Rattle.file_links.proofs.SlotLemmas.{known_holds, none_past, none_held, not_found_at, bucket_slot, step, some_same, one_path}
+use Rattle.file_links.proofs.SlotLemmas.{known_holds, none_past, none_held, not_found_at, bucket_slot, step, one_path}
 use Rattle.file_links.proofs.slots.Links.find.Goals as goal
 
 pub returns-then-is_empty-clause-found : goal.returns-then-is_empty-clause-found
@@ -35,7 +36,7 @@ loop-step-preserved c =
     let at = sym c.loop-step.invariant.0 ∙ c.in-Some.is in (
       c.next-place.ensures ∙ step c.self.inside.buckets c.self.invariant.buckets c.bucket_of-bucket.result c.in-Some.slot c.loop-step._step c.bucket_of-bucket.ensures.range at,
       λ i s h lt e f same. elim (cases_eq i c.loop-step._step) [
-        | inl k ↦ (let s_is : s ≡ c.in-Some.slot = some_same s c.in-Some.slot (sym e ∙ ap (slice_get (slots_in c.self.inside.buckets c.bucket_of-bucket.result)) k ∙ at) in
+        | inl k ↦ (let s_is : s ≡ c.in-Some.slot = same_Some s c.in-Some.slot (sym e ∙ ap (slice_get (slots_in c.self.inside.buckets c.bucket_of-bucket.result)) k ∙ at) in
             let g : slice_get c.deref.result.now c.in-Some.slot ≡ Some (Some h) = ap (λ l. slice_get l c.in-Some.slot) c.deref.ensures.value ∙ ap (slice_get c.self.inside.held.items) (sym s_is) ∙ f in
             let t = c.has_path.ensures.not h g same in let n = c.if-has_path.false in cc)
         | inr k ↦ c.loop-step.invariant.1 i s h (omega arith) e f same

@@ -1,6 +1,6 @@
 use Rattle.std.proofs.Common.{subst, ap, ◌+◌, ℕ}
+use Rattle.std.proofs.lemmas.Option.{same_Some}
 use Rattle.delta_change.specs.Change.{IsTableOfLog}
-use Rattle.delta_table.proofs.LogLaws.{some_once}
 use Rattle.source_delta.proofs.since.Later.take.Goals as goal
 
 pub returns-clause-next : goal.returns-clause-next
@@ -17,5 +17,5 @@ returns-clause-sound c = record {
   commits = c.in_ok-push.ensures.ok;
   fits = c.in_ok-commit.ensures.goes_on.fits;
   leads = c.in_ok-apply.ensures.ok;
-  leaves = λ is table after. c.in_ok-commit.ensures.goes_on.leaves (λ before same. subst IsTableOfLog (some_once c.args.self.now.table before same) is) table after;
+  leaves = λ is table after. c.in_ok-commit.ensures.goes_on.leaves (λ before same. subst IsTableOfLog (same_Some c.args.self.now.table before same) is) table after;
 }
