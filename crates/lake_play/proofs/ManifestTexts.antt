@@ -14,7 +14,6 @@ use Rattle.lake_basics.specs.declared.limits.TheConstants.{MAX_AVRO_VALUES, MAX_
 use Rattle.avro_schema.specs.Writing.{json_of}
 use Rattle.avro_value.specs.ValueTree.{values_of}
 use Rattle.partition_map.specs.Avro.{avro_value_of}
-use Rattle.partition_map.specs.declared.kind.PartKind.{PartKind}
 use Rattle.partition_map.specs.declared.kind.PartKind.TheVariants as kind
 use Rattle.file_links.specs.declared.slots.Held.{Held}
 use Rattle.conformance.specs.Drill.{drill_schema}

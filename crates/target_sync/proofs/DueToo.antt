@@ -3,7 +3,7 @@ use Rattle.std.proofs.Common.{◌≡◌, inl, inr, ⊎_elim, ◌<◌, ℕ, true,
 use Rattle.lake_store.specs.Disk.{Files}
 use Rattle.source_core.specs.declared.head.Head.{Head}
 use Rattle.table_history.specs.Rows.{SameRows}
-use Rattle.table_history.specs.Tables.{LeadsTo, SameTable}
+use Rattle.table_history.specs.Tables.{LeadsTo}
 use Rattle.table_history.specs.TypeTree.{ColumnTrees}
 use Rattle.table_history.specs.declared.kind.Kind.{Kind}
 use Rattle.table_history.specs.declared.row.FileRow.{FileRow}
