@@ -10,7 +10,7 @@ use Rattle.avro_value.specs.Spelling.{Spells}
 use Rattle.avro_value.specs.Fitting.{Fits}
 use Rattle.avro_value.proofs.NumberLaws.{ok_is}
 use Rattle.avro_value.proofs.MoreValues.{StaysBy, many_stays, value_stays}
-use Rattle.avro_value.proofs.FittedValues.{all_append, many_fit, spelled_fits}
+use Rattle.avro_value.proofs.FittedValues.{many_fit, spelled_fits}
 use Rattle.avro_container.specs.declared.container.Container.{Container}
 use Rattle.avro_container.specs.declared.error.ContainerError.{ContainerError}
 use Rattle.avro_container.specs.declared.error.ContainerError.TheVariants as error
@@ -25,6 +25,7 @@ use Rattle.avro_container.proofs.WholeBlocks.{blocks_again}
 use Rattle.avro_container.proofs.BlockRefusals.{blocks_refused}
 use Rattle.avro_container.proofs.Headers.{header_again, header_refused}
 use Rattle.avro_container.proofs.Containers.{seen, schema_again, container_takes, container_faulty, is_first}
+use Rattle.lake_basics.proofs.Lists.{all_append}
 
 -- ---- what is read fits
 

@@ -6,6 +6,7 @@ use Rattle.std.specs.List.Sorted.{IsPermutation}
 use Rattle.std.proofs.lemmas.Slice.Eq.{bytes_eq-Decides}
 use Rattle.std.proofs.lemmas.List.{append-nil, length-append}
 use Rattle.std.proofs.lemmas.List.Sorted.{list_any-IsPermutation, length_permutation}
+use Rattle.std.proofs.lemmas.Bool.{not-false}
 use Rattle.avro_value.specs.Varint.{Long}
 use Rattle.avro_schema.specs.Tree.{SchemaTree}
 use Rattle.avro_value.specs.Layout.{Layout, layout_of}
@@ -21,16 +22,13 @@ use Rattle.avro_schema.proofs.Texts.{text_found}
 use Rattle.avro_value.proofs.WriteLaws.{natural_written, bytes_written, text_written, blocks_written, joined, written}
 use Rattle.avro_container.specs.Format.{Pairs, magic, Meta, meta_size, first_named, schema_name, codec_name, null_codec, HasSchema, IsPlain, Header, Block, Blocks, IsContainer}
 use Rattle.avro_container.specs.Writing.{pairs_text, meta_text, block_text, objects_text, container_text, ArePairs, AreEncoded, is_named, IsFree, AreWritten, IsWritten}
+use Rattle.lake_basics.proofs.Texts.{bytes_itself}
 
 -- ---- names
 
 -- a pair of that name that has something else
 abbrev is_other : List ℕ → List ℕ → List ℕ × List ℕ → Bool
 is_other name v p = bytes_eq p.0 name && not (bytes_eq p.1 v)
-
-not_false : (b : Bool) → not b ≡ false → b ≡ true
-not_false true e = refl
-not_false false e = absurd cc
 
 named_first : (name v : List ℕ) (ps : Pairs) → list_any (is_named name) ps ≡ true → list_any (is_other name v) ps ≡ false → first_named name ps ≡ Some v
 named_first name v [] some none = absurd cc
@@ -41,7 +39,7 @@ named_first name v (p ∷ ps) some none = go (bytes_eq p.0 name) refl some none 
       where
         on : (c : Bool) → not (bytes_eq p.1 v) ≡ c → (c || list_any (is_other name v) ps) ≡ false → Some p.1 ≡ Some v
         on true e q = absurd cc
-        on false e q = ap Some ((bytes_eq-Decides p.1 v).0 (not_false (bytes_eq p.1 v) e))
+        on false e q = ap Some ((bytes_eq-Decides p.1 v).0 (not-false (bytes_eq p.1 v) e))
     go false is h k more = more h k
 
 no_other : (name v : List ℕ) (ps : Pairs) → list_any (is_named name) ps ≡ false → list_any (is_other name v) ps ≡ false
@@ -52,9 +50,6 @@ no_other name v (p ∷ ps) none = go (bytes_eq p.0 name) none (no_other name v p
     go true h more = absurd cc
     go false h more = more h
 
-same_text : (v : List ℕ) → bytes_eq v v ≡ true
-same_text v = (bytes_eq-Decides v v).1 refl
-
 has_codec : (meta : Pairs) (text : List ℕ) (pairs : Pairs) → AreWritten meta text pairs → list_any (is_named codec_name) meta ≡ false → first_named codec_name pairs ≡ Some null_codec
 has_codec meta text pairs w free =
     let all = (codec_name, null_codec) ∷ (schema_name, text) ∷ meta in
@@ -63,7 +58,7 @@ has_codec meta text pairs w free =
 has_schema : (meta : Pairs) (text : List ℕ) (pairs : Pairs) → AreWritten meta text pairs → list_any (is_named schema_name) meta ≡ false → first_named schema_name pairs ≡ Some text
 has_schema meta text pairs w free =
     let all = (codec_name, null_codec) ∷ (schema_name, text) ∷ meta in
-    let none : list_any (is_other schema_name text) all ≡ false = rw (same_text text) (no_other schema_name text meta free) in
+    let none : list_any (is_other schema_name text) all ≡ false = rw (bytes_itself text) (no_other schema_name text meta free) in
     named_first schema_name text pairs (sym (list_any-IsPermutation (is_named schema_name) all pairs w.same)) (sym (list_any-IsPermutation (is_other schema_name text) all pairs w.same) ∙ none)
 
 -- ---- the parts

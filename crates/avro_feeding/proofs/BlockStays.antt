@@ -18,6 +18,7 @@ use Rattle.avro_container.proofs.Objects.{run_in_takes}
 use Rattle.avro_container.proofs.WholeBlocks.{after_count, after_size, after_objects, after_sync, checked, block_is, block_takes, block_again, block_faulty}
 use Rattle.avro_feeding.specs.Feeding.{is_short}
 use Rattle.avro_feeding.proofs.StayLemmas.{later, natural_stays, meta_stays}
+use Rattle.lake_basics.proofs.Lists.{more_behind}
 
 -- the same place, from which there are more bytes
 abbrev pub shifted : ContainerFault → List ℕ → ContainerFault
@@ -28,9 +29,6 @@ not_short f long short = let one : is_short f.flaw ≡ true = ap is_short short 
 
 at_more : (what : _) (bytes more : List ℕ) (f : ContainerFault) → IsFlawAt what bytes f → IsFlawAt what (bytes ++ more) (shifted f more)
 at_more what bytes more f h = let left = h.1 in (h.0, omega (arith, left, length-append bytes more))
-
-more_behind : (bytes front rest more : List ℕ) → bytes ≡ front ++ rest → bytes ++ more ≡ front ++ (rest ++ more)
-more_behind bytes front rest more parts = ap (λ (l : List ℕ). l ++ more) parts ∙ append_assoc front rest more
 
 -- ---- the header
 

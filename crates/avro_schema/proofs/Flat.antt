@@ -11,14 +11,7 @@ use Rattle.serde_json.specs.Written.{has_float, items_have_float, members_have_f
 use Rattle.avro_schema.specs.Tree.{SchemaTree, schema_tree, ShapeTree, BranchTrees, no_branches, branch, FieldTrees, no_fields, field}
 use Rattle.avro_schema.specs.Names.{has_dot, namespace_of}
 use Rattle.avro_schema.specs.Writing.{Written, put_some, size_json, id_json, with_annotations, type_members, primitive_json, no_namespace, named_members, is_written, definition_json, array_members, map_members, fixed_members, enum_members, record_members, schema_json, shape_json, branches_json, fields_json}
-
-left : (a b : Bool) → (a || b) ≡ false → a ≡ false
-left true b e = e
-left false b e = refl
-
-right : (a b : Bool) → (a || b) ≡ false → b ≡ false
-right true b e = absurd cc
-right false b e = e
+use Rattle.lake_basics.proofs.Truth.{left_false, right_false}
 
 flat_by : (r : Ordering) (a b c : Members) → members_have_float a ≡ false → members_have_float b ≡ false → members_have_float c ≡ false → members_have_float (match_ordering r a b c) ≡ false
 flat_by Less a b c e f g = e
@@ -28,7 +21,7 @@ flat_by Greater a b c e f g = g
 flat_put : (k : List ℕ) (d : Data) (ms : Members) → has_float d ≡ false → members_have_float ms ≡ false → members_have_float (put k d ms) ≡ false
 flat_put k d no_members hd hms = or_from _ _ hd refl
 flat_put k d (member l e ms) hd hms =
-    flat_by (slice_cmp nat_cmp k l) _ _ _ (or_from (has_float d) _ hd hms) (or_from (has_float d) _ hd (right (has_float e) _ hms)) (or_from (has_float e) _ (left (has_float e) _ hms) (flat_put k d ms hd (right (has_float e) _ hms)))
+    flat_by (slice_cmp nat_cmp k l) _ _ _ (or_from (has_float d) _ hd hms) (or_from (has_float d) _ hd (right_false (has_float e) _ hms)) (or_from (has_float e) _ (left_false (has_float e) _ hms) (flat_put k d ms hd (right_false (has_float e) _ hms)))
 
 flat_id : (z : ℤ) → has_float (id_json z) ≡ false
 flat_id (pos n) = refl

@@ -15,6 +15,8 @@ use Rattle.avro_schema.specs.Spelled.{IsFree, Stands, ShapeStands, BranchesStand
 use Rattle.avro_schema.specs.Plain.{names_in, shape_names, branch_names, names_in_fields, IsSound, ShapeIsSound, BranchesAreSound, FieldsAreSound, IsPlain}
 use Rattle.avro_schema.proofs.Respelled.{names_of, put_names}
 use Rattle.avro_schema.proofs.Depths.{deep}
+use Rattle.lake_basics.proofs.Truth.{false_and_true, true_not_false}
+use Rattle.lake_basics.proofs.Texts.{bytes_itself}
 
 abbrev among : List ℕ → List (List ℕ) → Bool
 among x xs = list_any (bytes_eq x) xs
@@ -24,18 +26,7 @@ listed x ds = among x (names_of ds)
 
 -- ---- Bool
 
-no_part : (a b : Bool) → (not a && b) ≡ true → (a ≡ false) × (b ≡ true)
-no_part true b e = absurd cc
-no_part false b e = (refl, e)
-
-clash : (b : Bool) → b ≡ true → b ≡ false → ⊥
-clash true e f = cc
-clash false e f = cc
-
 -- ---- names
-
-itself : (x : List ℕ) → bytes_eq x x ≡ true
-itself x = (bytes_eq-Decides x x).1 refl
 
 -- What isn't listed has no definition.
 unlisted_by : (b : Bool) (x : SchemaTree) (r : Bool) (o : Option SchemaTree) → (b || r) ≡ false → (r ≡ false → o ≡ None) → cond b (Some x) o ≡ None
@@ -59,15 +50,15 @@ apart_by false x y xs ys is h none later = later h
 
 -- Distinct names in two lists are distinct in each, and none is in both.
 distinct_parts : (xs ys : List (List ℕ)) → are_distinct (xs ++ ys) ≡ true → (are_distinct xs ≡ true) × (are_distinct ys ≡ true) × ((x : List ℕ) → among x xs ≡ true → among x ys ≡ false)
-distinct_parts [] ys e = (refl, e, λ x h. absurd (clash false h refl))
+distinct_parts [] ys e = (refl, e, λ x h. absurd (true_not_false false h refl))
 distinct_parts (y ∷ xs) ys e =
-    let both = no_part (among y (xs ++ ys)) (are_distinct (xs ++ ys)) e in
+    let both = false_and_true (among y (xs ++ ys)) (are_distinct (xs ++ ys)) e in
     let here = or_parts (among y xs) (among y ys) (sym (list_any-append (bytes_eq y) xs ys) ∙ both.0) in
     let rest = distinct_parts xs ys both.1 in
     (rw (here.0, rest.0) refl, rest.1, λ x h. apart_by (bytes_eq x y) x y xs ys refl h here.1 (rest.2 x))
 
 other_than : (x name : List ℕ) (ns : List (List ℕ)) → among name ns ≡ false → among x ns ≡ true → bytes_eq x name ≡ false
-other_than x name ns none here = false_from_ne_true (bytes_eq x name) (λ e. clash (among name ns) (ap (λ (z : List ℕ). among z ns) (sym ((bytes_eq-Decides x name).0 e)) ∙ here) none)
+other_than x name ns none here = false_from_ne_true (bytes_eq x name) (λ e. true_not_false (among name ns) (ap (λ (z : List ℕ). among z ns) (sym ((bytes_eq-Decides x name).0 e)) ∙ here) none)
 
 split_false : (x : List ℕ) (xs ys : List (List ℕ)) → among x (xs ++ ys) ≡ false → (among x xs ≡ false) × (among x ys ≡ false)
 split_false x xs ys e = or_parts (among x xs) (among x ys) (sym (list_any-append (bytes_eq x) xs ys) ∙ e)
@@ -145,13 +136,13 @@ AreUnlisted before ns = (x : List ℕ) → among x ns ≡ true → listed x befo
 
 free : (at : Place) (before : List Definition) (name : List ℕ) (ns : List (List ℕ)) → is_name name ≡ true → AreOutside at (name ∷ ns) → AreUnlisted before (name ∷ ns) → IsFree at before name
 free at before name ns proper out none =
-    let here : among name (name ∷ ns) ≡ true = or_left (bytes_eq name name) (among name ns) (itself name) in
+    let here : among name (name ∷ ns) ≡ true = or_left (bytes_eq name name) (among name ns) (bytes_itself name) in
     (proper, out name here, unlisted name before (none name here))
 
 -- The names of the next part are not those of the part before.
 next_unlisted : (t : SchemaTree) (before : List Definition) (ns : List (List ℕ)) → ((x : List ℕ) → among x (names_in t) ≡ true → among x ns ≡ false) → AreUnlisted before (names_in t ++ ns) → AreUnlisted (after_type t before) ns
 next_unlisted t before ns apart none x h =
-    let out : among x (names_in t) ≡ false = false_from_ne_true (among x (names_in t)) (λ e. clash (among x ns) h (apart x e)) in
+    let out : among x (names_in t) ≡ false = false_from_ne_true (among x (names_in t)) (λ e. true_not_false (among x ns) h (apart x e)) in
     untouched x t before out (none x (in_second x (names_in t) ns h))
 
 within_outside : (at : Place) (name : List ℕ) (ns : List (List ℕ)) → among name ns ≡ false → AreOutside at (name ∷ ns) → AreOutside (inside at name) ns
@@ -178,7 +169,7 @@ mutual
   shape_stand at before (ShapeTree.union_of ts) l p s h d out none = (h.0, h.1, h.2, branches_stand at before ts h.3 d out none)
   shape_stand at before (ShapeTree.record_of name fs) l p s h d out none =
       let ns = names_in_fields fs in
-      let both = no_part (among name ns) (are_distinct ns) d in
+      let both = false_and_true (among name ns) (are_distinct ns) d in
       inr (free at before name ns h.0 out none, h.1, (after_fields fs before, fields_stand (inside at name) before fs h.2 both.1 (within_outside at name ns both.0 out) (λ x k. none x (or_right (bytes_eq x name) (among x ns) k)), refl))
 
   branches_stand : (at : Place) (before : List Definition) (ts : BranchTrees) → BranchesAreSound ts → are_distinct (branch_names ts) ≡ true → AreOutside at (branch_names ts) → AreUnlisted before (branch_names ts) → BranchesStand at before ts (after_branches ts before)

@@ -15,17 +15,15 @@ use Rattle.avro_schema.specs.Reading.{size_member, id_in, id_member, space_in}
 use Rattle.avro_schema.specs.Grammar.{Annotates, IsNoComplexWord, IsPrimitive}
 use Rattle.avro_schema.specs.Writing.{put_some, size_json, id_json, with_annotations, type_members, primitive_json, no_namespace, named_members}
 use Rattle.avro_schema.specs.Spelled.{IsSize, IsId}
+use Rattle.lake_basics.proofs.Texts.{bytes_apart}
 
 -- ---- one member
 
 pub at_put : (k : List ℕ) (d : Data) (ms : Members) → get_member k (put k d ms) ≡ Some d
 at_put k d ms = get_member-put k d ms
 
-apart : (q k : List ℕ) → bytes_eq q k ≡ false → q ≡ k → ⊥
-apart q k differ same = let yes : bytes_eq q k ≡ true = (bytes_eq-Decides q k).1 same in let both : true ≡ false = sym yes ∙ differ in cc
-
 pub past_put : (q k : List ℕ) (d : Data) (ms : Members) → bytes_eq q k ≡ false → get_member q (put k d ms) ≡ get_member q ms
-past_put q k d ms differ = get_member-put_other q k d ms (apart q k differ)
+past_put q k d ms differ = get_member-put_other q k d ms (bytes_apart q k differ)
 
 pub at_some : (k : List ℕ) (o : Option Data) (ms : Members) → get_member k ms ≡ None → get_member k (put_some k o ms) ≡ o
 at_some k None ms none = none

@@ -5,13 +5,10 @@ use Rattle.avro_value.specs.Layout.{Layout, Layouts, no_layouts, layouts}
 use Rattle.avro_value.specs.ValueTree.{ValueTree}
 use Rattle.avro_value.specs.Spelling.{Spelling, Concatenated, Block, Blocks, SomeBlocks, KeyAndValue, Spells, SpellsBranch, SpellsParts}
 use Rattle.avro_value.specs.Fitting.{Fits, FitsBranch, FitsParts}
+use Rattle.lake_basics.proofs.Lists.{all_append}
 
 abbrev pub FitBy : {A : Type 0} → Spelling A → (A → Type 0) → Type 0
 FitBy P Q = (x : _) (bytes : List ℕ) → P x bytes → Q x
-
-pub all_append : {A : Type 0} (Q : A → Type 0) (xs ys : List A) → AllByRecursion Q xs → AllByRecursion Q ys → AllByRecursion Q (xs ++ ys)
-all_append Q [] ys a b = b
-all_append Q (x ∷ xs) ys a b = (a.0, all_append Q xs ys a.1 b)
 
 pub many_fit : {A : Type 0} (P : Spelling A) (Q : A → Type 0) → FitBy P Q → FitBy (Concatenated P) (AllByRecursion Q)
 many_fit P Q law [] bytes p = tt

@@ -18,6 +18,7 @@ use Rattle.serde_json.specs.Data.{Data, object, no_members}
 use Rattle.serde_json.specs.Written.{compact_text}
 use Rattle.json_reading.specs.Json.{members_with, text_or_null_data}
 use Rattle.lake_basics.specs.declared.limits.TheConstants.{MAX_FILE_BYTES}
+use Rattle.lake_basics.proofs.Texts.{digits_most}
 use Rattle.table_history.proofs.RowListLemmas.{Contains-filter, Contains-head, Contains-none, Contains-one, Contains-tail}
 use Rattle.table_history.specs.History.{History}
 use Rattle.table_history.specs.Row.{Row}
@@ -111,11 +112,6 @@ path_there number (suc n) i j less lt =
     subst (λ (k : ℕ). Contains (added_paths number n ++ map (path_at number n) (numbers_under 50)) (path_at number k j)) last (Contains-append_right (added_paths number n) (map (path_at number n) (numbers_under 50)) (path_at number n j) (in_map (path_at number n) 50 j lt)))
     (cases_lt i n)
 
--- distinct texts among these are no more than these
-pub few_texts : (xs ys : List (List ℕ)) → IsDistinct bytes_eq xs → ((q : List ℕ) → Contains xs q → Contains ys q) → length xs ≤ length ys
-few_texts xs ys distinct among =
-    length-le_from_is_member nat_list_eq_equiv xs ys distinct (λ q is. (is_member-Decides bytes_eq-Decides ys q).1 (among q ((is_member-Decides bytes_eq-Decides xs q).0 is)))
-
 -- ---- folders
 
 -- a digit that a folder has
@@ -205,9 +201,6 @@ escaped_most (b ∷ path) =
 
 line_most : (d : Data) (most : ℕ) → most_bytes d ≤ most → length (line_text d) ≤ most + 1
 line_most d most le = let both = length-append (compact_text d) (10 ∷ []) in let text = compact_most d in omega (arith, both, text, le)
-
-digits_most : (n : ℕ) → n < 10 ^ 15 → length (decimal n) ≤ 15
-digits_most n lt = length-decimal-le 15 n (omega arith) lt (omega (arith, lt))
 
 stats_most : (count : ℕ) → length (decimal count) ≤ 15 → length (compact_text (stats_data count)) ≤ 300
 stats_most count le = let text = compact_most (stats_data count) in omega (arith, text, le)

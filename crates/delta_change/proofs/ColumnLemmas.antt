@@ -4,12 +4,13 @@ use Rattle.std.specs.Prelude.{◌==◌}
 use Rattle.std.specs.Cmp.Lexicographic.{pointwise}
 use Rattle.std.specs.List.{list_any, list_all, IsDistinct}
 use Rattle.std.specs.Str.{bytes_eq}
-use Rattle.std.proofs.lemmas.Bool.{and_parts, cases_Bool, eqb-true, false≢true, or_parts}
+use Rattle.std.proofs.lemmas.Bool.{and_parts, cases_Bool, eqb-true, false≢true, not-false, not-true, or_parts}
 use Rattle.std.proofs.lemmas.Cmp.{nat_list_eq_equiv}
 use Rattle.std.proofs.lemmas.Map.Views.{Contains-from_any, list_any-from_Contains}
 use Rattle.std.proofs.lemmas.Slice.Eq.{bytes_eq-Decides, slice_eq-Decides}
 use Rattle.avro_schema.specs.Names.{are_distinct}
 use Rattle.lake_basics.specs.Outcome.{◌>>=◌, required, each, FailsUnlessMemory}
+use Rattle.lake_basics.proofs.Truth.{or_nothing}
 use Rattle.table_history.specs.First.{IsFirst, NoneOf}
 use Rattle.table_history.specs.History.{column_type}
 use Rattle.table_history.specs.TypeTree.{TypeTree, ColumnTrees}
@@ -46,14 +47,6 @@ use Rattle.delta_change.proofs.SchemaTextLemmas.{missing_name, good_text, has_fi
 
 abbrev early_features : List Feature
 early_features = ReaderVersion ∷ ReaderFeature ∷ ColumnMapping ∷ []
-
-not_true : (b : Bool) → not b ≡ true → b ≡ false
-not_true true e = absurd (false≢true e)
-not_true false e = refl
-
-not_false : (b : Bool) → not b ≡ false → b ≡ true
-not_false true e = refl
-not_false false e = absurd (false≢true (sym e))
 
 -- ---- one schema at most
 
@@ -92,20 +85,16 @@ reader_shown c h = by c.protocol refl h
   where
     by : (o : Option Protocol) → c.protocol ≡ o → has_other_reader o ≡ true → HasOtherReader c
     by None is e = absurd (false≢true e)
-    by (Some p) is e = let other : is_reader p.reader ≡ false = not_true _ e in (p, is, not_one p.reader (pos 1) other refl, not_one p.reader (pos 2) other refl, not_one p.reader (pos 3) other refl)
+    by (Some p) is e = let other : is_reader p.reader ≡ false = not-true _ e in (p, is, not_one p.reader (pos 1) other refl, not_one p.reader (pos 2) other refl, not_one p.reader (pos 3) other refl)
 
 reader_not_shown : (c : DeltaCommit) → has_other_reader c.protocol ≡ false → HasOtherReader c → ⊥
 reader_not_shown c h shows =
-    let known : is_reader shows.0.reader ≡ true = not_false _ (sym (ap has_other_reader shows.1) ∙ h) in
+    let known : is_reader shows.0.reader ≡ true = not-false _ (sym (ap has_other_reader shows.1) ∙ h) in
     ⊎_elim shows.2 (λ more. ⊎_elim shows.3 shows.4 more) (reader_three shows.0.reader known)
 
 version_three : (z : ℤ) → lists_features z ≡ true → z ≡ pos 3
 version_three (pos v) h = ap pos (eqb-true v 3 h)
 version_three (negsuc n) h = absurd (false≢true h)
-
-or_nothing : (b : Bool) → (b || false) ≡ b
-or_nothing true = refl
-or_nothing false = refl
 
 known_any : (name : List ℕ) → list_any (bytes_eq name) known_features ≡ is_known name
 known_any name =
@@ -118,7 +107,7 @@ feature_shown c h = by c.protocol refl h
     named p None is three are e = absurd (false≢true e)
     named p (Some names) is three are e =
         let other = any_to is_unknown names e in
-        (p, names, other.0, is, three, are, other.1, λ known. false≢true (sym (not_true _ other.2) ∙ sym (known_any other.0) ∙ list_any-from_Contains nat_list_eq_equiv other.0 known_features known))
+        (p, names, other.0, is, three, are, other.1, λ known. false≢true (sym (not-true _ other.2) ∙ sym (known_any other.0) ∙ list_any-from_Contains nat_list_eq_equiv other.0 known_features known))
 
     by : (o : Option Protocol) → c.protocol ≡ o → needs_other_feature o ≡ true → NeedsOtherFeature c
     by None is e = absurd (false≢true e)
@@ -146,7 +135,7 @@ mapping_shown c h = by c.meta refl h
         let found = any_to is_mapping m.configuration e in
         let both = and_parts (bytes_eq found.0.0 (codes "delta.columnMapping.mode")) (not (bytes_eq found.0.1 (codes "none"))) found.2 in
         let key : found.0.0 ≡ codes "delta.columnMapping.mode" = (bytes_eq-Decides found.0.0 (codes "delta.columnMapping.mode")).0 both.0 in
-        (m, found.0.1, is, subst (λ k. Contains m.configuration (k, found.0.1)) key found.1, λ none. false≢true (sym (not_true _ both.1) ∙ (bytes_eq-Decides found.0.1 (codes "none")).1 none))
+        (m, found.0.1, is, subst (λ k. Contains m.configuration (k, found.0.1)) key found.1, λ none. false≢true (sym (not-true _ both.1) ∙ (bytes_eq-Decides found.0.1 (codes "none")).1 none))
 
 mapping_not_shown : (c : DeltaCommit) → maps_columns c.meta ≡ false → MapsColumns c → ⊥
 mapping_not_shown c h shows =
@@ -382,7 +371,7 @@ module _ (c : DeltaCommit) (m : MetaData) (base : Option Table) (is : c.meta ≡
         let neither : changes_partition t m schema ≡ false = sym (ap (λ o. changes_base o m schema) changed.1) ∙ h in
         let parts = or_parts (not (pointwise bytes_eq m.partition t.partition)) (has_other_kind t.schema schema m.partition) neither in
         ⊎_elim
-        (λ other. other ((names_same m.partition t.partition).0 (not_false _ parts.0)))
+        (λ other. other ((names_same m.partition t.partition).0 (not-false _ parts.0)))
         (λ kind. no_other t.schema schema m.partition parts.1 kind)
         changed.2
 

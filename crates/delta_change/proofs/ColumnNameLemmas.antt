@@ -11,13 +11,10 @@ use Rattle.table_history.specs.SchemaView.{type_view, column_view, columns_view}
 use Rattle.table_history.specs.TypeTree.{TypeTree, ColumnTree, ColumnTrees, column, columns_of}
 use Rattle.table_history.specs.declared.schema.Column.{Column}
 use Rattle.table_history.specs.declared.schema.ColumnType.{the_lemmas}
+use Rattle.lake_basics.proofs.Truth.{or_nothing}
 
 abbrev pub At : List ℕ → Bor (List ℕ) → Bool
 At name = λ (key : Bor (List ℕ)). bytes_eq name key.now
-
-or_nothing : (b : Bool) → (b || false) ≡ b
-or_nothing true = refl
-or_nothing false = refl
 
 or_assoc : (a b c : Bool) → ((a || b) || c) ≡ (a || (b || c))
 or_assoc true b c = refl

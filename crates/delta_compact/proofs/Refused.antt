@@ -4,6 +4,7 @@ use Rattle.std.specs.Prelude.{IfErr, IsSome, option_map}
 use Rattle.std.specs.FinMap as map
 use Rattle.std.proofs.lemmas.Bool.{cases_lt}
 use Rattle.lake_basics.specs.declared.limits.TheConstants.{MAX_DELTA_VERSION}
+use Rattle.lake_basics.proofs.Options.{none_there, some_there}
 use Rattle.lake_store.specs.Disk.{Files}
 use Rattle.table_history.specs.declared.table.Table.{Table}
 use Rattle.delta_change.specs.Change.{IsChangeRefusal}
@@ -69,15 +70,8 @@ unfit_cause files path bytes base c cause e there readable refused told = cause_
 
 -- ---- which files are there
 
-pub is_some : (o : Option (List ℕ)) (bytes : List ℕ) → o ≡ Some bytes → IsSome o
-is_some o bytes is = subst IsSome (sym is) refl
-
-none_some : (o : Option (List ℕ)) → o ≡ None → IsSome o → ⊥
-none_some (Some x) is some = absurd (cc)
-none_some None is some = absurd (cc)
-
 pub not_there : (files : Files) (path : List ℕ) → IsSome (map.get files path) → map.get files path ≡ None → ⊥
-not_there files path some none = none_some (map.get files path) none some
+not_there files path some none = none_there (map.get files path) none some
 
 module _ (files : Files) (head : ℕ) (compacted : AllCompacted files head) (within : head ≤ MAX_DELTA_VERSION) where
   pub part_there : (blocks part : ℕ) (path : List ℕ) → AreBlocksOf head blocks → part < part_count head blocks → HasEach files head → IsPartPath blocks part path → IsSome (map.get files path)
@@ -86,12 +80,12 @@ module _ (files : Files) (head : ℕ) (compacted : AllCompacted files head) (wit
       let inside = block_under head blocks part are block.0 in
       let h = compacted part inside in
       let same = one_path part path h.there.path (omega (arith, inside, within)) block.1 h.there.is in
-      is_some (map.get files path) h.text (ap (map.get files) same ∙ h.there.there))
+      some_there (map.get files path) h.text (ap (map.get files) same ∙ h.there.there))
       (λ (version : (blocks ≤ part) × IsVersionPath path (9 * blocks + part)).
       let all = are.all in
       let has = each (9 * blocks + part) (omega (arith, under, all)) in
       let same = path_once (9 * blocks + part) path has.1.path version.1 has.1.is in
-      is_some (map.get files path) has.0 (ap (map.get files) same ∙ has.1.there))
+      some_there (map.get files path) has.0 (ap (map.get files) same ∙ has.1.there))
       is
 
   -- the versions of the blocks are

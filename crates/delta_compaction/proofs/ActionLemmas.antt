@@ -6,6 +6,7 @@ use Rattle.percent_encoding.specs.Percent.{percent_decode}
 use Rattle.serde_json.specs.Data.{Data, object}
 use Rattle.serde_json.specs.Find.{as_object, get}
 use Rattle.lake_basics.specs.Outcome.{◌>>=◌, required, each}
+use Rattle.lake_basics.proofs.Options.{some_once, some_or_none}
 use Rattle.json_reading.specs.Json.{json, present, text, text_member, list_member, object_member, count_member, whole_member, items, pairs}
 use Rattle.delta_log.specs.declared.action.LineAction.{LineAction}
 use Rattle.delta_log.specs.declared.action.LineAction.TheVariants as action
@@ -153,45 +154,39 @@ says line a e = by (list_all is_space line) refl e
 same_data : (line : List ℕ) (d e : Data) → line_json line ≡ Some d → line_json line ≡ Some e → d ≡ e
 same_data line d e p q = cc
 
-some_none : {A : Type 0} (o : Option A) (x : A) → o ≡ Some x → o ≡ None → ⊥
-some_none o x p q = cc
-
-same_some : {A : Type 0} (o : Option A) (x y : A) → o ≡ Some x → o ≡ Some y → x ≡ y
-same_some o x y p q = cc
-
 -- what a line with this member says
 at_data : (line name : List ℕ) (m : Data) (a : LineAction) → HasMember line name m → Says line a → (d : Data) × (present name d ≡ Some m) × Shape d a
-at_data line name m a (d, is, e) (inl blank) = absurd (some_none (line_json line) d is blank.0)
+at_data line name m a (d, is, e) (inl blank) = absurd (some_or_none (line_json line) d is blank.0)
 at_data line name m a (d, is, e) (inr said) = (said.0, ap (present name) (same_data line said.0 d said.1 is) ∙ e, said.2)
 
 -- the four shapes at each of the four members
 protocol_at : (d m : Data) (a : LineAction) → present (codes "protocol") d ≡ Some m → Shape d a → IsProtocol a
-protocol_at d m a e (inl h) = absurd (some_none _ m e h.0.0)
+protocol_at d m a e (inl h) = absurd (some_or_none _ m e h.0.0)
 protocol_at d m a e (inr (inl h)) = h.2
-protocol_at d m a e (inr (inr (inl h))) = absurd (some_none _ m e h.1.0)
-protocol_at d m a e (inr (inr (inr (inl h)))) = absurd (some_none _ m e h.1.0)
-protocol_at d m a e (inr (inr (inr (inr h)))) = absurd (some_none _ m e h.1.0)
+protocol_at d m a e (inr (inr (inl h))) = absurd (some_or_none _ m e h.1.0)
+protocol_at d m a e (inr (inr (inr (inl h)))) = absurd (some_or_none _ m e h.1.0)
+protocol_at d m a e (inr (inr (inr (inr h)))) = absurd (some_or_none _ m e h.1.0)
 
 meta_at : (d m : Data) (a : LineAction) → present (codes "metaData") d ≡ Some m → Shape d a → IsMeta a
-meta_at d m a e (inl h) = absurd (some_none _ m e h.0.1)
-meta_at d m a e (inr (inl h)) = absurd (some_none _ m e h.1.1)
+meta_at d m a e (inl h) = absurd (some_or_none _ m e h.0.1)
+meta_at d m a e (inr (inl h)) = absurd (some_or_none _ m e h.1.1)
 meta_at d m a e (inr (inr (inl h))) = h.2
-meta_at d m a e (inr (inr (inr (inl h)))) = absurd (some_none _ m e h.1.1)
-meta_at d m a e (inr (inr (inr (inr h)))) = absurd (some_none _ m e h.1.1)
+meta_at d m a e (inr (inr (inr (inl h)))) = absurd (some_or_none _ m e h.1.1)
+meta_at d m a e (inr (inr (inr (inr h)))) = absurd (some_or_none _ m e h.1.1)
 
 add_at : (d m : Data) (a : LineAction) → present (codes "add") d ≡ Some m → Shape d a → FileUri m a
-add_at d m a e (inl h) = absurd (some_none _ m e h.0.2)
-add_at d m a e (inr (inl h)) = absurd (some_none _ m e h.1.2)
-add_at d m a e (inr (inr (inl h))) = absurd (some_none _ m e h.1.2)
-add_at d m a e (inr (inr (inr (inl h)))) = subst (λ x. FileUri x a) (same_some _ h.0 m h.1.2 e) h.2
-add_at d m a e (inr (inr (inr (inr h)))) = absurd (some_none _ m e h.1.2)
+add_at d m a e (inl h) = absurd (some_or_none _ m e h.0.2)
+add_at d m a e (inr (inl h)) = absurd (some_or_none _ m e h.1.2)
+add_at d m a e (inr (inr (inl h))) = absurd (some_or_none _ m e h.1.2)
+add_at d m a e (inr (inr (inr (inl h)))) = subst (λ x. FileUri x a) (some_once _ h.0 m h.1.2 e) h.2
+add_at d m a e (inr (inr (inr (inr h)))) = absurd (some_or_none _ m e h.1.2)
 
 remove_at : (d m : Data) (a : LineAction) → present (codes "remove") d ≡ Some m → Shape d a → FileUri m a
-remove_at d m a e (inl h) = absurd (some_none _ m e h.0.3)
-remove_at d m a e (inr (inl h)) = absurd (some_none _ m e h.1.3)
-remove_at d m a e (inr (inr (inl h))) = absurd (some_none _ m e h.1.3)
-remove_at d m a e (inr (inr (inr (inl h)))) = absurd (some_none _ m e h.1.3)
-remove_at d m a e (inr (inr (inr (inr h)))) = subst (λ x. FileUri x a) (same_some _ h.0 m h.1.3 e) h.2
+remove_at d m a e (inl h) = absurd (some_or_none _ m e h.0.3)
+remove_at d m a e (inr (inl h)) = absurd (some_or_none _ m e h.1.3)
+remove_at d m a e (inr (inr (inl h))) = absurd (some_or_none _ m e h.1.3)
+remove_at d m a e (inr (inr (inr (inl h)))) = absurd (some_or_none _ m e h.1.3)
+remove_at d m a e (inr (inr (inr (inr h)))) = subst (λ x. FileUri x a) (some_once _ h.0 m h.1.3 e) h.2
 
 -- ---- from what a line is about to its action
 
@@ -211,11 +206,11 @@ module _ (line : List ℕ) (a : LineAction) (read : line_action line ≡ Ok a) w
   acts_on uri (m, inl has, named) =
       let d = at_data line (codes "add") m a has (says line a read) in
       let is = add_at d.0 m a d.1 d.2 in
-      subst (IsOn a) (same_some _ is.0 uri is.1 named) is.2
+      subst (IsOn a) (some_once _ is.0 uri is.1 named) is.2
   acts_on uri (m, inr has, named) =
       let d = at_data line (codes "remove") m a has (says line a read) in
       let is = remove_at d.0 m a d.1 d.2 in
-      subst (IsOn a) (same_some _ is.0 uri is.1 named) is.2
+      subst (IsOn a) (some_once _ is.0 uri is.1 named) is.2
 
   pub acts_uri : (uri : List ℕ) → ActsOnUri line uri → uri_in a ≡ Some uri
   acts_uri uri acts = (acts_on uri acts).0
@@ -241,9 +236,9 @@ module _ (line : List ℕ) (a : LineAction) (read : line_action line ≡ Ok a) w
       by (inl blank) = absurd (no_protocol blank.1 p e)
       by (inr (d, is, inl h)) = absurd (no_protocol h.1 p e)
       by (inr (d, is, inr (inl h))) = (h.0, (d, is, h.1.0))
-      by (inr (d, is, inr (inr (inl h)))) = absurd (some_none (protocol_in a) p e (ap protocol_in h.2.2))
-      by (inr (d, is, inr (inr (inr (inl h))))) = absurd (some_none (protocol_in a) p e h.2.2.2)
-      by (inr (d, is, inr (inr (inr (inr h))))) = absurd (some_none (protocol_in a) p e h.2.2.2)
+      by (inr (d, is, inr (inr (inl h)))) = absurd (some_or_none (protocol_in a) p e (ap protocol_in h.2.2))
+      by (inr (d, is, inr (inr (inr (inl h))))) = absurd (some_or_none (protocol_in a) p e h.2.2.2)
+      by (inr (d, is, inr (inr (inr (inr h))))) = absurd (some_or_none (protocol_in a) p e h.2.2.2)
 
   pub meta_about : (m : MetaData) → meta_in a ≡ Some m → IsAbout line key.MetaData
   meta_about m e = by (says line a read)
@@ -251,10 +246,10 @@ module _ (line : List ℕ) (a : LineAction) (read : line_action line ≡ Ok a) w
       by : Says line a → IsAbout line key.MetaData
       by (inl blank) = absurd (no_meta blank.1 m e)
       by (inr (d, is, inl h)) = absurd (no_meta h.1 m e)
-      by (inr (d, is, inr (inl h))) = absurd (some_none (meta_in a) m e (ap meta_in h.2.1))
+      by (inr (d, is, inr (inl h))) = absurd (some_or_none (meta_in a) m e (ap meta_in h.2.1))
       by (inr (d, is, inr (inr (inl h)))) = (h.0, (d, is, h.1.1))
-      by (inr (d, is, inr (inr (inr (inl h))))) = absurd (some_none (meta_in a) m e h.2.2.3)
-      by (inr (d, is, inr (inr (inr (inr h))))) = absurd (some_none (meta_in a) m e h.2.2.3)
+      by (inr (d, is, inr (inr (inr (inl h))))) = absurd (some_or_none (meta_in a) m e h.2.2.3)
+      by (inr (d, is, inr (inr (inr (inr h))))) = absurd (some_or_none (meta_in a) m e h.2.2.3)
 
   pub path_about : (path : List ℕ) → path_in a ≡ Some path → IsAbout line (key.File path)
   path_about path e = by (says line a read)
@@ -262,7 +257,7 @@ module _ (line : List ℕ) (a : LineAction) (read : line_action line ≡ Ok a) w
       by : Says line a → IsAbout line (key.File path)
       by (inl blank) = absurd (no_path_in blank.1 path e)
       by (inr (d, is, inl h)) = absurd (no_path_in h.1 path e)
-      by (inr (d, is, inr (inl h))) = absurd (some_none (path_in a) path e (ap path_in h.2.1))
-      by (inr (d, is, inr (inr (inl h)))) = absurd (some_none (path_in a) path e (ap path_in h.2.2))
-      by (inr (d, is, inr (inr (inr (inl h))))) = (h.2.0, (h.0, inl (d, is, h.1.2), h.2.1), same_some (path_in a) path _ e h.2.2.1)
-      by (inr (d, is, inr (inr (inr (inr h))))) = (h.2.0, (h.0, inr (d, is, h.1.3), h.2.1), same_some (path_in a) path _ e h.2.2.1)
+      by (inr (d, is, inr (inl h))) = absurd (some_or_none (path_in a) path e (ap path_in h.2.1))
+      by (inr (d, is, inr (inr (inl h)))) = absurd (some_or_none (path_in a) path e (ap path_in h.2.2))
+      by (inr (d, is, inr (inr (inr (inl h))))) = (h.2.0, (h.0, inl (d, is, h.1.2), h.2.1), some_once (path_in a) path _ e h.2.2.1)
+      by (inr (d, is, inr (inr (inr (inr h))))) = (h.2.0, (h.0, inr (d, is, h.1.3), h.2.1), some_once (path_in a) path _ e h.2.2.1)

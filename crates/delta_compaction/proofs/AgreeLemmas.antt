@@ -13,6 +13,7 @@ use Rattle.std.proofs.lemmas.Map.Views.{Contains-from_any, list_any-from_Contain
 use Rattle.std.proofs.lemmas.Slice.Eq.{bytes_eq-Decides}
 use Rattle.lake_basics.specs.declared.limits.TheConstants.{MAX_ACTIONS}
 use Rattle.lake_basics.specs.Outcome.{each}
+use Rattle.lake_basics.proofs.Options.{same_options}
 use Rattle.delta_log.specs.declared.action.LineAction.{LineAction}
 use Rattle.delta_log.specs.declared.action.LineAction.TheVariants as action
 use Rattle.delta_log.specs.declared.commit.DeltaCommit.{DeltaCommit}
@@ -62,12 +63,6 @@ entries_once commits a b one other =
       (λ there. (one.newest e.0 e.1).1 ((other.newest e.0 e.1).0 there)),
     ))
 
-listed_once : {A : Type 0} (a b : Option A) → option_to_list a ≡ option_to_list b → a ≡ b
-listed_once None None e = refl
-listed_once None (Some b) e = absurd (cc)
-listed_once (Some a) None e = absurd (cc)
-listed_once (Some a) (Some b) e = let same : a ≡ b = cc in ap (λ x. Some x) same
-
 -- ---- the newest lines of commits that can be joined
 
 module _ (commits : List (List ℕ)) (said : List DeltaCommit) (taken : AreTaken commits said) (entries : Entries) (newest : AreNewest commits entries) where
@@ -112,8 +107,8 @@ module _ (commits : List (List ℕ)) (said : List DeltaCommit) (taken : AreTaken
 
   says_same : (joined stated : DeltaCommit) → SaysThese (told_of commits said taken entries newest).told joined → SaysThese (told_of commits said taken entries newest).told stated → SaysSame joined stated
   says_same joined stated one other = record {
-    protocol = listed_once joined.protocol stated.protocol (one.protocol ∙ sym other.protocol);
-    meta = listed_once joined.meta stated.meta (one.meta ∙ sym other.meta);
+    protocol = same_options joined.protocol stated.protocol (one.protocol ∙ sym other.protocol);
+    meta = same_options joined.meta stated.meta (one.meta ∙ sym other.meta);
     files = λ f. ((λ there. (other.files f).1 ((one.files f).0 there)), (λ there. (one.files f).1 ((other.files f).0 there)));
   }
 

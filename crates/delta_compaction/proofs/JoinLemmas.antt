@@ -8,7 +8,7 @@ use Rattle.std.proofs.lemmas.Bool.{cases_Bool, cond-true, cond-false}
 use Rattle.std.proofs.lemmas.List.Elements.{All-nil, All-cons, All-head, All-tail, Contains-append_cases, Contains-append_left, Contains-append_right}
 use Rattle.std.proofs.lemmas.Map.Keys.{IsDistinct-head, IsDistinct-tail}
 use Rattle.std.proofs.lemmas.Slice.Eq.{bytes_eq-Decides}
-use Rattle.table_history.proofs.RowListLemmas.{Contains-none, Contains-head, bytes_itself}
+use Rattle.table_history.proofs.RowListLemmas.{Contains-none, Contains-head}
 use Rattle.delta_log.specs.declared.action.LineAction.{LineAction}
 use Rattle.delta_log.specs.declared.action.LineAction.TheVariants as action
 use Rattle.delta_log.specs.declared.commit.DeltaCommit.{DeltaCommit}
@@ -28,6 +28,7 @@ use Rattle.delta_compaction.proofs.ActionLemmas.{about_meta, about_path, about_p
 use Rattle.delta_compaction.proofs.LastLemmas.{AllTell, GiveLast, GiveNone, HasLast, LackAll, Matches, Tells, given, given_back, has_last, last_given, last_has, last_told, nothing_given, none_given, only_given, told_last}
 use Rattle.delta_compaction.proofs.LawLemmas.{action_named, named_action}
 use Rattle.delta_compaction.proofs.ReadsLemmas.{AllRead, Reads, all_actions, all_exact, all_reads, groups_of}
+use Rattle.lake_basics.proofs.Texts.{bytes_itself}
 
 -- ---- parts of commits: the protocol and the metadata
 

@@ -21,6 +21,7 @@ use Rattle.delta_compaction.specs.declared.key.LineKey.TheVariants as key
 use Rattle.delta_compaction.specs.declared.kind.LineKind.TheVariants as kind
 use Rattle.delta_compaction.specs.Kinds.{file_kind, has_stray, is_known, is_stray, json_kind, kind_by, line_kind, member_kind, named_kind, object_kind, uri_kind}
 use Rattle.delta_compaction.specs.Lines.{ActsOnUri, HasMember, IsAbout, IsStray, is_member, is_null, known_members, line_json, member_names}
+use Rattle.lake_basics.proofs.Texts.{bytes_apart}
 
 -- ---- known names
 
@@ -162,11 +163,11 @@ module _ (ms : Members) (plain : has_stray false (pairs ms) ≡ false) where
   few_names = let few = (has_stray-false false (pairs ms) plain).1 in omega (arith, few)
 
   none_by : (o : Option Data) (name other : List ℕ) (m : Data) → present name (object ms) ≡ Some m → name ≢ other → present other (object ms) ≡ o → o ≡ None
-  none_by None name other m one apart is = refl
-  none_by (Some n) name other m one apart is = absurd (apart (alone (names (pairs ms)) name other few_names (present_named name ms m one) (present_named other ms n is)))
+  none_by None name other m one bytes_apart is = refl
+  none_by (Some n) name other m one bytes_apart is = absurd (bytes_apart (alone (names (pairs ms)) name other few_names (present_named name ms m one) (present_named other ms n is)))
 
   none_other : (name other : List ℕ) (m : Data) → present name (object ms) ≡ Some m → name ≢ other → present other (object ms) ≡ None
-  none_other name other m one apart = none_by (present other (object ms)) name other m one apart refl
+  none_other name other m one bytes_apart = none_by (present other (object ms)) name other m one bytes_apart refl
 
 abbrev IsObject : Data → Type 0
 IsObject d = (ms : Members) × (d ≡ object ms)
@@ -181,9 +182,6 @@ object_of name (object ms) m e = (ms, refl)
 
 kind_same : (a b c d e f a' b' c' d' e' f' : Option Data) → a ≡ a' → b ≡ b' → c ≡ c' → d ≡ d' → e ≡ e' → f ≡ f' → kind_by a b c d e f ≡ kind_by a' b' c' d' e' f'
 kind_same a b c d e f a' b' c' d' e' f' p q r s t u = rw (p, q, r, s, t, u) refl
-
-apart : (xs ys : List ℕ) → bytes_eq xs ys ≡ false → xs ≡ ys → ⊥
-apart xs ys fails same = let holds = (bytes_eq-Decides xs ys).1 same in absurd (cc)
 
 -- ---- an object without a stray member
 
@@ -214,33 +212,33 @@ module _ (line : List ℕ) (plain : is_stray (line_kind line) ≡ false) (d : Da
   here name m e = ap (present name) (sym same) ∙ e
 
   none_beside : (name other : List ℕ) (m : Data) → present name d ≡ Some m → name ≢ other → present other (object ms) ≡ None
-  none_beside name other m e apart = none_other ms fits name other m (here name m e) apart
+  none_beside name other m e bytes_apart = none_other ms fits name other m (here name m e) bytes_apart
 
   protocol_kind : (m : Data) → present (codes "protocol") d ≡ Some m → line_kind line ≡ kind.Kept key.Protocol
   protocol_kind m e = kind_is ∙ kind_same _ _ _ _ _ _ (Some m) _ _ _ _ _ (here (codes "protocol") m e) refl refl refl refl refl
 
   meta_kind : (m : Data) → present (codes "metaData") d ≡ Some m → line_kind line ≡ kind.Kept key.MetaData
-  meta_kind m e = kind_is ∙ kind_same _ _ _ _ _ _ None (Some m) _ _ _ _ (none_beside (codes "metaData") (codes "protocol") m e (apart _ _ refl)) (here (codes "metaData") m e) refl refl refl refl
+  meta_kind m e = kind_is ∙ kind_same _ _ _ _ _ _ None (Some m) _ _ _ _ (none_beside (codes "metaData") (codes "protocol") m e (bytes_apart _ _ refl)) (here (codes "metaData") m e) refl refl refl refl
 
   add_kind : (m : Data) → present (codes "add") d ≡ Some m → line_kind line ≡ uri_kind (text_member (codes "path") m)
   add_kind m e = kind_is ∙ kind_same _ _ _ _ _ _ None None (Some m) _ _ _
-      (none_beside (codes "add") (codes "protocol") m e (apart _ _ refl)) (none_beside (codes "add") (codes "metaData") m e (apart _ _ refl)) (here (codes "add") m e) refl refl refl
+      (none_beside (codes "add") (codes "protocol") m e (bytes_apart _ _ refl)) (none_beside (codes "add") (codes "metaData") m e (bytes_apart _ _ refl)) (here (codes "add") m e) refl refl refl
 
   remove_kind : (m : Data) → present (codes "remove") d ≡ Some m → line_kind line ≡ uri_kind (text_member (codes "path") m)
   remove_kind m e = kind_is ∙ kind_same _ _ _ _ _ _ None None None (Some m) _ _
-      (none_beside (codes "remove") (codes "protocol") m e (apart _ _ refl)) (none_beside (codes "remove") (codes "metaData") m e (apart _ _ refl)) (none_beside (codes "remove") (codes "add") m e (apart _ _ refl))
+      (none_beside (codes "remove") (codes "protocol") m e (bytes_apart _ _ refl)) (none_beside (codes "remove") (codes "metaData") m e (bytes_apart _ _ refl)) (none_beside (codes "remove") (codes "add") m e (bytes_apart _ _ refl))
       (here (codes "remove") m e) refl refl
 
   transaction_kind : (m : Data) → present (codes "txn") d ≡ Some m → line_kind line ≡ named_kind (λ app. key.Transaction app) (text_member (codes "appId") m)
   transaction_kind m e = kind_is ∙ kind_same _ _ _ _ _ _ None None None None (Some m) _
-      (none_beside (codes "txn") (codes "protocol") m e (apart _ _ refl)) (none_beside (codes "txn") (codes "metaData") m e (apart _ _ refl)) (none_beside (codes "txn") (codes "add") m e (apart _ _ refl))
-      (none_beside (codes "txn") (codes "remove") m e (apart _ _ refl)) (here (codes "txn") m e) refl
+      (none_beside (codes "txn") (codes "protocol") m e (bytes_apart _ _ refl)) (none_beside (codes "txn") (codes "metaData") m e (bytes_apart _ _ refl)) (none_beside (codes "txn") (codes "add") m e (bytes_apart _ _ refl))
+      (none_beside (codes "txn") (codes "remove") m e (bytes_apart _ _ refl)) (here (codes "txn") m e) refl
 
   domain_kind : (m : Data) → present (codes "domainMetadata") d ≡ Some m → line_kind line ≡ named_kind (λ name. key.Domain name) (text_member (codes "domain") m)
   domain_kind m e = kind_is ∙ kind_same _ _ _ _ _ _ None None None None None (Some m)
-      (none_beside (codes "domainMetadata") (codes "protocol") m e (apart _ _ refl)) (none_beside (codes "domainMetadata") (codes "metaData") m e (apart _ _ refl))
-      (none_beside (codes "domainMetadata") (codes "add") m e (apart _ _ refl)) (none_beside (codes "domainMetadata") (codes "remove") m e (apart _ _ refl))
-      (none_beside (codes "domainMetadata") (codes "txn") m e (apart _ _ refl)) (here (codes "domainMetadata") m e)
+      (none_beside (codes "domainMetadata") (codes "protocol") m e (bytes_apart _ _ refl)) (none_beside (codes "domainMetadata") (codes "metaData") m e (bytes_apart _ _ refl))
+      (none_beside (codes "domainMetadata") (codes "add") m e (bytes_apart _ _ refl)) (none_beside (codes "domainMetadata") (codes "remove") m e (bytes_apart _ _ refl))
+      (none_beside (codes "domainMetadata") (codes "txn") m e (bytes_apart _ _ refl)) (here (codes "domainMetadata") m e)
 
 -- what a line is about is what it is kept as, where its URI is that of a path
 abbrev HasPlace : List ℕ → Type 0

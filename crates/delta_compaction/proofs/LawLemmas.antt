@@ -12,6 +12,7 @@ use Rattle.delta_log.specs.declared.commit.FileAction.TheVariants as file
 use Rattle.delta_log.specs.Commit.{file_path, file_paths}
 use Rattle.delta_live.specs.Live.{ActsOn, AddsRow, IsLive, IsLiveOver, PartColumns}
 use Rattle.delta_compaction.specs.Law.{IsNewestAction, IsNewestPart, Joins, StandsFor}
+use Rattle.lake_basics.proofs.Lists.{none_longer}
 
 -- ---- lists
 
@@ -36,13 +37,9 @@ cut (z ∷ xs) ys (w ∷ front) x later e =
 abbrev IsOnly : {X : Type 0} → X → List X → X → List X → Type 0
 IsOnly y front x later = (front ≡ []) × (x ≡ y) × (later ≡ [])
 
-not_longer : {X : Type 0} (front : List X) (x : X) (later : List X) → [] ≡ front ++ x ∷ later → ⊥
-not_longer [] x later e = cc
-not_longer (z ∷ front) x later e = cc
-
 only : {X : Type 0} (y : X) (front : List X) (x : X) (later : List X) → y ∷ [] ≡ front ++ x ∷ later → IsOnly y front x later
 only y [] x later e = let same : y ≡ x = cc in let rest : [] ≡ later = cc in (refl, sym same, sym rest)
-only y (z ∷ front) x later e = let rest : [] ≡ front ++ x ∷ later = cc in absurd (not_longer front x later rest)
+only y (z ∷ front) x later e = let rest : [] ≡ front ++ x ∷ later = cc in absurd (none_longer front x later rest)
 
 pub all_both : {X : Type 0} (P : X → Type 0) (xs ys : List X) → All P (xs ++ ys) → All P xs × All P ys
 all_both P [] ys all = (All-nil P, all)

@@ -23,6 +23,7 @@ use Rattle.delta_compaction.proofs.LastLemmas.{kept_line, newest_line}
 use Rattle.delta_compaction.proofs.LawLemmas.{all_both}
 use Rattle.delta_compaction.proofs.ReadsLemmas.{all_exact}
 use Rattle.delta_compaction.proofs.SplitLemmas.{HasRead, read_all, read_front, read_more, read_none, read_upto}
+use Rattle.lake_basics.proofs.Lists.{none_longer}
 
 abbrev Entries : Type 0
 Entries = List (LineKey × List ℕ)
@@ -140,13 +141,9 @@ commit_refused bytes plain (delta.Limit w) h = unread bytes (all_plain (lines_of
 
 -- ---- a commit with a stray line
 
-nothing : {X : Type 0} (before : List X) (x : X) (later : List X) → [] ≡ before ++ x ∷ later → ⊥
-nothing [] x later e = cc
-nothing (w ∷ before) x later e = cc
-
 before_last : {X : Type 0} (xs : List X) (y : X) (front : List X) (x : X) (later : List X) → xs ++ y ∷ [] ≡ front ++ x ∷ later → (rest : List X) × (xs ≡ front ++ rest)
 before_last xs y [] x later e = (xs, refl)
-before_last [] y (z ∷ before) x later e = let none : [] ≡ before ++ x ∷ later = cc in absurd (nothing before x later none)
+before_last [] y (z ∷ before) x later e = let none : [] ≡ before ++ x ∷ later = cc in absurd (none_longer before x later none)
 before_last (w ∷ xs) y (z ∷ before) x later e =
     let same : w ≡ z = cc in
     let tail : xs ++ y ∷ [] ≡ before ++ x ∷ later = cc in

@@ -25,6 +25,7 @@ use Rattle.delta_log.specs.Commit.{file_path, file_paths}
 use Rattle.delta_compaction.specs.Agreeing.{SaysSame}
 use Rattle.delta_compaction.specs.Same.{features_eq, file_eq, files_eq, meta_eq, protocol_eq, setting_eq, settings_eq, value_eq, versions_eq}
 use Rattle.delta_compaction.proofs.SortedLemmas.{same_rising}
+use Rattle.lake_basics.proofs.Truth.{rising}
 
 -- ---- equality of parts
 
@@ -111,11 +112,6 @@ file_below-order = ranks_by nat_list_cmp_total file_path
 
 pub sorted_members : (old new : List FileAction) → IsPermutation old new → (f : FileAction) → Contains new f ↔ Contains old f
 sorted_members old new moved f = (Contains-permutation _ _ f (IsPermutation-sym _ _ moved), Contains-permutation _ _ f moved)
-
-rising : (o : Ordering) → is_lt (ordering_reverse o) ≡ false → is_eq o ≡ false → o ≡ Less
-rising Less h e = refl
-rising Equal h e = absurd (false≢true (sym e))
-rising Greater h e = absurd (false≢true (sym h))
 
 nothing : FileAction
 nothing = file.Remove []

@@ -10,6 +10,7 @@ use Rattle.std.proofs.lemmas.List.Splits.{slice_split_none, slice_split_at, slic
 use Rattle.delta_log.specs.Judging.{is_newline, lines_of}
 use Rattle.delta_compaction.specs.Kinds.{IsOneLine, IsFirstLine, rest_of}
 use Rattle.delta_compaction.specs.Reconciled.{all_lines, ended}
+use Rattle.lake_basics.proofs.Lists.{all_middle}
 
 -- ---- cutting at the first newline
 
@@ -175,9 +176,5 @@ all_one_line : (commits : List (List ℕ)) → All IsOneLine (all_lines commits)
 all_one_line [] = All-nil IsOneLine
 all_one_line (bytes ∷ commits) = All-append IsOneLine (lines_of bytes) (all_lines commits) (each_one bytes) (all_one_line commits)
 
-item : {X : Type 0} (P : X → Type 0) (front : List X) (x : X) (later : List X) → All P (front ++ x ∷ later) → P x
-item P [] x later all = All-head P x later all
-item P (y ∷ front) x later all = item P front x later (All-tail P y (front ++ x ∷ later) all)
-
 pub line_of : (commits front : List (List ℕ)) (line : List ℕ) (later : List (List ℕ)) → all_lines commits ≡ front ++ line ∷ later → IsOneLine line
-line_of commits front line later split = item IsOneLine front line later (subst (All IsOneLine) split (all_one_line commits))
+line_of commits front line later split = all_middle IsOneLine front line later (subst (All IsOneLine) split (all_one_line commits))

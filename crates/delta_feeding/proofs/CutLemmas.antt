@@ -7,14 +7,7 @@ use Rattle.std.specs.List.{list_any, position, position_or_len}
 use Rattle.delta_log.specs.Judging.{is_newline}
 use Rattle.delta_feeding.specs.Cut.{IsCut}
 use borrow.Author.Tests.{ltb-true}
-
-chosen : (b : Bool) (n i : ℕ) → cond b (Some n) None ≡ Some i → (b ≡ true) × (n ≡ i)
-chosen true n i e = (refl, cc)
-chosen false n i e = absurd (cc)
-
-not_chosen : (b : Bool) (n : ℕ) → cond b (Some n) None ≡ None → b ≡ false
-not_chosen true n e = absurd (cc)
-not_chosen false n e = refl
+use Rattle.lake_basics.proofs.Options.{chosen, not_chosen}
 
 past : (b : Bool) (x : ℕ) (xs : List ℕ) → is_newline x ≡ b → nat_lt (cond (not b) (1 + position_or_len is_newline xs) 0) (length (x ∷ xs)) ≡ false
     → (nat_lt (position_or_len is_newline xs) (length xs) ≡ false → list_any is_newline xs ≡ false) → list_any is_newline (x ∷ xs) ≡ false

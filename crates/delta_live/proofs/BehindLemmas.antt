@@ -23,6 +23,7 @@ use Rattle.delta_log.specs.declared.commit.FileAction.TheVariants as file
 use Rattle.delta_log.specs.Commit.{file_path, file_paths}
 use Rattle.delta_log.specs.Judging.{acts_on}
 use Rattle.delta_live.specs.RowSteps.{has_path, removed_paths, added_paths, lost_paths, is_kept, rows_behind}
+use Rattle.lake_basics.proofs.Lists.{empty_of}
 
 -- ---- lists of texts
 
@@ -288,10 +289,6 @@ fresh_step before rest new new' row b is so_far more =
     by : (c : Bool) → cond c (reverse (filter (lacks before) rest) ++ row ∷ []) (reverse (filter (lacks before) rest)) ≡ reverse (cond c (row ∷ filter (lacks before) rest) (filter (lacks before) rest))
     by true = sym (reverse-append (row ∷ []) (filter (lacks before) rest))
     by false = refl
-
-empty_of : {X : Type 0} (xs : List X) → length xs ≡ 0 → xs ≡ []
-empty_of [] h = refl
-empty_of (x ∷ xs) h = absurd (omega (arith, h))
 
 pub all_looked : (left rest rows : List FileRow) → length left ≡ 0 → left ++ rest ≡ rows → rest ≡ rows
 all_looked left rest rows none all = ap (λ l. l ++ rest) (sym (empty_of left none)) ∙ all

@@ -4,14 +4,11 @@ use Rattle.std.proofs.lemmas.List.Elements.{All-nil, All-cons, All-push, All-hea
 use Rattle.table_history.specs.Row.{Row}
 use Rattle.delta_log.specs.declared.commit.DeltaCommit.{DeltaCommit}
 use Rattle.delta_live.specs.Live.{PartColumns, ActsOn, IsLive, IsLiveOver, IsRowBehind}
+use Rattle.lake_basics.proofs.Lists.{none_longer}
 
 -- A list with one more at its end, cut at an item: the item is that one, or it stands before it.
 CutLast : {X : Type 0} → List X → X → List X → List X → X → Type 0
 CutLast {X} front x behind xs y = ((behind ≡ []) × (xs ≡ front) × (y ≡ x)) ⊎ ((rest : List X) × (behind ≡ rest ++ y ∷ []) × (xs ≡ front ++ x ∷ rest))
-
-none_longer : {X : Type 0} (front : List X) (x : X) (behind : List X) → [] ≡ front ++ x ∷ behind → ⊥
-none_longer [] x behind e = cc
-none_longer (z ∷ front) x behind e = cc
 
 later : {X : Type 0} (z : X) (front : List X) (x : X) (behind xs : List X) (y : X) → CutLast front x behind xs y → CutLast (z ∷ front) x behind (z ∷ xs) y
 unfolding CutLast

@@ -13,6 +13,7 @@ use Rattle.std.proofs.lemmas.Map.Keys.{IsDistinct-IsPermutation, apart_from_dist
 use Rattle.table_history.specs.Rows.{HasDistinctPaths, IsInByteOrder, IsInPathOrder}
 use Rattle.table_history.specs.declared.row.FileRow.{FileRow}
 use Rattle.table_history.proofs.RowListLemmas.{rise}
+use Rattle.lake_basics.proofs.Truth.{rising}
 
 abbrev pub row_below : FileRow → FileRow → Bool
 row_below x y = is_lt (slice_cmp nat_cmp x.path y.path)
@@ -32,11 +33,6 @@ same_members old new moved x = (Contains-permutation _ _ x (IsPermutation-sym _ 
 pub rows_rise : (old new : List FileRow) → IsPermutation old new → HasDistinctPaths old → IsSortedBy row_below new → IsInPathOrder new
 rows_rise old new moved distinct up =
     rise new (IsDistinct-IsPermutation bytes_eq nat_list_eq_equiv.symm _ _ (IsPermutation-map (λ (r : FileRow). r.path) _ _ moved) distinct) (λ k d within. up k d (omega arith) within)
-
-rising : (o : Ordering) → is_lt (ordering_reverse o) ≡ false → is_eq o ≡ false → o ≡ Less
-rising Less h e = refl
-rising Equal h e = absurd (false≢true (sym e))
-rising Greater h e = absurd (false≢true (sym h))
 
 pub texts_rise : (old new : List (List ℕ)) → IsPermutation old new → IsDistinct bytes_eq old → IsSortedBy text_below new → IsInByteOrder new
 texts_rise old new moved distinct up =

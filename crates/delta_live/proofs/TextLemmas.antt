@@ -19,7 +19,8 @@ use Rattle.delta_live.specs.Live.{SpellsNoValue, PartColumns, text_of, ArePartCo
 use Rattle.delta_live.specs.RowSteps.{Tells, kind_of, StandsForSome, StandsForNone, StandsOf, FailsOf, PairStands, FileStands, FileFails, HaveValues}
 use Rattle.delta_log.specs.Sound.{IsSoundFile, HaveDistinctNames}
 use Rattle.table_history.specs.TypeTree.{ColumnTrees}
-use Rattle.delta_live.proofs.ValueLemmas.{last_of, tells_more}
+use Rattle.delta_live.proofs.ValueLemmas.{tells_more}
+use Rattle.lake_basics.proofs.Lists.{last_of}
 
 abbrev Pair : Type 0
 Pair = List ℕ × Option (List ℕ)
@@ -28,9 +29,6 @@ abbrev Column : Type 0
 Column = List ℕ × PartKind
 
 -- ---- names that stand once
-
-itself : (name : List ℕ) → bytes_eq name name ≡ true
-itself name = (bytes_eq-Decides name name).1 refl
 
 -- a name that is told apart from all of these isn't among them
 apart : {A : Type 0} (name : List ℕ) (ps : List (List ℕ × A)) (p : List ℕ × A) → AllByRecursion (λ other. bytes_eq name other ≡ false) (map (λ q. q.0) ps) → Contains ps p → name ≡ p.0 → ⊥

@@ -25,17 +25,12 @@ use Rattle.delta_log.specs.declared.error.DeltaError.TheVariants as errors
 use Rattle.delta_live.specs.Live.{SpellsNoValue, IsSoundRow, PartColumns, text_of, AreValues, AddsRow, ArePartColumns}
 use Rattle.delta_live.specs.RowSteps.{Tells, IsRowOf, AreRowsOf, added_paths}
 use Rattle.delta_log.specs.Sound.{IsSoundFile}
+use Rattle.lake_basics.proofs.Lists.{last_of, next_of}
 
 -- ---- the text of a column
 
 abbrev Texts : Type 0
 Texts = List (List ℕ × Option (List ℕ))
-
-next_of : {X : Type 0} (xs : List X) (i : ℕ) (x : X) → i < length xs → x ≡ get_or xs i x → drop i xs ≡ x ∷ drop (i + 1) xs
-next_of xs i x within at = drop_more xs i x within ∙ ap (λ y. y ∷ drop (i + 1) xs) (sym at)
-
-pub last_of : {X : Type 0} (xs : List X) (i : ℕ) (x : X) → i < length xs → x ≡ get_or xs i x → take (i + 1) xs ≡ take i xs ++ x ∷ []
-last_of xs i x within at = take_more xs i x within ∙ ap (λ y. take i xs ++ y ∷ []) (sym at)
 
 pub text_here : (name : List ℕ) (texts : Texts) (i : ℕ) (p : List ℕ × Option (List ℕ)) (whole : Option (List ℕ)) → i < length texts → p ≡ get_or texts i p → bytes_eq name p.0 ≡ true → text_of name (drop i texts) ≡ whole → p.1 ≡ whole
 text_here name texts i p whole within at is so_far = sym (ap (text_of name) (next_of texts i p within at) ∙ ap (λ b. cond b p.1 (text_of name (drop (i + 1) texts))) is) ∙ so_far
@@ -61,9 +56,6 @@ tells_more feature P Q f (errors.Malformed line) h = absurd h
 tells_more feature P Q f (errors.DoublePath line) h = absurd h
 tells_more feature P Q f (errors.Unsupported g line) h = (h.0, h.1, f h.2)
 tells_more feature P Q f (errors.Limit which) h = absurd h
-
-pub there_at : {X : Type 0} (xs : List X) (i : ℕ) (x : X) → i < length xs → x ≡ get_or xs i x → Contains xs x
-there_at xs i x within at = (i, within, sym at)
 
 -- ---- rows
 

@@ -13,6 +13,7 @@ use Rattle.memchr.specs.Find.{IsFirstByte, NoneBefore, Nowhere, Passes, is_byte}
 use Rattle.lake_basics.specs.declared.outcome.ReadError.{ReadError}
 use Rattle.lake_basics.specs.declared.outcome.ReadError.TheVariants as read_errors
 use Rattle.lake_basics.specs.Outcome.{Fails, FailsUnlessMemory}
+use Rattle.lake_basics.proofs.Options.{chosen, not_chosen}
 use Rattle.delta_log.specs.declared.commit.DeltaCommit.{DeltaCommit}
 use Rattle.delta_log.specs.declared.commit.FileAction.{FileAction}
 use Rattle.delta_log.specs.declared.error.DeltaError.{DeltaError}
@@ -47,14 +48,6 @@ first_passes bytes i before passes =
 pub first_newline : (bytes : List ℕ) (r : Option ℕ) → IsFirstByte (is_byte 10) bytes r → r ≡ position is_newline bytes
 first_newline bytes None none = sym (none_passes bytes none)
 first_newline bytes (Some i) first = sym (first_passes bytes i first.0 first.1)
-
-chosen : (b : Bool) (n i : ℕ) → cond b (Some n) None ≡ Some i → (b ≡ true) × (n ≡ i)
-chosen true n i e = (refl, cc)
-chosen false n i e = absurd (cc)
-
-not_chosen : (b : Bool) (n : ℕ) → cond b (Some n) None ≡ None → b ≡ false
-not_chosen true n e = absurd (cc)
-not_chosen false n e = refl
 
 pub first_line : (bytes : List ℕ) (i : ℕ) → position is_newline bytes ≡ Some i → slice_split is_newline bytes ≡ take i bytes ∷ slice_split is_newline (drop (i + 1) bytes)
 first_line bytes i e =

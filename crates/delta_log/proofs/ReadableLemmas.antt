@@ -10,6 +10,8 @@ use Rattle.std.specs.List.{AllByRecursion, IsDistinct}
 use Rattle.std.specs.Str.{bytes_eq}
 use Rattle.lake_basics.specs.declared.limits.TheConstants.{MAX_ACTIONS}
 use Rattle.lake_basics.specs.Outcome.{◌>>=◌, with_fault, each}
+use Rattle.lake_basics.proofs.Lists.{all_middle}
+use Rattle.lake_basics.proofs.Options.{same_options}
 use Rattle.table_history.specs.declared.limit.LimitKind.{LimitKind}
 use Rattle.table_history.specs.declared.limit.LimitKind.TheVariants as limits
 use Rattle.delta_log.specs.declared.action.LineAction.{LineAction}
@@ -186,10 +188,6 @@ ends_whole bytes = ends_of [] (lines_of bytes) [] no_lines 1 holds_nothing refl
 abbrev flat_map_of : {B : Type 0} → (LineAction → Option B) → List LineAction → List B
 flat_map_of f actions = flat_map (λ x. option_to_list (f x)) actions
 
-all_middle : {X : Type 0} (P : X → Type 0) (front : List X) (w : X) (rest : List X) → All P (front ++ w ∷ rest) → P w
-all_middle P [] w rest all = All-head P w rest all
-all_middle P (x ∷ front) w rest all = all_middle P front w rest (All-tail P x (front ++ w ∷ rest) all)
-
 pub none_first : {X : Type 0} (P : X → Type 0) (xs : List X) (x : X) → NoneOf P xs → IsFirst P xs x → ⊥
 none_first P [] x none first = first
 none_first P (y ∷ ys) x none first = ⊎_elim (λ h. none.0 h.1) (λ h. none_first P ys x none.1 h.1) first
@@ -298,12 +296,6 @@ reads_whole bytes (Err e) is =
 pub commit_readable : (bytes : List ℕ) (c : DeltaCommit) → commit_of bytes ≡ Ok c → IsReadableCommit bytes c
 unfolding Reads
 commit_readable bytes c is = reads_whole bytes (Ok c) is
-
-same_options : {A : Type 0} (o q : Option A) → option_to_list o ≡ option_to_list q → o ≡ q
-same_options None None e = refl
-same_options None (Some y) e = absurd (cc)
-same_options (Some x) None e = absurd (cc)
-same_options (Some x) (Some y) e = let same : x ≡ y = cc in ap Some same
 
 same_stated : (actions : List LineAction) (c d : DeltaCommit) → States actions c → States actions d → c ≡ d
 same_stated actions c d says also =

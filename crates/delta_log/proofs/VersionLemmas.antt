@@ -8,19 +8,8 @@ use Rattle.std.proofs.lemmas.Fmt.{decimal_is_IsNumeral, length-decimal-le}
 use Rattle.std.proofs.lemmas.List.{append-nil, take-append-drop, take-append-le, drop-append-le}
 use Rattle.std.proofs.lemmas.Str.Parse.{digit_at, without_leading_plus_none}
 use Rattle.lake_basics.specs.declared.limits.TheConstants.{MAX_DELTA_VERSION}
+use Rattle.lake_basics.proofs.Texts.{AllDigits-zeros, digits_value-zeros, length-zeros}
 use Rattle.delta_log.specs.VersionName.{IsVersionDigits, IsVersionName}
-
-AllDigits-zeros : (k : ℕ) (ds : List ℕ) → AllDigits 10 ds → AllDigits 10 (replicate k 48 ++ ds)
-AllDigits-zeros zero ds h = h
-AllDigits-zeros (suc k) ds h = (omega arith, AllDigits-zeros k ds h)
-
-digits_value-zeros : (k : ℕ) (ds : List ℕ) → digits_value 10 (replicate k 48 ++ ds) ≡ digits_value 10 ds
-digits_value-zeros zero ds = refl
-digits_value-zeros (suc k) ds = digits_value-zeros k ds
-
-length-zeros : (k : ℕ) (ds : List ℕ) → length (replicate k 48 ++ ds) ≡ k + length ds
-length-zeros zero ds = sym (omega arith)
-length-zeros (suc k) ds = rw (length-zeros k ds) (omega arith)
 
 pub padded_digits : (n : ℕ) (text : List ℕ) → n < 2 ^ 64 → text ≡ replicate (20 - length (decimal n)) 48 ++ decimal n → IsVersionDigits text n
 padded_digits n text small is =
@@ -38,9 +27,6 @@ pub padded_text : (n : ℕ) → padded_integral (format_spec 32 0 4 20 (2 ^ 64 -
 unfolding padded_integral char_count
 padded_text n =
     let none : 20 - length (decimal n) - 0 - 0 ≡ 20 - length (decimal n) = omega arith in rw (append-nil (decimal n), none)
-
-pub no_plus : (bs : List ℕ) → IsNumeral 10 bs → get_or bs 0 0 ≢ 43
-no_plus bs h e = let at = digit_at bs 0 h.1 h.0 in omega (arith, at, e)
 
 pub parsed : {E : Type 0} (text : List ℕ) (r : Result ℕ E) → length text ≡ 20 → get_or text 0 0 ≢ 43 → ParsesUnsigned 64 10 text r
     → MatchOption (result_ok r) ((n : ℕ) → n < 2 ^ 64 → IsVersionDigits text n → ⊥) (IsVersionDigits text)

@@ -7,6 +7,7 @@ use Rattle.std.proofs.lemmas.Bool.{and_cases, cases_Bool, false≢true}
 use Rattle.std.proofs.lemmas.Slice.Eq.{bytes_eq-Decides}
 use Rattle.avro_schema.specs.Names.{are_distinct}
 use Rattle.lake_basics.specs.Outcome.{◌>>=◌, required, each}
+use Rattle.lake_basics.proofs.Options.{some_or_none}
 use Rattle.json_reading.specs.Json.{text_member, bool_member, list_member, items}
 use Rattle.partition_map.proofs.ColumnLemmas.{distinct_exactly}
 use Rattle.serde_json.specs.Data.{Data, null, boolean, number, string, array, object, Items}
@@ -52,19 +53,16 @@ gone : {A : Type 0} (o : Option A) → is_some o ≡ false → o ≡ None
 gone None e = refl
 gone (Some x) e = absurd (false≢true (sym e))
 
-some_none : {A : Type 0} (o : Option A) (x : A) → o ≡ Some x → o ≡ None → ⊥
-some_none o x a b = absurd (let e : Some x ≡ None = sym a ∙ b in cc)
-
 one_gone : (a : Option Bool) (b : Option Data) → (a ≡ None) ⊎ (b ≡ None) → (is_some a && is_some b) ≡ false
 one_gone None b h = refl
 one_gone (Some x) None h = refl
-one_gone (Some x) (Some y) h = absurd (⊎_elim (λ e. some_none (Some x) x refl e) (λ e. some_none (Some y) y refl e) h)
+one_gone (Some x) (Some y) h = absurd (⊎_elim (λ e. some_or_none (Some x) x refl e) (λ e. some_or_none (Some y) y refl e) h)
 
 some_gone : (a : Option Bool) (b c : Option Data) → (a ≡ None) ⊎ ((b ≡ None) ⊎ (c ≡ None)) → (is_some a && (is_some b && is_some c)) ≡ false
 some_gone None b c h = refl
 some_gone (Some x) None c h = refl
 some_gone (Some x) (Some y) None h = refl
-some_gone (Some x) (Some y) (Some z) h = absurd (⊎_elim (λ e. some_none (Some x) x refl e) (λ more. ⊎_elim (λ e. some_none (Some y) y refl e) (λ e. some_none (Some z) z refl e) more) h)
+some_gone (Some x) (Some y) (Some z) h = absurd (⊎_elim (λ e. some_or_none (Some x) x refl e) (λ more. ⊎_elim (λ e. some_or_none (Some y) y refl e) (λ e. some_or_none (Some z) z refl e) more) h)
 
 pub named_word : (d : Data) (w name : List ℕ) → text_member (codes "type") d ≡ Some w → bytes_eq w name ≡ true → IsNamed name d
 named_word d w name is same = is ∙ ap Some ((bytes_eq-Decides w name).0 same)
@@ -103,7 +101,7 @@ unfolding field_by
 bad_by None b c h = refl
 bad_by (Some x) None c h = refl
 bad_by (Some x) (Some y) None h = refl
-bad_by (Some x) (Some y) (Some z) h = absurd (⊎_elim (λ e. some_none (Some x) x refl e) (λ more. ⊎_elim (λ e. some_none (Some y) y refl e) (λ e. some_none (Some z) z refl e) more) h)
+bad_by (Some x) (Some y) (Some z) h = absurd (⊎_elim (λ e. some_or_none (Some x) x refl e) (λ more. ⊎_elim (λ e. some_or_none (Some y) y refl e) (λ e. some_or_none (Some z) z refl e) more) h)
 
 bad_field : (d : Data) → IsBadDeltaField d → field_name d ≡ Err fault.Malformed
 bad_field d bad = field_is d ∙ bad_by (text_member (codes "name") d) (bool_member (codes "nullable") d) (get (codes "type") d) bad
@@ -226,7 +224,7 @@ bad_nested d bad =
     bad
 
 no_name : (word : List ℕ) (d : Data) → text_member (codes "type") d ≡ None → IsNamed word d → ⊥
-no_name word d none named = some_none (text_member (codes "type") d) word named none
+no_name word d none named = some_or_none (text_member (codes "type") d) word named none
 
 pub bad_own : (d : Data) → IsBadDeltaType d → own_form d ≡ Malformed
 bad_own null bad = refl

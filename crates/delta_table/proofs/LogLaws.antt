@@ -4,6 +4,7 @@ use Rattle.std.specs.Prelude.{nat_lt, unwrap_or}
 use Rattle.std.proofs.lemmas.Bool.Decides.{nat_tests}
 use Rattle.std.proofs.lemmas.Option.{none-some, same_Some}
 use Rattle.lake_basics.specs.declared.limits.TheConstants.{MAX_COMMITS}
+use Rattle.lake_basics.proofs.Numbers.{less_or_at}
 use Rattle.lake_store.specs.Disk.{Files}
 use Rattle.table_history.specs.Row.{Row}
 use Rattle.table_history.specs.First.{NoneOf}
@@ -40,14 +41,6 @@ pub read_is_log : (files : Files) (count : ℕ) (last : Option Table) → IsRead
 read_is_log files zero last log = log
 read_is_log files (suc version) last log = (log.0, read_is_log files version log.0 log.1, log.2, log.3, log.4, log.5.0, log.6)
 
--- under a number, or that number
-split : (m n : ℕ) → m < n + 1 → (m < n) ⊎ (m ≡ n)
-split m n h = by (nat_lt m n) refl
-  where
-    by : (b : Bool) → nat_lt m n ≡ b → (m < n) ⊎ (m ≡ n)
-    by true is = inl (grind (arith, nat_tests))
-    by false is = let ge : n ≤ m = grind (arith, nat_tests) in let e : m ≡ n = omega (arith, ge, h) in inr e
-
 -- the newest part of a kind
 module _ {A : Type 0} (part : DeltaCommit → Option A) (files : Files) where
   pub newest_here : (version : ℕ) (c : DeltaCommit) (a : A) → SaysCommit files version c → part c ≡ Some a → IsNewestPart part files (version + 1) a
@@ -62,7 +55,7 @@ module _ {A : Type 0} (part : DeltaCommit → Option A) (files : Files) where
         commit = was.commit;
         says = was.says;
         is = was.is;
-        last = λ later d after before says_d. ⊎_elim (λ earlier. was.last later d after earlier says_d) (λ same. ap part (says_once files version d c (subst (λ v. SaysCommit files v d) same says_d) says) ∙ none) (split later version before);
+        last = λ later d after before says_d. ⊎_elim (λ earlier. was.last later d after earlier says_d) (λ same. ap part (says_once files version d c (subst (λ v. SaysCommit files v d) same says_d) says) ∙ none) (less_or_at later version before);
       }
 
   -- of one commit more: its own, or else the one so far
@@ -188,7 +181,7 @@ module _ (files : Files) (version : ℕ) (c : DeltaCommit) (says : SaysCommit fi
         acts = was.acts;
         adds = was.adds;
         newest = λ later d after before says_d. ⊎_elim (λ earlier. was.newest later d after earlier says_d)
-            (λ same. subst (λ e. ActsOn row.path e → ⊥) (says_once files version c d says (subst (λ v. SaysCommit files v d) same says_d)) quiet) (split later version before);
+            (λ same. subst (λ e. ActsOn row.path e → ⊥) (says_once files version c d says (subst (λ v. SaysCommit files v d) same says_d)) quiet) (less_or_at later version before);
       }
 
   -- what is live behind it was added by it, or was live before it
@@ -211,7 +204,7 @@ module _ (files : Files) (version : ℕ) (c : DeltaCommit) (says : SaysCommit fi
       (λ same.
       let one = says_once files version live.commit c (subst (λ v. SaysCommit files v live.commit) same live.says) says in
       inl (live.action, subst (λ d. Contains d.files live.action) one live.acts, live.adds))
-      (split live.version version live.within)
+      (less_or_at live.version version live.within)
 
 -- The rows of the table that a log makes are the live ones.
 pub live_rows : (files : Files) (count : ℕ) (table : Table) → IsLog files count (Some table) → HasLiveRows files count table

@@ -5,6 +5,7 @@ use Rattle.std.proofs.lemmas.Bool.Decides.{nat_tests}
 use Rattle.std.proofs.lemmas.List.{get_or_default}
 use Rattle.std.proofs.lemmas.List.Elements.{All-nil, All-push, Contains-append_left, Contains-get_or, Contains-push, Contains-push_cases}
 use Rattle.lake_basics.specs.declared.limits.TheConstants.{MAX_DELTA_VERSION}
+use Rattle.lake_basics.proofs.Numbers.{less_or_at}
 use Rattle.delta_log.specs.VersionName.{IsVersionName}
 use Rattle.delta_table.specs.Versions.{IsNamed}
 use Rattle.delta_table.proofs.PathLaws.{one_version}
@@ -25,26 +26,18 @@ gather_begins names versions e = subst (AreGathered names 0) (sym e) (record {
   within = All-nil (λ w. w ≤ MAX_DELTA_VERSION);
 })
 
--- under a number, or that number
-cases_under : (j i : ℕ) → j < i + 1 → (j < i) ⊎ (j ≡ i)
-cases_under j i h = by (nat_lt j i) refl
-  where
-    by : (b : Bool) → nat_lt j i ≡ b → (j < i) ⊎ (j ≡ i)
-    by true is = inl (grind (arith, nat_tests))
-    by false is = let from : i ≤ j = grind (arith, nat_tests) in let e : j ≡ i = omega (arith, from, h) in inr e
-
 module _ (names : List (List ℕ)) (i : ℕ) (versions : List ℕ) (was : AreGathered names i versions) (name : List ℕ) (here : i < length names) (is : get_or names i [] ≡ name) where
   pub gather_more : (w : ℕ) → IsVersionName name w → AreGathered names (i + 1) (versions ++ w ∷ [])
   gather_more w of = record {
     named = λ v there. ⊎_elim (was.named v) (λ same. (name, subst (Contains names) is (Contains-get_or names i [] here), subst (IsVersionName name) same of)) (Contains-push_cases versions w v there);
-    all = λ v j before named. ⊎_elim (λ earlier. Contains-append_left versions (w ∷ []) v (was.all v j earlier named)) (λ same. let v_of = subst (λ n. IsVersionName n v) (ap (λ k. get_or names k []) same ∙ is) named in subst (Contains (versions ++ w ∷ [])) (one_version name w v of v_of) (Contains-push versions w)) (cases_under j i before);
+    all = λ v j before named. ⊎_elim (λ earlier. Contains-append_left versions (w ∷ []) v (was.all v j earlier named)) (λ same. let v_of = subst (λ n. IsVersionName n v) (ap (λ k. get_or names k []) same ∙ is) named in subst (Contains (versions ++ w ∷ [])) (one_version name w v of v_of) (Contains-push versions w)) (less_or_at j i before);
     within = All-push (λ v. v ≤ MAX_DELTA_VERSION) versions w was.within of.within;
   }
 
   pub gather_none : ((w : ℕ) → IsVersionName name w → ⊥) → AreGathered names (i + 1) versions
   gather_none none = record {
     named = was.named;
-    all = λ v j before named. ⊎_elim (λ earlier. was.all v j earlier named) (λ same. absurd (none v (subst (λ n. IsVersionName n v) (ap (λ k. get_or names k []) same ∙ is) named))) (cases_under j i before);
+    all = λ v j before named. ⊎_elim (λ earlier. was.all v j earlier named) (λ same. absurd (none v (subst (λ n. IsVersionName n v) (ap (λ k. get_or names k []) same ∙ is) named))) (less_or_at j i before);
     within = was.within;
   }
 

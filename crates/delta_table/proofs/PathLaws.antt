@@ -21,6 +21,7 @@ use Rattle.delta_table.specs.Log.{SaysCommit}
 use Rattle.delta_table.specs.Refusals.{IsVersionRefusal, TellsOf, error_of_read}
 use Rattle.lake_store.specs.declared.store.StoreError.{StoreError}
 use Rattle.lake_store.specs.declared.store.StoreError.TheVariants as store
+use Rattle.lake_basics.proofs.Options.{some_of}
 
 digit_in : (c : ℕ) → 48 ≤ c → c ≤ 57 → digit_value c ≡ c - 48
 digit_in c low high =
@@ -123,10 +124,6 @@ version_is_name name version of =
       λ slash. ⊎_elim (λ in_digits. plain_digits padded.digits padded.padded.numeral.1 47 in_digits refl) (λ in_suffix. All-contains (λ (b : ℕ). b ≢ 47) (codes ".json") 47 plain_suffix in_suffix refl)
           (Contains-append_cases padded.digits (codes ".json") 47 (subst (λ n. Contains n 47) padded.split slash)),
     )
-
-some_of : (o : Option (List ℕ)) → IsSome o → (x : List ℕ) × (o ≡ Some x)
-some_of (Some x) is = (x, refl)
-some_of None is = absurd cc
 
 -- The names in the folder are of just the versions that are there.
 pub named_held : (files : Files) (names : List (List ℕ)) → ListsFolder files log_folder names → (version : ℕ) → IsNamed names version → HasVersion files version

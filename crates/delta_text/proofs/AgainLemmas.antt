@@ -19,6 +19,8 @@ use Rattle.serde_json.specs.Read.{read}
 use Rattle.serde_json.specs.Written.{compact_text}
 use Rattle.lake_basics.specs.declared.limits.TheConstants.{MAX_ACTIONS}
 use Rattle.lake_basics.specs.Outcome.{each}
+use Rattle.lake_basics.proofs.Numbers.{natural_test}
+use Rattle.lake_basics.proofs.Truth.{and_false}
 use Rattle.json_reading.specs.Json.{json, text, text_or_null_data, texts_data, members_with, items, pairs, IsReadAgain}
 use Rattle.partition_map.specs.UriPath.{inside_table, uri_path}
 use Rattle.partition_map.specs.Uri.{escaped_path}
@@ -57,21 +59,14 @@ texts_again : (ts : List (List ℕ)) → each (text Malformed) (items (texts_dat
 texts_again [] = refl
 texts_again (t ∷ ts) = rw (texts_again ts)
 
-natural : (n : ℕ) → n < 2 ^ 63 → nat_lt n (2 ^ 63) ≡ true
-natural n small = grind (arith, common_steps)
-
 integer_again : (z : ℤ) → FitsSigned w64 z → as_i64 (of_integer z) ≡ Some z
-integer_again (pos n) fits = let small : n < 2 ^ 63 = omega (arith, ints, fits) in rw (natural n small)
+integer_again (pos n) fits = let small : n < 2 ^ 63 = omega (arith, ints, fits) in rw (natural_test n small)
 integer_again (negsuc n) fits = refl
 
 -- ---- objects
 
 abbrev protocol_of : ℤ → ℤ → Option (List (List ℕ)) → Option (List (List ℕ)) → Protocol
 protocol_of v w r s = record { reader = v; writer = w; reader_features = r; writer_features = s }
-
-and_false : (b : Bool) → (b && false) ≡ false
-and_false true = refl
-and_false false = refl
 
 abbrev no_list : Option (List (List ℕ))
 no_list = None
@@ -104,12 +99,12 @@ json_is_read false o d is = absurd (cc)
 
 counted_again : (stats : List ℕ) (count : ℕ) → count < 2 ^ 63 → json stats ≡ Some (stats_data count) → stated_count stats ≡ Ok (Some count)
 unfolding stated_count
-counted_again stats count small is = let reads : read stats ≡ Some (stats_data count) = json_is_read (is_utf8 stats) (read stats) (stats_data count) is in rw (reads, natural count small)
+counted_again stats count small is = let reads : read stats ≡ Some (stats_data count) = json_is_read (is_utf8 stats) (read stats) (stats_data count) is in rw (reads, natural_test count small)
 
 add_again : (now : ℕ) (uri : List ℕ) (ms : Members) (vs : List (List ℕ × Option (List ℕ))) (size : ℕ) (stats : List ℕ) (count : ℕ) → each partition_value (pairs ms) ≡ Ok vs → size < 2 ^ 63
     → (length stats == 0) ≡ false → stated_count stats ≡ Ok (Some count) → object_action (add_data now uri (object ms) size stats) ≡ Ok (action.Add uri vs size (Some count) false)
 unfolding object_action add record_count
-add_again now uri ms vs size stats count values small some counted = rw (values, natural size small, some, counted)
+add_again now uri ms vs size stats count values small some counted = rw (values, natural_test size small, some, counted)
 
 file_again : (now : ℕ) (f : FileAction) → IsSoundFile f → HasReadableStats f → object_action (file_data now f) ≡ Ok (action_of f)
 unfolding object_action remove

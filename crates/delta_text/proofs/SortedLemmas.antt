@@ -14,6 +14,7 @@ use Rattle.std.specs.Ordering.{match_ordering}
 use Rattle.std.specs.Str.{bytes_eq}
 use Rattle.delta_text.specs.Writing.{pairs_with, sorted_pairs}
 use Rattle.delta_log.specs.Sound.{HaveDistinctNames}
+use Rattle.lake_basics.proofs.Lists.{front_two, moved_back, permuted_behind}
 
 -- whether one of these has the name
 abbrev is_named : {A : Type 0} → List ℕ → List (List ℕ × A) → Bool
@@ -23,20 +24,9 @@ abbrev HaveOwnNames : {A : Type 0} → List (List ℕ × A) → Type 0
 HaveOwnNames [] = Unit {0}
 HaveOwnNames (p ∷ ps) = (is_named p.0 ps ≡ false) × HaveOwnNames ps
 
-front_two : {X : Type 0} (x y : X) (xs : List X) → IsPermutation (x ∷ y ∷ xs) (y ∷ x ∷ xs)
-front_two x y xs = IsPermutation-swap (x ∷ y ∷ xs) (y ∷ x ∷ xs) 0 1 (omega arith) (omega arith) refl
-
 other_way : (a b : List ℕ) (r : Bool) → bytes_eq b a ≡ r → bytes_eq a b ≡ false → r ≡ false
 other_way a b true is not_same = let same : b ≡ a = (bytes_eq-Decides b a).0 is in sym is ∙ ap (λ x. bytes_eq b x) (sym same) ∙ ap (λ x. bytes_eq x b) same ∙ not_same
 other_way a b false is not_same = refl
-
-under : {X : Type 0} (zs xs ys : List X) → IsPermutation xs ys → IsPermutation (zs ++ xs) (zs ++ ys)
-under [] xs ys h = h
-under (z ∷ zs) xs ys h = IsPermutation-cons z _ _ (under zs xs ys h)
-
-moved : {X : Type 0} (y : X) (xs ys : List X) → IsPermutation (y ∷ (xs ++ ys)) (xs ++ y ∷ ys)
-moved y [] ys = IsPermutation-refl _
-moved y (x ∷ xs) ys = IsPermutation-trans _ _ _ (front_two y x (xs ++ ys)) (IsPermutation-cons x _ _ (moved y xs ys))
 
 module _ {A : Type 0} where
   placed : (o : Ordering) (k : List ℕ) (v : A) (e : List ℕ × A) (es : List (List ℕ × A)) → slice_cmp nat_cmp k e.0 ≡ o → bytes_eq k e.0 ≡ false → IsPermutation ((k, v) ∷ es) (insert_entry (slice_cmp nat_cmp) es k v)
@@ -73,8 +63,8 @@ module _ {A : Type 0} where
   unfolding New
   pairs_with_all [] found own new = IsPermutation-refl _
   pairs_with_all (p ∷ ps) found own new =
-      IsPermutation-trans _ _ _ (moved p ps found)
-      (IsPermutation-trans _ _ _ (under ps _ _ (insert_new p.0 p.1 found new.0)) (pairs_with_all ps _ own.1 (still_new p found ps own.0 new.1)))
+      IsPermutation-trans _ _ _ (moved_back p ps found)
+      (IsPermutation-trans _ _ _ (permuted_behind ps _ _ (insert_new p.0 p.1 found new.0)) (pairs_with_all ps _ own.1 (still_new p found ps own.0 new.1)))
 
   none_named : (ps : List (List ℕ × A)) → New [] ps
   unfolding New

@@ -21,14 +21,13 @@ use Rattle.hudi_groups.specs.GroupSets.{Groups, has_group, is_row_of_group, name
 use Rattle.hudi_groups.proofs.AnyLemmas.{any_from}
 use Rattle.hudi_groups.proofs.GroupSetLemmas.{group_has_row}
 use Rattle.hudi_groups.proofs.NewestLemmas.{newest_there}
+use Rattle.lake_basics.proofs.Texts.{bytes_differ}
 
 -- ---- distinct paths
-false_of : (a b : List ℕ) → (a ≡ b → ⊥) → bytes_eq a b ≡ false
-false_of a b n = ⊎_elim (λ t. absurd (n ((bytes_eq-Decides a b).0 t))) (λ f. f) (cases_Bool (bytes_eq a b))
 
 apart_paths : (path : List ℕ) (rows : List FileRow) → ((r : FileRow) → Contains rows r → path ≡ r.path → ⊥) → AllByRecursion (λ p. bytes_eq path p ≡ false) (paths_of rows)
 apart_paths path [] none = tt
-apart_paths path (r ∷ rs) none = (false_of path r.path (none r (Contains-head r rs)), apart_paths path rs (λ s there. none s (Contains-tail r rs s there)))
+apart_paths path (r ∷ rs) none = (bytes_differ path r.path (none r (Contains-head r rs)), apart_paths path rs (λ s there. none s (Contains-tail r rs s there)))
 
 pub distinct_none : HasDistinctPaths []
 unfolding IsDistinct

@@ -28,14 +28,10 @@ use Rattle.hudi_groups.specs.GroupIndex.{Index, IsIndexOf, has_path, is_among, i
 use Rattle.hudi_groups.proofs.AnyLemmas.{any_from, any_to, any_none}
 use Rattle.hudi_groups.proofs.GroupChangeLemmas.{distinct_append, distinct_none}
 use Rattle.hudi_groups.proofs.GroupPathLemmas.{row_in_group-is, row_in_group-has, row_in_group-distinct}
+use Rattle.lake_basics.proofs.Texts.{apart_from_same}
+use Rattle.lake_basics.proofs.Truth.{same_tests}
 
 -- ---- tests
-
--- two tests that hold in the same cases
-same_tests : (a b : Bool) → (a ≡ true → b ≡ true) → (b ≡ true → a ≡ true) → a ≡ b
-same_tests true b to from = sym (to refl)
-same_tests false true to from = from refl
-same_tests false false to from = refl
 
 pub or_swap : (k b : Bool) → (k || b) ≡ (b || k)
 or_swap true true = refl
@@ -56,8 +52,6 @@ and_step false true a = refl
 and_step false false a = refl
 
 -- ---- the paths of one group
-apart : (bs cs ks : List ℕ) → bytes_eq bs cs ≡ false → bytes_eq bs ks ≡ true → bytes_eq cs ks ≡ false
-apart bs cs ks n y = nat_list_eq_equiv.symm cs ks ∙ sym (nat_list_eq_equiv.congr bs ks cs y) ∙ n
 
 other_keys : (test : Key → Bool) (old new : List Key) → set.KeepsOthers key_eq test old new → (other : Key → Bool) → IsKeyTest key_eq other → AreApart test other → list_any other new ≡ list_any other old
 unfolding set.KeepsOthers
@@ -68,7 +62,7 @@ pub has_group-remove : (path : List ℕ) (old new : Groups) → UpdatesBy key_eq
 has_group-remove path old new h p =
     ⊎_elim
     (λ y. subst (λ l. has_group new l ≡ false) ((bytes_eq-Decides path p).0 y) h.1 ∙ ap (λ b. not b && has_group old p) (sym (nat_list_eq_equiv.symm p path ∙ y)))
-    (λ n. other_keys (λ k. bytes_eq path k.items) old.keys new.keys h.3 (λ k. bytes_eq p k.items) (λ x y. nat_list_eq_equiv.congr p x.items y.items) (λ k. apart path p k.items n)
+    (λ n. other_keys (λ k. bytes_eq path k.items) old.keys new.keys h.3 (λ k. bytes_eq p k.items) (λ x y. nat_list_eq_equiv.congr p x.items y.items) (λ k. apart_from_same path p k.items n)
     ∙ ap (λ b. not b && has_group old p) (sym (nat_list_eq_equiv.symm p path ∙ n)))
     (cases_Bool (bytes_eq path p))
 
@@ -78,7 +72,7 @@ at index q = get_by (λ k. bytes_eq q k.items) index
 
 others : (g : List ℕ) (old new : Index) → KeepsOthers key_eq (λ k. bytes_eq g k.items) old.entries new.entries → (q : List ℕ) → bytes_eq g q ≡ false → at new q ≡ at old q
 unfolding KeepsOthers
-others g old new h q n = h (λ k. bytes_eq q k.items) (λ x y. nat_list_eq_equiv.congr q x.items y.items) (λ k. apart g q k.items n)
+others g old new h q n = h (λ k. bytes_eq q k.items) (λ x y. nat_list_eq_equiv.congr q x.items y.items) (λ k. apart_from_same g q k.items n)
 
 pub at_update : (g : List ℕ) (old new : Index) (w : Option Paths) → at new g ≡ w → KeepsOthers key_eq (λ k. bytes_eq g k.items) old.entries new.entries
     → (q : List ℕ) → at new q ≡ cond (bytes_eq g q) w (at old q)

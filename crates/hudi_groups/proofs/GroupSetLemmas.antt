@@ -14,10 +14,9 @@ use Rattle.table_history.specs.declared.row.FileRow.{FileRow}
 use Rattle.hudi_groups.specs.declared.form.Form.{Form}
 use Rattle.hudi_groups.specs.Files.{group_name}
 use Rattle.hudi_groups.specs.GroupSets.{Groups, has_group, is_row_of_group, newest_rows}
+use Rattle.lake_basics.proofs.Texts.{apart_from_same}
 
 -- ---- a set with one more group
-apart : (bs cs ks : List ℕ) → bytes_eq bs cs ≡ false → bytes_eq bs ks ≡ true → bytes_eq cs ks ≡ false
-apart bs cs ks n y = nat_list_eq_equiv.symm cs ks ∙ sym (nat_list_eq_equiv.congr bs ks cs y) ∙ n
 
 other_keys : (test : Key → Bool) (old new : List Key) → KeepsOthers key_eq test old new → (other : Key → Bool) → IsKeyTest key_eq other → AreApart test other → list_any other new ≡ list_any other old
 unfolding KeepsOthers
@@ -30,7 +29,7 @@ pub has_group-insert : (key : Key) (old new : Groups) → Updates key_eq old new
 has_group-insert key old new h q =
     ⊎_elim
     (λ y. subst (λ l. has_group new l ≡ true) ((bytes_eq-Decides key.items q).0 y) h.1 ∙ sym (ap (λ b. b || has_group old q) (nat_list_eq_equiv.symm q key.items ∙ y)))
-    (λ n. other_keys (key_eq key) old.keys new.keys h.3 (λ k. bytes_eq q k.items) (λ x y. nat_list_eq_equiv.congr q x.items y.items) (λ k. apart key.items q k.items n)
+    (λ n. other_keys (key_eq key) old.keys new.keys h.3 (λ k. bytes_eq q k.items) (λ x y. nat_list_eq_equiv.congr q x.items y.items) (λ k. apart_from_same key.items q k.items n)
     ∙ or_of (bytes_eq q key.items) (has_group old q) (nat_list_eq_equiv.symm q key.items ∙ n))
     (cases_Bool (bytes_eq key.items q))
 
@@ -58,7 +57,3 @@ or_last true false false = refl
 or_last false true a = refl
 or_last false false true = refl
 or_last false false false = refl
-
-pub empty_of : {X : Type 0} (xs : List X) → length xs ≡ 0 → xs ≡ []
-empty_of [] h = refl
-empty_of (x ∷ xs) h = absurd (omega (arith, h))

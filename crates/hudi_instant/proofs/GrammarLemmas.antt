@@ -17,6 +17,7 @@ use Rattle.hudi_names.specs.declared.error.HudiError.TheVariants.{Memory, Malfor
 use Rattle.lake_basics.specs.declared.limits.TheConstants.{MAX_ACTIONS}
 use Rattle.table_history.specs.declared.limit.LimitKind.TheVariants.{Actions}
 use Rattle.lake_basics.specs.Outcome.{FailsUnlessMemory}
+use Rattle.lake_basics.proofs.Numbers.{natural_test}
 use Rattle.hudi_names.specs.Errors.{malformed, is_memory, Gives}
 use Rattle.hudi_instant.specs.Instants as read
 use Rattle.hudi_instant.specs.InstantGrammar.{IsSize, IsStat, IsSkipped, AreStats, ArraysHoldStats, AreIds, ArraysHoldIds, AreReplaced, IsTextOrNone, IsExtraText, StatesInstant, mark_in}
@@ -48,11 +49,8 @@ text_stated : (name : List ℕ) (d : Data) (t : List ℕ) → read.text_member n
 text_stated name d t is =
     let at = then_ok (required malformed (get name d)) (text malformed) t is in rw (required_ok (get name d) at.0 at.1) (required_ok (as_str at.0) t at.2)
 
-small_test : (n : ℕ) → n < 2 ^ 63 → nat_lt n (2 ^ 63) ≡ true
-small_test n small = grind (arith, common_steps)
-
 number_read : (d : Data) (n : ℕ) → count d ≡ Some n → n < 2 ^ 63 → read.size_number d ≡ Some n
-number_read d n is small = rw (is, small_test n small)
+number_read d n is small = rw (is, natural_test n small)
 
 small_by : (b : Bool) (m n : ℕ) → nat_lt m (2 ^ 63) ≡ b → cond b (Some m) None ≡ Some n → (m ≡ n) × (m < 2 ^ 63)
 small_by true m n test is = (cc, grind (arith, common_steps))

@@ -16,6 +16,7 @@ use Rattle.serde_json.specs.Data.{Data, array, Members, no_members, member, put}
 use Rattle.serde_json.specs.View.{items_of}
 use Rattle.json_reading.specs.Json.{json, items, pairs, members_with}
 use Rattle.lake_basics.specs.declared.limits.TheConstants.{MAX_ACTIONS}
+use Rattle.lake_basics.proofs.Numbers.{natural_test}
 use Rattle.hudi_instant.specs.declared.instant.Instant.{Instant}
 use Rattle.hudi_instant.specs.declared.instant.Stat.{Stat}
 use Rattle.hudi_instant.proofs.PathForms.{is_path_of_any_length-true}
@@ -189,12 +190,9 @@ pub all_front : {B : Type 0} (P : B → Type 0) (xs ys : List B) → AllByRecurs
 all_front P [] ys h = (tt, h)
 all_front P (x ∷ xs) ys h = let rest = all_front P xs ys h.1 in ((h.0, rest.0), rest.1)
 
-natural : (n : ℕ) → n < 2 ^ 63 → nat_lt n (2 ^ 63) ≡ true
-natural n small = grind (arith, common_steps)
-
 stat_again : (s : Stat) → IsSoundStat s → stat (stat_data s) ≡ Ok (Some s)
 unfolding stat
-stat_again s h = rw (is_path_of_any_length-true s.path h.path, natural s.writes h.writes, natural s.writes h.writes, natural s.size h.size, natural s.size h.size)
+stat_again s h = rw (is_path_of_any_length-true s.path h.path, natural_test s.writes h.writes, natural_test s.writes h.writes, natural_test s.size h.size, natural_test s.size h.size)
 
 stats_again : (found ss : List Stat) → AllByRecursion IsSoundStat ss → with_stats found (items (items_of (map stat_data ss))) ≡ Ok (found ++ ss)
 stats_again found [] h = ap Ok (sym (append-nil found))

@@ -24,6 +24,7 @@ use Rattle.std.proofs.lemmas.Int.Digits.{digits_value-lt}
 use Rattle.std.proofs.lemmas.Str.{digit_value_digit}
 use Rattle.std.proofs.lemmas.Str.Parse.{digit_at, without_leading_plus_none}
 use Rattle.hudi_names.specs.Time.{IsDigits, IsTimeOfDay, IsDay, IsTimeNumber, IsSomeTimeAt, IsTime, IsPast9999}
+use Rattle.lake_basics.proofs.Texts.{AllDigits-zeros, digits_value-zeros, length-zeros}
 
 -- ---- a time is a day and a time of the day
 
@@ -42,18 +43,6 @@ only_days (negsuc a) (negsuc d) in_day small is = omega (arith, ints)
 
 -- ---- digits with zeros before them
 
-AllDigits-zeros : (k : ℕ) (ds : List ℕ) → AllDigits 10 ds → AllDigits 10 (replicate k 48 ++ ds)
-AllDigits-zeros zero ds h = h
-AllDigits-zeros (suc k) ds h = (omega arith, AllDigits-zeros k ds h)
-
-digits_value-zeros : (k : ℕ) (ds : List ℕ) → digits_value 10 (replicate k 48 ++ ds) ≡ digits_value 10 ds
-digits_value-zeros zero ds = refl
-digits_value-zeros (suc k) ds = digits_value-zeros k ds
-
-length-zeros : (k : ℕ) (ds : List ℕ) → length (replicate k 48 ++ ds) ≡ k + length ds
-length-zeros zero ds = sym (omega arith)
-length-zeros (suc k) ds = rw (length-zeros k ds) (omega arith)
-
 pub padded_digits : (n : ℕ) (text : List ℕ) → n < 10 ^ 17 → text ≡ replicate (17 - length (decimal n)) 48 ++ decimal n → IsDigits text × (digits_value 10 text ≡ n)
 padded_digits n text small is =
     let short : length (decimal n) ≤ 17 = length-decimal-le 17 n (omega arith) small (omega arith) in
@@ -67,9 +56,6 @@ padded_digits n text small is =
     )
 
 -- ---- a numeral begins with no `+`
-
-pub no_plus : (bs : List ℕ) → IsNumeral 10 bs → get_or bs 0 0 ≢ 43
-no_plus bs h e = let at = digit_at bs 0 h.1 h.0 in omega (arith, at, e)
 
 pub parsed : {E : Type 0} (text : List ℕ) (r : Result ℕ E) → length text ≡ 17 → get_or text 0 0 ≢ 43 → ParsesUnsigned 64 10 text r
     → MatchOption (result_ok r) (IsDigits text → ⊥) (λ n. IsDigits text × (n ≡ digits_value 10 text)) × IfSome (result_ok r) (λ n. n < 10 ^ 17)

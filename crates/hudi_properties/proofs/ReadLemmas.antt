@@ -17,6 +17,7 @@ use Rattle.hudi_properties.specs.declared.escape.Escape.TheVariants.{Outside}
 use Rattle.hudi_properties.specs.Escapes.{units_from, utf16_text, unescaped}
 use Rattle.hudi_properties.specs.Lines.{is_white, onto_first, lines_after, natural_lines, ends_escaped, trimmed, is_comment, is_continued, stepped, logical_from, logical_lines}
 use Rattle.lake_basics.specs.Outcome.{each}
+use Rattle.lake_basics.proofs.Lists.{take_front}
 use Rattle.hudi_properties.specs.Pairs.{key_len, value_of, pair_of, pair_at, is_filled, in_order, properties_of}
 use Rattle.hudi_properties.specs.Written.{escaped_char, escaped, pair_text, properties_text, IsUtf8Pair}
 use Rattle.hudi_properties.proofs.WrittenLemmas.{IsPiece, IsStart, onto_front, piece_none, piece_append, piece_char}
@@ -75,10 +76,6 @@ unescaped_again text utf8 =
     rw units (text_again text utf8)
 
 -- ---- lines
-
-take_front : (xs ys : List ℕ) → take (length xs) (xs ++ ys) ≡ xs
-take_front [] ys = refl
-take_front (x ∷ xs) ys = ap (λ l. x ∷ l) (take_front xs ys)
 
 drop_front : (xs ys : List ℕ) → drop (length xs) (xs ++ ys) ≡ ys
 drop_front [] ys = refl

@@ -22,6 +22,7 @@ use Rattle.hudi_table.specs.declared.instants.InstantName.{InstantName}
 use Rattle.hudi_table.specs.declared.instants.CompletedInstant.{CompletedInstant}
 use Rattle.hudi_table.proofs.TimeOrder.{earlier_still, earlier_than, times_rise, up_to_itself}
 use Rattle.hudi_table.proofs.UpLists.{Up, found_first, found_there, front_passes, last_of_all, last_there, no_last, none_found, passes_front, picked, picked_from, sorted_up, up_front, up_picked}
+use Rattle.lake_basics.proofs.Truth.{lt_less}
 
 abbrev Instant : Type 0
 Instant = ℕ × Action × State
@@ -57,11 +58,6 @@ done_state : (s : State) → is_done s ≡ true → s ≡ state.Completed
 done_state state.Requested done = cc
 done_state state.Inflight done = cc
 done_state state.Completed done = refl
-
-lt_less : (o : Ordering) → is_lt o ≡ true → o ≡ Less
-lt_less Less is = refl
-lt_less Equal is = cc
-lt_less Greater is = cc
 
 module _ (names : List (List ℕ)) where
   completed_parts : (i : InstantName) (c : CompletedInstant) → completed_of names i ≡ Some c → (is_commit i.action ≡ true) × (i.state ≡ state.Completed) × (i.time ≡ c.time) × (i.name ≡ c.name)

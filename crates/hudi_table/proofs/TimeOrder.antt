@@ -17,6 +17,7 @@ use Rattle.hudi_names.specs.declared.name.State.{State}
 use Rattle.hudi_names.proofs.NameLemmas.{named_exactly}
 use Rattle.hudi_table.specs.Instants.{is_commit, time_of}
 use Rattle.hudi_table.specs.Folder.{IsEarlier, IsUpTo}
+use Rattle.lake_basics.proofs.Lists.{take_one_more}
 
 abbrev cmp : List ℕ → List ℕ → Ordering
 cmp = slice_cmp nat_cmp
@@ -55,9 +56,6 @@ rise (x ∷ s) (y ∷ t) r q ds dt less e =
     let rest_s = (and_parts (is_ascii_digit x) (list_all is_ascii_digit s) ds).1 in
     let rest_t = (and_parts (is_ascii_digit y) (list_all is_ascii_digit t) dt).1 in
     then_by (nat_cmp x y) (cmp (s ++ 46 ∷ r) (t ++ 46 ∷ q)) (cmp s t) less (λ l. rise s t r q rest_s rest_t l) e
-
-take_one_more : (k : ℕ) (x : ℕ) (xs : List ℕ) → take (1 + k) (x ∷ xs) ≡ x ∷ take k xs
-take_one_more k x xs = let one : 1 + k ≡ suc k = omega arith in ap (λ n. take n (x ∷ xs)) one
 
 -- what stands before the first dot
 before_dot : (s r : List ℕ) → list_all is_ascii_digit s ≡ true → before_first (λ b. b == 46) (s ++ 46 ∷ r) ≡ s

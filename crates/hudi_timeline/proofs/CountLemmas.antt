@@ -9,6 +9,7 @@ use Rattle.std.proofs.lemmas.List.Elements.{Contains-append_left, Contains-appen
 use Rattle.std.proofs.lemmas.Map.Keys.{IsDistinct-head, IsDistinct-tail}
 use Rattle.std.proofs.lemmas.Option.{none-some}
 use Rattle.lake_basics.specs.declared.limits.TheConstants.{MAX_COLUMNS, MAX_PARTITION_COLUMNS, MAX_PATH_BYTES, MAX_LIVE_FILES}
+use Rattle.lake_basics.proofs.Texts.{bytes_itself}
 use Rattle.table_history.specs.First.{IsFirst, NoneOf}
 use Rattle.table_history.specs.Rows.{HasDistinctPaths, paths_of}
 use Rattle.table_history.specs.TypeTree.{ColumnTrees}
@@ -17,7 +18,7 @@ use Rattle.table_history.specs.declared.limit.LimitKind.{LimitKind}
 use Rattle.table_history.specs.declared.limit.LimitKind.TheVariants as limit
 use Rattle.table_history.specs.declared.row.FileRow.{FileRow}
 use Rattle.table_history.specs.declared.table.Table.{Table}
-use Rattle.table_history.proofs.RowListLemmas.{Contains-none, Contains-head, Contains-tail, Contains-cases, bytes_itself}
+use Rattle.table_history.proofs.RowListLemmas.{Contains-none, Contains-head, Contains-tail, Contains-cases}
 use Rattle.partition_map.specs.declared.kind.PartKind.{PartKind}
 use Rattle.hudi_properties.specs.declared.table.HudiTable.{HudiTable}
 use Rattle.hudi_timeline.specs.Causes.{IsInForce, AreKinds, Passes, change_limits, rows_before}

@@ -139,8 +139,6 @@ lacks_kind f (n ∷ ns) there =
     (Contains-cases (f n) (map f ns) None there)
 
 -- ---- the judgement of the kinds
-pub not_both : (b : Bool) → b ≡ true → b ≡ false → ⊥
-not_both b is is_not = false≢true (sym is_not ∙ is)
 
 module _ (schema : ColumnTrees) (names : List (List ℕ)) (found : List (Option PartKind)) (found_is : found ≡ map (column_kind schema) names) where
   pub unknown : (o : Option (Vec PartKind Global)) → MatchOption o (Contains found None) (λ kinds. found ≡ map Some kinds.items) → o ≡ None

@@ -7,6 +7,7 @@ use Rattle.std.proofs.lemmas.List.Elements.{Contains-append_left, Contains-appen
 use Rattle.std.proofs.lemmas.List.Sorted.{IsPermutation-reverse, IsPermutation-sym, Contains-permutation}
 use Rattle.std.proofs.lemmas.Slice.Eq.{bytes_eq-Decides}
 use Rattle.lake_basics.specs.Outcome.{each}
+use Rattle.lake_basics.proofs.Truth.{false_and_true, or_true}
 use Rattle.table_history.specs.Path.{is_slash}
 use Rattle.table_history.specs.declared.row.FileRow.{FileRow}
 use Rattle.table_history.proofs.RowListLemmas.{Contains-none, Contains-head, Contains-tail, Contains-cases, Contains-filter, filter_contains}
@@ -21,7 +22,7 @@ use Rattle.hudi_files.specs.Stats.{bare_row}
 use Rattle.hudi_files.specs.Values.{style_of, HasValues, HaveValues}
 use Rattle.hudi_groups.specs.GroupSets.{is_row_of_group, names_group, newest_rows, is_touched, rows_after, IsNewestOfGroup}
 use Rattle.hudi_timeline.specs.Live.{Completed, AreRowsOf, Touches, IsLiveAfter}
-use Rattle.hudi_groups.proofs.AnyLemmas.{any_from, any_to, any_none, or_true}
+use Rattle.hudi_groups.proofs.AnyLemmas.{any_from, any_to, any_none}
 use Rattle.hudi_groups.proofs.GroupSetLemmas.{row_in_group, group_has_row}
 use Rattle.hudi_groups.proofs.NewestLemmas.{newest_from, newest_to}
 use Rattle.hudi_files.proofs.StatLemmas.{each_cons, each_all, each_from, bare_path, row_of_file, file_of_row}
@@ -76,9 +77,6 @@ module _ (form : Form) (style : FolderStyle) (names : List (List ℕ)) (kinds : 
       (Contains-cases t ts s there))
 
 -- ---- what one instant makes of rows
-both_parts : (a b : Bool) → (not a && b) ≡ true → (a ≡ false) × (b ≡ true)
-both_parts true b h = absurd (false≢true h)
-both_parts false b h = (refl, h)
 
 both_from : (a b : Bool) → a ≡ false → b ≡ true → (not a && b) ≡ true
 both_from a b plain same = (λ i. not (plain i) && same i)
@@ -91,7 +89,7 @@ module _ (table : HudiTable) (kinds : List PartKind) (u : Completed) (rows : Lis
       (λ yes. inl (writes_to u.form (style_of table) table.partition kinds q u.instant.stats are.0 rows are.1 are.2 yes))
       (λ no.
       let gone = any_to (names_group q) u.instant.replaced (subst (λ b. (b || list_any (names_group q) u.instant.replaced) ≡ true) no t) in
-      let says = both_parts (list_any is_slash gone.0.1) (bytes_eq q (joined gone.0.0 gone.0.1)) gone.2 in
+      let says = false_and_true (list_any is_slash gone.0.1) (bytes_eq q (joined gone.0.0 gone.0.1)) gone.2 in
       inr (gone.0, gone.1, (λ slash. false≢true (sym says.0 ∙ any_from is_slash gone.0.1 47 slash refl)), (bytes_eq-Decides q (joined gone.0.0 gone.0.1)).0 says.1))
       (cases_Bool (list_any (is_row_of_group u.form q) rows))
 

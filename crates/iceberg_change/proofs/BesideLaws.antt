@@ -18,6 +18,7 @@ use Rattle.table_history.proofs.RowListLemmas.{Contains-cases, Contains-head, Co
 use Rattle.table_history.proofs.TableLemmas.{Contains-paths_cases}
 use Rattle.table_history.proofs.SameTableLemmas.{rows_back}
 use Rattle.iceberg_change.specs.Behind.{AreApart}
+use Rattle.lake_basics.proofs.Texts.{bytes_differ}
 
 -- ---- distinct paths
 
@@ -51,16 +52,13 @@ all_of : {X : Type 0} (P : X → Type 0) (xs : List X) → ((x : X) → Contains
 all_of P [] each = tt
 all_of P (x ∷ xs) each = (each x (Contains-head x xs), all_of P xs (λ y there. each y (Contains-tail x xs y there)))
 
-not_same : (p q : List ℕ) → (p ≡ q → ⊥) → bytes_eq p q ≡ false
-not_same p q apart = ⊎_elim (λ is. absurd (apart ((bytes_eq-Decides p q).0 is))) (λ is. is) (cases_Bool (bytes_eq p q))
-
 pub distinct_both : (xs ys : List FileRow) → HasDistinctPaths xs → HasDistinctPaths ys → AreApart xs ys → HasDistinctPaths (xs ++ ys)
 distinct_both [] ys dx dy apart = dy
 distinct_both (x ∷ xs) ys dx dy apart =
     IsDistinct-cons bytes_eq x.path (paths_of (xs ++ ys))
     (all_of (λ p. bytes_eq x.path p ≡ false) (paths_of (xs ++ ys)) (λ p there.
     let found = Contains-paths_cases (xs ++ ys) p there in
-    not_same x.path p (λ is. ⊎_elim (λ one. head_apart x xs found.0 dx one (is ∙ sym found.2)) (λ other. apart x found.0 (Contains-head x xs) other (is ∙ sym found.2)) (Contains-append_cases xs ys found.0 found.1))))
+    bytes_differ x.path p (λ is. ⊎_elim (λ one. head_apart x xs found.0 dx one (is ∙ sym found.2)) (λ other. apart x found.0 (Contains-head x xs) other (is ∙ sym found.2)) (Contains-append_cases xs ys found.0 found.1))))
     (distinct_both xs ys (IsDistinct-tail bytes_eq x.path (paths_of xs) dx) dy (λ a b ha hb same. apart a b (Contains-tail x xs a ha) hb same))
 
 -- ---- rows in two parts

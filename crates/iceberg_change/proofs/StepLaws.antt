@@ -16,10 +16,6 @@ use Rattle.iceberg_change.specs.Behind.{AreApart}
 
 -- ---- what a result is, if it is one
 
-pub if_so : {A E : Type 0} (r : Result A E) (P Q : A → Type 0) → IfOk r P → ((a : A) → P a → Q a) → IfOk r Q
-if_so (Ok a) P Q p so = so a p
-if_so (Err e) P Q p so = tt
-
 pub if_both : {A E : Type 0} (r : Result A E) (P Q R : A → Type 0) → IfOk r P → IfOk r Q → ((a : A) → P a → Q a → R a) → IfOk r R
 if_both (Ok a) P Q R p q both = both a p q
 if_both (Err e) P Q R p q both = tt

@@ -12,6 +12,7 @@ use Rattle.std.proofs.lemmas.Option.{slice_get-get_or}
 use Rattle.std.proofs.lemmas.Slice.Eq.{bytes_eq-Decides}
 use Rattle.std.proofs.lemmas.Bool.{and_from, and_parts}
 use Rattle.lake_basics.specs.declared.limits.TheConstants.{MAX_LIVE_FILES, MAX_MANIFEST_ENTRIES}
+use Rattle.lake_basics.proofs.Numbers.{le_by, le_test}
 use Rattle.schema_map.specs.Image.{wide_columns}
 use Rattle.schema_map.proofs.ImageTwice.{columns_twice}
 use Rattle.table_history.specs.History.{FitColumns, IsSoundTable}
@@ -43,7 +44,7 @@ use Rattle.iceberg_version.specs.declared.kept.IcebergKept.{IcebergKept}
 use Rattle.iceberg_version.specs.declared.kept.KeptManifest.{KeptManifest}
 use Rattle.iceberg_version.proofs.ListLemmas.{next_added, next_placed, parts_joined}
 use Rattle.iceberg_version.proofs.NextLemmas.{all_next}
-use Rattle.iceberg_version.proofs.Shared.{all_tested, in_map, le_by, le_test, lt_by, lt_test, of_map, slice_there}
+use Rattle.iceberg_version.proofs.Shared.{all_tested, in_map, lt_by, lt_test, of_map, slice_there}
 use Rattle.iceberg_commit.proofs.MadeLemmas.{part_short}
 use Rattle.iceberg_commit.proofs.WideLemmas.{values_fit}
 

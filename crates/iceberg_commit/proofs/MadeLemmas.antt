@@ -4,6 +4,7 @@ use Rattle.std.specs.List.{AllByRecursion, filter}
 use Rattle.std.proofs.Math.Logic.{∥∥₁_elim}
 use Rattle.std.proofs.lemmas.List.{length-append, length-map}
 use Rattle.lake_basics.specs.declared.limits.TheConstants.{MAX_AVRO_VALUES, MAX_LIVE_FILES, MAX_MANIFEST_ENTRIES}
+use Rattle.lake_basics.proofs.Lists.{all_append}
 use Rattle.file_links.specs.declared.slots.Held.{Held}
 use Rattle.partition_map.specs.Columns.{column_kind}
 use Rattle.table_history.specs.History.{IsSoundTable}
@@ -22,7 +23,7 @@ use Rattle.iceberg_commit.specs.Texts.{IsWritableIn}
 use Rattle.iceberg_version.specs.declared.kept.IcebergKept.{IcebergKept}
 use Rattle.iceberg_version.specs.declared.kept.KeptManifest.{KeptManifest}
 use Rattle.iceberg_version.specs.declared.layout.Layout.{Layout}
-use Rattle.iceberg_version.proofs.BehindLemmas.{all_joined, wide_kind}
+use Rattle.iceberg_version.proofs.BehindLemmas.{wide_kind}
 use Rattle.iceberg_version.proofs.Shared.{in_drop, in_take, short_take}
 use Rattle.iceberg_commit.proofs.NewListLemmas.{added_fit, few_columns, held_owned, kinds_kept, own_columns, rows_few}
 use Rattle.iceberg_commit.proofs.WritableLemmas.{can_write, entries_prop, values_of_kinds}
@@ -90,7 +91,7 @@ module _ (kept : IcebergKept) (commit : Commit) (can : CanPublish (view_of kept)
         let entries = rewritten_entries front version removed rows in
         ∥∥₁_elim kept.table_sound (entries_prop layout.columns.items entries) (λ (sound : IsSoundTable kept.table).
         ∥∥₁_elim kept.rows_linked (entries_prop layout.columns.items entries) (λ (linked : AreRowsOf kept.table.rows kept.links).
-        all_joined (HasValues layout.columns.items) (map (existing_entry front) (left removed rows)) (map (deleted_entry front version) (lost removed rows))
+        all_append (HasValues layout.columns.items) (map (existing_entry front) (left removed rows)) (map (deleted_entry front version) (lost removed rows))
         (all_mapped (HasValues layout.columns.items) (existing_entry front) (left removed rows) (λ held there. held_values sound linked front (existing_entry front held) held (Contains-filter (λ (h : Held). not (is_lost removed h)) rows held there).0 refl))
         (all_mapped (HasValues layout.columns.items) (deleted_entry front version) (lost removed rows) (λ held there. held_values sound linked front (deleted_entry front version held) held (Contains-filter (is_lost removed) rows held there).0 refl))))
 

@@ -10,6 +10,7 @@ use Rattle.std.proofs.lemmas.List.Elements.{Contains-append_right}
 use Rattle.std.proofs.lemmas.Map.Keys.{IsDistinct-prop}
 use Rattle.std.proofs.lemmas.Bool.{and_parts}
 use Rattle.lake_basics.specs.declared.limits.TheConstants.{MAX_LIVE_FILES, MAX_PARTITION_COLUMNS}
+use Rattle.lake_basics.proofs.Texts.{fewer}
 use Rattle.file_links.specs.Rows.{Entry, Owns, rows_of}
 use Rattle.file_links.specs.declared.slots.Held.{Held}
 use Rattle.partition_map.specs.Columns.{column_kind}
@@ -31,7 +32,7 @@ use Rattle.iceberg_commit.specs.NewVersion.{ChangesKinds, kinds_in, schema_behin
 use Rattle.iceberg_version.specs.Sound.{is_born, is_sound_owner}
 use Rattle.iceberg_version.specs.declared.kept.IcebergKept.{IcebergKept}
 use Rattle.iceberg_version.specs.declared.kept.KeptManifest.{KeptManifest}
-use Rattle.iceberg_version.proofs.BehindLemmas.{fewer, is_behind, kind_there, rows_length, same_kinds, table_behind}
+use Rattle.iceberg_version.proofs.BehindLemmas.{is_behind, kind_there, rows_length, same_kinds, table_behind}
 use Rattle.iceberg_version.proofs.IdLemmas.{top_path}
 use Rattle.iceberg_version.proofs.RowLemmas.{entries_of, there}
 use Rattle.iceberg_version.proofs.Shared.{of_map}

@@ -3,7 +3,7 @@ use Rattle.std.proofs.Common.{◌≡◌, inl, inr, ⊎_elim, ◌+◌, ◌<◌, �
 use Rattle.std.specs.Prelude.{option_map, unwrap_or}
 use Rattle.std.specs.List.{All, list_all, list_any}
 use Rattle.std.specs.Ordering.{int_eq}
-use Rattle.std.proofs.lemmas.Bool.{and_parts, false≢true}
+use Rattle.std.proofs.lemmas.Bool.{and_parts, false≢true, not-true}
 use Rattle.std.proofs.lemmas.Bool.Decides.{Decides-int_eq}
 use Rattle.std.proofs.lemmas.List.{length-map}
 use Rattle.std.proofs.lemmas.List.Elements.{Contains-append_cases, Contains-append_right}
@@ -26,7 +26,7 @@ use Rattle.iceberg_metadata.specs.Judging.{are_distinct, is_among, metadata_of a
 use Rattle.iceberg_metadata.specs.Paths.{current_schema, held_schema}
 use Rattle.iceberg_metadata.specs.Schemas.{HeldSchema}
 use Rattle.iceberg_metadata.specs.declared.metadata.Metadata.{Metadata}
-use Rattle.iceberg_metadata.proofs.ListLemmas.{all_from, among_Decides, not_true}
+use Rattle.iceberg_metadata.proofs.ListLemmas.{all_from, among_Decides}
 use Rattle.iceberg_table.specs.Lists.{AreRows}
 use Rattle.iceberg_table.specs.Manifests.{AreEntries}
 use Rattle.target_core.specs.Conditions.{CanPublish}
@@ -72,7 +72,7 @@ held_found (s ∷ ss) t distinct there =
     (λ is.
     let id : s.0 ≡ t.0 = (Decides-int_eq s.0 t.0).0 is in
     let among : is_among ids s.0 ≡ true = (among_Decides ids s.0).1 (subst (λ (i : ℤ). Contains ids i) (sym id) (in_map (λ (x : HeldSchema). x.0) ss t later)) in
-    absurd (false≢true (sym (not_true (is_among ids s.0) parts.0) ∙ among)))
+    absurd (false≢true (sym (not-true (is_among ids s.0) parts.0) ∙ among)))
     (λ other. held_found ss t parts.1 later))
     (Contains-cases s ss t there)
 

@@ -5,7 +5,7 @@ use Rattle.std.specs.Bool.{Decides}
 use Rattle.std.specs.Cmp.Lexicographic.{pointwise}
 use Rattle.std.specs.List.{list_all}
 use Rattle.std.specs.Ordering.{int_eq}
-use Rattle.std.proofs.lemmas.Bool.{and_from, and_parts, false_from_ne_true, false≢true, not_from_false}
+use Rattle.std.proofs.lemmas.Bool.{and_from, and_parts, false_from_ne_true, false≢true, not-true, not_from_false}
 use Rattle.std.proofs.lemmas.Bool.Decides.{Decides-int_eq}
 use Rattle.std.proofs.lemmas.Int.{ints}
 use Rattle.std.proofs.lemmas.Slice.Eq.{slice_eq-Decides}
@@ -23,7 +23,7 @@ use Rattle.iceberg_metadata.specs.Schemas.{HeldSchema}
 use Rattle.iceberg_metadata.specs.Writing.{CanBeHeld, schema_data}
 use Rattle.iceberg_metadata.specs.declared.metadata.Metadata.{Metadata}
 use Rattle.iceberg_metadata.specs.declared.metadata.Snapshot.{Snapshot}
-use Rattle.iceberg_metadata.proofs.ListLemmas.{all_from, among_Decides, distinct_Decides, not_true}
+use Rattle.iceberg_metadata.proofs.ListLemmas.{all_from, among_Decides, distinct_Decides}
 use Rattle.iceberg_metadata.proofs.LocationLemmas.{names_Decides}
 use Rattle.iceberg_metadata.proofs.PathLemmas.{renamed_Decides}
 use Rattle.iceberg_version.specs.Sound.{IsSoundMetadata, held_field_ids, held_schema_ids, is_read_again, is_same_schema, is_sound_metadata, is_sound_snapshot, is_upto}
@@ -55,7 +55,7 @@ read_Decides s = (
 
 upto_Decides : (last id : ℤ) → Decides (is_upto last id) (id ≤ℤ last)
 upto_Decides last id = (
-  λ h. let is : int_lt last id ≡ false = not_true (int_lt last id) h in grind (arith, ints, is),
+  λ h. let is : int_lt last id ≡ false = not-true (int_lt last id) h in grind (arith, ints, is),
   λ within. not_from_false (int_lt last id) (false_from_ne_true (int_lt last id) (λ (over : int_lt last id ≡ true). absurd (grind (arith, ints, over, within)))),
 )
 
@@ -95,7 +95,7 @@ module _ (version : ℕ) (m : Metadata) where
       record {
         schemas = λ s there. (read_Decides s).0 (all_from is_read_again m.schemas s a.0 there);
         field_ids = λ id there. (upto_Decides m.last_column_id id).0 (all_from (is_upto m.last_column_id) (held_field_ids m) id b.0 there);
-        renamed = λ r. false≢true (sym (not_true (is_renamed (flat_map path_ids m.schemas)) c.0) ∙ (renamed_Decides (flat_map path_ids m.schemas)).1 r);
+        renamed = λ r. false≢true (sym (not-true (is_renamed (flat_map path_ids m.schemas)) c.0) ∙ (renamed_Decides (flat_map path_ids m.schemas)).1 r);
         own_snapshots = (distinct_Decides (snapshot_ids m)).0 d.0;
         numbers = λ s there. (upto_Decides (pos version) s.id).0 (each s there).0;
         snapshot_schemas = λ s there. (among_if_any (held_schema_ids m) s.schema_id).0 (each s there).1.0;

@@ -12,6 +12,7 @@ use Rattle.std.specs.Str.{bytes_eq}
 use Rattle.std.proofs.lemmas.Map.Text.{is_eq-slice_cmp}
 use Rattle.schema_map.specs.Paths.{Path}
 use Rattle.iceberg_field_ids.specs.IdMap.{HoldsIds}
+use Rattle.lake_basics.proofs.Numbers.{before_less, suc_before}
 
 then_eq : (a b : Ordering) → is_eq (ordering_then a b) ≡ (is_eq a && is_eq b)
 then_eq Less b = refl
@@ -43,12 +44,6 @@ path_held m n key id known keeps held =
     ∙ copied (is_eq (slice_cmp (slice_cmp nat_cmp) key.now path)) id kept
     ∙ ap (λ at. cond at (Some id.now) (option_copied kept)) (paths_eq key.now path)
     ∙ ap (λ o. cond (pointwise bytes_eq key.now path) (Some id.now) o) (held path)
-
-suc_before : (n : ℕ) → 0 < n → suc (n - 1) ≡ n
-suc_before n some = omega (arith, some)
-
-before_less : (n m : ℕ) → 0 < n → n ≤ m → n - 1 < m
-before_less n m some within = omega (arith, some, within)
 
 -- one pair more, in front of those that are kept
 pub held_before : (known : List (Path × ℤ)) (place : ℕ) (pair : Path × ℤ) (m n : BTreeMap (Bor Path) (Bor ℤ)) (key : Bor Path) (id : Bor ℤ) → 0 < place → place ≤ length known → pair ≡ get_or known (place - 1) pair → key.now ≡ pair.0 → id.now ≡ pair.1 → Keeps m n key id → HoldsIds m (drop place known) → HoldsIds n (drop (place - 1) known)

@@ -15,6 +15,7 @@ use Rattle.table_history.specs.Sound.{is_named, have_own_names, IsSoundType, Are
 use Rattle.schema_map.specs.Paths.{Path, below, inner_paths, column_paths, known_id}
 use Rattle.iceberg_field_ids.specs.Ids.{next_id, id_step, ids_for}
 use Rattle.lake_basics.specs.Outcome.{◌>>=◌}
+use Rattle.lake_basics.proofs.Truth.{false_and_true}
 use Rattle.schema_map.specs.Among.{IsAmong}
 use Rattle.iceberg_field_ids.specs.OwnIds.{AreDistinct, AreKnown, KeepsKnown}
 use Rattle.schema_map.proofs.Bound.{bound}
@@ -107,10 +108,6 @@ column_begins (column n t b cs) p h =
       | inr c ↦ let m = column_begins cs p c in (m.0, m.1, or_right (bytes_eq n m.0) _ m.2)
     ]
 
-and_parts : (a b : Bool) → (not a && b) ≡ true → (a ≡ false) × (b ≡ true)
-and_parts true b e = absurd (cc)
-and_parts false b e = (refl, e)
-
 same_begin : (n m : List ℕ) (p : Path) → Begins n p → Begins m p → n ≡ m
 unfolding Begins
 same_begin n m p a b = let e : n ∷ a.0 ≡ m ∷ b.0 = a.1 ∙ sym b.1 in cc
@@ -142,7 +139,7 @@ mutual
   own_columns : (cs : ColumnTrees) → have_own_names cs ≡ true → AreSound cs → AreDistinct (column_paths cs)
   own_columns no_columns own sound = tt
   own_columns (column n t b cs) own sound =
-      let parts = and_parts (is_named n cs) (have_own_names cs) own in
+      let parts = false_and_true (is_named n cs) (have_own_names cs) own in
       distinct_append (below n (inner_paths t)) (column_paths cs) (below_distinct n (inner_paths t) (inner_full t) (own_inner t sound.0)) (own_columns cs parts.1 sound.1)
       (λ p a c. let m = column_begins cs p c in let e = same_begin m.0 n p m.1 (below_begins n p (inner_paths t) a) in true≢false (sym (subst (λ x. is_named x cs ≡ true) e m.2) ∙ parts.0))
 

@@ -4,6 +4,7 @@ use Rattle.std.specs.List.{concat}
 use Rattle.std.specs.Prelude.{IfErr, IfOk}
 use Rattle.std.proofs.lemmas.List.{append-nil}
 use Rattle.lake_basics.specs.Outcome.{◌>>=◌}
+use Rattle.lake_basics.proofs.Truth.{true_not_false}
 use Rattle.avro_schema.specs.Tree.{SchemaTree}
 use Rattle.avro_value.specs.Layout.{Layout, layout_of}
 use Rattle.avro_value.specs.ValueTree.{ValueTree, value_count, total}
@@ -124,9 +125,6 @@ block_flaw l marker bytes budget f (inr (inr (inr (inl (n, objects, sync, rest, 
 block_flaw l marker bytes budget f (inr (inr (inr (inl (n, objects, sync, rest, w, inr (vs, front, over, parts, some, many, spelled, few, at)))))) = ap is_header_flaw at.0
 block_flaw l marker bytes budget f (inr (inr (inr (inr (vs, objects, sync, rest, w, spelled, few, other, at))))) = ap is_header_flaw at.0
 
-pub not_both : (b : Bool) → b ≡ true → b ≡ false → ⊥
-not_both b p q = cc
-
 flaw_opens : (bytes : List ℕ) (f : ContainerFault) → IsFirstFlaw MAX_VALUES bytes f → is_header_flaw f.flaw ≡ true → opened bytes ≡ Err f
 flaw_opens bytes f first header = opened_is bytes ∙ elim (bind_err (header_at MAX_VALUES bytes) (behind_header bytes) f (sym (container_is bytes) ∙ container_refused MAX_VALUES bytes f first)) [
   | inl failed ↦ rw failed refl
@@ -137,7 +135,7 @@ flaw_opens bytes f first header = opened_is bytes ∙ elim (bind_err (header_at 
       | inr p ↦ elim (bind_err (blocks_at (layout_of t.0) h.0.1 (length h.0.2 + 1) h.0.2 MAX_VALUES) (λ vs. Ok (h.0.0, t.0, vs)) f p.2) [
         | inl failed ↦
             (let at = blocks_faulty (layout_of t.0) h.0.1 (length h.0.2 + 1) h.0.2 MAX_VALUES f (header_takes MAX_VALUES bytes h.0 h.1).is.sixteen (omega arith) failed in
-            absurd (not_both (is_header_flaw f.flaw) header (block_flaw (layout_of t.0) h.0.1 at.fault.3 at.fault.4 f at.fault.9)))
+            absurd (true_not_false (is_header_flaw f.flaw) header (block_flaw (layout_of t.0) h.0.1 at.fault.3 at.fault.4 f at.fault.9)))
         | inr vs ↦ absurd (let no = vs.2 in cc)
       ]
     ]

@@ -2,6 +2,8 @@
 use Rattle.std.proofs.Common.{◌≡◌, inl, inr, ℕ, ◌+◌, List, ◌++◌, length, true, Result, Ok, Err, refl, ap, ◌∙◌, append_assoc, arith}
 use Rattle.std.proofs.lemmas.List.{length-append}
 use Rattle.lake_basics.specs.Outcome.{with_fault}
+use Rattle.lake_basics.proofs.Truth.{true_not_false}
+use Rattle.lake_basics.proofs.Lists.{more_behind}
 use Rattle.avro_value.specs.Layout.{layout_of}
 use Rattle.avro_value.specs.ValueTree.{ValueTree}
 use Rattle.avro_value.specs.declared.api.TheConstants.{MAX_VALUES}
@@ -35,7 +37,7 @@ use Rattle.iceberg_manifest_feeding.specs.Laws.{IsFaultForGood, IsLimitOfValues,
 use Rattle.iceberg_manifest_feeding.specs.Order.{IsFaultAtEnd, IsFaultWithin}
 use Rattle.iceberg_manifest_feeding.specs.Steps.{Entries, ended_by, entries_in}
 use Rattle.iceberg_manifest_feeding.proofs.EndLaws.{read_whole, refused_end}
-use Rattle.iceberg_manifest_feeding.proofs.FaultLaws.{any_place, block_flaw, header_long, long_flaw, not_both, refused_within}
+use Rattle.iceberg_manifest_feeding.proofs.FaultLaws.{any_place, block_flaw, header_long, long_flaw, refused_within}
 use Rattle.iceberg_manifest_feeding.proofs.ReadLaws.{reads}
 
 -- ---- read, or refused once
@@ -61,9 +63,6 @@ read_sound columns bytes now e h fault = ok_or_err (entries_in columns (fed noth
 
 -- ---- a fault stays
 
-more_behind : (bytes front rest more : List ℕ) → bytes ≡ front ++ rest → bytes ++ more ≡ front ++ (rest ++ more)
-more_behind bytes front rest more parts = ap (λ (l : List ℕ). l ++ more) parts ∙ append_assoc front rest more
-
 left_more : (bytes more : List ℕ) (f : ContainerFault) → f.left ≡ length bytes → f.left + length more ≡ length (bytes ++ more)
 left_more bytes more f left = omega (arith, left, length-append bytes more)
 
@@ -71,7 +70,7 @@ first_stays : (bytes more : List ℕ) (f : ContainerFault) → is_header_flaw f.
 first_stays bytes more f header (inl h) = inl (header_faulty MAX_VALUES (bytes ++ more) (shifted f more) (header_fails MAX_VALUES bytes more f (header_long f.flaw header) (header_refused MAX_VALUES bytes f h))).fault
 first_stays bytes more f header (inr (inl (meta, marker, head, blocks, parts, is, none, at))) = inr (inl (meta, marker, head, blocks ++ more, more_behind bytes head blocks more parts, is, none, (at.0, left_more bytes more f at.1)))
 first_stays bytes more f header (inr (inr (inl (meta, marker, head, blocks, t, parts, is, has, other, at)))) = inr (inr (inl (meta, marker, head, blocks ++ more, t, more_behind bytes head blocks more parts, is, has, other, (at.0, left_more bytes more f at.1))))
-first_stays bytes more f header (inr (inr (inr (meta, marker, head, blocks, t, parts, is, has, plain, at)))) = absurd (not_both (is_header_flaw f.flaw) header (block_flaw (layout_of t) marker at.3 at.4 f at.9))
+first_stays bytes more f header (inr (inr (inr (meta, marker, head, blocks, t, parts, is, has, plain, at)))) = absurd (true_not_false (is_header_flaw f.flaw) header (block_flaw (layout_of t) marker at.3 at.4 f at.9))
 
 stands_on : (bytes more : List ℕ) (front : List (List ValueTree)) (b : Behind) → StandsBehind bytes front b → StandsBehind (bytes ++ more) front (added b more)
 stands_on bytes more front b s = record {

@@ -5,7 +5,7 @@ use Rattle.std.specs.Bool.{Decides}
 use Rattle.std.specs.List.{list_any, IsDistinct}
 use Rattle.std.specs.Ordering.{int_eq}
 use Rattle.std.specs.Str.{bytes_eq}
-use Rattle.std.proofs.lemmas.Bool.{false≢true, or_cases}
+use Rattle.std.proofs.lemmas.Bool.{false≢true, not-true, or_cases}
 use Rattle.std.proofs.lemmas.Slice.Eq.{bytes_eq-Decides}
 use Rattle.table_history.specs.First.{IsFirst, NoneOf}
 use Rattle.table_history.specs.declared.limit.LimitKind.TheVariants as limit
@@ -17,7 +17,7 @@ use Rattle.iceberg_metadata.specs.declared.metadata.SpecField.{SpecField}
 use Rattle.iceberg_metadata.specs.Schemas.{HeldUnread}
 use Rattle.iceberg_metadata.specs.Paths.{default_fields, current_kinds, sources, HasOtherTransform, HasOtherPartition}
 use Rattle.iceberg_metadata.specs.Judging.{are_distinct, is_schema_type, is_limit_of_columns, is_limit_of_depth, is_other_transform, lacks_kinds, has_other_partition, first_that}
-use Rattle.iceberg_metadata.proofs.ListLemmas.{any_from, any_to, not_true, distinct_Decides}
+use Rattle.iceberg_metadata.proofs.ListLemmas.{any_from, any_to, distinct_Decides}
 
 -- ---- the first of several tests
 
@@ -116,7 +116,7 @@ refusal_Decides test x passes only es = (λ h. let found = any_to test es h in s
 pub transform_Decides : (m : Metadata) → Decides (list_any is_other_transform (default_fields m)) (HasOtherTransform m)
 transform_Decides m = (
   λ h. let found = any_to is_other_transform (default_fields m) h in
-      record { field = found.0; is = found.1; other = λ same. false≢true (sym (not_true (bytes_eq found.0.transform (codes "identity")) found.2) ∙ (bytes_eq-Decides found.0.transform (codes "identity")).1 same) },
+      record { field = found.0; is = found.1; other = λ same. false≢true (sym (not-true (bytes_eq found.0.transform (codes "identity")) found.2) ∙ (bytes_eq-Decides found.0.transform (codes "identity")).1 same) },
   λ t. any_from is_other_transform (default_fields m) t.field t.is (other_by t (bytes_eq t.field.transform (codes "identity")) refl),
 )
   where
@@ -137,7 +137,7 @@ Lacks fields kinds = (IsDistinct int_eq (sources fields) → ⊥) ⊎ ((f : Spec
 lacks_to : (fields : List SpecField) (kinds : Kinds) → lacks_kinds fields (Some kinds) ≡ true → Lacks fields kinds
 lacks_to fields kinds h =
     ⊎_elim
-    (λ twice. inl (λ own. false≢true (sym (not_true (are_distinct (sources fields)) twice) ∙ (distinct_Decides (sources fields)).1 own)))
+    (λ twice. inl (λ own. false≢true (sym (not-true (are_distinct (sources fields)) twice) ∙ (distinct_Decides (sources fields)).1 own)))
     (λ any. let found = any_to (λ (f : SpecField). is_none (kinds f.source_id)) fields any in inr (found.0, found.1, none_is (kinds found.0.source_id) found.2))
     (or_cases (not (are_distinct (sources fields))) (list_any (λ (f : SpecField). is_none (kinds f.source_id)) fields) h)
 

@@ -3,27 +3,12 @@ use Rattle.std.proofs.Common.{◌≡◌, ℤ, Bool, true, false, not, ◌&&◌, 
 use Rattle.std.specs.List.{list_any, list_all, IsDistinct, AllByRecursion}
 use Rattle.std.specs.Ordering.{int_eq}
 use Rattle.std.specs.Bool.{Decides}
-use Rattle.std.proofs.lemmas.Bool.{and_parts, cases_Bool, false≢true, or_parts}
+use Rattle.std.proofs.lemmas.Bool.{and_parts, cases_Bool, false≢true, not-true, or_parts}
 use Rattle.std.proofs.lemmas.Bool.Decides.{Decides-int_eq}
 use Rattle.std.proofs.lemmas.Map.Keys.{IsDistinct-cons, IsDistinct-head, IsDistinct-tail}
 use Rattle.table_history.proofs.RowListLemmas.{Contains-none, Contains-head, Contains-tail, Contains-cases}
 use Rattle.iceberg_metadata.specs.Judging.{is_among, are_distinct}
-
-or_true : (b : Bool) → (b || true) ≡ true
-or_true true = refl
-or_true false = refl
-
-and_false : (b : Bool) → (b && false) ≡ false
-and_false true = refl
-and_false false = refl
-
-pub not_true : (b : Bool) → not b ≡ true → b ≡ false
-not_true true e = absurd (false≢true e)
-not_true false e = refl
-
-pub not_false : (b : Bool) → not b ≡ false → b ≡ true
-not_false true e = refl
-not_false false e = absurd (false≢true (sym e))
+use Rattle.lake_basics.proofs.Truth.{or_true}
 
 module _ {X : Type 0} (p : X → Bool) where
   pub any_from : (xs : List X) (x : X) → Contains xs x → p x ≡ true → list_any p xs ≡ true
@@ -76,7 +61,7 @@ distinct_nothing = tt
 
 distinct_to : (xs : List ℤ) → are_distinct xs ≡ true → IsDistinct int_eq xs
 distinct_to [] h = distinct_nothing
-distinct_to (x ∷ xs) h = let both = and_parts (not (is_among xs x)) (are_distinct xs) h in IsDistinct-cons int_eq x xs (not_again x xs (not_true (is_among xs x) both.0)) (distinct_to xs both.1)
+distinct_to (x ∷ xs) h = let both = and_parts (not (is_among xs x)) (are_distinct xs) h in IsDistinct-cons int_eq x xs (not_again x xs (not-true (is_among xs x) both.0)) (distinct_to xs both.1)
 
 distinct_from : (xs : List ℤ) → IsDistinct int_eq xs → are_distinct xs ≡ true
 distinct_from [] d = refl

@@ -5,7 +5,7 @@ use Rattle.std.specs.Cmp.Lexicographic.{pointwise}
 use Rattle.std.specs.List.{list_all}
 use Rattle.std.specs.Ordering.{int_eq}
 use Rattle.std.specs.Str.{bytes_eq}
-use Rattle.std.proofs.lemmas.Bool.{and_cases, and_parts, false≢true}
+use Rattle.std.proofs.lemmas.Bool.{and_cases, and_parts, false≢true, not-true}
 use Rattle.std.proofs.lemmas.Bool.Decides.{Decides-int_eq}
 use Rattle.std.proofs.lemmas.Slice.Eq.{bytes_eq-Decides, slice_eq-Decides}
 use Rattle.std.proofs.lemmas.Option.{same_Some}
@@ -13,7 +13,7 @@ use Rattle.table_history.proofs.RowListLemmas.{Contains-none, Contains-head, Con
 use Rattle.schema_map.specs.Paths.{Path, known_id}
 use Rattle.iceberg_metadata.specs.Judging.{is_path, is_id, is_first, is_renamed}
 use Rattle.iceberg_metadata.specs.Paths.{PathId, path_of, IsRenamed}
-use Rattle.iceberg_metadata.proofs.ListLemmas.{all_from, all_false, not_true}
+use Rattle.iceberg_metadata.proofs.ListLemmas.{all_from, all_false}
 
 path_Decides : (p q : Path) → Decides (pointwise bytes_eq p q) (p ≡ q)
 path_Decides p q = slice_eq-Decides bytes_eq-Decides p q (pointwise bytes_eq p q) refl
@@ -68,7 +68,7 @@ renamed_shown : (ps : List PathId) → is_renamed ps ≡ true → IsRenamed ps
 renamed_shown ps h = by (and_cases (is_path (path_of ps found.0.1) found.0.0) (is_id (known_id ps found.0.0) found.0.1) found.2)
   where
     found : (p : PathId) × Contains ps p × (is_first ps p ≡ false)
-    found = all_false (is_first ps) ps (not_true (list_all (is_first ps) ps) h)
+    found = all_false (is_first ps) ps (not-true (list_all (is_first ps) ps) h)
 
     by : (is_path (path_of ps found.0.1) found.0.0 ≡ false) ⊎ (is_id (known_id ps found.0.0) found.0.1 ≡ false) → IsRenamed ps
     by (inl other) =

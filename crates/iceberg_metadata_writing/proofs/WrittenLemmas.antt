@@ -20,6 +20,7 @@ use Rattle.serde_json.specs.Data.{Data, object, string, Members, no_members, mem
 use Rattle.serde_json.specs.View.{items_of}
 use Rattle.lake_basics.specs.Outcome.{each}
 use Rattle.lake_basics.specs.declared.limits.TheConstants.{MAX_PARTITION_COLUMNS}
+use Rattle.lake_basics.proofs.Lists.{front_two, moved_back, permuted_behind}
 use Rattle.json_reading.specs.Json as json_values
 use Rattle.json_reading.specs.Json.{json, whole, int, items, pairs, present, members_with, IsReadAgain}
 use Rattle.table_history.specs.First.{NoneOf}
@@ -130,9 +131,6 @@ is_named name p = bytes_eq name p.0
 abbrev AreProperties : Members → List Property → Type 0
 AreProperties ms ps = each property (pairs ms) ≡ Ok ps
 
-front_two : {X : Type 0} (x y : X) (xs : List X) → IsPermutation (x ∷ y ∷ xs) (y ∷ x ∷ xs)
-front_two x y xs = IsPermutation-swap (x ∷ y ∷ xs) (y ∷ x ∷ xs) 0 1 (omega arith) (omega arith) refl
-
 -- these members are read as the properties and one more
 record IsPut (name text : List ℕ) (ms : Members) (ps : List Property) : Type 0 where
   found : List Property
@@ -168,14 +166,6 @@ still_new p found more [] same apart new = tt
 still_new p found more (q ∷ ps) same apart new =
     (sym (list_any-IsPermutation (is_named q.0) (p ∷ found) more same) ∙ or_from _ _ (nat_list_eq_equiv.symm q.0 p.0 ∙ apart.0) new.0, still_new p found more ps same apart.1 new.1)
 
-moved : {X : Type 0} (y : X) (xs ys : List X) → IsPermutation (y ∷ (xs ++ ys)) (xs ++ y ∷ ys)
-moved y [] ys = IsPermutation-refl (y ∷ ys)
-moved y (x ∷ xs) ys = IsPermutation-trans _ _ _ (front_two y x (xs ++ ys)) (IsPermutation-cons x _ _ (moved y xs ys))
-
-under : {X : Type 0} (zs xs ys : List X) → IsPermutation xs ys → IsPermutation (zs ++ xs) (zs ++ ys)
-under [] xs ys h = h
-under (z ∷ zs) xs ys h = IsPermutation-cons z _ _ (under zs xs ys h)
-
 -- the members are read as these properties in another order
 record AreAgain (ms : Members) (ps : List Property) : Type 0 where
   found : List Property
@@ -188,7 +178,7 @@ all_put (p ∷ ps) found ms are own new =
     let names = map (λ (q : Property). q.0) ps in
     let one = put_new p.0 p.1 ms found are new.0 in
     let others = all_put ps one.found (put p.0 (string p.1) ms) one.are (IsDistinct-tail bytes_eq p.0 names own) (still_new p found one.found ps one.same (IsDistinct-head bytes_eq p.0 names own) new.1) in
-    record { found = others.found; are = others.are; same = IsPermutation-trans _ _ _ (moved p ps found) (IsPermutation-trans _ _ _ (under ps (p ∷ found) one.found one.same) others.same) }
+    record { found = others.found; are = others.are; same = IsPermutation-trans _ _ _ (moved_back p ps found) (IsPermutation-trans _ _ _ (permuted_behind ps (p ∷ found) one.found one.same) others.same) }
 
 all_new : (ps : List Property) → AreNew [] ps
 all_new [] = tt

@@ -13,7 +13,8 @@ use Rattle.iceberg_metadata.specs.declared.outline.Outline.{Outline}
 use Rattle.iceberg_metadata.specs.Outlines.{with_other}
 use Rattle.iceberg_schemas.specs.SchemaOutlines.{IsNamedPart}
 use Rattle.iceberg_schemas.proofs.FactLemmas.{Fact, Adds, adds_other, adds_none, adds_as}
-use Rattle.iceberg_schemas.proofs.PlaceLemmas.{struct_list, struct_map, list_map, no_string, some_none, some_same, bad_inside, other_here, Facts, PartFacts, InParts, AreNamed, from_facts, IsGood, Walked, walked_parts, same_part}
+use Rattle.iceberg_schemas.proofs.PlaceLemmas.{struct_list, struct_map, list_map, no_string, bad_inside, other_here, Facts, PartFacts, InParts, AreNamed, from_facts, IsGood, Walked, walked_parts, same_part}
+use Rattle.lake_basics.proofs.Options.{some_once, some_or_none}
 
 -- ---- fields
 
@@ -39,11 +40,11 @@ struct_known d named (inr other) = other.2.0 (sym other.1 ∙ named)
 
 module _ (d : Data) (named : IsNamed (codes "struct") d) (ds : Items) (lists : list_member (codes "fields") d ≡ Some ds) (good : AreGoodFields (items ds)) where
   among_fields : (es : Items) (field : Data) → list_member (codes "fields") d ≡ Some es → IsAmong field (items es) → IsAmong field (items ds)
-  among_fields es field is among = subst (λ x. IsAmong field (items x)) (some_same _ es ds is lists) among
+  among_fields es field is among = subst (λ x. IsAmong field (items x)) (some_once _ es ds is lists) among
 
   struct_own : IsDistinct bytes_eq (field_names ds) → IsBadIcebergType d → ⊥
-  struct_own own (inl none) = some_none _ (codes "struct") named none.1
-  struct_own own (inr (inl bad)) = ⊎_elim (some_none _ ds lists) (λ listed. ⊎_elim (λ twice. twice (subst (λ x. IsDistinct bytes_eq (field_names x)) (some_same _ ds listed.0 lists listed.1) own)) (λ field. (good field.0 (among_fields listed.0 field.0 listed.1 field.1)).0 field.2) listed.2) bad.1
+  struct_own own (inl none) = some_or_none _ (codes "struct") named none.1
+  struct_own own (inr (inl bad)) = ⊎_elim (some_or_none _ ds lists) (λ listed. ⊎_elim (λ twice. twice (subst (λ x. IsDistinct bytes_eq (field_names x)) (some_once _ ds listed.0 lists listed.1) own)) (λ field. (good field.0 (among_fields listed.0 field.0 listed.1 field.1)).0 field.2) listed.2) bad.1
   struct_own own (inr (inr (inl list))) = struct_list d named list.0
   struct_own own (inr (inr (inr map))) = struct_map d named map.0
 
@@ -80,7 +81,7 @@ list_known d named (inl word) = no_string word.0 (codes "list") (subst (IsNamed 
 list_known d named (inr other) = other.2.1.0 (sym other.1 ∙ named)
 
 list_own : (d : Data) → IsNamed (codes "list") d → (IsBadIcebergList d → ⊥) → IsBadIcebergType d → ⊥
-list_own d named good (inl none) = some_none _ (codes "list") named none.1
+list_own d named good (inl none) = some_or_none _ (codes "list") named none.1
 list_own d named good (inr (inl struct)) = struct_list d struct.0 named
 list_own d named good (inr (inr (inl list))) = good list.1
 list_own d named good (inr (inr (inr map))) = list_map d named map.0
@@ -88,7 +89,7 @@ list_own d named good (inr (inr (inr map))) = list_map d named map.0
 module _ (d : Data) (named : IsNamed (codes "list") d) (id : ℤ) (id_is : int_member (codes "element-id") d ≡ Some id) (element : Data) (element_is : get (codes "element") d ≡ Some element) where
   list_parts : IsGood element → (p : Data) → IsIcebergPart d p → IsGood p
   list_parts good p (inl struct) = absurd (struct_list d struct.2 named)
-  list_parts good p (inr (inl list)) = subst IsGood (some_same _ element p element_is list.1) good
+  list_parts good p (inr (inl list)) = subst IsGood (some_once _ element p element_is list.1) good
   list_parts good p (inr (inr map)) = absurd (list_map d named map.0)
 
   list_named : AreNamed d
@@ -104,7 +105,7 @@ module _ (d : Data) (named : IsNamed (codes "list") d) (id : ℤ) (id_is : int_m
     where
       by : IsNamedPart d p.0 p.1 p.2 → PartFacts prefix (codes "element") id element f
       by (inl struct) = absurd (struct_list d struct.2 named)
-      by (inr (inl list)) = same_part prefix p.0 (codes "element") p.1 id p.2 element f list.1 (some_same _ p.1 id list.2 id_is) (some_same _ p.2 element list.3 element_is) p.4
+      by (inr (inl list)) = same_part prefix p.0 (codes "element") p.1 id p.2 element f list.1 (some_once _ p.1 id list.2 id_is) (some_once _ p.2 element list.3 element_is) p.4
       by (inr (inr (inl key))) = absurd (list_map d named key.0)
       by (inr (inr (inr value))) = absurd (list_map d named value.0)
 
@@ -119,7 +120,7 @@ map_known d named (inl word) = no_string word.0 (codes "map") (subst (IsNamed (c
 map_known d named (inr other) = other.2.1.1.0 (sym other.1 ∙ named)
 
 map_own : (d : Data) → IsNamed (codes "map") d → (IsBadIcebergMap d → ⊥) → IsBadIcebergType d → ⊥
-map_own d named good (inl none) = some_none _ (codes "map") named none.1
+map_own d named good (inl none) = some_or_none _ (codes "map") named none.1
 map_own d named good (inr (inl struct)) = struct_map d struct.0 named
 map_own d named good (inr (inr (inl list))) = list_map d list.0 named
 map_own d named good (inr (inr (inr map))) = good map.1
@@ -132,7 +133,7 @@ module _ (d : Data) (named : IsNamed (codes "map") d) (key_id value_id : ℤ) (k
   map_parts : IsGood key → IsGood value → (p : Data) → IsIcebergPart d p → IsGood p
   map_parts k v p (inl struct) = absurd (struct_map d struct.2 named)
   map_parts k v p (inr (inl list)) = absurd (list_map d list.0 named)
-  map_parts k v p (inr (inr map)) = ⊎_elim (λ is. subst IsGood (some_same _ key p key_is is) k) (λ is. subst IsGood (some_same _ value p value_is is) v) map.1
+  map_parts k v p (inr (inr map)) = ⊎_elim (λ is. subst IsGood (some_once _ key p key_is is) k) (λ is. subst IsGood (some_once _ value p value_is is) v) map.1
 
   map_named : AreNamed d
   map_named p (inl struct) = absurd (struct_map d struct.2 named)
@@ -148,8 +149,8 @@ module _ (d : Data) (named : IsNamed (codes "map") d) (key_id value_id : ℤ) (k
       by : IsNamedPart d p.0 p.1 p.2 → BothFacts prefix f
       by (inl struct) = absurd (struct_map d struct.2 named)
       by (inr (inl list)) = absurd (list_map d list.0 named)
-      by (inr (inr (inl k))) = inl (same_part prefix p.0 (codes "key") p.1 key_id p.2 key f k.1 (some_same _ p.1 key_id k.2 key_id_is) (some_same _ p.2 key k.3 key_is) p.4)
-      by (inr (inr (inr v))) = inr (same_part prefix p.0 (codes "value") p.1 value_id p.2 value f v.1 (some_same _ p.1 value_id v.2 value_id_is) (some_same _ p.2 value v.3 value_is) p.4)
+      by (inr (inr (inl k))) = inl (same_part prefix p.0 (codes "key") p.1 key_id p.2 key f k.1 (some_once _ p.1 key_id k.2 key_id_is) (some_once _ p.2 key k.3 key_is) p.4)
+      by (inr (inr (inr v))) = inr (same_part prefix p.0 (codes "value") p.1 value_id p.2 value f v.1 (some_once _ p.1 value_id v.2 value_id_is) (some_once _ p.2 value v.3 value_is) p.4)
 
   pub map_gone_over : (prefix : Path) (o p : Outline) → (IsBadIcebergMap d → ⊥) → IsGood key → IsGood value → Adds (BothFacts prefix) o p → Walked prefix d o p
   map_gone_over prefix o p own k v adds = walked_parts prefix d o p (map_own d named own) (map_known d named) map_named (map_parts k v) (adds_as (BothFacts prefix) (InParts prefix d) o p adds (map_to prefix) (map_from prefix))

@@ -26,12 +26,6 @@ list_map d a b = not_word (codes "list") (codes "map") refl (two_words d (codes 
 pub no_string : (w word : List ℕ) → IsNamed word (string w) → ⊥
 no_string w word h = absurd cc
 
-pub some_none : {A : Type 0} (o : Option A) (x : A) → o ≡ Some x → o ≡ None → ⊥
-some_none o x a b = absurd (let e : Some x ≡ None = sym a ∙ b in cc)
-
-pub some_same : {A : Type 0} (o : Option A) (x y : A) → o ≡ Some x → o ≡ Some y → x ≡ y
-some_same o x y a b = let e : Some x ≡ Some y = sym a ∙ b in cc
-
 -- ---- places
 
 abbrev pub HasBad : Data → Type 0

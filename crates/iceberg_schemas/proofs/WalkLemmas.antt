@@ -9,6 +9,7 @@ use Rattle.partition_map.proofs.ColumnLemmas.{distinct_exactly}
 use Rattle.serde_json.specs.Data.{Data, null, boolean, number, string, array, object, Items}
 use Rattle.serde_json.specs.Find.{get}
 use Rattle.lake_basics.specs.Outcome.{each}
+use Rattle.lake_basics.proofs.Options.{some_once, some_or_none}
 use Rattle.json_reading.specs.Json.{text_member, bool_member, int_member, list_member, items}
 use Rattle.table_history.specs.TypeTree.{ColumnTrees}
 use Rattle.schema_map.specs.Paths.{Path}
@@ -24,7 +25,7 @@ use Rattle.iceberg_metadata.specs.Outlines.{Walk, part_outline, field_outline, f
 use Rattle.iceberg_metadata.proofs.StepLemmas.{bind_ok, ok_is, required_some}
 use Rattle.iceberg_schemas.proofs.WordLemmas.{known_type, type_not_unknown}
 use Rattle.iceberg_schemas.proofs.FactLemmas.{Adds, adds_column, adds_none, adds_then, adds_as}
-use Rattle.iceberg_schemas.proofs.PlaceLemmas.{no_string, some_none, some_same, Facts, PartFacts, IsGood, Walked, same_part}
+use Rattle.iceberg_schemas.proofs.PlaceLemmas.{no_string, Facts, PartFacts, IsGood, Walked, same_part}
 use Rattle.iceberg_schemas.proofs.PartLemmas.{FieldFacts, IsGoodField, ListFacts, AreGoodFields, struct_gone_over, list_gone_over, map_gone_over, leaf_own, leaf_other, string_known, string_other}
 
 abbrev pub Walks : Walk → Type 0
@@ -79,13 +80,13 @@ module _ (part : Walk) (inner : Walks part) where
       let kind_is = required_some Malformed (get (codes "type") field) kind.0 kind.1 in
       let w = part_walked prefix name.0 id.0 kind.0 o p kind.2 in (
         (
-          ⊎_elim (some_none _ id.0 id_is) (⊎_elim (some_none _ name.0 name_is) (⊎_elim (some_none _ is_required.0 required_is) (some_none _ kind.0 kind_is))),
-          λ k is. subst IsGood (some_same _ kind.0 k kind_is is) w.0,
+          ⊎_elim (some_or_none _ id.0 id_is) (⊎_elim (some_or_none _ name.0 name_is) (⊎_elim (some_or_none _ is_required.0 required_is) (some_or_none _ kind.0 kind_is))),
+          λ k is. subst IsGood (some_once _ kind.0 k kind_is is) w.0,
           (name.0, id.0, name_is, id_is),
         ),
         adds_as (PartFacts prefix name.0 id.0 kind.0) (FieldFacts prefix field) o p w.1
             (λ f h. (name.0, id.0, kind.0, name_is, id_is, kind_is, h))
-            (λ f h. same_part prefix h.0 name.0 h.1 id.0 h.2 kind.0 f (some_same _ h.0 name.0 h.3 name_is) (some_same _ h.1 id.0 h.4 id_is) (some_same _ h.2 kind.0 h.5 kind_is) h.6),
+            (λ f h. same_part prefix h.0 name.0 h.1 id.0 h.2 kind.0 f (some_once _ h.0 name.0 h.3 name_is) (some_once _ h.1 id.0 h.4 id_is) (some_once _ h.2 kind.0 h.5 kind_is) h.6),
       )
 
   fields_walked : (prefix : Path) (ds : List Data) (o p : Outline) → fields_outline (field_outline part prefix) ds o ≡ Ok p → AreGoodFields ds × Adds (ListFacts prefix ds) o p
@@ -125,7 +126,7 @@ module _ (part : Walk) (inner : Walks part) where
       let required_is = required_some Malformed (bool_member (codes "element-required") d) is_required.0 is_required.1 in
       let element_is = required_some Malformed (get (codes "element") d) element.0 element.1 in
       let w = part_walked prefix (codes "element") id.0 element.0 o p element.2 in
-      let good : IsBadIcebergList d → ⊥ = ⊎_elim (some_none _ id.0 id_is) (⊎_elim (some_none _ is_required.0 required_is) (some_none _ element.0 element_is)) in
+      let good : IsBadIcebergList d → ⊥ = ⊎_elim (some_or_none _ id.0 id_is) (⊎_elim (some_or_none _ is_required.0 required_is) (some_or_none _ element.0 element_is)) in
       list_gone_over d named id.0 id_is element.0 element_is prefix o p good w.0 w.1
 
   -- ---- maps
@@ -144,7 +145,7 @@ module _ (part : Walk) (inner : Walks part) where
       let required_is = required_some Malformed (bool_member (codes "value-required") d) is_required.0 is_required.1 in
       let key_is = required_some Malformed (get (codes "key") d) key.0 key.1 in
       let value_is = required_some Malformed (get (codes "value") d) value.0 value.1 in
-      let good : IsBadIcebergMap d → ⊥ = ⊎_elim (some_none _ key_id.0 key_id_is) (⊎_elim (some_none _ value_id.0 value_id_is) (⊎_elim (some_none _ is_required.0 required_is) (⊎_elim (some_none _ key.0 key_is) (some_none _ value.0 value_is)))) in
+      let good : IsBadIcebergMap d → ⊥ = ⊎_elim (some_or_none _ key_id.0 key_id_is) (⊎_elim (some_or_none _ value_id.0 value_id_is) (⊎_elim (some_or_none _ is_required.0 required_is) (⊎_elim (some_or_none _ key.0 key_is) (some_or_none _ value.0 value_is)))) in
       let k = part_walked prefix (codes "key") key_id.0 key.0 o more.0 more.1 in
       let v = part_walked prefix (codes "value") value_id.0 value.0 more.0 p more.2 in
       let in_key = PartFacts prefix (codes "key") key_id.0 key.0 in
@@ -180,7 +181,7 @@ module _ (part : Walk) (inner : Walks part) where
           let list = apart w (codes "list") is eb in
           let map = apart w (codes "map") is ec in
           subst (Walked prefix d o) (ok_is {E = MetadataError} (with_other o) p f)
-          (leaf_other d struct list map prefix o (leaf_own d struct list map (λ none. some_none _ w is none.1)) (inr (w, is, (not_word w (codes "struct") ea, (not_word w (codes "list") eb, (not_word w (codes "map") ec, tt))))))
+          (leaf_other d struct list map prefix o (leaf_own d struct list map (λ none. some_or_none _ w is none.1)) (inr (w, is, (not_word w (codes "struct") ea, (not_word w (codes "list") eb, (not_word w (codes "map") ec, tt))))))
 
   shape_walked : (prefix : Path) (d : Data) (o p : Outline) → shape_outline part prefix d o ≡ Ok p → Walked prefix d o p
   shape_walked prefix null o p h = absurd cc

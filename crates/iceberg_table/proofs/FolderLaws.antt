@@ -8,6 +8,7 @@ use Rattle.std.proofs.lemmas.List.Elements.{Contains-get_or}
 use Rattle.iceberg_metadata.specs.VersionName.{IsVersionName}
 use Rattle.iceberg_metadata.proofs.NameLemmas.{split_decimal}
 use Rattle.iceberg_table.specs.Folder.{IsNamed, IsNewest, newer}
+use Rattle.lake_basics.proofs.Numbers.{less_or_at}
 
 -- one of the first i names is the version's
 abbrev pub IsNamedBefore : List (List ℕ) → ℕ → ℕ → Type 0
@@ -28,14 +29,6 @@ pub newest_alike : (P Q : ℕ → Type 0) (newest : Option ℕ) → ((v : ℕ) �
 newest_alike P Q None to from none = λ v held. none v (from v held)
 newest_alike P Q (Some n) to from is = record { there = to n is.there; last = λ other held. is.last other (from other held) }
 
--- under a number, or that number
-cases_under : (j i : ℕ) → j < i + 1 → (j < i) ⊎ (j ≡ i)
-cases_under j i h = by (nat_lt j i) refl
-  where
-    by : (b : Bool) → nat_lt j i ≡ b → (j < i) ⊎ (j ≡ i)
-    by true is = inl (grind (arith, nat_tests))
-    by false is = let from : i ≤ j = grind (arith, nat_tests) in let e : j ≡ i = omega (arith, from, h) in inr e
-
 pub seen_begins : (names : List (List ℕ)) → IsNewestOf (IsNamedBefore names 0) None
 seen_begins names = λ v held. let before = held.1 in absurd (omega (arith, before))
 
@@ -51,7 +44,7 @@ module _ (names : List (List ℕ)) (i : ℕ) (here : i < length names) (name : L
       ⊎_elim
       (λ before. inl (held.0, before, omega (arith, here), held.3))
       (λ same. inr (subst (λ n. IsVersionName n v) (ap (λ k. get_or names k []) same ∙ is) held.3))
-      (cases_under held.0 i held.1)
+      (less_or_at held.0 i held.1)
 
   two : (n f : ℕ) (b : Bool) → nat_lt n f ≡ b → IsNewest (IsNamedBefore names i) n → IsVersionName name f → IsNewestOf (IsNamedBefore names (i + 1)) (Some (if b then f else n))
   two n f true less was of =

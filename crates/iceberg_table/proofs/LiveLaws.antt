@@ -33,6 +33,7 @@ use Rattle.iceberg_table.specs.declared.plan.Plan.{Plan}
 use Rattle.iceberg_table.specs.declared.snapshot.SnapshotTable.{SnapshotTable}
 use Rattle.iceberg_table.proofs.EachLaws.{each_back, each_of}
 use Rattle.iceberg_table.proofs.ListLaws.{path_once}
+use Rattle.lake_basics.proofs.Options.{ok_once}
 
 -- ---- lists
 
@@ -82,9 +83,6 @@ row_once location info e a b ra rb =
     λ i. record { path = path i; values = values i; count = count i; size = size i }
 
 -- ---- what metadata says of a snapshot, once
-
-ok_once : {A E : Type 0} (r : Result A E) (x y : A) → r ≡ Ok x → r ≡ Ok y → x ≡ y
-ok_once r x y p q = cc (sym p ∙ q)
 
 pub list_same : (m : Metadata) (s : Snapshot) (a b : Plan) → IsPlanOf m s a → IsPlanOf m s b → a.list ≡ b.list
 list_same m s a b pa pb = path_once m.location s.list a.list b.list pa.list pb.list

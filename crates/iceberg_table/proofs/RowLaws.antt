@@ -23,6 +23,7 @@ use Rattle.table_history.proofs.TableLemmas.{Contains-paths_cases}
 use Rattle.iceberg_live.specs.declared.live.LiveRow.{LiveRow}
 use Rattle.iceberg_table.specs.Tables.{IsTableOfRows, rows_in, rows_of}
 use Rattle.iceberg_table.specs.declared.manifest.Manifest.{Manifest}
+use Rattle.lake_basics.proofs.Lists.{all_front}
 
 -- ---- distinct paths
 
@@ -62,13 +63,9 @@ shared (r ∷ rows) row rest there distinct =
     cases : Contains (r ∷ rows) there.0 → (r ≡ there.0) ⊎ Contains rows there.0
     cases h = ⊎_elim (λ one. inl (Contains-one r there.0 one)) (λ later. inr later) (Contains-append_cases (r ∷ []) rows there.0 h)
 
-front_all : {X : Type 0} (P : X → Type 0) (xs ys : List X) → AllByRecursion P (xs ++ ys) → AllByRecursion P xs
-front_all P [] ys all = tt
-front_all P (x ∷ xs) ys all = (all.0, front_all P xs ys all.1)
-
 front_distinct : (xs ys : List (List ℕ)) → IsDistinct bytes_eq (xs ++ ys) → IsDistinct bytes_eq xs
 front_distinct [] ys distinct = no_paths
-front_distinct (x ∷ xs) ys distinct = IsDistinct-cons bytes_eq x xs (front_all (λ y. bytes_eq x y ≡ false) xs ys (IsDistinct-head bytes_eq x (xs ++ ys) distinct)) (front_distinct xs ys (IsDistinct-tail bytes_eq x (xs ++ ys) distinct))
+front_distinct (x ∷ xs) ys distinct = IsDistinct-cons bytes_eq x xs (all_front (λ y. bytes_eq x y ≡ false) xs ys (IsDistinct-head bytes_eq x (xs ++ ys) distinct)) (front_distinct xs ys (IsDistinct-tail bytes_eq x (xs ++ ys) distinct))
 
 pub distinct_front : (rows rest : List FileRow) → HasDistinctPaths (rows ++ rest) → HasDistinctPaths rows
 distinct_front rows rest distinct = front_distinct (paths_of rows) (paths_of rest) (subst (IsDistinct bytes_eq) (map-append (λ (r : FileRow). r.path) rows rest) distinct)

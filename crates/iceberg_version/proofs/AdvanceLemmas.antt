@@ -25,7 +25,9 @@ use Rattle.iceberg_version.specs.KeptEnd.{held_rows}
 use Rattle.iceberg_version.specs.Manifests.{born_at, is_lost}
 use Rattle.iceberg_version.proofs.CarryingLemmas.{first_none, none_if}
 use Rattle.iceberg_version.proofs.LinkLemmas.{none_held, path_from, path_there, same_held, some_held}
-use Rattle.iceberg_version.proofs.Shared.{is_not, nothing_twice, of_map}
+use Rattle.iceberg_version.proofs.Shared.{nothing_twice, of_map}
+use Rattle.lake_basics.proofs.Truth.{not_by}
+use Rattle.lake_basics.proofs.Lists.{all_front}
 
 -- ---- owners without rows
 
@@ -155,7 +157,7 @@ unfound_by : (w : OwnedRows) (path : List ℕ) (o : ℕ) (rows : Option (List En
 unfound_by w path o None lacking is = refl
 unfound_by w path o (Some rows) lacking is =
     ap Some (sym (filter_whole (λ (e : Entry). not (is_lost (path ∷ []) e.held)) rows
-    (λ e there. is_not (is_lost (path ∷ []) e.held) (λ lost. lacking (e.slot, e.held, holds_entry w o rows e is there, (lost_decides path e.held).0 lost)))))
+    (λ e there. not_by (is_lost (path ∷ []) e.held) (λ lost. lacking (e.slot, e.held, holds_entry w o rows e is there, (lost_decides path e.held).0 lost)))))
 
 pub loses_unfound : (w : OwnedRows) (path : List ℕ) → ¬ HoldsPath w path → LosesPaths (path ∷ []) w w
 loses_unfound w path lacking = λ o. unfound_by w path o (rows_of w o) lacking refl
@@ -184,10 +186,6 @@ pub loses_found : (w after : OwnedRows) (path : List ℕ) (slot : ℕ) (held : H
 loses_found w after path slot held finds each just unlinks = λ o. unlinks.rows o ∙ found_by w path slot held o (rows_of w o) finds each just refl
 
 -- ---- rows that come
-
-all_front : {X : Type 0} (P : X → Type 0) (xs ys : List X) → AllByRecursion P (xs ++ ys) → AllByRecursion P xs
-all_front P [] ys all = tt
-all_front P (x ∷ xs) ys all = (all.0, all_front P xs ys all.1)
 
 distinct_front : {X : Type 0} (e : X → X → Bool) (xs ys : List X) → IsDistinct e (xs ++ ys) → IsDistinct e xs
 distinct_front e [] ys d = nothing_twice e

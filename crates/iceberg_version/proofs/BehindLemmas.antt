@@ -28,7 +28,8 @@ use Rattle.partition_map.specs.declared.kind.PartKind.{PartKind}
 use Rattle.partition_map.specs.declared.kind.PartKind.TheVariants as kind
 use Rattle.schema_map.specs.Image.{wide_columns, wide_type}
 use Rattle.target_core.specs.Conditions.{HasKind}
-use Rattle.iceberg_version.proofs.Shared.{is_not, never_both}
+use Rattle.lake_basics.proofs.Truth.{never_both, not_by}
+use Rattle.lake_basics.proofs.Lists.{all_append}
 
 -- ---- lists
 
@@ -39,21 +40,12 @@ apart_all x (y ∷ ys) none = (
   apart_all x ys (λ there. none (Contains-tail y ys x there)),
 )
 
-pub all_joined : {X : Type 0} (P : X → Type 0) (xs ys : List X) → AllByRecursion P xs → AllByRecursion P ys → AllByRecursion P (xs ++ ys)
-all_joined P [] ys one two = two
-all_joined P (x ∷ xs) ys one two = (one.0, all_joined P xs ys one.1 two)
-
 pub distinct_joined : (xs ys : List (List ℕ)) → IsDistinct bytes_eq xs → IsDistinct bytes_eq ys → ((p : List ℕ) → Contains xs p → Contains ys p → ⊥) → IsDistinct bytes_eq (xs ++ ys)
 distinct_joined [] ys one two apart = two
 distinct_joined (x ∷ xs) ys one two apart =
     IsDistinct-cons bytes_eq x (xs ++ ys)
-    (all_joined (λ y. bytes_eq x y ≡ false) xs ys (IsDistinct-head bytes_eq x xs one) (apart_all x ys (λ there. apart x (Contains-head x xs) there)))
+    (all_append (λ y. bytes_eq x y ≡ false) xs ys (IsDistinct-head bytes_eq x xs one) (apart_all x ys (λ there. apart x (Contains-head x xs) there)))
     (distinct_joined xs ys (IsDistinct-tail bytes_eq x xs one) two (λ p there. apart p (Contains-tail x xs p there)))
-
--- distinct texts that are all among others
-pub fewer : (xs ys : List (List ℕ)) → IsDistinct bytes_eq xs → ((x : List ℕ) → Contains xs x → Contains ys x) → length xs ≤ length ys
-fewer xs ys distinct among =
-    length-le_from_is_member nat_list_eq_equiv xs ys distinct (λ q there. (is_member-Decides bytes_eq-Decides ys q).1 (among q ((is_member-Decides bytes_eq-Decides xs q).0 there)))
 
 pub rows_length : (rows : List Row) → length (paths_of rows) ≡ length rows
 rows_length rows = length-map rows (λ r. r.path)
@@ -85,7 +77,7 @@ module _ (table : Table) (change : Change) (distinct : HasDistinctPaths table.ro
 
   row_from : (row : Row) → IsRowAfter table.rows change.removed change.added row → Contains (kept_rows ++ change.added) row
   row_from row (inl new) = Contains-append_right kept_rows change.added row new
-  row_from row (inr old) = Contains-append_left kept_rows change.added row (filter_contains (stays_row change.removed) table.rows row old.0 (is_not (list_any (bytes_eq row.path) change.removed) (λ h. old.1 (removed_is row.path h))))
+  row_from row (inr old) = Contains-append_left kept_rows change.added row (filter_contains (stays_row change.removed) table.rows row old.0 (not_by (list_any (bytes_eq row.path) change.removed) (λ h. old.1 (removed_is row.path h))))
 
   apart_rows : (p : List ℕ) → Contains (paths_of kept_rows) p → Contains (paths_of change.added) p → ⊥
   apart_rows p old new =

@@ -4,7 +4,7 @@ use Rattle.std.specs.Prelude.{◌≤ℤ◌, ◌||◌, flat_map, fold, is_some}
 use Rattle.std.specs.Int.{int_max}
 use Rattle.std.specs.List.{list_all, list_any, zip}
 use Rattle.std.specs.Ordering.{int_eq}
-use Rattle.std.proofs.lemmas.Bool.{and_from, and_parts, false≢true}
+use Rattle.std.proofs.lemmas.Bool.{and_from, and_parts, false≢true, not-true}
 use Rattle.std.proofs.lemmas.Bool.Decides.{Decides-int_eq, nat_tests}
 use Rattle.std.proofs.lemmas.Int.{fold-int_max_bounds, ints}
 use Rattle.std.proofs.lemmas.List.{append-nil, length-append}
@@ -26,7 +26,7 @@ use Rattle.iceberg_metadata.specs.Paths.{IsRenamed, PathId, current_schema, held
 use Rattle.iceberg_metadata.specs.Schemas.{HeldSchema}
 use Rattle.iceberg_metadata.specs.Writing.{CanBeHeld, schema_data}
 use Rattle.iceberg_metadata.specs.declared.metadata.Metadata.{Metadata}
-use Rattle.iceberg_metadata.proofs.ListLemmas.{all_from, not_true}
+use Rattle.iceberg_metadata.proofs.ListLemmas.{all_from}
 use Rattle.iceberg_version.specs.Schemas.{AddsSchema, AreNextSchemas, KeepsSchemas, Schemas, known_ids}
 use Rattle.iceberg_version.specs.Sound.{IsSoundMetadata, have_first_ids, is_under}
 use Rattle.iceberg_version.proofs.IdLemmas.{known_there, own_paths, still_agree}
@@ -63,7 +63,7 @@ pub distinct_push : (ids : List ℤ) (id : ℤ) → are_distinct ids ≡ true �
 distinct_push [] id distinct others = refl
 distinct_push (x ∷ ids) id distinct others =
     let parts = and_parts (not (is_among ids x)) (are_distinct ids) distinct in
-    let apart = any_push (int_eq x) ids id (not_true (is_among ids x) parts.0) (other_id x id (others x (Contains-head x ids))) in
+    let apart = any_push (int_eq x) ids id (not-true (is_among ids x) parts.0) (other_id x id (others x (Contains-head x ids))) in
     and_from (not (is_among (ids ++ id ∷ []) x)) (are_distinct (ids ++ id ∷ [])) (ap not apart) (distinct_push ids id parts.1 (λ i there. others i (Contains-tail x ids i there)))
 
 under_bound : (n : ℕ) (i : ℤ) → is_under n i ≡ true → i ≢ pos n

@@ -69,10 +69,6 @@ pub on_ok : {A E : Type 0} (r : Result A E) (P : Type 0) → P → OnOk r P
 on_ok (Ok v) P p = p
 on_ok (Err e) P p = tt
 
-pub ok_also : {A E : Type 0} (r : Result A E) (P Q : A → Type 0) → IfOk r P → ((v : A) → P v → Q v) → IfOk r Q
-ok_also (Ok v) P Q p also = also v p
-ok_also (Err e) P Q p also = tt
-
 -- ---- once the empty owners have ended and the removed rows are gone
 
 module _ (removed : List (List ℕ)) (ms : List KeptManifest) (v mid w : OwnedRows) (ends : EndsEmpty (owners_of ms) v mid) (loses : LosesPaths removed mid w) where

@@ -11,6 +11,7 @@ use Rattle.iceberg_version.specs.Carrying.{AreCarriedOn, AreNext, IsCarriedOn, I
 use Rattle.iceberg_version.specs.Manifests.{LiveManifest, added_manifest, carried, has_rows, is_lost, left, new, rewritten_entries, stays}
 use Rattle.iceberg_version.specs.declared.carrying.Next.{Next}
 use Rattle.iceberg_version.specs.declared.carrying.Next.TheVariants.{Added, Anew, Stays}
+use Rattle.lake_basics.proofs.Lists.{get_behind, pushed_behind}
 
 -- ---- pairs, one by one
 
@@ -63,14 +64,6 @@ each_carried front version removed all parts place (m ∷ ms) next e are =
 
 -- ---- those of the added rows
 
-behind_first : {X : Type 0} (xs : List X) (x : X) (rest : List X) → slice_get (xs ++ x ∷ rest) (length xs) ≡ Some x
-behind_first [] x rest = refl
-behind_first (y ∷ xs) x rest = behind_first xs x rest
-
-join : {X : Type 0} (xs : List X) (x : X) (rest : List X) → (xs ++ x ∷ []) ++ rest ≡ xs ++ x ∷ rest
-join [] x rest = refl
-join (y ∷ xs) x rest = ap (λ l. y ∷ l) (join xs x rest)
-
 each_added : (front : List ℕ) (version : ℕ) (removed : List (List ℕ)) (all : List LiveManifest) (before parts : List (List Row)) → AreNext front version removed all (before ++ parts) (map (λ place. Added place) (range_with_len (length before) (length parts))) (map (added_manifest front version) parts)
 each_added front version removed all before [] = tt
 each_added front version removed all before (rows ∷ parts) =
@@ -79,8 +72,8 @@ each_added front version removed all before (rows ∷ parts) =
     let rest = each_added front version removed all more parts in
     let same : AreNext front version removed all (before ++ rows ∷ parts) (map (λ place. Added place) (range_with_len (length before + 1) (length parts))) (map (added_manifest front version) parts) =
     subst (λ (n : ℕ). AreNext front version removed all (before ++ rows ∷ parts) (map (λ place. Added place) (range_with_len n (length parts))) (map (added_manifest front version) parts)) len
-    (subst (λ (ps : List (List Row)). AreNext front version removed all ps (map (λ place. Added place) (range_with_len (length more) (length parts))) (map (added_manifest front version) parts)) (join before rows parts) rest) in
-    ((rows, behind_first before rows parts, refl), same)
+    (subst (λ (ps : List (List Row)). AreNext front version removed all ps (map (λ place. Added place) (range_with_len (length more) (length parts))) (map (added_manifest front version) parts)) (pushed_behind before rows parts) rest) in
+    ((rows, get_behind before rows parts, refl), same)
 
 -- one place more
 range_push : (start n : ℕ) → range_with_len start (n + 1) ≡ range_with_len start n ++ (start + n) ∷ []

@@ -17,6 +17,7 @@ use Rattle.iceberg_metadata.specs.Schemas.{HeldSchema}
 use Rattle.iceberg_metadata.specs.declared.metadata.Metadata.{Metadata}
 use Rattle.iceberg_version.specs.Schemas.{AreNextSchemas, Schemas, known_ids, with_schemas}
 use Rattle.iceberg_version.proofs.HeldLemmas.{schema_id}
+use Rattle.lake_basics.proofs.Lists.{get_pushed}
 
 pub found_at : (schemas : List HeldSchema) (place : ℕ) (id : ℤ) (held : HeldSchema) → place < length schemas → held ≡ get_or schemas place held → int_eq held.0 id ≡ true → held_schema (drop place schemas) id ≡ held_schema schemas id → slice_get schemas place ≡ held_schema schemas id
 found_at schemas place id held within is named before =
@@ -41,10 +42,6 @@ keeps m stated image place current wide held is at = (
   ap (λ (x : ℤ). record m { current_schema = x }) (sym (schema_id m.schemas m.current_schema current held)),
   at,
 )
-
-get_pushed : {X : Type 0} (xs : List X) (x : X) → slice_get (xs ++ x ∷ []) (length xs) ≡ Some x
-get_pushed [] x = refl
-get_pushed (y ∷ ys) x = get_pushed ys x
 
 pub adds : (m after : Metadata) (stated image : ColumnTrees) (ids : List ℤ) (place : ℕ) → image ≡ wide_columns stated → ids_for (known_ids m) m.last_column_id (column_paths stated) ≡ Ok ids → ((current : HeldSchema) → current_schema m ≡ Some current → current.1 ≡ image → ⊥) → place ≡ length m.schemas → after ≡ record m { schemas = m.schemas ++ (pos place, image, ids) ∷ []; current_schema = pos place; last_column_id = fold int_max m.last_column_id ids } → HoldsNext m stated after place
 adds m after stated image ids place wide are none at is = (

@@ -11,21 +11,7 @@ use Rattle.iceberg_manifest.specs.Lists.{AreEach}
 
 -- ---- truth values
 
-pub is_not : (b : Bool) → (b ≡ true → ⊥) → not b ≡ true
-is_not true h = absurd (h refl)
-is_not false h = refl
-
-pub never_both : (b : Bool) → not b ≡ true → b ≡ true → ⊥
-never_both true h e = false≢true h
-never_both false h e = false≢true e
-
 -- ---- tests of numbers
-
-pub le_by : (n m : ℕ) → nat_le n m ≡ true → n ≤ m
-le_by n m is = grind (arith, nat_tests)
-
-pub le_test : (n m : ℕ) → n ≤ m → nat_le n m ≡ true
-le_test n m is = grind (arith, nat_tests)
 
 pub lt_by : (n m : ℕ) → nat_lt n m ≡ true → n < m
 lt_by n m is = grind (arith, nat_tests)

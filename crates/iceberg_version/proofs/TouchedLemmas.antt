@@ -10,6 +10,7 @@ use Rattle.table_history.proofs.RowListLemmas.{Contains-none, Contains-one}
 use Rattle.file_links.specs.Rows.{Entry, Finds, FindsEach, HoldsPath, IsOwnerOf, OwnedRows, Owns}
 use Rattle.indexmap.specs.IndexSet.{insert_key}
 use Rattle.iceberg_version.specs.Touched.{IsTouched}
+use Rattle.lake_basics.proofs.Numbers.{same_nat}
 
 abbrev has : ℕ → List ℕ → Bool
 has n keys = list_any (nat_eq n) keys
@@ -21,9 +22,6 @@ pub none_touched : (links : OwnedRows) (keys : List ℕ) → keys ≡ [] → Are
 none_touched links keys none = λ owner. (λ t. absurd (false≢true (sym (ap (has owner) none) ∙ t)), λ touched. absurd (Contains-none touched.entry.held.row.path touched.lost))
 
 -- ---- one path more
-
-same_nat : (a b : ℕ) → nat_eq a b ≡ true → a ≡ b
-same_nat a b h = (Decides-eqb a b).0 h
 
 nat_itself : (a : ℕ) → nat_eq a a ≡ true
 nat_itself a = (Decides-eqb a a).1 refl

@@ -1,1 +1,6 @@
+pub mod Truth
+pub mod Numbers
+pub mod Options
+pub mod Lists
+pub mod Texts
 pub mod Each

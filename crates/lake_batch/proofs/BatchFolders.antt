@@ -7,6 +7,8 @@ use Rattle.std.proofs.lemmas.List.Folds.{Any-from_list_any, list_any_at}
 use Rattle.std.proofs.lemmas.Slice.Eq.{bytes_eq-Decides}
 use Rattle.lake_batch.specs.Batch.{AreApart, LiesInOne, folder_of}
 use Rattle.lake_batch.specs.declared.batch.Item.{Item}
+use Rattle.lake_basics.proofs.Texts.{contains_from_any}
+use Rattle.lake_basics.proofs.Numbers.{less_or_at}
 
 -- the folder of the table at a place
 pub folder_within : (items : List Item) (i : ℕ) → i < length items → i < length (map folder_of items)
@@ -28,12 +30,6 @@ pub of_table : (items : List Item) (folder : List ℕ) (i : ℕ) → i < length 
 of_table [] folder i within d = absurd (omega arith)
 of_table (item ∷ items) folder zero within d = refl
 of_table (item ∷ items) folder (suc i) within d = of_table items folder i (omega arith) d
-
-pub contains_from_any : (x : List ℕ) (xs : List (List ℕ)) → list_any (bytes_eq x) xs ≡ true → Contains xs x
-contains_from_any x xs any =
-    let found = Any-from_list_any (bytes_eq x) xs any in
-    let same : x ≡ found.1 = (bytes_eq-Decides x found.1).0 found.4 in
-    (found.0, found.2, subst (λ y. get_or xs found.0 y ≡ y) (sym same) found.3)
 
 pub any_from_contains : (x : List ℕ) (xs : List (List ℕ)) → Contains xs x → list_any (bytes_eq x) xs ≡ true
 any_from_contains x xs within = list_any_at (bytes_eq x) xs within.0 x within.1 (ap (bytes_eq x) within.2 ∙ (bytes_eq-Decides x x).1 refl)
@@ -94,9 +90,6 @@ same_at : (items : List Item) (i : ℕ) (c d : Item) → i < length items → ge
 same_at [] i c d within = absurd (omega arith)
 same_at (item ∷ items) zero c d within = refl
 same_at (item ∷ items) (suc i) c d within = same_at items i c d (omega arith)
-
-less_or_at : (k i : ℕ) → k < i + 1 → (k < i) ⊎ (k ≡ i)
-less_or_at k i within = grind (arith, within)
 
 pub so_far_more : (P : Item → Type 0) (items : List Item) (i : ℕ) (item : Item) → i < length items → item ≡ get_or items i item → SoFar P items i → P item → SoFar P items (i + 1)
 so_far_more P items i item within at before here k d less = ⊎_elim

@@ -13,6 +13,7 @@ use Rattle.lake_store.specs.Disk.{Files, behind, front_of, is_name, name_behind,
 use Rattle.lake_store.proofs.OrderLaws.{same_front}
 use Rattle.lake_batch.specs.Part.{folder_in, part_files}
 use Rattle.lake_batch.specs.PartAt.{behind_splits, same_files, taken}
+use Rattle.lake_basics.proofs.Truth.{T_left, T_right}
 
 abbrev Entry : Type 0
 Entry = List ℕ × List ℕ
@@ -24,14 +25,6 @@ and_both : (a b : Bool) → T a → T b → T (a && b)
 and_both true b p q = q
 and_both false b p q = p
 
-and_first : (a b : Bool) → T (a && b) → T a
-and_first true b p = tt
-and_first false b p = p
-
-and_second : (a b : Bool) → T (a && b) → T b
-and_second true b p = p
-and_second false b p = absurd p
-
 module _ (front : List ℕ) where
   abbrev take_behind : Entry → Option Entry
   take_behind = taken front
@@ -39,21 +32,21 @@ module _ (front : List ℕ) where
   below : (path rest : List ℕ) (es : List Entry) → path ≡ front ++ rest → T (below_all cmp path es) → T (below_all cmp rest (filter_map take_behind es))
   below path rest [] is all = tt
   below path rest (e ∷ es) is all =
-      let more = below path rest es is (and_second (is_lt (cmp path e.0)) (below_all cmp path es) all) in
+      let more = below path rest es is (T_right (is_lt (cmp path e.0)) (below_all cmp path es) all) in
       elim (behind front e.0) as (λ o. behind front e.0 ≡ o → T (below_all cmp rest (cons_option (option_map (λ r. (r, e.1)) o) (filter_map take_behind es)))) [
         | None ↦ λ none. more
         | Some r ↦ λ some. and_both (is_lt (cmp rest r)) (below_all cmp rest (filter_map take_behind es))
-            (subst T (ap is_lt ((λ i. cmp (is i) (behind_splits front e.0 r some i)) ∙ same_front front rest r)) (and_first (is_lt (cmp path e.0)) (below_all cmp path es) all)) more
+            (subst T (ap is_lt ((λ i. cmp (is i) (behind_splits front e.0 r some i)) ∙ same_front front rest r)) (T_left (is_lt (cmp path e.0)) (below_all cmp path es) all)) more
       ] refl
 
   taken_sorted : (es : List Entry) → T (is_sorted cmp es) → T (is_sorted cmp (filter_map take_behind es))
   taken_sorted [] sorted = tt
   taken_sorted (e ∷ es) sorted =
-      let more = taken_sorted es (and_second (below_all cmp e.0 es) (is_sorted cmp es) sorted) in
+      let more = taken_sorted es (T_right (below_all cmp e.0 es) (is_sorted cmp es) sorted) in
       elim (behind front e.0) as (λ o. behind front e.0 ≡ o → T (is_sorted cmp (cons_option (option_map (λ r. (r, e.1)) o) (filter_map take_behind es)))) [
         | None ↦ λ none. more
         | Some r ↦ λ some. and_both (below_all cmp r (filter_map take_behind es)) (is_sorted cmp (filter_map take_behind es))
-            (below e.0 r es (behind_splits front e.0 r some) (and_first (below_all cmp e.0 es) (is_sorted cmp es) sorted)) more
+            (below e.0 r es (behind_splits front e.0 r some) (T_left (below_all cmp e.0 es) (is_sorted cmp es) sorted)) more
       ] refl
 
   taken_keys : (es : List Entry) → map (λ (e : Entry). e.0) (filter_map take_behind es) ≡ filter_map (behind front) (map (λ (e : Entry). e.0) es)

@@ -16,6 +16,7 @@ use Rattle.lake_batch.specs.Part.{IsBeside, part_files, path_in}
 use Rattle.lake_batch.specs.PartAt.{get-part, same_files}
 use Rattle.lake_batch.specs.Tables.{AreRun, RunsTable}
 use Rattle.lake_batch.specs.declared.batch.Item.{Item}
+use Rattle.lake_basics.proofs.Lists.{all_at_place}
 
 -- ---- folders
 
@@ -96,11 +97,6 @@ are_missed before (item ∷ items) folders apart = (each items (λ other within.
           each others (λ next within. among next (Contains-append_right (other ∷ []) others next within)) (All-tail (FitsBehind before) other others folders_of) apart_of.1,
         )
 
-at_place : {X : Type 0} (P : X → Type 0) (xs : List X) (n : ℕ) (x : X) → AllByRecursion P xs → slice_get xs n ≡ Some x → P x
-at_place P [] n x all at = absurd (cc at)
-at_place P (y ∷ xs) zero x all at = let same : y ≡ x = cc at in subst P same all.0
-at_place P (y ∷ xs) (suc n) x all at = at_place P xs n x all.1 at
-
 -- ---- runs
 
 module _ {S O : Type 0} (store : Ghosts S) (sink : sinks.Ghosts O) (formats : Formats) (gives : ℕ → Type 0) (place : List ℕ) (told : store.tells) where
@@ -157,6 +153,6 @@ module _ {S O : Type 0} (store : Ghosts S) (sink : sinks.Ghosts O) (formats : Fo
         out_before = later.out_before;
         out_after = later.out_after;
         run = later.run;
-        found = later.found ∙ part_kept item.folder first old ran.0 out_old ran.1 t (at_place (λ other. Misses first.folder other × Misses other.folder first) items n item apart.0 at).1 ran.2;
+        found = later.found ∙ part_kept item.folder first old ran.0 out_old ran.1 t (all_at_place (λ other. Misses first.folder other × Misses other.folder first) items n item apart.0 at).1 ran.2;
         left = later.left;
       }

@@ -6,7 +6,7 @@ use Rattle.std.proofs.lemmas.Bool.{cases_Bool}
 use Rattle.std.proofs.lemmas.List.{length-map, map-append}
 use Rattle.std.proofs.lemmas.List.Elements.{Contains-append_cases, Contains-append_left}
 use Rattle.conformance.specs.Drill.{added_file, drill_files, file_count, numbers_under, path_at, removed_files}
-use Rattle.conformance.proofs.Bounds.{added_paths, drill_history, entry_after, few_texts, path_there, paths_count, row_from}
+use Rattle.conformance.proofs.Bounds.{added_paths, drill_history, entry_after, path_there, paths_count, row_from}
 use Rattle.conformance.proofs.Commits.{paths_added, paths_removed, removed_by}
 use Rattle.conformance.proofs.Numbers.{from_map, in_map, length_map}
 use Rattle.conformance.proofs.Paths.{one_path}
@@ -24,6 +24,7 @@ use Rattle.table_history.specs.Rows.{paths_of}
 use Rattle.table_history.specs.Tables.{IsDiff}
 use Rattle.table_history.specs.declared.table.Commit.{Commit}
 use Rattle.table_history.specs.declared.table.Table.{Table}
+use Rattle.lake_basics.proofs.Texts.{fewer}
 
 -- ---- from one table to the next
 
@@ -69,7 +70,7 @@ module _ (number i : ℕ) (small : i < 200) (removed : List (List ℕ)) (added :
 
   pub few_removed : length removed ≤ 50
   few_removed =
-      let few = few_texts removed earlier (distinct_order removed diff.removed_order)
+      let few = fewer removed earlier (distinct_order removed diff.removed_order)
       (λ path there. let of = (diff.removed_paths path).0 there in subst (Contains earlier) of.3 (earlier_path of.0 of.1 of.2)) in
       let count = length_map (path_at number (i - 10)) 50 in
       omega (arith, few, count)
@@ -87,7 +88,7 @@ module _ (number i : ℕ) (small : i < 200) (removed : List (List ℕ)) (added :
 
   pub few_added : length added ≤ 50
   few_added =
-      let few = few_texts (paths_of added) own (distinct_order (paths_of added) diff.added_order)
+      let few = fewer (paths_of added) own (distinct_order (paths_of added) diff.added_order)
       (λ path there. let of = row_of_path added path there in subst (Contains own) of.2 (own_row of.0 of.1)) in
       let count = length_map (path_at number i) 50 in
       let each = length-map added (λ (r : Row). r.path) in
@@ -107,14 +108,14 @@ of_drill number n le row there =
 module _ (number : ℕ) (before after : List Row) (removed : List (List ℕ)) (added : List Row) (diff : IsDiff before after removed added) (old : AreOfDrill number before) (new : AreOfDrill number after) where
   pub removed_most : length removed ≤ 10000
   removed_most =
-      let few = few_texts removed (added_paths number 200) (distinct_order removed diff.removed_order)
+      let few = fewer removed (added_paths number 200) (distinct_order removed diff.removed_order)
       (λ path there. let of = (diff.removed_paths path).0 there in subst (Contains (added_paths number 200)) of.3 (old of.0 of.1)) in
       let count = paths_count number 200 in
       omega (arith, few, count)
 
   pub added_most : length added ≤ 10000
   added_most =
-      let few = few_texts (paths_of added) (added_paths number 200) (distinct_order (paths_of added) diff.added_order)
+      let few = fewer (paths_of added) (added_paths number 200) (distinct_order (paths_of added) diff.added_order)
       (λ path there. let of = row_of_path added path there in subst (Contains (added_paths number 200)) of.2 (new of.0 ((diff.added_rows of.0).0 of.1).0)) in
       let count = paths_count number 200 in
       let each = length-map added (λ (r : Row). r.path) in

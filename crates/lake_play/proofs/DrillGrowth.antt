@@ -7,9 +7,9 @@ use Rattle.table_history.proofs.RowListLemmas.{Contains-filter, Contains-none}
 use Rattle.table_history.specs.Row.{Row}
 use Rattle.table_history.specs.Rows.{HasDistinctPaths, paths_of}
 use Rattle.conformance.specs.Drill.{numbers_under, path_at}
-use Rattle.conformance.proofs.Bounds.{few_texts}
 use Rattle.conformance.proofs.Numbers.{from_map, in_map, length_map}
 use Rattle.conformance.proofs.Tables.{kept_rows, new_rows, row_at, row_of_path, rows_after, stays}
+use Rattle.lake_basics.proofs.Texts.{fewer}
 
 -- the paths of the files that so many commits add, from the k-th on
 abbrev paths_from : ℕ → ℕ → ℕ → List (List ℕ)
@@ -64,7 +64,7 @@ few_new number k n rows le distinct each = by (n - k) (omega (arith, le))
     by d sum =
         let count = from_count number k d in
         let paths = length-map rows (λ (r : Row). r.path) in
-        let few = few_texts (paths_of rows) (paths_from number k d) distinct (λ path there.
+        let few = fewer (paths_of rows) (paths_from number k d) distinct (λ path there.
         let of = row_of_path rows path there in
         let is = each of.0 of.1 in
         ⊎_elim

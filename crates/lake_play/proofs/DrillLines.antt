@@ -33,12 +33,12 @@ use Rattle.lake_play.specs.Drilled.{AreDrillLines, AreLastRows, IsBrought, IsBro
 use Rattle.lake_play.specs.Lines.{source_line, target_line}
 use Rattle.lake_play.specs.Standing.{meaning_of_hudi, meaning_of_iceberg}
 use Rattle.lake_play.proofs.DrillLog.{IsDrillLog, at_head_small, drill_log, from_scratch_small}
-use Rattle.lake_play.proofs.Ends.{at_place}
 use Rattle.lake_play.proofs.Faults.{at_head_fault, from_scratch_fault}
 use Rattle.lake_play.proofs.Histories.{holds_history, same_length}
 use Rattle.lake_play.proofs.Logs.{HoldsCommits}
 use Rattle.lake_play.proofs.Once.{Counts}
 use Rattle.lake_play.proofs.Places.{numbers_back}
+use Rattle.lake_basics.proofs.Lists.{get_behind}
 
 -- ---- the last entry
 
@@ -54,8 +54,8 @@ last_once history a b x y =
     let long_a : length history ≡ length x.0 + 1 = ap (λ (l : History). length l) x.1 ∙ length-append x.0 (a ∷ []) in
     let long_b : length history ≡ length y.0 + 1 = ap (λ (l : History). length l) y.1 ∙ length-append y.0 (b ∷ []) in
     let same : length x.0 ≡ length y.0 = omega (arith, long_a, long_b) in
-    let at_a : slice_get history (length x.0) ≡ Some a = ap (λ (l : History). slice_get l (length x.0)) x.1 ∙ at_place x.0 a [] in
-    let at_b : slice_get history (length y.0) ≡ Some b = ap (λ (l : History). slice_get l (length y.0)) y.1 ∙ at_place y.0 b [] in
+    let at_a : slice_get history (length x.0) ≡ Some a = ap (λ (l : History). slice_get l (length x.0)) x.1 ∙ get_behind x.0 a [] in
+    let at_b : slice_get history (length y.0) ≡ Some b = ap (λ (l : History). slice_get l (length y.0)) y.1 ∙ get_behind y.0 b [] in
     same_Some a b (sym at_a ∙ ap (slice_get history) same ∙ at_b)
 
 one_rows : (history : History) (xs ys : List Row) → AreLastRows history xs → AreLastRows history ys → xs ≡ ys

@@ -14,6 +14,8 @@ use Rattle.table_history.proofs.RowListLemmas.{Contains-head, Contains-tail}
 use Rattle.std.proofs.lemmas.Map.Keys.{IsDistinct-from_sorted}
 use Rattle.std.proofs.lemmas.Map.Made.{is_member-Decides, length-le_from_is_member}
 use Rattle.lake_basics.specs.declared.limits.TheConstants.{MAX_ACTIONS, MAX_COMMITS, MAX_FILE_BYTES, MAX_NAMES}
+use Rattle.lake_basics.proofs.Texts.{fewer}
+use Rattle.lake_basics.proofs.Lists.{some_at}
 use Rattle.lake_store.specs.Disk.{Files, names_in}
 use Rattle.lake_store.proofs.DiskLaws.{is_path, path_here, same_path}
 use Rattle.lake_store.proofs.OrderLaws.{names_in_listed}
@@ -25,7 +27,7 @@ use Rattle.table_history.specs.declared.limit.LimitKind.TheVariants.{LiveFiles, 
 use Rattle.table_history.specs.declared.table.Commit.{Commit}
 use Rattle.table_history.specs.declared.table.Table.{Table}
 use Rattle.conformance.specs.Drill.{AreSaid, added_file, drill_bytes, drill_commit, numbers_under}
-use Rattle.conformance.proofs.Bounds.{added_paths, few_files, few_texts, path_there, paths_count, row_from, short_bytes}
+use Rattle.conformance.proofs.Bounds.{added_paths, few_files, path_there, paths_count, row_from, short_bytes}
 use Rattle.conformance.proofs.Numbers.{length_map}
 use Rattle.conformance.proofs.Tables.{added_or_not, base_of, no_meta, row_of_path, rows_after, step_of, table_after}
 use Rattle.delta_live.specs.Live.{ActsOn, AddsRow, AreRowsBehind, PartColumns}
@@ -55,7 +57,6 @@ use Rattle.source_delta.specs.Since.{AreCommits, HasManyActions, HasManyCommits,
 use Rattle.lake_play.specs.Causes.{HoldsLog}
 use Rattle.lake_play.proofs.Places.{numbers_back}
 use Rattle.lake_play.proofs.Faults.{readable_step}
-use Rattle.lake_play.proofs.Histories.{some_at}
 use Rattle.lake_play.proofs.Targets.{first_get}
 
 -- ---- the log after some of the commits
@@ -190,7 +191,7 @@ module _ (number : ℕ) (said : AreSaid number) (files : Files) (is : IsDrillLog
 
   few_behind : (version : ℕ) (base : Option Table) (columns : PartColumns) (behind : List Row) → version < 200 → LikeBefore base (base_of number version) → AreRowsBehind columns (rows_before base) (drill_commit number version) behind → length behind ≤ 10000
   few_behind version base columns behind less like are =
-      let count = few_texts (paths_of behind) (added_paths number 200) are.distinct known in
+      let count = fewer (paths_of behind) (added_paths number 200) are.distinct known in
       let all = paths_count number 200 in
       let same = length-map behind (λ (r : Row). r.path) in
       omega (arith, count, all, same)

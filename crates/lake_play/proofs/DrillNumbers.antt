@@ -5,6 +5,7 @@ use Rattle.std.specs.Prelude.{slice_get}
 use Rattle.std.proofs.lemmas.Bool.{false≢true}
 use Rattle.std.proofs.lemmas.List.{length-append, length-map, length-take-le}
 use Rattle.lake_basics.specs.declared.limits.TheConstants.{MAX_COMMITS, MAX_LIVE_FILES, MAX_NAMES, MAX_PUBLISHED_COMMITS}
+use Rattle.lake_basics.proofs.Texts.{fewer}
 use Rattle.table_history.specs.History.{History}
 use Rattle.table_history.specs.Row.{Row}
 use Rattle.table_history.specs.Rows.{HasDistinctPaths, paths_of}
@@ -19,7 +20,7 @@ use Rattle.conformance.specs.Drill.{AreSaid, drill_bytes, drill_schema, drill_ti
 use Rattle.conformance.specs.Events.{drill_events}
 use Rattle.conformance.specs.Histories.{AreInOrder, IsHistoryFrom, IsHistoryOf, extensions}
 use Rattle.conformance.specs.declared.event.Event.{Event}
-use Rattle.conformance.proofs.Bounds.{added_paths, are_history, drill_history, few_texts, path_there, paths_count, row_from}
+use Rattle.conformance.proofs.Bounds.{added_paths, are_history, drill_history, path_there, paths_count, row_from}
 use Rattle.conformance.proofs.Legal.{commits_are}
 use Rattle.conformance.proofs.Numbers.{length_map}
 use Rattle.conformance.proofs.Tables.{row_of_path, table_after}
@@ -177,7 +178,7 @@ module _ (number : ℕ) (rows : List Row) (table : Table) (i : ℕ) (less : i < 
 
   few_rows : length rows ≤ 10000
   few_rows =
-      let count = few_texts (paths_of rows) (added_paths number 200) distinct known in
+      let count = fewer (paths_of rows) (added_paths number 200) distinct known in
       let all = paths_count number 200 in
       let each = length-map rows (λ (r : Row). r.path) in
       omega (arith, count, all, each)

@@ -4,7 +4,7 @@ use Rattle.std.proofs.lemmas.Fmt.{length-decimal-le}
 use Rattle.std.proofs.lemmas.List.{length-map}
 use Rattle.std.proofs.lemmas.List.Elements.{Contains-append_cases}
 use Rattle.conformance.specs.Drill.{drill_schema, numbers_under, path_at}
-use Rattle.conformance.proofs.Bounds.{added_paths, drill_history, entry_after, few_texts, path_there, paths_count, row_from}
+use Rattle.conformance.proofs.Bounds.{added_paths, drill_history, entry_after, path_there, paths_count, row_from}
 use Rattle.conformance.proofs.Numbers.{from_map}
 use Rattle.conformance.proofs.Paths.{path_is}
 use Rattle.conformance.proofs.Tables.{row_at, row_of_path}
@@ -14,6 +14,7 @@ use Rattle.table_history.specs.TypeTree.{ColumnTrees}
 use Rattle.table_history.specs.declared.table.Commit.{Commit}
 use Rattle.table_history.specs.declared.table.Table.{Table}
 use Rattle.table_history.proofs.RowListLemmas.{Contains-none}
+use Rattle.lake_basics.proofs.Texts.{fewer}
 
 -- the row is that of a file that a commit of the drill adds
 abbrev pub IsDrillRow : ℕ → Row → Type 0
@@ -68,7 +69,7 @@ module _ (number : ℕ) where
   -- They are few.
   pub few_rows : (rows : List Row) → HasDistinctPaths rows → ((row : Row) → Contains rows row → IsDrillRow number row) → length rows ≤ 10000
   few_rows rows distinct are =
-      let count = few_texts (paths_of rows) (added_paths number 200) distinct (λ path there.
+      let count = fewer (paths_of rows) (added_paths number 200) distinct (λ path there.
       let of = row_of_path rows path there in
       subst (Contains (added_paths number 200)) of.2 (row_path of.0 (are of.0 of.1))) in
       let all = paths_count number 200 in

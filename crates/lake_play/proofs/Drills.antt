@@ -45,11 +45,11 @@ use Rattle.lake_play.proofs.DrillFits.{hudi_fits, iceberg_fits, table_of}
 use Rattle.lake_play.proofs.DrillLog.{AreFirst}
 use Rattle.lake_play.proofs.DrillNumbers.{none_at_sync}
 use Rattle.lake_play.proofs.DrillReading.{source_within}
-use Rattle.lake_play.proofs.Ends.{all_at, at_place}
 use Rattle.lake_play.proofs.Folds.{Folds, GoWell, IsGood, drill_folds, none_removed}
 use Rattle.lake_play.proofs.OneSchema.{types_keep}
 use Rattle.lake_play.proofs.Places.{numbers_at}
 use Rattle.lake_play.proofs.Targets.{first_get}
+use Rattle.lake_basics.proofs.Lists.{all_at_place, get_behind}
 
 -- ---- the answers of a run
 
@@ -263,8 +263,8 @@ module _ (number : ℕ) (old new : FuseStore) (answers : List Status) (played : 
   -- the first answer that isn't one of these is want of memory
   pub first_end : IsFresh old → (CanFail (script_of old) → ⊥) → AreSaid number → (given : Status) → IsFirstRefusal answers given → given ≡ status.Memory
   first_end fresh unscripted said given is =
-      end_of fresh unscripted said (length is.0) given (ap (λ (l : List Status). slice_get l (length is.0)) is.2 ∙ at_place is.0 given is.1)
-      (λ i one less at. all_at IsEnded is.0 i one is.3 (sym (first_get is.0 (given ∷ is.1) i less) ∙ ap (λ (l : List Status). slice_get l i) (sym is.2) ∙ at)) is.4
+      end_of fresh unscripted said (length is.0) given (ap (λ (l : List Status). slice_get l (length is.0)) is.2 ∙ get_behind is.0 given is.1)
+      (λ i one less at. all_at_place IsEnded is.0 i one is.3 (sym (first_get is.0 (given ∷ is.1) i less) ∙ ap (λ (l : List Status). slice_get l i) (sym is.2) ∙ at)) is.4
 
   -- ---- where all syncs ended as they may
 

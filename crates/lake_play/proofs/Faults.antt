@@ -10,6 +10,7 @@ use Rattle.std.proofs.lemmas.Grind.{flat_map-append}
 use Rattle.std.proofs.lemmas.List.Elements.{All-head, All-tail}
 use Rattle.lake_basics.specs.Outcome.{each}
 use Rattle.lake_basics.specs.declared.limits.TheConstants.{MAX_ACTIONS, MAX_COMMITS, MAX_DELTA_VERSION}
+use Rattle.lake_basics.proofs.Lists.{all_middle, some_at}
 use Rattle.lake_store.specs.Disk.{Disk}
 use Rattle.table_history.specs.First.{IsFirst, NoneOf}
 use Rattle.table_history.specs.History.{History}
@@ -46,7 +47,7 @@ use Rattle.source_delta.specs.Histories.{IsReadableOver}
 use Rattle.source_delta.specs.LikeLemmas.{LikeBefore, SameBefore, like_before, next_like, next_same, readable_like}
 use Rattle.source_delta.specs.Reading.{HasEach, IsRefusedLog, LacksVersion, ShowsAtHead, ShowsFromScratch, Tells, TellsCommit}
 use Rattle.source_delta.specs.Since.{AreCommits, HasManyActions, HasManyCommits, IsRefusedBehind, IsRefusedOver, ShowsFromPosition, StopsBehind}
-use Rattle.lake_play.proofs.Histories.{before_from, entry_of, has_kept, same_length, says_extension, some_at}
+use Rattle.lake_play.proofs.Histories.{before_from, entry_of, has_kept, same_length, says_extension}
 use Rattle.lake_play.proofs.Logs.{HoldsCommits}
 
 -- ---- faults that aren't a commit's own
@@ -56,10 +57,6 @@ abbrev pub IsMild : DeltaError → Type 0
 IsMild errors.Memory = Unit {0}
 IsMild (errors.Limit which) = Unit {0}
 IsMild _ = ⊥
-
-all_middle : {X : Type 0} (P : X → Type 0) (front : List X) (w : X) (rest : List X) → All P (front ++ w ∷ rest) → P w
-all_middle P [] w rest all = All-head P w rest all
-all_middle P (x ∷ front) w rest all = all_middle P front w rest (All-tail P x (front ++ w ∷ rest) all)
 
 again_excluded : (lines : List (List ℕ)) (before : List LineAction) (a : LineAction) (rest : List LineAction) → AreLinesInGrammar lines (before ++ a ∷ rest) → ActsAgain before a → ⊥
 again_excluded lines before a rest grammar again =

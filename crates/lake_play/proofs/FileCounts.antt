@@ -20,6 +20,7 @@ use Rattle.lake_store.specs.Disk.{Disk, Files, Moves, SameElsewhere, front_of, n
 use Rattle.lake_store.specs.declared.store.StoreError.{StoreError}
 use Rattle.lake_store.specs.declared.store.StoreError.TheVariants.{Taken}
 use Rattle.lake_store.proofs.DiskLaws.{get-insert_here, get-insert_other, get-remove_here, get-remove_other, is_path, path_cases, publish_leaves, remove_leaves, write_leaves}
+use Rattle.lake_basics.proofs.Truth.{T_left, T_less, T_right}
 
 same_files : (m n : Files) → ((q : List ℕ) → map.get m q ≡ map.get n q) → m ≡ n
 same_files = map.same_map nat_list_cmp_total (map.slice_cmp-IsAntisymmetric map.nat_cmp-IsAntisymmetric)
@@ -138,28 +139,15 @@ publish_count r old new from to ok taken err = by (publish_leaves r old new from
 
 -- ---- many paths
 
-both_first : (a b : Bool) → T (a && b) → T a
-both_first true b h = tt
-both_first false b h = h
-
-both_second : (a b : Bool) → T (a && b) → T b
-both_second true b h = h
-both_second false b h = absurd h
-
-is_less : (o : Ordering) → T (is_lt o) → o ≡ Less
-is_less Less h = refl
-is_less Equal h = absurd h
-is_less Greater h = absurd h
-
 all_below : (x : List ℕ) (es : List (List ℕ × List ℕ)) → T (below_all (slice_cmp nat_cmp) x es) → AllByRecursion (λ y. slice_cmp nat_cmp x y ≡ Less) (map_list (λ e. e.0) es)
 all_below x [] h = tt
 all_below x (e ∷ es) h =
-    (is_less (slice_cmp nat_cmp x e.0) (both_first (is_lt (slice_cmp nat_cmp x e.0)) (below_all (slice_cmp nat_cmp) x es) h), all_below x es (both_second (is_lt (slice_cmp nat_cmp x e.0)) (below_all (slice_cmp nat_cmp) x es) h))
+    (T_less (slice_cmp nat_cmp x e.0) (T_left (is_lt (slice_cmp nat_cmp x e.0)) (below_all (slice_cmp nat_cmp) x es) h), all_below x es (T_right (is_lt (slice_cmp nat_cmp x e.0)) (below_all (slice_cmp nat_cmp) x es) h))
 
 rising : (es : List (List ℕ × List ℕ)) → T (is_sorted (slice_cmp nat_cmp) es) → IsStrictlySortedBy (slice_cmp nat_cmp) (map_list (λ e. e.0) es)
 unfolding IsStrictlySortedBy
 rising [] h = tt
-rising (e ∷ es) h = (all_below e.0 es (both_first (below_all (slice_cmp nat_cmp) e.0 es) (is_sorted (slice_cmp nat_cmp) es) h), rising es (both_second (below_all (slice_cmp nat_cmp) e.0 es) (is_sorted (slice_cmp nat_cmp) es) h))
+rising (e ∷ es) h = (all_below e.0 es (T_left (below_all (slice_cmp nat_cmp) e.0 es) (is_sorted (slice_cmp nat_cmp) es) h), rising es (T_right (below_all (slice_cmp nat_cmp) e.0 es) (is_sorted (slice_cmp nat_cmp) es) h))
 
 any_either : {X : Type 0} (test : X → Bool) (xs ys : List X) → (list_any test xs ≡ true) ⊎ (list_any test ys ≡ true) → list_any test (xs ++ ys) ≡ true
 any_either test [] ys (inl found) = cc

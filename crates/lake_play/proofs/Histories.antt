@@ -41,6 +41,8 @@ use Rattle.delta_table.specs.Versions.{AreVersions, HasVersion}
 use Rattle.delta_table.specs.declared.versions.Versions.{Versions}
 use Rattle.delta_table.proofs.PathLaws.{bytes_once}
 use Rattle.lake_basics.specs.Outcome.{each}
+use Rattle.lake_basics.proofs.Options.{same_options}
+use Rattle.lake_basics.proofs.Lists.{some_at}
 use Rattle.source_delta.specs.Heads.{IsAbsent}
 use Rattle.source_delta.specs.Histories.{HoldsHistory, table_before}
 use Rattle.table_history.specs.TypeTree.{ColumnTrees}
@@ -173,19 +175,13 @@ same_before history (suc version) = refl
 
 -- ---- what a version says
 
-one_option : {X : Type 0} (a b : Option X) → option_to_list a ≡ option_to_list b → a ≡ b
-one_option None None is = refl
-one_option None (Some y) is = absurd cc
-one_option (Some x) None is = absurd cc
-one_option (Some x) (Some y) is = let same : x ≡ y = cc in ap (λ z. Some z) same
-
 ok_same : (r : Result (List LineAction) LineFault) (a b : List LineAction) → r ≡ Ok a → r ≡ Ok b → a ≡ b
 ok_same r a b is also = cc
 
 pub one_commit : (actions : List LineAction) (c d : DeltaCommit) → States actions c → States actions d → c ≡ d
 one_commit actions c d a b =
-    let protocol = one_option c.protocol d.protocol (a.protocol ∙ sym b.protocol) in
-    let meta = one_option c.meta d.meta (a.meta ∙ sym b.meta) in
+    let protocol = same_options c.protocol d.protocol (a.protocol ∙ sym b.protocol) in
+    let meta = same_options c.meta d.meta (a.meta ∙ sym b.meta) in
     let files = a.files ∙ sym b.files in
     λ i. record { protocol = protocol i; meta = meta i; files = files i }
 
@@ -197,11 +193,6 @@ says_extension bytes base next c made readable =
     subst (λ (d : DeltaCommit). IsStep d base next) same made.step
 
 -- ---- what is there holds the history
-
-pub some_at : {X : Type 0} (xs : List X) (i : ℕ) → i < length xs → (x : X) × (slice_get xs i ≡ Some x)
-some_at [] i within = absurd (omega (arith, within))
-some_at (x ∷ xs) zero within = (x, refl)
-some_at (x ∷ xs) (suc i) within = some_at xs i (omega (arith, within))
 
 module _ (commits : List (List ℕ)) (first : ℕ) (disk : Disk) (h : HoldsCommits commits first disk) where
   pub has_kept : (version : ℕ) → first ≤ version → version < length commits → HasVersion disk.files version

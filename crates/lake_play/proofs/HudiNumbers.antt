@@ -3,6 +3,7 @@ use Rattle.std.proofs.Common.{◌≡◌, ◌⊎◌, inl, inr, ℕ, ◌≤◌, �
 use Rattle.std.specs.Prelude.{Err, Ok, option_map, unwrap_or}
 use Rattle.std.proofs.lemmas.Bool.{false≢true}
 use Rattle.lake_basics.specs.declared.limits.TheConstants.{MAX_COMMITS, MAX_FILE_BYTES, MAX_NAMES}
+use Rattle.lake_basics.proofs.Lists.{none_longer}
 use Rattle.lake_store.specs.Disk.{Files, names_in}
 use Rattle.table_history.specs.First.{IsFirst, NoneOf}
 use Rattle.table_history.specs.Row.{Row}
@@ -37,7 +38,7 @@ use Rattle.hudi_table.specs.declared.reading.Naming.TheVariants.{External}
 use Rattle.hudi_commit.specs.Names.{claims_folder, timeline_folder}
 use Rattle.target_core.specs.Views.{View}
 use Rattle.target_hudi.specs.Inspecting.{IsCrowded, IsLarge, IsReadUpTo, PassesIn}
-use Rattle.target_hudi.specs.OnceLemmas.{one_instant, one_kinds, one_table_of, one_timeline, some_list}
+use Rattle.target_hudi.specs.OnceLemmas.{one_instant, one_kinds, one_table_of, one_timeline}
 use Rattle.target_hudi.specs.Reading.{IsAbsent, IsOurs, Reads, completed_in}
 use Rattle.target_hudi.specs.ReadingLemmas.{in_middle}
 
@@ -251,7 +252,7 @@ module _ (source : Kind) (files : Files) (c : CompletedInstant) (table : Propert
   among = in_middle (completed_in files) before.front c before.behind before.split
 
   none_up_to : IsAbsent files → ⊥
-  none_up_to none = some_list before.front c before.behind (sym none.none ∙ before.split)
+  none_up_to none = none_longer before.front c before.behind (sym none.none ∙ before.split)
 
   -- an instant of ours passes a number by its bytes alone
   passes_bytes : (v : View) (which : LimitKind) (number : ℕ) → IsOurs files v → PassesIn files table c latest which number → HasLargeFile files which number

@@ -16,6 +16,7 @@ use Rattle.serde_json.specs.Data.{Data, string, array, Members, no_members}
 use Rattle.serde_json.specs.View.{items_of}
 use Rattle.serde_json.specs.Written.{compact_text}
 use Rattle.lake_basics.specs.declared.limits.TheConstants.{MAX_FILE_BYTES}
+use Rattle.lake_basics.proofs.Texts.{digits_most}
 use Rattle.lake_store.proofs.DiskLaws.{same_path}
 use Rattle.table_history.specs.Row.{Row}
 use Rattle.table_history.specs.TypeTree.{ColumnTrees, no_columns}
@@ -41,7 +42,7 @@ use Rattle.target_hudi.proofs.StatReadLemmas.{AreOf, distinct_rows, rows_from}
 use Rattle.iceberg_version.proofs.Shared.{in_map}
 use Rattle.lake_play.specs.Formats.{place}
 use Rattle.lake_play.proofs.DrillRows.{IsDrillRow, IsDueCommit, few_rows, path_short}
-use Rattle.lake_play.proofs.TextBounds.{IsShortOrigin, digits_most, mark_most, pairs_most, put_most, with_most}
+use Rattle.lake_play.proofs.TextBounds.{IsShortOrigin, mark_most, pairs_most, put_most, with_most}
 
 -- ---- lists by their partitions
 

@@ -17,7 +17,6 @@ use Rattle.std.proofs.lemmas.List.Elements.{Contains-append_cases, Contains-appe
 use Rattle.std.proofs.lemmas.Map.Keys.{IsDistinct-push}
 use Rattle.std.proofs.lemmas.Map.Views.{Contains-from_any}
 use Rattle.std.proofs.lemmas.Slice.Eq.{bytes_eq-Decides}
-use Rattle.conformance.proofs.Bounds.{few_texts}
 use Rattle.delta_table.specs.SameVersions.{version_in}
 use Rattle.delta_table.specs.Versions.{log_folder}
 use Rattle.hudi_commit.proofs.NameLaws.{cancel, completed_no_leftover, not_properties_name}
@@ -77,6 +76,7 @@ use Rattle.lake_play.specs.Formats.{from_delta, to_hudi}
 use Rattle.lake_play.specs.Playing.{Brings, IsSynced, scripted}
 use Rattle.lake_play.specs.Scripted.{scripted_store}
 use Rattle.lake_play.specs.Standing.{meaning_of_hudi}
+use Rattle.lake_basics.proofs.Texts.{fewer}
 
 -- Each completed instant is at most so many milliseconds after the start of 1970.
 abbrev pub AreUpTo : ℕ → Files → Type 0
@@ -200,7 +200,7 @@ module _ (left files : Files) (same : (path : List ℕ) → IsReached left path 
   -- another one would be one more
   one_too_many : (c : CompletedInstant) → Contains (completed_in files) c → list_any (bytes_eq c.name) theirs ≡ false → ⊥
   one_too_many c within new =
-      let few = few_texts (theirs ++ c.name ∷ []) all (IsDistinct-push nat_list_eq_equiv theirs c.name (distinct_order theirs (in_byte_order left)) new) (λ name there.
+      let few = fewer (theirs ++ c.name ∷ []) all (IsDistinct-push nat_list_eq_equiv theirs c.name (distinct_order theirs (in_byte_order left)) new) (λ name there.
       ⊎_elim
       (λ (old : Contains theirs name). let d = from_names (completed_in left) name old in subst (Contains all) d.2 (still_there d.0 d.1))
       (λ (last : c.name ≡ name). subst (Contains all) last (in_names (completed_in files) c within))

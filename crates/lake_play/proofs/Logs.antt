@@ -16,9 +16,9 @@ use Rattle.delta_table.specs.SameVersions.{has_too, holds_too, own_versions, ver
 use Rattle.delta_table.specs.Versions.{HasVersion, HoldsVersion, IsVersionPath, log_folder}
 use Rattle.delta_table.proofs.PathLaws.{one_version, path_once}
 use Rattle.target_core.specs.Folders.{SameIn}
-use Rattle.target_iceberg.specs.SettledLemmas.{none_there}
 use Rattle.lake_play.specs.Playing.{Sheds}
 use Rattle.lake_play.specs.Standing.{HasVersionsAlone, HoldsFrom}
+use Rattle.lake_basics.proofs.Options.{none_there}
 
 -- ---- versions and their paths
 

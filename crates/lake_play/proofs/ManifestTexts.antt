@@ -11,6 +11,7 @@ use Rattle.serde_json.specs.Data.{array}
 use Rattle.serde_json.specs.View.{items_of}
 use Rattle.serde_json.specs.Written.{compact_text}
 use Rattle.lake_basics.specs.declared.limits.TheConstants.{MAX_AVRO_VALUES, MAX_MANIFEST_ENTRIES}
+use Rattle.lake_basics.proofs.Texts.{digits_most}
 use Rattle.avro_schema.specs.Writing.{json_of}
 use Rattle.avro_value.specs.ValueTree.{values_of}
 use Rattle.partition_map.specs.Avro.{avro_value_of}
@@ -39,7 +40,7 @@ use Rattle.table_history.specs.declared.table.Change.{Change}
 use Rattle.table_history.proofs.RowListLemmas.{Contains-cases, Contains-filter, Contains-head, Contains-none, Contains-tail}
 use Rattle.lake_play.proofs.ContainerTexts.{all_most, container_most, most_value, most_values, pair_most}
 use Rattle.lake_play.proofs.MetadataTexts.{drill_field, drill_held, field_data_most, schema_data_most}
-use Rattle.lake_play.proofs.TextBounds.{IsShortNumber, digits_most}
+use Rattle.lake_play.proofs.TextBounds.{IsShortNumber}
 
 -- ---- lists
 

@@ -33,7 +33,8 @@ use Rattle.table_history.specs.declared.table.Commit.{Commit}
 use Rattle.target_core.specs.Mark.{mark_data}
 use Rattle.target_core.specs.Views.{Origin}
 use Rattle.lake_play.specs.Formats.{place}
-use Rattle.lake_play.proofs.TextBounds.{IsShortNumber, IsShortOrigin, digits_most, items_most, mark_most, put_most, whole_most, with_most}
+use Rattle.lake_play.proofs.TextBounds.{IsShortNumber, IsShortOrigin, items_most, mark_most, put_most, whole_most, with_most}
+use Rattle.lake_basics.proofs.Texts.{digits_most}
 
 -- ---- what a drill's metadata is
 

@@ -36,10 +36,11 @@ use Rattle.target_sync.specs.declared.status.Status.{Status}
 use Rattle.lake_play.specs.Formats.{from_delta}
 use Rattle.lake_play.specs.Playing.{Brings, scripted}
 use Rattle.lake_play.specs.Scripted.{scripted_store}
-use Rattle.lake_play.proofs.Histories.{entry_of, has_kept, holds_history, is_history, same_length, some_at}
+use Rattle.lake_play.proofs.Histories.{entry_of, has_kept, holds_history, is_history, same_length}
 use Rattle.lake_play.proofs.Logs.{HoldsCommits}
 use Rattle.lake_play.proofs.Syncs.{alone}
 use Rattle.lake_play.proofs.Targets.{shows_front, shows_whole}
+use Rattle.lake_basics.proofs.Lists.{some_at}
 
 -- ---- the laws of a target that are used
 

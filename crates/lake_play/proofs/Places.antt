@@ -6,8 +6,8 @@ use Rattle.std.proofs.lemmas.List.{map-append}
 use Rattle.std.proofs.lemmas.Option.{same_Some, slice_get_within}
 use Rattle.conformance.specs.Drill.{numbers_under}
 use Rattle.conformance.proofs.Numbers.{length_map}
-use Rattle.lake_play.proofs.Ends.{at_place}
 use Rattle.lake_play.proofs.Targets.{first_get}
+use Rattle.lake_basics.proofs.Lists.{get_behind}
 
 pub numbers_at : {A : Type 0} (f : ℕ → A) (n i : ℕ) → i < n → slice_get (map f (numbers_under n)) i ≡ Some (f i)
 numbers_at f zero i less = absurd (omega (arith, less))
@@ -20,7 +20,7 @@ numbers_at f (suc n) i less =
     (λ (past : n ≤ i).
     let last : i ≡ length front = omega (arith, less, past, count) in
     let same : n ≡ i = omega (arith, less, past) in
-    ap (slice_get (front ++ f n ∷ [])) last ∙ at_place front (f n) [] ∙ ap (λ (k : ℕ). Some (f k)) same)
+    ap (slice_get (front ++ f n ∷ [])) last ∙ get_behind front (f n) [] ∙ ap (λ (k : ℕ). Some (f k)) same)
     (cases_lt i n)
 
 -- what stands there is that of its place

@@ -11,9 +11,9 @@ use Rattle.lake_store.specs.declared.fuse.FuseStore.{FuseStore}
 use Rattle.lake_store.specs.declared.fuse.Script.{Script}
 use Rattle.lake_store.specs.declared.store.StoreError.{StoreError}
 use Rattle.lake_store.specs.declared.store.StoreError.TheVariants.{Taken}
-use Rattle.iceberg_version.proofs.Shared.{le_test}
 use Rattle.lake_play.specs.Scripted.{ScriptedCanBeContested, has_room, known_room, scripted_contests, some_of, stop_of}
 use Rattle.lake_play.specs.declared.scripted.Scripted.{Scripted}
+use Rattle.lake_basics.proofs.Numbers.{le_test}
 
 -- ---- a call takes no room
 

@@ -12,7 +12,6 @@ use Rattle.source_delta.specs.Heads.{IsAbsent}
 use Rattle.table_history.specs.History.{History}
 use Rattle.table_history.specs.declared.kind.Kind.{Kind}
 use Rattle.table_history.specs.declared.kind.Kind.TheVariants.{Delta}
-use Rattle.hudi_groups.proofs.GroupSetLemmas.{empty_of}
 use Rattle.target_core.specs.Conditions.{GoesOn}
 use Rattle.target_core.specs.Folders.{SameIn, folder_of}
 use Rattle.target_core.specs.Views.{View}
@@ -33,6 +32,7 @@ use Rattle.lake_play.proofs.Histories.{holds_history, is_absent, is_history, sam
 use Rattle.lake_play.proofs.Logs.{HoldsCommits}
 use Rattle.lake_play.proofs.Rooms.{enters_free}
 use Rattle.lake_play.proofs.Targets.{IsPlayed, at_front, at_whole}
+use Rattle.lake_basics.proofs.Lists.{empty_of}
 
 -- ---- answers
 

@@ -15,6 +15,7 @@ use Rattle.conformance.proofs.Texts.{most_bytes, most_of_items, most_of_members}
 use Rattle.target_core.specs.Mark.{mark_data}
 use Rattle.target_core.specs.Views.{Origin}
 use Rattle.target_core.specs.declared.mark.Mark.{Mark}
+use Rattle.lake_basics.proofs.Texts.{digits_most}
 
 -- ---- objects
 
@@ -51,9 +52,6 @@ module _ {A : Type 0} (f : A → Data) where
       omega (arith, one, rest, times)
 
 -- ---- numbers
-
-pub digits_most : (n : ℕ) → n < 10 ^ 15 → length (decimal n) ≤ 15
-digits_most n lt = length-decimal-le 15 n (omega arith) lt (omega (arith, lt))
 
 -- a whole number of at most 15 digits
 abbrev pub IsShortNumber : ℤ → Type 0

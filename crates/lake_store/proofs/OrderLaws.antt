@@ -21,25 +21,13 @@ use Rattle.std.specs.declared.cmp.Ordering.TheVariants.{Less, Equal, Greater}
 use Rattle.lake_store.specs.Disk.{Files, IsName, ListsFolder, front_of, is_name, name_behind, names_in}
 use Rattle.lake_store.proofs.DiskLaws.{is_path, path_here, same_path}
 use Rattle.lake_store.proofs.FolderLaws.{any-names_in, named}
+use Rattle.lake_basics.proofs.Truth.{T_left, T_less, T_right, left_true, never_both, not_by, right_true}
 
 abbrev Entry : Type 0
 Entry = List ℕ × List ℕ
 
 abbrev cmp : List ℕ → List ℕ → Ordering
 cmp = slice_cmp nat_cmp
-
-T_first : (a b : Bool) → T (a && b) → T a
-T_first true b h = tt
-T_first false b h = h
-
-T_second : (a b : Bool) → T (a && b) → T b
-T_second true b h = h
-T_second false b h = absurd h
-
-less : (o : Ordering) → T (is_lt o) → o ≡ Less
-less Less h = refl
-less Equal h = absurd h
-less Greater h = absurd h
 
 nat_same : (c : ℕ) → nat_cmp c c ≡ Equal
 nat_same c = equal_of (nat_cmp c c) (path_here (c ∷ []))
@@ -52,12 +40,12 @@ nat_same c = equal_of (nat_cmp c c) (path_here (c ∷ []))
 -- the keys of a map are in order
 below : (x : List ℕ) (es : List Entry) → T (below_all cmp x es) → AllByRecursion (λ y. cmp x y ≡ Less) (map (λ e. e.0) es)
 below x [] h = tt
-below x (e ∷ es) h = (less (cmp x e.0) (T_first (is_lt (cmp x e.0)) (below_all cmp x es) h), below x es (T_second (is_lt (cmp x e.0)) (below_all cmp x es) h))
+below x (e ∷ es) h = (T_less (cmp x e.0) (T_left (is_lt (cmp x e.0)) (below_all cmp x es) h), below x es (T_right (is_lt (cmp x e.0)) (below_all cmp x es) h))
 
 keys_sorted : (es : List Entry) → T (is_sorted cmp es) → IsStrictlySortedBy cmp (map (λ e. e.0) es)
 unfolding IsStrictlySortedBy
 keys_sorted [] h = tt
-keys_sorted (e ∷ es) h = (below e.0 es (T_first (below_all cmp e.0 es) (is_sorted cmp es) h), keys_sorted es (T_second (below_all cmp e.0 es) (is_sorted cmp es) h))
+keys_sorted (e ∷ es) h = (below e.0 es (T_left (below_all cmp e.0 es) (is_sorted cmp es) h), keys_sorted es (T_right (below_all cmp e.0 es) (is_sorted cmp es) h))
 
 -- behind a common front the order is the same
 pub same_front : (front a b : List ℕ) → cmp (front ++ a) (front ++ b) ≡ cmp a b
@@ -113,35 +101,19 @@ module _ {X : Type 0} (test : X → Bool) (x : X) (found : (y : X) → test y �
       (λ (left : Contains (y ∷ []) x). inl (⊎_elim (λ (none : Contains [] x). let lt = none.1 in absurd (omega arith)) (finds y) (Contains-push_cases [] y x left)))
       (λ (right : Contains ys x). inr (any_from_Contains ys right)) (Contains-append_cases (y ∷ []) ys x within))
 
-and_first : (a b : Bool) → (a && b) ≡ true → a ≡ true
-and_first true b is = refl
-and_first false b is = cc
-
-and_second : (a b : Bool) → (a && b) ≡ true → b ≡ true
-and_second true b is = is
-and_second false b is = cc
-
 slash_found : (b : ℕ) → (b == 47) ≡ true → b ≡ 47
 slash_found b is = eqb-true b 47 is
 
 slash_finds : (b : ℕ) → b ≡ 47 → (b == 47) ≡ true
 slash_finds b is = ap (λ c. c == 47) is
 
-not_true : (b : Bool) → not b ≡ true → b ≡ true → ⊥
-not_true true is here = cc
-not_true false is here = cc
-
-true_not : (b : Bool) → (b ≡ true → ⊥) → not b ≡ true
-true_not true apart = absurd (apart refl)
-true_not false apart = refl
-
 name_is : (name : List ℕ) → is_name name ≡ true → IsName name
 name_is [] is = cc
-name_is (c ∷ name) is = (λ none. cc, λ within. not_true _ is (any_from_Contains (λ b. b == 47) 47 slash_found slash_finds (c ∷ name) within))
+name_is (c ∷ name) is = (λ none. cc, λ within. never_both _ is (any_from_Contains (λ b. b == 47) 47 slash_found slash_finds (c ∷ name) within))
 
 is_name_of : (name : List ℕ) → IsName name → is_name name ≡ true
 is_name_of [] is = absurd (is.0 refl)
-is_name_of (c ∷ name) is = true_not _ (λ any. is.1 (Contains-from_any (λ b. b == 47) 47 slash_found slash_finds (c ∷ name) any))
+is_name_of (c ∷ name) is = not_by _ (λ any. is.1 (Contains-from_any (λ b. b == 47) 47 slash_found slash_finds (c ∷ name) any))
 
 -- the names of a folder are those of its files
 pub names_in_listed : (files : Files) (folder : List ℕ) → ListsFolder files folder (names_in files folder)
@@ -152,7 +124,7 @@ names_in_listed files folder = record {
       let finds : (y : List ℕ) → y ≡ name → is_path name y ≡ true = λ y is. ap (is_path name) is ∙ path_here name in (
         (λ within.
             let both = sym (any-names_in files folder name) ∙ any_from_Contains (is_path name) name found finds (names_in files folder) within in
-            (name_is name (and_first _ _ both), and_second _ _ both)),
+            (name_is name (left_true _ _ both), right_true _ _ both)),
         (λ is. Contains-from_any (is_path name) name found finds (names_in files folder)
             (any-names_in files folder name ∙ and_from _ _ (is_name_of name is.0) is.1)),
       );

@@ -17,7 +17,8 @@ use Rattle.lake_sweep.specs.Order.{AreInOrder, IsBeforeInTimeline, IsEarlierPart
 use Rattle.lake_sweep.specs.Picking.{AreParts, IsPartOf, IsWithClaim, IsWithFile, IsWithPending}
 use Rattle.lake_sweep.specs.Plan.{IsPlan}
 use Rattle.lake_sweep.proofs.Lists.{order_push}
-use Rattle.lake_sweep.proofs.PickLaws.{less_before, longer}
+use Rattle.lake_sweep.proofs.PickLaws.{less_before}
+use Rattle.lake_basics.proofs.Lists.{last_of}
 
 -- each of these paths comes before this part of the instant
 abbrev AreBefore : List ℕ → Part → List (List ℕ) → Type 0
@@ -146,7 +147,7 @@ module _ (files : Files) (cs : List (List ℕ)) (name : List ℕ) (paths after :
 
 module _ (files : Files) (names : List (List ℕ)) (i : ℕ) (paths : List (List ℕ)) (so_far : AreParts files (take i names) paths) where
   pub parts_step : (name : List ℕ) → IsStrictlySortedBy (slice_cmp nat_cmp) names → i < length names → name ≡ get_or names i name → (after : List (List ℕ)) → IsWithClaim files name paths after → AreParts files (take (i + 1) names) after
-  parts_step name sorted lt is after found = subst (λ (l : List (List ℕ)). AreParts files l after) (sym (longer names i name lt is)) (parts_more files (take i names) name paths after so_far (less_before names i name sorted lt is) found)
+  parts_step name sorted lt is after found = subst (λ (l : List (List ℕ)). AreParts files l after) (sym (last_of names i name lt is)) (parts_more files (take i names) name paths after so_far (less_before names i name sorted lt is) found)
 
   pub parts_all : length names ≤ i → AreParts files names paths
   parts_all past = subst (λ (l : List (List ℕ)). AreParts files l paths) (take_all i names past) so_far

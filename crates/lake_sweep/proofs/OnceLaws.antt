@@ -16,12 +16,7 @@ use Rattle.iceberg_metadata.specs.declared.metadata.Metadata.{Metadata}
 use Rattle.iceberg_metadata.proofs.ConsistentLemmas.{consistent_Decides}
 use Rattle.iceberg_metadata.proofs.ContentLemmas.{contents_are}
 use Rattle.iceberg_table.specs.Lists.{AreRows}
-
-ok_once : {A E : Type 0} (r : Result A E) (x y : A) → r ≡ Ok x → r ≡ Ok y → x ≡ y
-ok_once r x y p q = cc (sym p ∙ q)
-
-some_once : {A : Type 0} (o : Option A) (x y : A) → o ≡ Some x → o ≡ Some y → x ≡ y
-some_once o x y p q = cc (sym p ∙ q)
+use Rattle.lake_basics.proofs.Options.{ok_once, some_once}
 
 first_once : (m n : Metadata) (es fs : List HeldUnread) (r : Result (Metadata × List HeldUnread) MetadataError) → r ≡ Ok (m, es) → r ≡ Ok (n, fs) → m ≡ n
 first_once m n es fs r a b = ap (λ (p : Metadata × List HeldUnread). p.0) (ok_once r (m, es) (n, fs) a b)

@@ -20,6 +20,7 @@ use Rattle.lake_sweep.specs.Order.{AreInOrder, IsLess}
 use Rattle.lake_sweep.specs.Picking.{ArePicked, IsPathOf, IsWithName}
 use Rattle.lake_sweep.specs.Plan.{IsPlan}
 use Rattle.lake_sweep.proofs.Lists.{order_before, order_push}
+use Rattle.lake_basics.proofs.Lists.{last_of}
 
 all_in : {A : Type 0} (P : A → Type 0) (xs : List A) → AllByRecursion P xs → (y : A) → Contains xs y → P y
 all_in P [] all y within = absurd (Contains-none y within)
@@ -35,9 +36,6 @@ pub less_before : (names : List (List ℕ)) (i : ℕ) (name : List ℕ) → IsSt
 less_before names i name sorted lt is y within =
     let split : names ≡ take i names ++ name ∷ drop (suc i) names = sym (take-append-drop i names) ∙ ap (λ (l : List (List ℕ)). take i names ++ l) (drop-cons names i name lt ∙ ap (λ (n : List ℕ). n ∷ drop (suc i) names) (sym is)) in
     order_before IsLess (take i names) name (drop (suc i) names) (subst (λ (l : List (List ℕ)). AreInOrder IsLess l) split (sorted_order names sorted)) y within
-
-pub longer : (names : List (List ℕ)) (i : ℕ) (name : List ℕ) → i < length names → name ≡ get_or names i name → take (i + 1) names ≡ take i names ++ name ∷ []
-longer names i name lt is = take_more names i name lt ∙ ap (λ (n : List ℕ). take i names ++ n ∷ []) (sym is)
 
 module _ (P : List ℕ → Type 0) (front : List ℕ) where
   pub picked_none : ArePicked P front [] []
@@ -76,10 +74,10 @@ module _ (P : List ℕ → Type 0) (front : List ℕ) where
   module _ (names : List (List ℕ)) (i : ℕ) (paths : List (List ℕ)) (so_far : ArePicked P front (take i names) paths) where
     module _ (name : List ℕ) (sorted : IsStrictlySortedBy (slice_cmp nat_cmp) names) (lt : i < length names) (is : name ≡ get_or names i name) where
       pick_skip : ¬ P name → ArePicked P front (take (i + 1) names) paths
-      pick_skip lacks = subst (λ (l : List (List ℕ)). ArePicked P front l paths) (sym (longer names i name lt is)) (picked_skip (take i names) name paths so_far lacks)
+      pick_skip lacks = subst (λ (l : List (List ℕ)). ArePicked P front l paths) (sym (last_of names i name lt is)) (picked_skip (take i names) name paths so_far lacks)
 
       pick_more : P name → ArePicked P front (take (i + 1) names) (paths ++ (front ++ name) ∷ [])
-      pick_more has = subst (λ (l : List (List ℕ)). ArePicked P front l (paths ++ (front ++ name) ∷ [])) (sym (longer names i name lt is))
+      pick_more has = subst (λ (l : List (List ℕ)). ArePicked P front l (paths ++ (front ++ name) ∷ [])) (sym (last_of names i name lt is))
           (picked_more (take i names) name paths so_far has (less_before names i name sorted lt is))
 
       pub pick_step : (after : List (List ℕ)) → IsWithName P front name paths after → ArePicked P front (take (i + 1) names) after

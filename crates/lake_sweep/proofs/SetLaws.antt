@@ -13,6 +13,7 @@ use Rattle.std.proofs.lemmas.Slice.Eq.{bytes_eq-Decides}
 use Rattle.table_history.proofs.RowListLemmas.{Contains-head, Contains-none, Contains-tail}
 use Rattle.iceberg_table.specs.declared.list.ManifestFile.{ManifestFile}
 use Rattle.lake_sweep.specs.Reading.{IsNamedIn}
+use Rattle.lake_basics.proofs.Texts.{any_there}
 
 pub in_keys : (keys : List (List ℕ)) (q : List ℕ) → list_any (bytes_eq q) keys ≡ true → Contains keys q
 in_keys [] q h = absurd (false≢true h)
@@ -21,11 +22,8 @@ in_keys (x ∷ keys) q h = ⊎_elim
     (λ later. Contains-tail x keys q (in_keys keys q later))
     (or_cases (bytes_eq q x) (list_any (bytes_eq q) keys) h)
 
-pub has_key : (keys : List (List ℕ)) (q : List ℕ) → Contains keys q → list_any (bytes_eq q) keys ≡ true
-has_key keys q within = list_any_at (bytes_eq q) keys within.0 q within.1 ((bytes_eq-Decides q _).1 (sym within.2))
-
 pub key_test : (keys : List (List ℕ)) (q : List ℕ) (test : Bool) → test ≡ list_any (bytes_eq q) keys → (test ≡ true) ↔ Contains keys q
-key_test keys q test is = (λ yes. in_keys keys q (sym is ∙ yes), λ within. is ∙ has_key keys q within)
+key_test keys q test is = (λ yes. in_keys keys q (sym is ∙ yes), λ within. is ∙ any_there keys q within)
 
 -- the keys with this one, at the end if it is new
 abbrev pub IsPut : List (List ℕ) → List ℕ → List (List ℕ) → Type 0

@@ -19,6 +19,7 @@ use Rattle.partition_map.specs.Columns.{column_kind, HasOtherKind, is_same_kind,
 use Rattle.partition_map.specs.Kind.{part_kind_of}
 use Rattle.partition_map.specs.declared.kind.PartKind.{PartKind}
 use Rattle.partition_map.specs.declared.kind.PartKind.TheVariants as kind
+use Rattle.lake_basics.proofs.Truth.{false_and_true, or_true}
 
 -- ---- a map of kinds
 abbrev Kinds : Type 0
@@ -113,10 +114,6 @@ is_changed old new o n was is changed =
     let differs : is_same_kind o n ≡ false = ⊎_elim (λ same. absurd (changed (same_kind o n same))) (λ other. other) (cases_Bool (is_same_kind o n)) in
     (λ i. is_other_kind (was i) (is i)) ∙ ap not differs
 
-or_true : (b : Bool) → (b || true) ≡ true
-or_true true = refl
-or_true false = refl
-
 has_other : (old new : ColumnTrees) (names : List (List ℕ)) → has_other_kind old new names ≡ true → HasOtherKind old new names
 has_other old new [] h = absurd (false≢true h)
 has_other old new (n ∷ ns) h =
@@ -167,10 +164,6 @@ none_again : (x : List ℕ) (xs : List (List ℕ)) → AllByRecursion (λ y. byt
 none_again x [] h = refl
 none_again x (y ∷ ys) h = (λ i. h.0 i || none_again x ys h.1 i)
 
-distinct_by : (a b : Bool) → (not a && b) ≡ true → (a ≡ false) × (b ≡ true)
-distinct_by true b h = absurd (false≢true h)
-distinct_by false b h = (refl, h)
-
 distinct_nothing : IsDistinct bytes_eq []
 unfolding IsDistinct
 distinct_nothing = tt
@@ -178,7 +171,7 @@ distinct_nothing = tt
 distinct_to : (xs : List (List ℕ)) → are_distinct xs ≡ true → IsDistinct bytes_eq xs
 distinct_to [] h = distinct_nothing
 distinct_to (x ∷ xs) h =
-    let both = distinct_by (list_any (bytes_eq x) xs) (are_distinct xs) h in IsDistinct-cons bytes_eq x xs (not_again x xs both.0) (distinct_to xs both.1)
+    let both = false_and_true (list_any (bytes_eq x) xs) (are_distinct xs) h in IsDistinct-cons bytes_eq x xs (not_again x xs both.0) (distinct_to xs both.1)
 
 distinct_from : (xs : List (List ℕ)) → IsDistinct bytes_eq xs → are_distinct xs ≡ true
 distinct_from [] d = refl

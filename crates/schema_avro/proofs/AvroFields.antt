@@ -8,6 +8,7 @@ use Rattle.table_history.specs.TypeTree.{ColumnTree}
 use Rattle.table_history.specs.SchemaView.{column_view}
 use Rattle.table_history.specs.declared.schema.Column.{Column}
 use Rattle.lake_basics.specs.Outcome.{with_front}
+use Rattle.lake_basics.proofs.Lists.{pushed_behind}
 use Rattle.schema_avro.specs.declared.fault.TypeFault.TheVariants.{NoRow}
 use Rattle.schema_avro.specs.Avro.{avro_union, avro_front, avro_part, avro_type, nullable_if}
 
@@ -28,12 +29,8 @@ map_pushed : (cs : List Column) (c : Column) → map column_view (cs ++ c ∷ []
 map_pushed [] c = refl
 map_pushed (d ∷ cs) c = ap (λ (ds : List ColumnTree). column_view d ∷ ds) (map_pushed cs c)
 
-behind_front : {A : Type 0} (xs : List A) (x : A) (ys : List A) → (xs ++ x ∷ []) ++ ys ≡ xs ++ x ∷ ys
-behind_front [] x ys = refl
-behind_front (z ∷ xs) x ys = ap (λ zs. z ∷ zs) (behind_front xs x ys)
-
 front_pushed : {E : Type 0} (xs : List ColumnTree) (c : ColumnTree) (first : Result ColumnTree E) (others : Result (List ColumnTree) E) → first ≡ Ok c → with_front (xs ++ c ∷ []) others ≡ with_front xs (avro_front first others)
-front_pushed xs c first (Ok ys) is = rw is (ap Ok (behind_front xs c ys))
+front_pushed xs c first (Ok ys) is = rw is (ap Ok (pushed_behind xs c ys))
 front_pushed xs c first (Err e) is = rw is
 
 -- One more field is read, and its column is pushed.

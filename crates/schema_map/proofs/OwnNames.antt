@@ -11,6 +11,8 @@ use Rattle.table_history.specs.TypeTree.{TypeTree, ColumnTrees, column}
 use Rattle.table_history.specs.declared.schema.Column.{Column, the_lemmas}
 use Rattle.table_history.specs.SchemaView.{column_view, columns_view}
 use Rattle.table_history.specs.Sound.{is_named, have_own_names}
+use Rattle.lake_basics.proofs.Truth.{cond_or}
+use Rattle.lake_basics.proofs.Numbers.{before_less, suc_before}
 
 -- whether the set has the name
 abbrev pub holds_name : BTreeSet (Bor (List ℕ)) → List ℕ → Bool
@@ -20,14 +22,10 @@ holds_name seen name = sorted.contains_by (λ k. slice_cmp nat_cmp name k.now) s
 abbrev pub HoldsNames : BTreeSet (Bor (List ℕ)) → ColumnTrees → Type 0
 HoldsNames seen cs = (name : List ℕ) → holds_name seen name ≡ is_named name cs
 
-or_cond : (b c : Bool) → cond b true c ≡ (b || c)
-or_cond true c = refl
-or_cond false c = refl
-
 pub name_held : (seen new : BTreeSet (Bor (List ℕ))) (key : Bor (List ℕ)) (t : TypeTree) (b : Bool) (cs : ColumnTrees) → sorted.UpdatesBy (λ x y. slice_cmp nat_cmp x.now y.now) (λ k. slice_cmp nat_cmp key.now k.now) seen new true → HoldsNames seen cs → HoldsNames new (column key.now t b cs)
 name_held seen new key t b cs updates held =
     λ name. let q : Bor (List ℕ) = record { ref_ptr = (0, 0); now = name } in
-    updates.0 q ∙ ap (λ at. cond at true (holds_name seen name)) (is_eq-slice_cmp key.now name) ∙ or_cond (bytes_eq key.now name) (holds_name seen name) ∙ ap (λ h. bytes_eq key.now name || h) (held name)
+    updates.0 q ∙ ap (λ at. cond at true (holds_name seen name)) (is_eq-slice_cmp key.now name) ∙ cond_or (bytes_eq key.now name) (holds_name seen name) ∙ ap (λ h. bytes_eq key.now name || h) (held name)
 
 not_true : (b c : Bool) → b ≡ not c → b ≡ true → c ≡ false
 not_true b true is e = absurd (cc)
@@ -56,12 +54,6 @@ pub own_behind : (cs : List Column) (i : ℕ) → have_own_names (columns_view (
 own_behind cs zero e = e
 own_behind [] (suc i) e = e
 own_behind (c ∷ cs) (suc i) e = and_right _ _ (own_behind cs i e)
-
-suc_before : (n : ℕ) → 0 < n → suc (n - 1) ≡ n
-suc_before n some = omega (arith, some)
-
-before_less : (n m : ℕ) → 0 < n → n ≤ m → n - 1 < m
-before_less n m some within = omega (arith, some, within)
 
 module _ (cs : List Column) (place : ℕ) (c : Column) (seen : BTreeSet (Bor (List ℕ))) (key : Bor (List ℕ)) (added : Bool)
     (some : 0 < place) (within : place ≤ length cs) (at : c ≡ get_or cs (place - 1) c) (key_is : key.now ≡ c.name)

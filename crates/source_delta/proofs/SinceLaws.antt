@@ -6,6 +6,7 @@ use Rattle.std.proofs.lemmas.Fmt.{decimal_injective}
 use Rattle.std.specs.Fmt.{decimal}
 use Rattle.std.specs.Prelude.{MatchOption, nat_lt}
 use Rattle.lake_basics.specs.declared.limits.TheConstants.{MAX_ACTIONS, MAX_COMMITS, MAX_DELTA_VERSION, MAX_NAMES}
+use Rattle.lake_basics.proofs.Numbers.{le_not_less}
 use Rattle.lake_store.specs.Disk.{Files, names_in}
 use Rattle.table_history.specs.Tables.{CanApply, IsAfter, SameTable}
 use Rattle.table_history.specs.declared.table.Commit.{Commit}
@@ -179,9 +180,6 @@ none_since files position version newest base commits reached same none =
       few_actions = omega arith;
     })
 
-not_both : (n m : ℕ) → n ≤ m → m < n → ⊥
-not_both n m few many = omega (arith, few, many)
-
 -- what can't be taken over the table before it is refused behind that
 pub over_behind : (files : Files) (version : ℕ) (says : DeltaCommit) (before : Table) (actions : ℕ) → SaysCommit files version says → actions + length says.files ≤ MAX_ACTIONS
     → (e : SourceError) → IsReadRefusal (IsRefusedOver version says before) e → IsReadRefusal (IsRefusedBehind files version before actions) e
@@ -191,7 +189,7 @@ over_behind files version says before actions reads few e refused =
 -- names that aren't too many can be listed
 pub names_refused : (files : Files) (position : List ℕ) (base : Table) → length (names_in files log_folder) ≤ MAX_NAMES → (e : SourceError) → IsReadRefusal (HasManyNames files) e
     → IsReadRefusal (ShowsFromPosition files position base) e
-names_refused files position base few e h = weaker (HasManyNames files) (ShowsFromPosition files position base) (λ d many. absurd (not_both (length (names_in files log_folder)) MAX_NAMES few many.0)) e h
+names_refused files position base few e h = weaker (HasManyNames files) (ShowsFromPosition files position base) (λ d many. absurd (le_not_less (length (names_in files log_folder)) MAX_NAMES few many.0)) e h
 
 -- what is told is told of versions that are there
 pub since_refused : (files : Files) (position : List ℕ) (base : Table) (e : SourceError) → IsReadRefusal (ShowsFromPosition files position base) e

@@ -7,6 +7,7 @@ use Rattle.std.specs.Fmt.{decimal}
 use Rattle.std.specs.Prelude.{option_map, slice_get, unwrap_or}
 use Rattle.std.proofs.lemmas.Option.{same_Some}
 use Rattle.lake_basics.specs.declared.limits.TheConstants.{MAX_DELTA_VERSION}
+use Rattle.lake_basics.proofs.Lists.{get_behind, some_at}
 use Rattle.lake_store.specs.Disk.{Files}
 use Rattle.table_history.specs.History.{History, positions_of}
 use Rattle.table_history.specs.Rows.{SameRows}
@@ -57,10 +58,6 @@ holds_own a b history same h =
 
 -- ---- places in a history
 
-at_place : {X : Type 0} (front : List X) (x : X) (behind : List X) → slice_get (front ++ x ∷ behind) (length front) ≡ Some x
-at_place [] x behind = refl
-at_place (y ∷ front) x behind = at_place front x behind
-
 at_next : {X : Type 0} (front : List X) (x y : X) (behind : List X) → slice_get (front ++ x ∷ y ∷ behind) (suc (length front)) ≡ Some y
 at_next [] x y behind = refl
 at_next (z ∷ front) x y behind = at_next front x y behind
@@ -72,11 +69,6 @@ last_of x (y ∷ xs) = let rest = last_of y xs in (x ∷ rest.0, rest.1, ap (λ 
 ends_in : {X : Type 0} (xs : List X) (n : ℕ) → length xs ≡ n + 1 → (front : List X) × (last : X) × (xs ≡ front ++ last ∷ [])
 ends_in [] n is = absurd (omega (arith, is))
 ends_in (x ∷ xs) n is = last_of x xs
-
-some_at : {X : Type 0} (xs : List X) (i : ℕ) → i < length xs → (x : X) × (slice_get xs i ≡ Some x)
-some_at [] i within = absurd (omega (arith, within))
-some_at (x ∷ xs) zero within = (x, refl)
-some_at (x ∷ xs) (suc i) within = some_at xs i (omega (arith, within))
 
 -- ---- the versions
 
@@ -150,7 +142,7 @@ last files history head h is =
     let count : length history ≡ length end.0 + 1 = ap (λ (l : History). length l) end.2 ∙ length-append end.0 (end.1 ∷ []) in
     let newest = h.count in
     let version : length end.0 ≡ h.kept.newest = omega (arith, count, newest) in
-    let place : slice_get history (length end.0) ≡ Some end.1 = subst (λ (l : History). slice_get l (length end.0) ≡ Some end.1) (sym end.2) (at_place end.0 end.1 []) in
+    let place : slice_get history (length end.0) ≡ Some end.1 = subst (λ (l : History). slice_get l (length end.0) ≡ Some end.1) (sym end.2) (get_behind end.0 end.1 []) in
     let position = h.positions (length end.0) end.1 place in
     let one = one_newest files h.kept.newest is.newest (newest_of files history h) is.is in (
       end.1,
@@ -202,7 +194,7 @@ follow : (files : Files) (history : History) (h : HoldsHistory files history) (f
 follow files history h front [] entry is kept = tt
 follow files history h front (next ∷ behind) entry is kept =
     let one : suc (length front) ≡ length front + 1 = omega arith in
-    let place : slice_get history (length front) ≡ Some entry = subst (λ (l : History). slice_get l (length front) ≡ Some entry) (sym is) (at_place front entry (next ∷ behind)) in
+    let place : slice_get history (length front) ≡ Some entry = subst (λ (l : History). slice_get l (length front) ≡ Some entry) (sym is) (get_behind front entry (next ∷ behind)) in
     let after : slice_get history (suc (length front)) ≡ Some next = subst (λ (l : History). slice_get l (suc (length front)) ≡ Some next) (sym is) (at_next front entry next behind) in
     let before : table_before history (suc (length front)) ≡ Some entry.1 = ap (option_map (λ (e : List ℕ × Table). e.1)) place in
     let kept' : h.kept.first ≤ suc (length front) = omega (arith, kept) in
@@ -260,7 +252,7 @@ pub along : (files : Files) (front behind : History) (entry : List ℕ × Table)
 along files front behind entry base commits h like reached since =
     let history = front ++ entry ∷ behind in
     let is = reached.2 in
-    let place = at_place front entry behind in
+    let place = get_behind front entry behind in
     let spelled = h.positions (length front) entry place in
     let count : length history ≡ length front + length (entry ∷ behind) = length-append front (entry ∷ behind) in
     let whole = h.count in

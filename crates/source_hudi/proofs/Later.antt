@@ -20,6 +20,7 @@ use Rattle.hudi_table.proofs.FolderLaws.{order_up_to_head, reached_times}
 use Rattle.hudi_table.proofs.TimeOrder.{earlier_than}
 use Rattle.source_hudi.specs.Instants.{is_up_to}
 use Rattle.source_hudi.specs.Since.{is_later, later_in}
+use Rattle.lake_basics.proofs.Truth.{lt_less}
 
 -- ---- the order of times
 
@@ -30,11 +31,6 @@ reverse_lt Greater = refl
 
 later_or_not : (position time : List ℕ) → is_later position time ≡ not (is_up_to position time)
 later_or_not position time = ap is_lt (nat_list_cmp_total.antisymm position time) ∙ reverse_lt (slice_cmp nat_cmp time position)
-
-lt_less : (o : Ordering) → is_lt o ≡ true → o ≡ Less
-lt_less Less is = refl
-lt_less Equal is = cc
-lt_less Greater is = cc
 
 pub later_earlier : (position time : List ℕ) → is_later position time ≡ true → IsEarlier position time
 later_earlier position time later = lt_less (slice_cmp nat_cmp position time) later

@@ -1,6 +1,7 @@
 -- What is told where the commits after a position aren't read.
 use Rattle.std.proofs.Common.{◌≡◌, ◌⊎◌, ◌+◌, ◌<◌, ◌≤◌, inl, inr, ℕ, List, Some, codes, length, refl, sym, subst, ⊎_elim, arith}
 use Rattle.lake_basics.specs.declared.limits.TheConstants.{MAX_ACTIONS, MAX_COMMITS, MAX_NAMES}
+use Rattle.lake_basics.proofs.Numbers.{le_not_less}
 use Rattle.lake_store.specs.Disk.{Files, names_in}
 use Rattle.table_history.specs.declared.feature.Feature.TheVariants.{PartitionChange}
 use Rattle.table_history.specs.declared.table.Table.{Table}
@@ -73,9 +74,6 @@ module _ (files : Files) (table : HudiTable) (base : Table) where
 
 -- ---- the properties, and whether the position is reached
 
-not_both : (n m : ℕ) → n ≤ m → m < n → ⊥
-not_both n m few many = omega (arith, few, many)
-
 module _ (files : Files) (position : List ℕ) (base : Table) where
   pub properties_reached : (e : SourceError) → IsReadRefusal (HasNoProperties files) e → IsReadRefusal (ShowsReached files position base) e
   properties_reached e h = weaker (HasNoProperties files) (ShowsReached files position base) (λ d t. inl t) e h
@@ -96,4 +94,4 @@ module _ (files : Files) (position : List ℕ) (base : Table) where
 
   -- names that aren't too many can be listed
   pub names_refused : length (names_in files timeline_folder) ≤ MAX_NAMES → (e : SourceError) → IsReadRefusal (HasManyNames files timeline_folder) e → IsReadRefusal (ShowsSince files position base) e
-  names_refused few e h = weaker (HasManyNames files timeline_folder) (ShowsSince files position base) (λ d many. absurd (not_both (length (names_in files timeline_folder)) MAX_NAMES few many.0)) e h
+  names_refused few e h = weaker (HasManyNames files timeline_folder) (ShowsSince files position base) (λ d many. absurd (le_not_less (length (names_in files timeline_folder)) MAX_NAMES few many.0)) e h

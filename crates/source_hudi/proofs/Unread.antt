@@ -4,7 +4,7 @@ use Rattle.std.specs.Prelude.{find, option_map}
 use Rattle.std.specs.Cmp.Lexicographic.{slice_cmp}
 use Rattle.std.specs.Ordering.{is_lt, nat_cmp}
 use Rattle.std.specs.declared.cmp.Ordering.TheVariants.{Less, Greater}
-use Rattle.std.proofs.lemmas.Bool.{and_parts}
+use Rattle.std.proofs.lemmas.Bool.{and_parts, not-true}
 use Rattle.lake_store.specs.Disk.{Files, names_in}
 use Rattle.lake_store.proofs.OrderLaws.{names_in_sorted}
 use Rattle.hudi_names.specs.Name.{instant_of}
@@ -23,10 +23,6 @@ use Rattle.source_hudi.proofs.UpToHead.{le_of_up, up_of_le}
 
 abbrev Instant : Type 0
 Instant = ℕ × Action × State
-
-not_false : (b : Bool) → not b ≡ true → b ≡ false
-not_false true h = cc
-not_false false h = refl
 
 abbrev UpNames : InstantName → InstantName → Type 0
 UpNames i j = slice_cmp nat_cmp i.name j.name ≡ Less
@@ -60,7 +56,7 @@ module _ (files : Files) (head : List ℕ) where
         state = i.state;
         says = says.says;
         up_to = subst (λ t. IsUpTo t head) says.time (up_of_le head i.time parts.0);
-        unread = not_false (is_read i.action) parts.1;
+        unread = not-true (is_read i.action) parts.1;
       }
 
   unread_from : (name : List ℕ) (a : Action) → IsUnread files head name a → (i : InstantName) × Contains instants i × (is_unread head i ≡ true) × (i.name ≡ name)

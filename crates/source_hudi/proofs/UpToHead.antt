@@ -13,6 +13,7 @@ use Rattle.hudi_table.specs.declared.instants.CompletedInstant.{CompletedInstant
 use Rattle.hudi_table.proofs.FolderLaws.{before_from, before_to, completed_to, first_of_folder, reached_times}
 use Rattle.hudi_table.proofs.TimeOrder.{earlier_still}
 use Rattle.source_hudi.specs.Instants.{is_up_to, reached_in}
+use Rattle.lake_basics.proofs.Truth.{same_tests}
 
 -- ---- the order of times
 
@@ -34,11 +35,6 @@ le_of_up head time is = up_le (slice_cmp nat_cmp time head) is
 
 -- ---- the completed instants
 
-same_bools : (a b : Bool) → (a ≡ true → b ≡ true) → (b ≡ true → a ≡ true) → a ≡ b
-same_bools true b to from = sym (to refl)
-same_bools false true to from = from refl
-same_bools false false to from = refl
-
 prefix_same : {X : Type 0} (p q : X → Bool) (xs : List X) → ((x : X) → Contains xs x → p x ≡ q x) → prefix_len p xs ≡ prefix_len q xs
 prefix_same p q [] same = refl
 prefix_same p q (x ∷ xs) same =
@@ -55,7 +51,7 @@ module _ (files : Files) (head : List ℕ) (is : IsHead files head) where
 
   same_test : (c : CompletedInstant) → Contains completed c → is_up_to head c.time ≡ is_before (first_pending (instants_in names)) c
   same_test c there =
-      same_bools (is_up_to head c.time) (is_before (first_pending (instants_in names)) c)
+      same_tests (is_up_to head c.time) (is_before (first_pending (instants_in names)) c)
       (λ up. before_from files (first_pending (instants_in names)) (first_of_folder files) c (λ p at. earlier_still c.time head p (up_of_le head c.time up) (is.0.1 p at)))
       (λ before. le_of_up head c.time (is.1 c.time (completed_to files c there, before_to files (first_pending (instants_in names)) (first_of_folder files) c before)))
 

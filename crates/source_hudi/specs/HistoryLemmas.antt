@@ -37,9 +37,10 @@ use Rattle.source_hudi.specs.Heads.{IsHudiHead, IsTableAtHead}
 use Rattle.source_hudi.specs.Histories.{HoldsHistory, IsFromFirst, IsMadeBy, IsReadable, LeaveTables, LeavesFirst, LeavesTable, times_of}
 use Rattle.source_hudi.specs.Instants.{IsArchiveEmpty, archive_folder, reached_in}
 use Rattle.source_hudi.specs.LikeLemmas.{first_same, leads_like, like_same, step_same}
-use Rattle.source_hudi.specs.ListLemmas.{all_kept, behind_distinct, end_append, end_front, end_in, end_map, end_of, first_apart, in_map, last_distinct, map_in, split_last}
+use Rattle.source_hudi.specs.ListLemmas.{all_kept, end_append, end_front, end_in, end_map, end_of, first_apart, in_map, last_distinct, map_in, split_last}
 use Rattle.source_hudi.specs.OwnLemmas.{properties_too, reached_same, says_too}
 use Rattle.source_hudi.specs.Since.{AreCommits, IsSince, is_later, later_in}
+use Rattle.lake_basics.proofs.Texts.{behind_distinct}
 
 -- ---- the instants behind a position
 

@@ -5,7 +5,8 @@ use Rattle.std.specs.List.{IsDistinct}
 use Rattle.std.specs.Str.{bytes_eq}
 use Rattle.std.proofs.lemmas.Bool.{false≢true}
 use Rattle.std.proofs.lemmas.List.Elements.{Contains-append_right}
-use Rattle.table_history.proofs.RowListLemmas.{Contains-cases, Contains-head, Contains-none, Contains-tail, all_at, bytes_itself}
+use Rattle.table_history.proofs.RowListLemmas.{Contains-cases, Contains-head, Contains-none, Contains-tail, all_at}
+use Rattle.lake_basics.proofs.Texts.{behind_distinct, bytes_itself}
 
 pub in_map : {X Y : Type 0} (f : X → Y) (xs : List X) (y : Y) → Contains (map f xs) y → (x : X) × Contains xs x × (f x ≡ y)
 in_map f [] y there = absurd (Contains-none y there)
@@ -31,10 +32,6 @@ all_kept p (x ∷ xs) all = ap (λ b. cond b (x ∷ filter p xs) (filter p xs)) 
 pub first_apart : (p q : List ℕ) (ys : List (List ℕ)) → IsDistinct bytes_eq (p ∷ ys) → Contains ys q → p ≡ q → ⊥
 unfolding IsDistinct
 first_apart p q ys distinct there e = false≢true (sym (all_at (λ y. bytes_eq p y ≡ false) ys q distinct.0 there) ∙ subst (λ r. bytes_eq p r ≡ true) e (bytes_itself p))
-
-pub behind_distinct : (p : List ℕ) (ys : List (List ℕ)) → IsDistinct bytes_eq (p ∷ ys) → IsDistinct bytes_eq ys
-unfolding IsDistinct
-behind_distinct p ys distinct = distinct.1
 
 pub last_distinct : (xs ys : List (List ℕ)) → IsDistinct bytes_eq (xs ++ ys) → IsDistinct bytes_eq ys
 last_distinct [] ys distinct = distinct

@@ -32,14 +32,12 @@ use Rattle.source_hudi.specs.Heads.{IsAbsent, IsHudiHead, IsTableAtHead}
 use Rattle.source_hudi.specs.Histories.{IsMadeBy}
 use Rattle.source_hudi.specs.Instants.{reached_in}
 use Rattle.source_hudi.specs.LikeLemmas.{first_same, like_same, step_same}
+use Rattle.lake_basics.proofs.Options.{ok_once}
 
 pub head_there : (files : Files) (head : Head) → IsHudiHead files head → IsAbsent files → ⊥
 head_there files head is absent = absent head.position is.position.0
 
 -- ---- what the files say
-
-ok_once : {A E : Type 0} (r : Result A E) (a b : A) → r ≡ Ok a → r ≡ Ok b → a ≡ b
-ok_once r a b x y = cc (sym x ∙ y)
 
 some_once : (a b : List ℕ) (o : Option (List ℕ)) → o ≡ Some a → o ≡ Some b → a ≡ b
 some_once a b o x y = cc (sym x ∙ y)

@@ -8,6 +8,8 @@ use Rattle.std.proofs.lemmas.List.Elements.{filter-append}
 use Rattle.std.proofs.lemmas.List.Folds.{list_any-append}
 use Rattle.std.proofs.lemmas.Slice.Eq.{bytes_eq-Decides}
 use Rattle.lake_basics.specs.declared.limits.TheConstants.{MAX_ACTIONS}
+use Rattle.lake_basics.proofs.Truth.{or_nothing}
+use Rattle.lake_basics.proofs.Texts.{key_more, same_any}
 use Rattle.iceberg_table.specs.declared.manifest.Manifest.{Manifest}
 use Rattle.source_core.proofs.Answers.{weaker}
 use Rattle.source_core.specs.Answers.{IsReadRefusal}
@@ -68,26 +70,6 @@ count_one xs r b is =
     ∙ ap (λ (n : ℕ). entries_once xs + n) (own_count r b)
 
 -- ---- what is counted
-
-or_nothing : (b : Bool) → (b || false) ≡ b
-or_nothing true = refl
-or_nothing false = refl
-
--- of a path that was there
-same_any : (keys : List (List ℕ)) (path given : List ℕ) (b : Bool) → bytes_eq path given ≡ b → list_any (bytes_eq given) keys ≡ true → list_any (bytes_eq path) keys ≡ (list_any (bytes_eq path) keys || b)
-same_any keys path given true is there =
-    let here : list_any (bytes_eq path) keys ≡ true = ap (λ (p : List ℕ). list_any (bytes_eq p) keys) ((bytes_eq-Decides path given).0 is) ∙ there in
-    here ∙ sym (ap (λ (b : Bool). b || true) here)
-same_any keys path given false is there = sym (or_nothing (list_any (bytes_eq path) keys))
-
-key_more : (keys : List (List ℕ)) (path given : List ℕ) (b : Bool) → list_any (bytes_eq given) keys ≡ b → list_any (bytes_eq path) (cond b keys (keys ++ given ∷ [])) ≡ (list_any (bytes_eq path) keys || bytes_eq path given)
-key_more keys path given true there = same_any keys path given (bytes_eq path given) refl there
-key_more keys path given false there = list_any-append (bytes_eq path) keys (given ∷ []) ∙ ap (λ (b : Bool). list_any (bytes_eq path) keys || b) (or_nothing (bytes_eq path given))
-
--- a path that is new comes last
-pub key_put : (keys after : List (List ℕ)) (path value : List ℕ) → value ≡ path → list_any (bytes_eq path) keys ≡ false → after ≡ cond (list_any (bytes_eq value) keys) keys (keys ++ value ∷ []) → after ≡ keys ++ path ∷ []
-key_put keys after path value same new is =
-    is ∙ ap (λ (v : List ℕ). cond (list_any (bytes_eq v) keys) keys (keys ++ v ∷ [])) same ∙ ap (λ (b : Bool). cond b keys (keys ++ path ∷ [])) new
 
 read_more : (read : List Manifest) (r : Manifest) (path : List ℕ) → list_any (has_path path) (read ++ r ∷ []) ≡ (list_any (has_path path) read || bytes_eq path r.file.path)
 read_more read r path = list_any-append (has_path path) read (r ∷ []) ∙ ap (λ (b : Bool). list_any (has_path path) read || b) (or_nothing (bytes_eq path r.file.path))

@@ -27,11 +27,9 @@ use Rattle.source_iceberg.specs.ListLemmas.{in_positions, same_behind}
 use Rattle.source_iceberg.specs.HeadLemmas.{one_current, stated_once}
 use Rattle.source_iceberg.specs.Since.{AreCommits, IsReached, IsSince, Reaches}
 use Rattle.source_iceberg.specs.SinceLemmas.{ancestors_once, last_ancestor}
+use Rattle.lake_basics.proofs.Options.{ok_once}
 
 -- ---- a snapshot has one table
-
-ok_once : {A E : Type 0} (r : Result A E) (x y : A) → r ≡ Ok x → r ≡ Ok y → x ≡ y
-ok_once r x y p q = cc (sym p ∙ q)
 
 schema_same : (files : Files) (m : Metadata) (s : Snapshot) (a b : Table) (x : IsTableOfSnapshot files m s a) (y : IsTableOfSnapshot files m s b) → x.plan.schema ≡ y.plan.schema
 schema_same files m s a b x y =

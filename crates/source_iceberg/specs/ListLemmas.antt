@@ -5,7 +5,8 @@ use Rattle.std.specs.Str.{bytes_eq}
 use Rattle.std.proofs.lemmas.Bool.{false≢true}
 use Rattle.table_history.specs.History.{History, positions_of}
 use Rattle.table_history.specs.declared.table.Table.{Table}
-use Rattle.table_history.proofs.RowListLemmas.{Contains-head, Contains-tail, all_at, bytes_itself}
+use Rattle.table_history.proofs.RowListLemmas.{Contains-head, Contains-tail, all_at}
+use Rattle.lake_basics.proofs.Texts.{behind_distinct, bytes_itself}
 
 -- ---- the last item
 
@@ -30,10 +31,6 @@ same_end xs x ys zs z e = sym (end_append x xs x ys) ∙ ap (end_of x) e ∙ end
 first_apart : (p q : List ℕ) (ys : List (List ℕ)) → IsDistinct bytes_eq (p ∷ ys) → Contains ys q → p ≡ q → ⊥
 unfolding IsDistinct
 first_apart p q ys distinct there e = false≢true (sym (all_at (λ y. bytes_eq p y ≡ false) ys q distinct.0 there) ∙ subst (λ r. bytes_eq p r ≡ true) e (bytes_itself p))
-
-behind_distinct : (p : List ℕ) (ys : List (List ℕ)) → IsDistinct bytes_eq (p ∷ ys) → IsDistinct bytes_eq ys
-unfolding IsDistinct
-behind_distinct p ys distinct = distinct.1
 
 pub in_positions : (xs : History) (e : List ℕ × Table) (ps : History) → Contains (positions_of (xs ++ e ∷ ps)) e.0
 in_positions [] e ps = Contains-head e.0 (positions_of ps)

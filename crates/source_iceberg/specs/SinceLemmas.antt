@@ -16,19 +16,14 @@ use Rattle.source_iceberg.specs.Heads.{IsCurrent, IsIcebergHead}
 use Rattle.source_iceberg.specs.ListLemmas.{end_in, end_of, same_end}
 use Rattle.source_iceberg.specs.HeadLemmas.{metadata_once}
 use Rattle.source_iceberg.specs.Since.{AreCommits, IsReached, IsSince}
+use Rattle.lake_basics.proofs.Options.{none_or_some, some_once}
 
 -- ---- the ancestors
 
-none_some : {A : Type 0} (o : Option A) (a : A) → o ≡ None → o ≡ Some a → ⊥
-none_some o a none some = cc (sym none ∙ some)
-
-pub some_once : {A : Type 0} (o : Option A) (a b : A) → o ≡ Some a → o ≡ Some b → a ≡ b
-some_once o a b p q = cc (sym p ∙ q)
-
 chain_once : (xs : List Snapshot) (start : Option ℤ) (ps bs : List Snapshot) (p q : Option ℤ) → LeadsTo xs start ps p → held_at xs p ≡ None → LeadsTo xs start bs q → held_at xs q ≡ None → ps ≡ bs
 chain_once xs start [] [] p q a a_ends b b_ends = refl
-chain_once xs start [] (t ∷ bs) p q a a_ends b b_ends = absurd (none_some (held_at xs start) t (ap (held_at xs) a ∙ a_ends) b.0)
-chain_once xs start (s ∷ ps) [] p q a a_ends b b_ends = absurd (none_some (held_at xs start) s (ap (held_at xs) b ∙ b_ends) a.0)
+chain_once xs start [] (t ∷ bs) p q a a_ends b b_ends = absurd (none_or_some (held_at xs start) t (ap (held_at xs) a ∙ a_ends) b.0)
+chain_once xs start (s ∷ ps) [] p q a a_ends b b_ends = absurd (none_or_some (held_at xs start) s (ap (held_at xs) b ∙ b_ends) a.0)
 chain_once xs start (s ∷ ps) (t ∷ bs) p q a a_ends b b_ends =
     let same = some_once (held_at xs start) s t a.0 b.0 in
     let rest = chain_once xs s.parent ps bs p q a.1 a_ends (subst (λ (u : Snapshot). LeadsTo xs u.parent bs q) (sym same) b.1) b_ends in
@@ -40,7 +35,7 @@ ancestors_once m ps bs a b = chain_once m.snapshots m.current_snapshot ps bs a.s
 
 -- The current snapshot is the first of them.
 pub first_ancestor : (m : Metadata) (s : Snapshot) (ancestors : List Snapshot) → held_at m.snapshots m.current_snapshot ≡ Some s → IsAncestry m ancestors → (rest : List Snapshot) × (ancestors ≡ s ∷ rest)
-first_ancestor m s [] held are = absurd (none_some (held_at m.snapshots m.current_snapshot) s (ap (held_at m.snapshots) are.chain ∙ are.ends) held)
+first_ancestor m s [] held are = absurd (none_or_some (held_at m.snapshots m.current_snapshot) s (ap (held_at m.snapshots) are.chain ∙ are.ends) held)
 first_ancestor m s (a ∷ rest) held are = (rest, ap (λ (u : Snapshot). u ∷ rest) (some_once (held_at m.snapshots m.current_snapshot) a s are.chain.0 held))
 
 -- and so the last of them where the oldest comes first

@@ -6,10 +6,7 @@ use Rattle.std.proofs.lemmas.Bool.{false≢true, or_parts}
 use Rattle.std.proofs.lemmas.Cmp.{nat_list_eq_equiv}
 use Rattle.table_history.specs.TypeTree.{ColumnTrees, no_columns, column}
 use Rattle.table_history.specs.Sound.{is_named, have_own_names, names_of}
-
-both : (b c : Bool) → (not b && c) ≡ true → (b ≡ false) × (c ≡ true)
-both false c h = (refl, h)
-both true c h = absurd (false≢true h)
+use Rattle.lake_basics.proofs.Truth.{false_and_true}
 
 unnamed : (name : List ℕ) (cs : ColumnTrees) → is_named name cs ≡ false → AllByRecursion (λ n. bytes_eq name n ≡ false) (names_of cs)
 unnamed name no_columns h = tt
@@ -23,7 +20,7 @@ other_names name (column n t b cs) h = rw (nat_list_eq_equiv.symm n name ∙ h.0
 distinct_names : (cs : ColumnTrees) → have_own_names cs ≡ true → IsDistinct bytes_eq (names_of cs)
 unfolding IsDistinct
 distinct_names no_columns h = tt
-distinct_names (column n t b cs) h = let parts = both _ _ h in (unnamed n cs parts.0, distinct_names cs parts.1)
+distinct_names (column n t b cs) h = let parts = false_and_true _ _ h in (unnamed n cs parts.0, distinct_names cs parts.1)
 
 own_names : (cs : ColumnTrees) → IsDistinct bytes_eq (names_of cs) → have_own_names cs ≡ true
 unfolding IsDistinct

@@ -21,6 +21,8 @@ use Rattle.std.proofs.lemmas.Slice.Eq.{bytes_eq-Decides}
 use Rattle.table_history.specs.declared.row.FileRow.{FileRow}
 use Rattle.table_history.specs.Rows.{row_at, HasPath, HasDistinctPaths, IsInPathOrder, paths_of}
 use Rattle.table_history.proofs.RowLemmas.{row_eq, row_eq-Decides}
+use Rattle.lake_basics.proofs.Texts.{bytes_itself}
+use Rattle.lake_basics.proofs.Truth.{rising}
 
 -- ---- `Contains` at the head
 pub Contains-head : {X : Type 0} (x : X) (xs : List X) → Contains (x ∷ xs) x
@@ -41,8 +43,6 @@ Contains-cases x xs y h =
     elim (Contains-append_cases (x ∷ []) xs y h) as (λ _. (x ≡ y) ⊎ Contains xs y) [ inl a ↦ inl (Contains-one x y a) | inr b ↦ inr b ]
 
 -- ---- the row of a path
-pub bytes_itself : (bs : List ℕ) → bytes_eq bs bs ≡ true
-bytes_itself bs = (bytes_eq-Decides bs bs).1 refl
 
 -- what is found is a row of that path
 pub row_at-found : (rows : List FileRow) (path : List ℕ) (row : FileRow) → row_at rows path ≡ Some row → Contains rows row × (row.path ≡ path)
@@ -215,10 +215,6 @@ Contains-lacking xs other row = (
 )
 
 -- ---- in byte order of paths
-rising : (o : Ordering) → is_lt (ordering_reverse o) ≡ false → is_eq o ≡ false → o ≡ Less
-rising Less h e = refl
-rising Equal h e = absurd (false≢true (sym e))
-rising Greater h e = absurd (false≢true (sym h))
 
 nobody : FileRow
 nobody = record { path = []; values = []; count = 0; size = 0 }

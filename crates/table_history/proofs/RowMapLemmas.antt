@@ -13,19 +13,18 @@ use Rattle.std.proofs.lemmas.Slice.Eq.{bytes_eq-Decides}
 use Rattle.table_history.specs.declared.row.FileRow.{FileRow}
 use Rattle.table_history.specs.Rows.{row_at, HasDistinctPaths, paths_of}
 use Rattle.table_history.specs.RowMap.{Key, Entry, key_eq, row_of, IsRowMap}
-use Rattle.table_history.proofs.RowListLemmas.{bytes_itself, row_at-found, arrival_step, absent_before}
+use Rattle.table_history.proofs.RowListLemmas.{row_at-found, arrival_step, absent_before}
 use Rattle.std.specs.Option.{option_or}
+use Rattle.lake_basics.proofs.Texts.{apart_from_same, bytes_itself}
 
 key_laws : IsEquivalence key_eq
 key_laws = on_equiv (λ k. k.items) nat_list_eq_equiv
 
 -- ---- a change at one key
-apart : (bs cs ks : List ℕ) → bytes_eq bs cs ≡ false → bytes_eq bs ks ≡ true → bytes_eq cs ks ≡ false
-apart bs cs ks n y = nat_list_eq_equiv.symm cs ks ∙ sym (nat_list_eq_equiv.congr bs ks cs y) ∙ n
 
 others : (bs : List ℕ) (old new : List Entry) → KeepsOthers key_eq (λ k. bytes_eq bs k.items) old new → (cs : List ℕ) → bytes_eq bs cs ≡ false → row_of new cs ≡ row_of old cs
 unfolding KeepsOthers
-others bs old new h cs n = h (λ k. bytes_eq cs k.items) (λ x y. nat_list_eq_equiv.congr cs x.items y.items) (λ k. apart bs cs k.items n)
+others bs old new h cs n = h (λ k. bytes_eq cs k.items) (λ x y. nat_list_eq_equiv.congr cs x.items y.items) (λ k. apart_from_same bs cs k.items n)
 
 pub row_of-update : (bs : List ℕ) (old new : List Entry) (w : Option FileRow) → row_of new bs ≡ w → KeepsOthers key_eq (λ k. bytes_eq bs k.items) old new
     → (cs : List ℕ) → row_of new cs ≡ cond (bytes_eq bs cs) w (row_of old cs)

@@ -14,9 +14,7 @@ use Rattle.table_history.specs.declared.row.FileRow.{FileRow}
 use Rattle.table_history.specs.Rows.{row_at, paths_of, HasPath, HasDistinctPaths, IsInByteOrder, IsInPathOrder}
 use Rattle.table_history.specs.Tables.{IsRowAfter, IsDiff}
 use Rattle.table_history.proofs.RowListLemmas.{row_at-found, row_at-itself, is_in, is_in-Decides, Contains-none, Contains-cases, Contains-head, Contains-tail, Contains-paths}
-
-is_path : (path : List ℕ) (paths : List (List ℕ)) → list_any (bytes_eq path) paths ≡ true → Contains paths path
-is_path path paths h = Contains-from_any {eq = bytes_eq} (λ x y. (bytes_eq-Decides x y).0) path paths h
+use Rattle.lake_basics.proofs.Texts.{contains_from_any}
 
 -- ---- the rows after a change
 module _ (old new added : List FileRow) (removed : List (List ℕ))
@@ -36,7 +34,7 @@ module _ (old new added : List FileRow) (removed : List (List ℕ))
   kept row there stays None e =
       lookups row.path ∙ ap (λ a. option_or a (cond (list_any (bytes_eq row.path) removed) None (row_at old row.path))) e
       ∙ ⊎_elim
-      (λ t. absurd (stays (is_path row.path removed t)))
+      (λ t. absurd (stays (contains_from_any row.path removed t)))
       (λ f. ap (λ b. cond b None (row_at old row.path)) f ∙ row_at-itself old row old_distinct there)
       (cases_Bool (list_any (bytes_eq row.path) removed))
 

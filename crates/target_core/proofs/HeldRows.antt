@@ -4,6 +4,8 @@ use Rattle.std.specs.List.{list_all}
 use Rattle.std.proofs.lemmas.Bool.{and_from, false≢true}
 use Rattle.std.proofs.lemmas.Bool.Decides.{nat_tests}
 use Rattle.lake_basics.specs.declared.limits.TheConstants.{MAX_LIVE_FILES}
+use Rattle.lake_basics.proofs.Truth.{left_true, right_true}
+use Rattle.lake_basics.proofs.Numbers.{le_by, le_test}
 use Rattle.table_history.specs.Path.{IsPath, is_path}
 use Rattle.table_history.specs.Row.{Row}
 use Rattle.table_history.proofs.PathTests.{path_decided}
@@ -11,20 +13,6 @@ use Rattle.table_history.proofs.RowListLemmas.{Contains-none, Contains-head, Con
 use Rattle.target_core.specs.Conditions.{IsPublishable}
 use Rattle.table_history.specs.declared.table.Table.{Table}
 use Rattle.target_core.specs.Held.{are_held}
-
-left_true : (a b : Bool) → (a && b) ≡ true → a ≡ true
-left_true true b h = refl
-left_true false b h = h
-
-right_true : (a b : Bool) → (a && b) ≡ true → b ≡ true
-right_true true b h = h
-right_true false b h = absurd (false≢true h)
-
-le_test : (n m : ℕ) → n ≤ m → nat_le n m ≡ true
-le_test n m is = grind (arith, nat_tests)
-
-le_by : (n m : ℕ) → nat_le n m ≡ true → n ≤ m
-le_by n m is = grind (arith, nat_tests)
 
 all_paths : (rows : List Row) → ((row : Row) → Contains rows row → IsPath row.path) → list_all (λ row. is_path row.path) rows ≡ true
 all_paths [] are = refl

@@ -7,13 +7,10 @@ use Rattle.lake_store.proofs.OrderLaws.{names_in_listed, names_in_sorted}
 use Rattle.table_history.specs.Rows.{IsInByteOrder}
 use Rattle.table_history.proofs.Laws.{in_order_same}
 use Rattle.target_core.specs.Folders.{SameIn}
-
-mapped : (xs : List (List ℕ)) → map (λ (x : List ℕ). x) xs ≡ xs
-mapped [] = refl
-mapped (x ∷ xs) = ap (λ (ys : List (List ℕ)). x ∷ ys) (mapped xs)
+use Rattle.lake_basics.proofs.Lists.{mapped_itself}
 
 one_order : (xs ys : List (List ℕ)) → IsInByteOrder xs → IsInByteOrder ys → ((x : List ℕ) → Contains xs x → Contains ys x) → ((x : List ℕ) → Contains ys x → Contains xs x) → xs ≡ ys
-one_order xs ys sorted too there back = in_order_same (λ (x : List ℕ). x) xs ys (subst IsInByteOrder (sym (mapped xs)) sorted) (subst IsInByteOrder (sym (mapped ys)) too) (λ x. (there x, back x))
+one_order xs ys sorted too there back = in_order_same (λ (x : List ℕ). x) xs ys (subst IsInByteOrder (sym (mapped_itself xs)) sorted) (subst IsInByteOrder (sym (mapped_itself ys)) too) (λ x. (there x, back x))
 
 pub same_back : (folder : List ℕ) (a b : Files) → SameIn folder a b → SameIn folder b a
 same_back folder a b same path within = sym (same path within)

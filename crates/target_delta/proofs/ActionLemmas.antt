@@ -3,7 +3,7 @@ use Rattle.std.proofs.Common.{◌≡◌, ⊎_elim, ℕ, ◌+◌, ◌<◌, ◌≤
 use Rattle.std.specs.Prelude.{◌↔◌, IfOk, is_some, Result, Ok, Err}
 use Rattle.std.proofs.Math.Seq.{take-length}
 use Rattle.std.proofs.lemmas.List.Elements.{All-cons, All-nil}
-use Rattle.std.proofs.lemmas.Bool.{cases_Bool, false≢true}
+use Rattle.std.proofs.lemmas.Bool.{cases_Bool, false≢true, not-true}
 use Rattle.std.proofs.lemmas.Map.Keys.{IsDistinct-cons, IsDistinct-head, IsDistinct-tail}
 use Rattle.std.proofs.lemmas.Slice.Eq.{bytes_eq-Decides}
 use Rattle.table_history.proofs.RowListLemmas.{Contains-cases, Contains-filter, Contains-head, Contains-none, Contains-paths, Contains-tail, filter_contains}
@@ -20,7 +20,7 @@ use Rattle.delta_log.specs.Sound.{IsSoundFile}
 use Rattle.delta_log.specs.declared.commit.FileAction.TheVariants as file
 use Rattle.delta_log.specs.declared.commit.FileAction.{FileAction}
 use Rattle.target_delta.specs.Writing.{AreActions, AreAddsAt, CanAdd, IsAddOf, LeavesAdded, LosesRemoved}
-use Rattle.target_delta.proofs.TextLemmas.{last_of}
+use Rattle.lake_basics.proofs.Lists.{last_of}
 
 -- no row has the path
 abbrev pub is_lost : List Row → List ℕ → Bool
@@ -50,12 +50,8 @@ none_has (r ∷ rows) path none h =
           (Contains-cases r rows h.0 h.1)
     ] refl none
 
-turned : (b : Bool) → not b ≡ true → b ≡ false
-turned true is = absurd (false≢true is)
-turned false is = refl
-
 pub lost_none : (rows : List Row) (path : List ℕ) → is_lost rows path ≡ true → HasPath rows path → ⊥
-lost_none rows path is = none_has rows path (turned (is_some (row_at rows path)) is)
+lost_none rows path is = none_has rows path (not-true (is_some (row_at rows path)) is)
 
 pub none_lost : (rows : List Row) (path : List ℕ) → (HasPath rows path → ⊥) → is_lost rows path ≡ true
 none_lost rows path none = ⊎_elim (λ some. absurd (none (has_row rows path some))) (λ is. ap not is) (cases_Bool (is_some (row_at rows path)))
@@ -65,27 +61,6 @@ lost_are rows removed path = (
   λ h. let both = Contains-filter (is_lost rows) removed path h in (both.0, lost_none rows path both.1),
   λ h. filter_contains (is_lost rows) removed path h.0 (none_lost rows path h.1),
 )
-
-filter_apart : (p : List ℕ → Bool) (x : List ℕ) (xs : List (List ℕ)) → AllByRecursion (λ y. bytes_eq x y ≡ false) xs → AllByRecursion (λ y. bytes_eq x y ≡ false) (filter p xs)
-filter_apart p x [] all = tt
-filter_apart p x (y ∷ xs) all =
-    elim (p y) as (λ b. AllByRecursion (λ z. bytes_eq x z ≡ false) (cond b (y ∷ filter p xs) (filter p xs))) [
-      | true ↦ (all.0, filter_apart p x xs all.1)
-      | false ↦ filter_apart p x xs all.1
-    ]
-
-pub distinct_filter : (p : List ℕ → Bool) (xs : List (List ℕ)) → IsDistinct bytes_eq xs → IsDistinct bytes_eq (filter p xs)
-distinct_filter p [] distinct = distinct
-distinct_filter p (x ∷ xs) distinct =
-    let rest = distinct_filter p xs (IsDistinct-tail bytes_eq x xs distinct) in
-    elim (p x) as (λ b. IsDistinct bytes_eq (cond b (x ∷ filter p xs) (filter p xs))) [
-      | true ↦ IsDistinct-cons bytes_eq x (filter p xs) (filter_apart p x xs (IsDistinct-head bytes_eq x xs distinct)) rest
-      | false ↦ rest
-    ]
-
--- a loop that has come to its end has gone through all
-pub all_taken : {X : Type 0} (xs : List X) (i : ℕ) → i ≤ length xs → length xs ≤ i → take i xs ≡ xs
-all_taken xs i le ge = let end : i ≡ length xs = omega (arith, le, ge) in ap (λ n. take n xs) end ∙ take-length xs
 
 pub lost_by : {V E : Type 0} (rows : List Row) (removed lost : List (List ℕ)) → lost ≡ filter (is_lost rows) removed → (items : V → List (List ℕ)) (r : Result V E)
     → IfOk r (λ v. (path : List ℕ) → Contains (items v) path ↔ Contains lost path) → IfOk r (λ v. (path : List ℕ) → Contains (items v) path ↔ (Contains removed path × (HasPath rows path → ⊥)))

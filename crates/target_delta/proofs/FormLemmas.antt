@@ -6,7 +6,7 @@ use Rattle.table_history.specs.Row.{Row}
 use Rattle.table_history.specs.declared.table.Commit.{Commit}
 use Rattle.table_history.proofs.RowListLemmas.{Contains-none, Contains-cases}
 use Rattle.target_delta.specs.Fitting.{HasValueForm, IsFirstValueForm, added_rows}
-use Rattle.target_delta.proofs.TextLemmas.{last_of, next_of}
+use Rattle.lake_basics.proofs.Lists.{last_of, next_of}
 
 -- ---- one more that isn't so
 

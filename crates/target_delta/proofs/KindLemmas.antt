@@ -16,6 +16,7 @@ use Rattle.partition_map.specs.Columns.{HasOtherKind, column_kind}
 use Rattle.partition_map.specs.declared.kind.PartKind.{PartKind}
 use Rattle.target_delta.specs.Fitting.{ChangesKinds, EndsWith, kinds_of}
 use Rattle.target_delta.specs.Writing.{LogEnd, end_behind, schema_behind}
+use Rattle.lake_basics.proofs.Options.{option_decides}
 
 -- ---- a column of another kind
 
@@ -89,12 +90,6 @@ module _ (names : List (List ℕ)) (kinds : List (Option PartKind)) (has : Bool)
     step_found published apart = s.back (inl (s.ends.commit.0 published, (schema, stated, λ same. apart (sym s.ends.kinds_are ∙ same ∙ here_kinds))))
 
 -- ---- equal kinds
-
-option_decides : {A : Type 0} {E : A → A → Bool} → ((a b : A) → Decides (E a b) (a ≡ b)) → (a b : Option A) → Decides (option_eq E a b) (a ≡ b)
-option_decides each None None = (λ _. refl, λ _. refl)
-option_decides each None (Some y) = (λ is. absurd (false≢true is), λ same. absurd (cc))
-option_decides each (Some x) None = (λ is. absurd (false≢true is), λ same. absurd (cc))
-option_decides each (Some x) (Some y) = (λ is. ap (λ z. Some z) ((each x y).0 is), λ same. (each x y).1 (cc))
 
 kind_decides : (a b : PartKind) → Decides (eq-value.it a b) (a ≡ b)
 kind_decides a b = (λ is. same_true the_type (search rules) a b is, λ same. ⊎_elim (λ is. is) (λ is. absurd (same_false the_type a b is same)) (cases_Bool (eq-value.it a b)))

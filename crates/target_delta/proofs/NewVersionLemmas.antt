@@ -4,6 +4,7 @@ use Rattle.std.specs.Prelude.{◌<◌, Err, IfOk, Ok, OnErr, OnOk, Result}
 use Rattle.std.proofs.lemmas.List.{append-nil}
 use Rattle.serde_json.specs.Written.{compact_text}
 use Rattle.lake_basics.specs.declared.limits.TheConstants.{MAX_DELTA_VERSION, MAX_FILE_BYTES, MAX_LIVE_FILES}
+use Rattle.lake_basics.proofs.Texts.{fewer}
 use Rattle.table_history.specs.History.{FitColumns}
 use Rattle.table_history.specs.Path.{IsPath}
 use Rattle.table_history.specs.Row.{Row}
@@ -39,7 +40,6 @@ use Rattle.target_delta.specs.declared.kept.DeltaKept.{DeltaKept}
 use Rattle.target_delta.specs.FitLemmas.{fits_rows}
 use Rattle.target_core.proofs.HeldRows.{held_few, held_of, held_paths}
 use Rattle.target_delta.specs.KeptLemmas.{ends_by}
-use Rattle.target_delta.proofs.WritableLemmas.{fewer}
 
 -- ---- the text of what is written
 

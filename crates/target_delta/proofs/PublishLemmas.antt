@@ -4,6 +4,7 @@ use Rattle.std.specs.Prelude.{IsSome}
 use Rattle.std.proofs.lemmas.Bool.{cases_lt}
 use Rattle.std.specs.FinMap as map
 use Rattle.lake_basics.specs.declared.limits.TheConstants.{MAX_DELTA_VERSION}
+use Rattle.lake_basics.proofs.Options.{none_there}
 use Rattle.lake_store.specs.Disk.{Disk, Files}
 use Rattle.lake_store.specs.Publication.{IsStaged, IsStagedImage}
 use Rattle.lake_store.proofs.DiskLaws.{path_cases}
@@ -19,7 +20,7 @@ use Rattle.target_delta.specs.Reading.{IsCarried, IsMarkAt, IsOurs, Reads}
 use Rattle.target_delta.specs.NameLemmas.{name_in, never_leftover, same_behind, version_of_path}
 use Rattle.delta_table.specs.SameVersions.{SameVersions}
 use Rattle.target_delta.specs.LogLemmas.{id_below, log_below}
-use Rattle.target_delta.specs.ReadingLemmas.{dirty_or_clean, none_there, reads_too, version_clean}
+use Rattle.target_delta.specs.ReadingLemmas.{dirty_or_clean, reads_too, version_clean}
 
 -- Every version but the one that is published is as before, and so is each name but leftovers and that version's.
 pub record IsBeside (name : List ℕ) (old new : Files) : Type 0 where

@@ -4,6 +4,7 @@ use Rattle.std.specs.Prelude.{Err, IsErrOf, IsSome, Ok, Result, is_ok}
 use Rattle.std.specs.FinMap as map
 use Rattle.std.proofs.lemmas.Bool.{false≢true}
 use Rattle.lake_basics.specs.declared.limits.TheConstants.{MAX_DELTA_VERSION, MAX_FILE_BYTES}
+use Rattle.lake_basics.proofs.Options.{none_there}
 use Rattle.lake_store.specs.Cause.{HasContest, HasFault}
 use Rattle.lake_store.specs.Disk.{Disk, Files, IsClean, MayLeave}
 use Rattle.lake_store.specs.Publication.{IsAbsentOrWhole, IsPublished, IsStaged, IsStagedImage}
@@ -46,7 +47,7 @@ use Rattle.target_delta.specs.KeptLemmas.{versions_of_reads}
 use Rattle.delta_table.specs.SameVersions.{version_in, versions_sym}
 use Rattle.target_delta.specs.NameLemmas.{leftover_in, never_leftover, one_staged, staged_leftover}
 use Rattle.target_delta.proofs.PublishLemmas.{IsBeside, image_beside, same_versions, staged_beside, versions_now}
-use Rattle.target_delta.specs.ReadingLemmas.{carried_too, carries_within, crash_carries, crash_reads, crash_settled, dirty_or_clean, none_there, version_clean}
+use Rattle.target_delta.specs.ReadingLemmas.{carried_too, carries_within, crash_carries, crash_reads, crash_settled, dirty_or_clean, version_clean}
 
 -- ---- causes
 

@@ -1,7 +1,7 @@
 -- The first stray name of a folder without a version, by the list of its names.
 use Rattle.std.proofs.Common.{◌≡◌, inl, ⊎_elim, ℕ, ◌==◌, ◌&&◌, Bool, true, false, not, List, [], ◌∷◌, ◌++◌, length, take, drop, find, codes, Contains, Some, None, refl, sym, ap, subst, ◌∙◌, arith, if◌then◌else◌}
 use Rattle.std.proofs.lemmas.List.{length-append, length-drop, length-take, take-append-drop}
-use Rattle.std.proofs.lemmas.Bool.{and_from, false≢true}
+use Rattle.std.proofs.lemmas.Bool.{and_from, false≢true, not-false}
 use Rattle.std.proofs.lemmas.Bool.Decides.{nat_tests}
 use Rattle.std.proofs.lemmas.Cmp.{nat_list_cmp_total}
 use Rattle.std.proofs.lemmas.Slice.Eq.{bytes_eq-Decides}
@@ -32,6 +32,8 @@ use Rattle.target_delta.specs.Names.{IsLeftoverName, leftover_front, path_of}
 use Rattle.target_delta.specs.Reading.{IsAbsent, Reads}
 use Rattle.target_delta.specs.Kept.{view_of}
 use Rattle.target_delta.specs.declared.kept.DeltaKept.{DeltaKept}
+use Rattle.lake_basics.proofs.Truth.{left_true, never_both, not_by, right_true}
+use Rattle.lake_basics.proofs.Texts.{same_digits}
 
 -- ---- the test of a name
 
@@ -41,20 +43,8 @@ same_by n m is = grind (arith, nat_tests)
 same_test : (n m : ℕ) → n ≡ m → (n == m) ≡ true
 same_test n m is = grind (arith, nat_tests)
 
-and_left : (a b : Bool) → (a && b) ≡ true → a ≡ true
-and_left true b h = refl
-and_left false b h = h
-
-and_right : (a b : Bool) → (a && b) ≡ true → b ≡ true
-and_right true b h = h
-and_right false b h = absurd (false≢true h)
-
 own : IsNumeralModel (λ ds. all_ascii_digits ds ≡ true) (digits_value 10)
 own = numerals_by_value _ tells_all_ascii_digits
-
-same_digits : (ds : List ℕ) → list_all is_ascii_digit ds ≡ all_ascii_digits ds
-same_digits [] = refl
-same_digits (c ∷ ds) = ap (λ b. is_ascii_digit c && b) (same_digits ds)
 
 -- a list of two parts, cut at the length of the first
 cut : (a b : List ℕ) → (take (length a) (a ++ b) ≡ a) × (drop (length a) (a ++ b) ≡ b)
@@ -70,12 +60,12 @@ module _ (name : List ℕ) where
 
   pub leftover_by : is_leftover_name name ≡ true → IsLeftoverName name
   leftover_by is =
-      let len : length name ≡ 37 = same_by (length name) 37 (and_left (length name == 37) _ is) in
-      let rest = and_right (length name == 37) (bytes_eq (take 12 name) leftover_front && (list_all is_ascii_digit digits && bytes_eq suffix (codes ".json"))) is in
-      let front : take 12 name ≡ leftover_front = (bytes_eq-Decides (take 12 name) leftover_front).0 (and_left (bytes_eq (take 12 name) leftover_front) _ rest) in
-      let last = and_right (bytes_eq (take 12 name) leftover_front) (list_all is_ascii_digit digits && bytes_eq suffix (codes ".json")) rest in
-      let numeral : AllDigits 10 digits = own.to digits (sym (same_digits digits) ∙ and_left (list_all is_ascii_digit digits) _ last) in
-      let json : suffix ≡ codes ".json" = (bytes_eq-Decides suffix (codes ".json")).0 (and_right (list_all is_ascii_digit digits) (bytes_eq suffix (codes ".json")) last) in
+      let len : length name ≡ 37 = same_by (length name) 37 (left_true (length name == 37) _ is) in
+      let rest = right_true (length name == 37) (bytes_eq (take 12 name) leftover_front && (list_all is_ascii_digit digits && bytes_eq suffix (codes ".json"))) is in
+      let front : take 12 name ≡ leftover_front = (bytes_eq-Decides (take 12 name) leftover_front).0 (left_true (bytes_eq (take 12 name) leftover_front) _ rest) in
+      let last = right_true (bytes_eq (take 12 name) leftover_front) (list_all is_ascii_digit digits && bytes_eq suffix (codes ".json")) rest in
+      let numeral : AllDigits 10 digits = own.to digits (sym (same_digits digits) ∙ left_true (list_all is_ascii_digit digits) _ last) in
+      let json : suffix ≡ codes ".json" = (bytes_eq-Decides suffix (codes ".json")).0 (right_true (list_all is_ascii_digit digits) (bytes_eq suffix (codes ".json")) last) in
       let short : length digits ≡ 20 = simp (length-take, length-drop) (omega (arith, len)) in
       record {
         digits = digits;
@@ -151,18 +141,6 @@ found_none (x ∷ xs) is name there =
 
 -- ---- what a stray name is
 
-not_false : (b : Bool) → not b ≡ false → b ≡ true
-not_false true h = refl
-not_false false h = absurd (false≢true (sym h))
-
-not_true : (b : Bool) → not b ≡ true → b ≡ true → ⊥
-not_true true h e = false≢true h
-not_true false h e = false≢true e
-
-is_not : (b : Bool) → (b ≡ true → ⊥) → not b ≡ true
-is_not true h = absurd (h refl)
-is_not false h = refl
-
 -- ---- the folder
 
 module _ (files : Files) (names : List (List ℕ)) (lists : ListsFolder files log_folder names) (none : (w : ℕ) → ¬ IsNamed names w) where
@@ -172,7 +150,7 @@ module _ (files : Files) (names : List (List ℕ)) (lists : ListsFolder files lo
   pub absent_here : find is_stray_name names ≡ None → IsAbsent files
   absent_here is = record {
     versions = no_version;
-    names = λ name proper there. leftover_by name (not_false (is_leftover_name name) (found_none names is name ((lists.members name).1 (proper, there))));
+    names = λ name proper there. leftover_by name (not-false (is_leftover_name name) (found_none names is name ((lists.members name).1 (proper, there))));
   }
 
   pub stray_here : (name : List ℕ) → find is_stray_name names ≡ Some name → IsFirstStray files (path_of name)
@@ -183,8 +161,8 @@ module _ (files : Files) (names : List (List ℕ)) (lists : ListsFolder files lo
         versions = no_version;
         name = name;
         is = refl;
-        stray = record { proper = there.0; there = there.1; other = λ leftover. not_true (is_leftover_name name) found.stray (leftover_test name leftover) };
-        first = λ other stray less. found.first other ((lists.members other).1 (stray.proper, stray.there)) (is_not (is_leftover_name other) (λ test. stray.other (leftover_by other test))) less;
+        stray = record { proper = there.0; there = there.1; other = λ leftover. never_both (is_leftover_name name) found.stray (leftover_test name leftover) };
+        first = λ other stray less. found.first other ((lists.members other).1 (stray.proper, stray.there)) (not_by (is_leftover_name other) (λ test. stray.other (leftover_by other test))) less;
       }
 
   -- what is told of a folder without a version

@@ -7,6 +7,7 @@ use Rattle.table_history.specs.declared.row.PartValue.{PartValue}
 use Rattle.partition_map.specs.DeltaText.{IsDeltaText}
 use Rattle.delta_log.specs.Sound.{HaveDistinctNames}
 use Rattle.target_delta.specs.Writing.{AreTexts}
+use Rattle.lake_basics.proofs.Lists.{last_of}
 
 abbrev Texts : Type 0
 Texts = List (List ℕ × Option (List ℕ))
@@ -19,9 +20,6 @@ texts_push [] (v ∷ values) texts name value p h is stands = absurd h
 texts_push (n ∷ names) [] texts name value p h is stands = absurd h
 texts_push (n ∷ names) (v ∷ values) [] name value p h is stands = absurd h
 texts_push (n ∷ names) (v ∷ values) (q ∷ texts) name value p h is stands = (h.0, h.1, texts_push names values texts name value p h.2 is stands)
-
-pub last_of : {X : Type 0} (xs : List X) (i : ℕ) (x : X) → i < length xs → x ≡ get_or xs i x → take (i + 1) xs ≡ take i xs ++ x ∷ []
-last_of xs i x within at = take_more xs i x within ∙ ap (λ y. take i xs ++ y ∷ []) (sym at)
 
 pub texts_more : (names : List (List ℕ)) (values : List PartValue) (texts : Texts) (i : ℕ) (name : List ℕ) (value : PartValue) (p : List ℕ × Option (List ℕ)) → i < length names → i < length values → name ≡ get_or names i name → value ≡ get_or values i value
     → AreTexts (take i names) (take i values) texts → p.0 ≡ name → IsDeltaText value p.1 → AreTexts (take (i + 1) names) (take (i + 1) values) (texts ++ p ∷ [])
@@ -39,6 +37,3 @@ names_of_texts (n ∷ names) (v ∷ values) (q ∷ texts) h = λ i. h.0 i ∷ na
 
 pub distinct_texts : (names : List (List ℕ)) (values : List PartValue) (texts : Texts) → AreTexts names values texts → IsDistinct bytes_eq names → HaveDistinctNames texts
 distinct_texts names values texts h distinct = subst (IsDistinct bytes_eq) (sym (names_of_texts names values texts h)) distinct
-
-pub next_of : {X : Type 0} (xs : List X) (i : ℕ) (x : X) → i < length xs → x ≡ get_or xs i x → drop i xs ≡ x ∷ drop (i + 1) xs
-next_of xs i x within at = drop_more xs i x within ∙ ap (λ y. y ∷ drop (i + 1) xs) (sym at)

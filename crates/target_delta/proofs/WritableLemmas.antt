@@ -9,6 +9,7 @@ use Rattle.std.proofs.lemmas.List.Elements.{Contains-append_left, Contains-appen
 use Rattle.std.proofs.lemmas.Map.Keys.{IsDistinct-cons, IsDistinct-head, IsDistinct-tail}
 use Rattle.std.proofs.lemmas.Slice.Eq.{bytes_eq-Decides}
 use Rattle.lake_basics.specs.declared.limits.TheConstants.{MAX_ACTIONS, MAX_LIVE_FILES}
+use Rattle.lake_basics.proofs.Texts.{fewer}
 use Rattle.table_history.specs.Row.{Row}
 use Rattle.table_history.specs.Rows.{HasPath, paths_of}
 use Rattle.table_history.specs.declared.table.Change.{Change}
@@ -47,21 +48,6 @@ none_at x (y ∷ xs) z all there same =
     (λ (here : y ≡ z). false≢true (sym all.0 ∙ (bytes_eq-Decides x y).1 (same ∙ sym here)))
     (λ later. none_at x xs z all.1 later same)
     (Contains-cases y xs z there)
-
-pub fewer : (xs ys : List (List ℕ)) → IsDistinct bytes_eq xs → ((x : List ℕ) → Contains xs x → Contains ys x) → length xs ≤ length ys
-fewer [] ys distinct among = omega arith
-fewer (x ∷ xs) ys distinct among =
-    let cut = split_at ys x (among x (Contains-head x xs)) in
-    let others : (z : List ℕ) → Contains xs z → Contains (cut.0 ++ cut.1) z = λ z there.
-    ⊎_elim
-    (λ front. Contains-append_left cut.0 cut.1 z front)
-    (λ behind. ⊎_elim
-    (λ (same : x ≡ z). absurd (none_at x xs z (IsDistinct-head bytes_eq x xs distinct) there same))
-    (λ later. Contains-append_right cut.0 cut.1 z later)
-    (Contains-cases x cut.1 z behind))
-    (Contains-append_cases cut.0 (x ∷ cut.1) z (subst (λ (l : List (List ℕ)). Contains l z) cut.2 (among z (Contains-tail x xs z there)))) in
-    let rest = fewer xs (cut.0 ++ cut.1) (IsDistinct-tail bytes_eq x xs distinct) others in
-    omega (arith, rest, length-append cut.0 cut.1, length-append cut.0 (x ∷ cut.1), ap length cut.2)
 
 -- ---- two lists that share none
 

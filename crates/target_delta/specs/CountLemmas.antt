@@ -19,6 +19,9 @@ use Rattle.std.proofs.lemmas.Map.Keys.{IsDistinct-cons}
 use Rattle.std.proofs.lemmas.Map.Steps.{length-le_from_distinct_below, le-length_from_below}
 use Rattle.std.proofs.lemmas.Slice.Eq.{bytes_eq-Decides}
 use Rattle.lake_basics.specs.declared.limits.TheConstants.{MAX_DELTA_VERSION}
+use Rattle.lake_basics.proofs.Truth.{left_true, right_true}
+use Rattle.lake_basics.proofs.Numbers.{le_by, le_test}
+use Rattle.lake_basics.proofs.Options.{some_there}
 use Rattle.lake_store.specs.Disk.{Files, IsName, names_in}
 use Rattle.lake_store.proofs.OrderLaws.{names_in_listed, names_in_sorted}
 use Rattle.delta_log.specs.VersionName.{IsVersionName}
@@ -29,7 +32,7 @@ use Rattle.delta_table.specs.Versions.{HasVersion, log_folder}
 use Rattle.table_history.proofs.RowListLemmas.{Contains-none, Contains-head, Contains-tail, Contains-cases}
 use Rattle.target_delta.specs.Names.{HasVersions, path_of}
 use Rattle.target_delta.specs.NameLemmas.{same_behind}
-use Rattle.target_delta.specs.ReadingLemmas.{reached_there, some_there}
+use Rattle.target_delta.specs.ReadingLemmas.{reached_there}
 use Rattle.target_delta.specs.Reading.{commits_in, is_digit, is_version_name, version_named, versions_in}
 
 -- ---- the test of a name
@@ -40,33 +43,19 @@ digit_test c lt = grind (arith, nat_tests)
 digit_by : (c : ℕ) → is_digit c ≡ true → digit_value c < 10
 digit_by c is = grind (arith, nat_tests)
 
-and_left : (a b : Bool) → (a && b) ≡ true → a ≡ true
-and_left true b h = refl
-and_left false b h = h
-
-and_right : (a b : Bool) → (a && b) ≡ true → b ≡ true
-and_right true b h = h
-and_right false b h = absurd (false≢true h)
-
 digits_test : (ds : List ℕ) → AllDigits 10 ds → list_all is_digit ds ≡ true
 digits_test [] all = refl
 digits_test (c ∷ ds) all = and_from (is_digit c) (list_all is_digit ds) (digit_test c all.0) (digits_test ds all.1)
 
 digits_by : (ds : List ℕ) → list_all is_digit ds ≡ true → AllDigits 10 ds
 digits_by [] is = tt
-digits_by (c ∷ ds) is = (digit_by c (and_left (is_digit c) (list_all is_digit ds) is), digits_by ds (and_right (is_digit c) (list_all is_digit ds) is))
+digits_by (c ∷ ds) is = (digit_by c (left_true (is_digit c) (list_all is_digit ds) is), digits_by ds (right_true (is_digit c) (list_all is_digit ds) is))
 
 same_test : (n m : ℕ) → n ≡ m → (n == m) ≡ true
 same_test n m is = grind (arith, nat_tests)
 
 same_by : (n m : ℕ) → (n == m) ≡ true → n ≡ m
 same_by n m is = grind (arith, nat_tests)
-
-le_test : (n m : ℕ) → n ≤ m → nat_le n m ≡ true
-le_test n m is = grind (arith, nat_tests)
-
-le_by : (n m : ℕ) → nat_le n m ≡ true → n ≤ m
-le_by n m is = grind (arith, nat_tests)
 
 chosen : (b : Bool) (n v : ℕ) → (if b then Some n else None) ≡ Some v → (b ≡ true) × (n ≡ v)
 chosen true n v is = (refl, cc)
@@ -88,12 +77,12 @@ named_version name v h =
 pub version_by_name : (name : List ℕ) (v : ℕ) → version_named name ≡ Some v → IsVersionName name v
 version_by_name name v h =
     let whole = chosen (is_version_name name) (digits_value 10 (take 20 name)) v h in
-    let len : length name ≡ 25 = same_by (length name) 25 (and_left (length name == 25) _ whole.0) in
-    let rest = and_right (length name == 25) (list_all is_digit (take 20 name) && (bytes_eq (drop 20 name) (codes ".json") && nat_le (digits_value 10 (take 20 name)) MAX_DELTA_VERSION)) whole.0 in
-    let numeral : AllDigits 10 (take 20 name) = digits_by (take 20 name) (and_left (list_all is_digit (take 20 name)) _ rest) in
-    let last = and_right (list_all is_digit (take 20 name)) (bytes_eq (drop 20 name) (codes ".json") && nat_le (digits_value 10 (take 20 name)) MAX_DELTA_VERSION) rest in
-    let suffix : drop 20 name ≡ codes ".json" = (bytes_eq-Decides (drop 20 name) (codes ".json")).0 (and_left (bytes_eq (drop 20 name) (codes ".json")) _ last) in
-    let within : digits_value 10 (take 20 name) ≤ MAX_DELTA_VERSION = le_by (digits_value 10 (take 20 name)) MAX_DELTA_VERSION (and_right (bytes_eq (drop 20 name) (codes ".json")) (nat_le (digits_value 10 (take 20 name)) MAX_DELTA_VERSION) last) in
+    let len : length name ≡ 25 = same_by (length name) 25 (left_true (length name == 25) _ whole.0) in
+    let rest = right_true (length name == 25) (list_all is_digit (take 20 name) && (bytes_eq (drop 20 name) (codes ".json") && nat_le (digits_value 10 (take 20 name)) MAX_DELTA_VERSION)) whole.0 in
+    let numeral : AllDigits 10 (take 20 name) = digits_by (take 20 name) (left_true (list_all is_digit (take 20 name)) _ rest) in
+    let last = right_true (list_all is_digit (take 20 name)) (bytes_eq (drop 20 name) (codes ".json") && nat_le (digits_value 10 (take 20 name)) MAX_DELTA_VERSION) rest in
+    let suffix : drop 20 name ≡ codes ".json" = (bytes_eq-Decides (drop 20 name) (codes ".json")).0 (left_true (bytes_eq (drop 20 name) (codes ".json")) _ last) in
+    let within : digits_value 10 (take 20 name) ≤ MAX_DELTA_VERSION = le_by (digits_value 10 (take 20 name)) MAX_DELTA_VERSION (right_true (bytes_eq (drop 20 name) (codes ".json")) (nat_le (digits_value 10 (take 20 name)) MAX_DELTA_VERSION) last) in
     let front : length (take 20 name) ≡ 20 = simp length-take (omega (arith, len)) in
     name_of_parts name (take 20 name) (drop 20 name) v refl refl suffix
     (record { len = front; numeral = (omega (arith, front), numeral); value = sym whole.1 })

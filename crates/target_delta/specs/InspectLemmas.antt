@@ -26,6 +26,7 @@ use Rattle.target_delta.specs.Reading.{IsAbsent, IsMarkAt, IsOurs, Reads}
 use Rattle.target_delta.specs.AlikeLemmas.{feature_too, grammar_too}
 use Rattle.target_delta.specs.LogLemmas.{SameTables, log_front, one_table, tables_sym}
 use Rattle.target_delta.specs.ReadingLemmas.{no_commits, one_count}
+use Rattle.lake_basics.proofs.Texts.{greater_turned}
 
 alike : (c : DeltaCommit) (a b : Option Table) (e : DeltaError) → SameTables a b → IsFault e → IsChangeRefusal c a e → IsChangeRefusal c b e
 alike c a b errors.Memory same fault h = absurd fault
@@ -87,13 +88,10 @@ not_foreign source files path v foreign (inr ours) = (
 
 -- ---- one path
 
-turned : (a b : List ℕ) → slice_cmp nat_cmp a b ≡ Greater → slice_cmp nat_cmp b a ≡ Less
-turned a b is = nat_list_cmp_total.antisymm b a ∙ ap ordering_reverse is
-
 less_or_more : (a b : List ℕ) (o p : Ordering) → slice_cmp nat_cmp a b ≡ o → slice_cmp nat_cmp b a ≡ p → (o ≡ Less → ⊥) → (p ≡ Less → ⊥) → a ≡ b
 less_or_more a b Less p is also not_less not_more = absurd (not_less refl)
 less_or_more a b Equal p is also not_less not_more = same_path a b (ap is_eq is)
-less_or_more a b Greater p is also not_less not_more = absurd (not_more (sym also ∙ turned a b is))
+less_or_more a b Greater p is also not_less not_more = absurd (not_more (sym also ∙ greater_turned a b is))
 
 strays : (files : Files) (p q : List ℕ) → IsFirstStray files p → IsFirstStray files q → p ≡ q
 strays files p q a b =

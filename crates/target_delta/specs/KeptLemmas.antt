@@ -18,14 +18,12 @@ use Rattle.target_delta.specs.declared.kept.DeltaKept.{DeltaKept}
 use Rattle.delta_table.specs.SameVersions.{own_versions, says_too}
 use Rattle.target_delta.specs.LogLemmas.{newest_below}
 use Rattle.target_delta.specs.ReadingLemmas.{one_view, reads_own, no_commits}
+use Rattle.lake_basics.proofs.Options.{some_or_none}
 
 one_meta : (files : Files) (version : ℕ) (c d : DeltaCommit) (m n : MetaData) → SaysCommit files version c → SaysCommit files version d → c.meta ≡ Some m → d.meta ≡ Some n → m ≡ n
 one_meta files version c d m n h k is also =
     let both : Some m ≡ Some n = sym is ∙ ap (λ (e : DeltaCommit). e.meta) (says_once files version c d h k) ∙ also in
     cc
-
-some_or_none : {A : Type 0} (o : Option A) (a : A) → o ≡ Some a → o ≡ None → ⊥
-some_or_none o a is none = cc
 
 pub one_protocol : (files : Files) (count : ℕ) (p q : Protocol) → IsNewestProtocol files count p → IsNewestProtocol files count q → p ≡ q
 one_protocol files count p q h k =

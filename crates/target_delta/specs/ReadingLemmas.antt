@@ -35,6 +35,7 @@ use Rattle.delta_table.specs.Log.{IsStep}
 use Rattle.delta_table.specs.SameVersions.{SameVersions, has_too, log_too, own_versions, says_too, version_in, versions_sym}
 use Rattle.target_delta.specs.NameLemmas.{name_in, never_leftover, same_behind}
 use Rattle.target_delta.specs.LogLemmas.{id_below, one_columns, one_table}
+use Rattle.lake_basics.proofs.Options.{none_there, some_there}
 
 -- ---- one of each
 
@@ -264,12 +265,6 @@ reached_in files path h = version_in path h.version h.named
 
 pub reached_stays : (a b : Files) → ((path : List ℕ) → IsReached a path → map.get b path ≡ map.get a path) → (path : List ℕ) → IsReached a path → IsReached b path
 reached_stays a b same path h = record { version = h.version; named = h.named; there = subst (λ (o : Option (List ℕ)). IsSome o) (sym (same path h)) h.there }
-
-pub none_there : (o : Option (List ℕ)) → o ≡ None → IsSome o → ⊥
-none_there o is there = false≢true (sym (ap is_some is) ∙ there)
-
-pub some_there : (o : Option (List ℕ)) (bytes : List ℕ) → o ≡ Some bytes → IsSome o
-some_there o bytes is = ap is_some is
 
 -- a version that is reached is there
 pub reached_there : (files : Files) (path : List ℕ) (h : IsReached files path) → HasVersion files h.version

@@ -22,6 +22,8 @@ use Rattle.table_history.proofs.RowListLemmas.{Contains-none, Contains-head, Con
 use Rattle.partition_map.specs.Folder.{CarriesValues}
 use Rattle.lake_basics.specs.declared.limits.TheConstants.{MAX_PUBLISHED_COMMITS}
 use Rattle.lake_basics.specs.Outcome.{GivesUnlessMemory}
+use Rattle.lake_basics.proofs.Lists.{last_of, next_of, split_of}
+use Rattle.lake_basics.proofs.Options.{option_decides}
 use Rattle.table_history.specs.declared.limit.LimitKind.{LimitKind}
 use Rattle.schema_avro.specs.AvroWriting.{avro_schema_text}
 use Rattle.schema_map.specs.Errors.{is_memory}
@@ -38,12 +40,6 @@ use Rattle.target_hudi.specs.WideLemmas.{schema_faults}
 
 -- ---- equal kinds
 
-option_decides : {A : Type 0} {E : A → A → Bool} → ((a b : A) → Decides (E a b) (a ≡ b)) → (a b : Option A) → Decides (option_eq E a b) (a ≡ b)
-option_decides each None None = (λ _. refl, λ _. refl)
-option_decides each None (Some y) = (λ is. absurd (false≢true is), λ same. absurd (cc))
-option_decides each (Some x) None = (λ is. absurd (false≢true is), λ same. absurd (cc))
-option_decides each (Some x) (Some y) = (λ is. ap (λ z. Some z) ((each x y).0 is), λ same. (each x y).1 (cc))
-
 kind_decides : (a b : PartKind) → Decides (eq-value.it a b) (a ≡ b)
 kind_decides a b = (λ is. same_true the_type (search rules) a b is, λ same. ⊎_elim (λ is. is) (λ is. absurd (same_false the_type a b is same)) (cases_Bool (eq-value.it a b)))
 
@@ -56,9 +52,6 @@ kinds_cases a b =
     ⊎_elim (λ same. inl (decides.0 same)) (λ other. inr (λ is. false≢true (sym other ∙ decides.1 is))) (cases_Bool (pointwise (option_eq eq-value.it) a b))
 
 -- ---- along the commits
-
-pub next_of : {X : Type 0} (xs : List X) (i : ℕ) (x : X) → i < length xs → x ≡ get_or xs i x → drop i xs ≡ x ∷ drop (i + 1) xs
-next_of xs i x within at = drop_more xs i x within ∙ ap (λ y. y ∷ drop (i + 1) xs) (sym at)
 
 -- Behind the first commits the columns are of these kinds, and the kinds change along all of them just where they change along the rest.
 pub record AtStep (names : List (List ℕ)) (kinds : Option (List (Option PartKind))) (before : Option ColumnTrees) (commits rest : List Commit) : Type 0 where
@@ -118,21 +111,12 @@ module _ (names : List (List ℕ)) (kinds : Option (List (Option PartKind))) (be
 
 -- ---- the first that is so
 
-last_of : {X : Type 0} (xs : List X) (i : ℕ) (x : X) → i < length xs → x ≡ get_or xs i x → take (i + 1) xs ≡ take i xs ++ x ∷ []
-last_of xs i x within at = take_more xs i x within ∙ ap (λ y. take i xs ++ y ∷ []) (sym at)
-
-split_of : {X : Type 0} (xs : List X) (i : ℕ) (x : X) → i < length xs → x ≡ get_or xs i x → xs ≡ take i xs ++ x ∷ drop (i + 1) xs
-split_of xs i x within at = sym (take-append-drop i xs) ∙ ap (λ (l : List _). take i xs ++ l) (next_of xs i x within at)
-
 pub one_more : {X : Type 0} (P : X → Type 0) (xs : List X) (i : ℕ) (x : X) → i < length xs → x ≡ get_or xs i x → ((y : X) → Contains (take i xs) y → P y) → P x → (y : X) → Contains (take (i + 1) xs) y → P y
 one_more P xs i x within at before here y there =
     ⊎_elim
     (λ earlier. before y earlier)
     (λ last. ⊎_elim (λ (same : x ≡ y). subst P same here) (λ none. absurd (Contains-none y none)) (Contains-cases x [] y last))
     (Contains-append_cases (take i xs) (x ∷ []) y (subst (λ (l : List _). Contains l y) (last_of xs i x within at) there))
-
-pub all_taken : {X : Type 0} (xs : List X) (i : ℕ) → i ≤ length xs → length xs ≤ i → take i xs ≡ xs
-all_taken xs i le ge = let end : i ≡ length xs = omega (arith, le, ge) in ap (λ n. take n xs) end ∙ take-length xs
 
 carried : (partition : List (List ℕ)) (row : Row) (path : List ℕ) (values : List PartValue) → path ≡ row.path → values ≡ row.values → CarriesValues path partition values → CarriesValues row.path partition row.values
 carried partition row path values path_is values_are is = subst (λ (p : List ℕ). CarriesValues p partition row.values) path_is (subst (CarriesValues path partition) values_are is)

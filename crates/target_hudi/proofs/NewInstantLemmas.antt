@@ -31,6 +31,7 @@ use Rattle.schema_map.specs.Image.{wide_columns}
 use Rattle.schema_map.specs.declared.fault.MapError.{MapError}
 use Rattle.schema_map.specs.declared.fault.MapError.TheVariants as map_errors
 use Rattle.lake_basics.specs.Outcome.{◌>>=◌}
+use Rattle.lake_basics.proofs.Texts.{fewer}
 use Rattle.hudi_instant.specs.InstantText.{IsWritable, instant_text}
 use Rattle.hudi_instant.specs.Instants.{json_instant}
 use Rattle.hudi_instant.specs.declared.instant.Instant.{Instant}
@@ -60,11 +61,6 @@ module _ (before after : Table) (commit : Commit) (is : IsAfter before commit.ch
       (λ (added : Contains commit.change.added has.0). (has.0, added, has.2))
       (λ (kept : Contains before.rows has.0 × (Contains commit.change.removed has.0.path → ⊥)). absurd (kept.1 (subst (λ (p : List ℕ). Contains commit.change.removed p) (sym has.2) removed)))
       ((is.rows has.0).0 has.1)
-
--- distinct texts that are all among others
-fewer : (xs ys : List (List ℕ)) → IsDistinct bytes_eq xs → ((x : List ℕ) → Contains xs x → Contains ys x) → length xs ≤ length ys
-fewer xs ys distinct among =
-    length-le_from_is_member nat_list_eq_equiv xs ys distinct (λ q there. (is_member-Decides bytes_eq-Decides ys q).1 (among q ((is_member-Decides bytes_eq-Decides xs q).0 there)))
 
 rows_length : (rows : List Row) → length (paths_of rows) ≡ length rows
 rows_length rows = length-map rows (λ r. r.path)

@@ -16,6 +16,7 @@ use Rattle.std.proofs.lemmas.Slice.Eq.{bytes_eq-Decides}
 use Rattle.hudi_groups.specs.Group.{joined}
 use Rattle.hudi_instant.specs.InstantText.{replaced_cmp, stat_cmp}
 use Rattle.hudi_instant.specs.declared.instant.Stat.{Stat}
+use Rattle.lake_basics.proofs.Truth.{rising}
 
 pub stat_total : IsTotalOrder stat_cmp
 stat_total = then_total (on_total (λ (s : Stat). s.partition_path) nat_list_cmp_total) (on_total (λ (s : Stat). s.path) nat_list_cmp_total)
@@ -54,11 +55,6 @@ joined_same x y same =
 
 pub ids_tied : (x y : List ℕ × List ℕ) → is_eq (replaced_cmp x y) ≡ true → bytes_eq (joined x.0 x.1) (joined y.0 y.1) ≡ true
 ids_tied x y h = let both = then_tied (slice_cmp nat_cmp x.0 y.0) (slice_cmp nat_cmp x.1 y.1) h in joined_same x y (same_text x.0 y.0 both.0, same_text x.1 y.1 both.1)
-
-rising : (o : Ordering) → is_lt (ordering_reverse o) ≡ false → is_eq o ≡ false → o ≡ Less
-rising Less h e = refl
-rising Equal h e = absurd (false≢true (sym e))
-rising Greater h e = absurd (false≢true (sym h))
 
 pub untied : (b c : Bool) → (b ≡ true → c ≡ true) → c ≡ false → b ≡ false
 untied true c h apart = absurd (false≢true (sym apart ∙ h refl))

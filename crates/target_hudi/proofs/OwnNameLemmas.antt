@@ -34,6 +34,7 @@ use Rattle.hudi_commit.proofs.NameLaws.{completed_is_name, is_instant_of}
 use Rattle.target_hudi.specs.Inspecting.{IsFirstForeignName, LooksUpClaims}
 use Rattle.target_hudi.specs.InspectSteps.{HasOwnForm, IsOwnInstant}
 use Rattle.target_hudi.specs.Reading.{HasOwnNames, HasOwnProperties, IsOwnName, NamesInstant}
+use Rattle.lake_basics.proofs.Lists.{take_one_more}
 
 abbrev Instant : Type 0
 Instant = ℕ × Action × State
@@ -57,9 +58,6 @@ name_decided names name b is = (
 
 above_dot : (c : ℕ) → is_ascii_digit c ≡ true → (c == 46) ≡ false
 above_dot c h = grind (arith, nat_tests)
-
-take_one_more : (k : ℕ) (x : ℕ) (xs : List ℕ) → take (1 + k) (x ∷ xs) ≡ x ∷ take k xs
-take_one_more k x xs = let one : 1 + k ≡ suc k = omega arith in ap (λ n. take n (x ∷ xs)) one
 
 before_dot : (s r : List ℕ) → list_all is_ascii_digit s ≡ true → before_first (λ b. b == 46) (s ++ 46 ∷ r) ≡ s
 before_dot [] r ds = refl

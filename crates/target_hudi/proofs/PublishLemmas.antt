@@ -32,7 +32,7 @@ use Rattle.target_hudi.specs.Fitting.{Unfit}
 use Rattle.target_hudi.specs.HudiMeaning.{hudi_meaning}
 use Rattle.target_hudi.specs.Kept.{IsNewest, StandsFor, end_of, held_of, view_of}
 use Rattle.target_hudi.specs.NewInstant.{AreGiven, IsNewInstant}
-use Rattle.target_hudi.specs.OnceLemmas.{latest_partition, one_standing, one_table_of, some_list}
+use Rattle.target_hudi.specs.OnceLemmas.{latest_partition, one_standing, one_table_of}
 use Rattle.target_hudi.specs.Reading.{HasOwnNames, HasOwnProperties, IsAbsent, IsCarried, IsMarkAt, IsOurs, Reads, commits_in, completed_in}
 use Rattle.target_hudi.specs.ReadingLemmas.{own_of}
 use Rattle.target_hudi.specs.Steps.{IsBase, IsStep, IsTableFor}
@@ -47,6 +47,7 @@ use Rattle.target_hudi.proofs.MomentLemmas.{AreAsGiven, AreDue, AreGivenNow, IsG
 use Rattle.target_hudi.proofs.ReadTableLemmas.{latest_distinct, latest_wide}
 use Rattle.target_hudi.proofs.TimelineLemmas.{AreEarlier, all_earlier, new_one}
 use Rattle.target_hudi.proofs.StepLemmas.{step}
+use Rattle.lake_basics.proofs.Lists.{none_longer}
 
 -- The properties of a table with a completed instant say of folders that names and escaped values are there.
 pub record HasFolders (files : Files) : Type 0 where
@@ -119,7 +120,7 @@ module _ (name : List ℕ) (origin : Origin) (now : ℕ) (kept next : HudiKept) 
 
     module _ (ours : IsOurs old (view_of kept)) where
       some : completed_in old ≡ [] → ⊥
-      some none = some_list ours.front ours.newest [] (sym none ∙ ours.last)
+      some none = none_longer ours.front ours.newest [] (sym none ∙ ours.last)
 
       table_is : kept.table ≡ ours.latest.table
       table_is = ap (λ (w : View). w.table) ours.view_is
@@ -165,7 +166,7 @@ module _ (name : List ℕ) (origin : Origin) (now : ℕ) (kept next : HudiKept) 
       where
         not_first : (o : Option (List ℕ)) → kept.newest ≡ o → IsNewest old o → ⊥
         not_first None is at = given is
-        not_first (Some time) is at = some_list at.0 at.1 [] (sym none.0.none ∙ at.2)
+        not_first (Some time) is at = none_longer at.0 at.1 [] (sym none.0.none ∙ at.2)
     base_by None given new now_given (inr ours) = later_base ours new now_given
     base_by (Some bytes) given new now_given (inl none) = first_base bytes given new now_given none.0 none.1
     base_by (Some bytes) given new now_given (inr ours) = absurd (some ours (subst (λ (n : Option (List ℕ)). IsNewest old n) given.0 newest))

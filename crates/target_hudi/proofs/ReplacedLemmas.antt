@@ -53,23 +53,6 @@ filter_few p (x ∷ xs) =
       | false ↦ omega (arith, rest)
     ]
 
-filter_apart : (p : List ℕ → Bool) (x : List ℕ) (xs : List (List ℕ)) → AllByRecursion (λ y. bytes_eq x y ≡ false) xs → AllByRecursion (λ y. bytes_eq x y ≡ false) (filter p xs)
-filter_apart p x [] all = tt
-filter_apart p x (y ∷ xs) all =
-    elim (p y) as (λ b. AllByRecursion (λ z. bytes_eq x z ≡ false) (cond b (y ∷ filter p xs) (filter p xs))) [
-      | true ↦ (all.0, filter_apart p x xs all.1)
-      | false ↦ filter_apart p x xs all.1
-    ]
-
-pub distinct_filter : (p : List ℕ → Bool) (xs : List (List ℕ)) → IsDistinct bytes_eq xs → IsDistinct bytes_eq (filter p xs)
-distinct_filter p [] distinct = distinct
-distinct_filter p (x ∷ xs) distinct =
-    let rest = distinct_filter p xs (IsDistinct-tail bytes_eq x xs distinct) in
-    elim (p x) as (λ b. IsDistinct bytes_eq (cond b (x ∷ filter p xs) (filter p xs))) [
-      | true ↦ IsDistinct-cons bytes_eq x (filter p xs) (filter_apart p x xs (IsDistinct-head bytes_eq x xs distinct)) rest
-      | false ↦ rest
-    ]
-
 -- ---- a path is its folder and its name
 
 abbrev plain : ℕ → Bool

@@ -158,7 +158,3 @@ as_many n m items (Err e) same h = tt
 pub at_most : {X V E : Type 0} (n m : ℕ) (items : V → List X) (r : Result V E) → m ≤ n → IfOk r (λ v. length (items v) ≡ m) → IfOk r (λ v. length (items v) ≤ n)
 at_most n m items (Ok v) few h = omega (arith, few, h)
 at_most n m items (Err e) few h = tt
-
--- a loop that has come to its end has gone through all
-pub all_taken : {X : Type 0} (xs : List X) (i : ℕ) → i ≤ length xs → length xs ≤ i → take i xs ≡ xs
-all_taken xs i le ge = let end : i ≡ length xs = omega (arith, le, ge) in ap (λ n. take n xs) end ∙ take-length xs

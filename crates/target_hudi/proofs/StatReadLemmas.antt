@@ -12,11 +12,12 @@ use Rattle.std.proofs.lemmas.Map.Keys.{IsDistinct-cons, IsDistinct-head, IsDisti
 use Rattle.std.proofs.lemmas.Slice.Eq.{bytes_eq-Decides, ends_is}
 use Rattle.lake_basics.specs.Outcome.{◌>>=◌, each}
 use Rattle.lake_basics.specs.declared.limits.TheConstants.{MAX_PATH_BYTES}
+use Rattle.lake_basics.proofs.Texts.{bytes_itself}
 use Rattle.table_history.specs.Path.{IsPath, is_path_of_any_length}
 use Rattle.table_history.specs.Row.{Row}
 use Rattle.table_history.specs.Rows.{HasDistinctPaths, paths_of, row_at}
 use Rattle.table_history.proofs.PathTests.{path_decided}
-use Rattle.table_history.proofs.RowListLemmas.{Contains-cases, Contains-head, Contains-none, Contains-tail, all_at, bytes_itself, row_at-itself}
+use Rattle.table_history.proofs.RowListLemmas.{Contains-cases, Contains-head, Contains-none, Contains-tail, all_at, row_at-itself}
 use Rattle.partition_map.specs.declared.folder.FolderStyle.{FolderStyle}
 use Rattle.partition_map.specs.declared.kind.PartKind.{PartKind}
 use Rattle.hudi_files.specs.Stats.{bare_row, has_other_id, has_sound_numbers, has_sound_path, is_external, is_other_file, name_fault}

@@ -10,6 +10,7 @@ use Rattle.std.proofs.lemmas.List.{length-append}
 use Rattle.std.proofs.lemmas.Map.Keys.{IsDistinct-from_sorted}
 use Rattle.std.proofs.lemmas.Map.Made.{length-le_from_is_member}
 use Rattle.lake_basics.specs.declared.limits.TheConstants.{MAX_NAMES}
+use Rattle.lake_basics.proofs.Lists.{none_longer}
 use Rattle.lake_store.specs.Cause.{HasContest, HasFault}
 use Rattle.lake_store.specs.Disk.{Disk, Files, IsClean, MayLeave, names_in}
 use Rattle.lake_store.specs.Runs.{IsEachMoment, IsIn, KeepsImage, LeavesAlone}
@@ -50,7 +51,6 @@ use Rattle.target_core.proofs.OneStep.{publishes_none, publishes_one}
 use Rattle.target_hudi.specs.Fitting.{Unfit}
 use Rattle.target_hudi.specs.HudiMeaning.{hudi_meaning}
 use Rattle.target_hudi.specs.Kept.{IsCounted, IsNewest, StandsFor, end_of, held_of, view_of}
-use Rattle.target_hudi.specs.OnceLemmas.{some_list}
 use Rattle.target_hudi.specs.NewInstant.{AreGiven, IsNewInstant, IsTaken}
 use Rattle.target_hudi.specs.Reading.{IsReached, IsSettledTarget, Reads, commits_in, completed_in}
 use Rattle.target_hudi.specs.ReadingLemmas.{alike_reads, never_pending, orderly, own_of}
@@ -297,7 +297,7 @@ module _ {S : Type 0} (store : Ghosts S) (old new : S) (told : store.tells) (nam
       where
         not_first : (o : Option (List ℕ)) → kept.newest ≡ o → IsNewest entry o → ⊥
         not_first None is at = given is
-        not_first (Some time) is at = some_list at.0 at.1 [] (sym none.0.none ∙ at.2)
+        not_first (Some time) is at = none_longer at.0 at.1 [] (sym none.0.none ∙ at.2)
     ready_by None given (inr ours) = ap is_some ours.says.holds
     ready_by (Some bytes) given reads = λ name proper says there.
         let none = subst (λ (n : Option (List ℕ)). IsNewest entry n) given.0 counted.newest in

@@ -39,6 +39,7 @@ use Rattle.hudi_commit.proofs.OrderlyLaws.{there, there_none}
 use Rattle.target_hudi.specs.InstantLemmas.{before_dot, beside, from_name, from_there, has, in_byte_order, named, replaced}
 use Rattle.target_hudi.specs.Kept.{IsNewest}
 use Rattle.target_hudi.specs.Reading.{completed_in}
+use Rattle.lake_basics.proofs.Truth.{and_false}
 
 -- ---- the newest one
 
@@ -60,10 +61,6 @@ all_earlier files (Some last) instant is later c within =
     let order = subst AreInOrder is.2 (order_of_folder files) in
     let up = up_to_last is.0 is.1 c order (subst (λ (l : List CompletedInstant). Contains l c) is.2 within) in
     earlier_still c.time is.1.time instant up (subst (λ (t : List ℕ). IsEarlier t instant) (sym is.3) (later last refl))
-
-and_false : (b : Bool) → (b && false) ≡ false
-and_false true = refl
-and_false false = refl
 
 -- ---- names in order
 

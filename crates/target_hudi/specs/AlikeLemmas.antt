@@ -15,8 +15,9 @@ use Rattle.target_hudi.specs.Reading.{Reads}
 use Rattle.target_hudi.specs.Writing.{Passes, TimelineEnd}
 use Rattle.target_hudi.specs.declared.kept.HudiKept.{HudiKept}
 use Rattle.target_hudi.specs.FitLemmas as fit
-use Rattle.target_hudi.specs.OnceLemmas.{one_place, some_list}
+use Rattle.target_hudi.specs.OnceLemmas.{one_place}
 use Rattle.target_hudi.specs.ViewLemmas.{one_view}
+use Rattle.lake_basics.proofs.Lists.{none_longer}
 
 -- ---- the newest instant
 
@@ -30,8 +31,8 @@ one_last {X = X} front x front' x' same =
 
 one_newest : (files : Files) (a b : Option (List ℕ)) → IsNewest files a → IsNewest files b → a ≡ b
 one_newest files None None h k = refl
-one_newest files None (Some time) h k = absurd (some_list k.0 k.1 [] (sym h ∙ k.2))
-one_newest files (Some time) None h k = absurd (some_list h.0 h.1 [] (sym k ∙ h.2))
+one_newest files None (Some time) h k = absurd (none_longer k.0 k.1 [] (sym h ∙ k.2))
+one_newest files (Some time) None h k = absurd (none_longer h.0 h.1 [] (sym k ∙ h.2))
 one_newest files (Some time) (Some other) h k = ap Some (sym h.3 ∙ ap (λ (c : CompletedInstant). c.time) (one_last h.0 h.1 k.0 k.1 (sym h.2 ∙ k.2)) ∙ k.3)
 
 -- ---- the schema

@@ -24,8 +24,9 @@ use Rattle.target_core.specs.Views.{IsOfSource, IsUnpublished, Standing, View}
 use Rattle.target_hudi.specs.Inspecting.{HasForeignProperties, IsFirstFaulty, IsFirstForeignName, IsForeign}
 use Rattle.target_hudi.specs.Reading.{HasOwnNames, HasOwnProperties, IsAbsent, IsOurs, Reads, completed_in}
 use Rattle.target_hudi.specs.FaultLemmas.{not_faulty}
-use Rattle.target_hudi.specs.OnceLemmas.{one_place, one_standing, one_table_of, some_list}
+use Rattle.target_hudi.specs.OnceLemmas.{one_place, one_standing, one_table_of}
 use Rattle.target_hudi.specs.ReadingLemmas.{in_middle, own_of}
+use Rattle.lake_basics.proofs.Lists.{none_longer}
 
 -- ---- the properties
 
@@ -61,7 +62,7 @@ own_or_first files path names first = first.foreign.foreign (names first.name fi
 
 module _ (source : Kind) (files : Files) (path : List ℕ) (v : View) (h : IsFirstFaulty source files path) where
   faulty_absent : IsAbsent files → ⊥
-  faulty_absent none = some_list h.before.front h.instant h.before.behind (sym none.none ∙ h.before.split)
+  faulty_absent none = none_longer h.before.front h.instant h.before.behind (sym none.none ∙ h.before.split)
 
   faulty_ours : IsOurs files v → IsOfSource source v → ⊥
   faulty_ours ours of =
@@ -109,7 +110,7 @@ within {X = X} (z ∷ front) x behind (y ∷ front') x' behind' lt is =
 
 module _ (source : Kind) (files : Files) where
   latest_of : (table : HudiTable) (front : List CompletedInstant) (c : CompletedInstant) (rest : List CompletedInstant) (latest : Option Latest) → IsReadingOf files External table (front ++ c ∷ rest) latest → (l : Latest) × IsLatestOf files External table (front ++ c ∷ rest) l
-  latest_of table front c rest None none = absurd (some_list front c rest (sym none))
+  latest_of table front c rest None none = absurd (none_longer front c rest (sym none))
   latest_of table front c rest (Some l) read = (l, read)
 
   -- An instant at fault isn't one of those that another one stands behind.

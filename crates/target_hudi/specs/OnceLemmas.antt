@@ -31,10 +31,6 @@ use Rattle.target_hudi.specs.Reading.{IsMarkAt}
 
 -- ---- lists
 
-pub some_list : {X : Type 0} (front : List X) (x : X) (behind : List X) → [] ≡ front ++ x ∷ behind → ⊥
-some_list [] x behind is = cc
-some_list (y ∷ front) x behind is = cc
-
 -- an element is the one of its place
 pub one_place : {X : Type 0} (front : List X) (x : X) (behind front' : List X) (x' : X) (behind' : List X) → length front ≡ length front' → front ++ x ∷ behind ≡ front' ++ x' ∷ behind' → (front ≡ front') × (x ≡ x')
 one_place [] x behind [] x' behind' len is = let same : x ≡ x' = cc in (refl, same)

@@ -2,6 +2,7 @@
 use Rattle.std.proofs.Common.{◌≡◌, inl, inr, ⊎_elim, ℕ, ◌<◌, List, [], ◌∷◌, ◌++◌, length, Option, None, Some, Contains, codes, refl, sym, ap, subst, ◌∙◌}
 use Rattle.std.specs.Prelude.{map}
 use Rattle.lake_basics.specs.declared.limits.TheConstants.{MAX_COMMITS, MAX_NAMES}
+use Rattle.lake_basics.proofs.Lists.{mapped_itself}
 use Rattle.lake_store.specs.Disk.{Files, front_of, names_in}
 use Rattle.lake_store.specs.Runs.{IsIn}
 use Rattle.lake_store.proofs.OrderLaws.{names_in_listed, names_in_sorted}
@@ -37,12 +38,8 @@ use Rattle.target_hudi.specs.SettledLemmas.{completed_own, own_sym, own_there, o
 
 -- ---- names
 
-mapped : (xs : List (List ℕ)) → map (λ (x : List ℕ). x) xs ≡ xs
-mapped [] = refl
-mapped (x ∷ xs) = ap (λ (ys : List (List ℕ)). x ∷ ys) (mapped xs)
-
 one_order : (xs ys : List (List ℕ)) → IsInByteOrder xs → IsInByteOrder ys → ((x : List ℕ) → Contains xs x → Contains ys x) → ((x : List ℕ) → Contains ys x → Contains xs x) → xs ≡ ys
-one_order xs ys sorted too there back = in_order_same (λ (x : List ℕ). x) xs ys (subst IsInByteOrder (sym (mapped xs)) sorted) (subst IsInByteOrder (sym (mapped ys)) too) (λ x. (there x, back x))
+one_order xs ys sorted too there back = in_order_same (λ (x : List ℕ). x) xs ys (subst IsInByteOrder (sym (mapped_itself xs)) sorted) (subst IsInByteOrder (sym (mapped_itself ys)) too) (λ x. (there x, back x))
 
 module _ (folder : List ℕ) (inside : (name : List ℕ) → IsIn timeline_folder (front_of folder ++ name)) where
   names_too : (a b : Files) → SameIn timeline_folder a b → (name : List ℕ) → Contains (names_in a folder) name → Contains (names_in b folder) name

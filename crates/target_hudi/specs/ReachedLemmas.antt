@@ -19,9 +19,9 @@ use Rattle.hudi_commit.proofs.StepLaws.{in_timeline}
 use Rattle.target_core.specs.Views.{Standing, View}
 use Rattle.target_hudi.specs.Reading.{HasOwnNames, HasOwnProperties, IsAbsent, IsCarried, IsOurs, IsReached, IsSettledTarget, NamesInstant, Reads, completed_in}
 use Rattle.target_hudi.specs.InstantLemmas.{from_there, named, replaced}
-use Rattle.target_hudi.specs.OnceLemmas.{some_list}
 use Rattle.target_hudi.specs.ReadingLemmas.{carried_too, in_middle, never_pending, reads_by}
 use Rattle.target_hudi.specs.SettledLemmas.{kept_clean}
+use Rattle.lake_basics.proofs.Lists.{none_longer}
 
 -- ---- what is reached
 
@@ -157,5 +157,5 @@ module _ (a b : Files) (same : (path : List ℕ) → IsReached a path → map.ge
 
 pub reached_alone : (a b : Files) (v : View) → ((path : List ℕ) → IsReached a path → map.get b path ≡ map.get a path) → ((path : List ℕ) → IsIn timeline_folder path → (IsReached a path → ⊥) → map.get b path ≡ None)
     → Reads a v → Reads b v × ((number : ℕ) (change : Change) (s : Standing) → number ≤ v.commits → IsCarried a number change s → IsCarried b number change s)
-reached_alone a b v same none (inl h) = (inl (absent_stays a b same none h.0, h.1), λ number change s le carried. absurd (some_list carried.front carried.commit carried.behind (sym h.0.none ∙ carried.split)))
+reached_alone a b v same none (inl h) = (inl (absent_stays a b same none h.0, h.1), λ number change s le carried. absurd (none_longer carried.front carried.commit carried.behind (sym h.0.none ∙ carried.split)))
 reached_alone a b v same none (inr h) = (ours_stay a b same none v h, λ number change s le carried. ours_carry a b same none v h number change s carried)

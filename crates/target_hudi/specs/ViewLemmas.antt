@@ -19,7 +19,8 @@ use Rattle.target_core.specs.Changes.{IsGone, SameRowChange}
 use Rattle.target_core.specs.Views.{IsPublished, IsUnpublished, SameView, Standing, View, absent}
 use Rattle.target_hudi.specs.Reading.{HasStatRow, IsAbsent, IsCarried, IsMarkAt, IsOurs, Reads, commits_in, completed_in}
 use Rattle.target_hudi.specs.Writing.{replaced_of}
-use Rattle.target_hudi.specs.OnceLemmas.{latest_partition, one_instant, one_kinds, one_place, one_rows, one_schema, one_standing, one_table_of, some_list}
+use Rattle.target_hudi.specs.OnceLemmas.{latest_partition, one_instant, one_kinds, one_place, one_rows, one_schema, one_standing, one_table_of}
+use Rattle.lake_basics.proofs.Lists.{none_longer}
 
 -- ---- counts
 
@@ -44,7 +45,7 @@ newest_place files v h =
 -- ---- one view
 
 pub absent_or_ours : (files : Files) (view : View) → IsAbsent files → IsOurs files view → ⊥
-absent_or_ours files view none ours = some_list ours.front ours.newest [] (sym none.none ∙ ours.last)
+absent_or_ours files view none ours = none_longer ours.front ours.newest [] (sym none.none ∙ ours.last)
 
 same_newest : (files : Files) (v w : View) (a : IsOurs files v) (b : IsOurs files w) → a.newest ≡ b.newest
 same_newest files v w a b =
@@ -146,7 +147,7 @@ carries_within files v number change s reads h =
     omega (arith, len, all, count, is)
 
 pub newest : (files : Files) (v : View) (change : Change) (s : Standing) → Reads files v → IsCarried files v.commits change s → v.mark ≡ Some s
-newest files v change s (inl a) h = absurd (some_list h.front h.commit h.behind (sym a.0.none ∙ h.split))
+newest files v change s (inl a) h = absurd (none_longer h.front h.commit h.behind (sym a.0.none ∙ h.split))
 newest files v change s (inr b) h =
     let count = newest_place files v b in
     let is = h.is in

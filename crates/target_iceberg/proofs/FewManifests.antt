@@ -7,6 +7,7 @@ use Rattle.std.proofs.lemmas.List.{length-append, length-drop}
 use Rattle.std.proofs.lemmas.List.Elements.{filter-append}
 use Rattle.std.proofs.lemmas.Nat.{le-div}
 use Rattle.lake_basics.specs.declared.limits.TheConstants.{MAX_MANIFEST_ENTRIES}
+use Rattle.lake_basics.proofs.Texts.{fewer}
 use Rattle.table_history.specs.Row.{Row}
 use Rattle.table_history.specs.Rows.{HasDistinctPaths, SameRows, paths_of}
 use Rattle.table_history.specs.declared.table.Change.{Change}
@@ -19,7 +20,7 @@ use Rattle.iceberg_metadata.specs.declared.metadata.SpecField.{SpecField}
 use Rattle.iceberg_version.specs.Manifests.{AreNextManifests, AreParts, LiveManifest, NextManifest, added_manifest, carried, has_rows, is_lost, new, new_entries, stays}
 use Rattle.iceberg_version.specs.Schemas.{Schemas}
 use Rattle.iceberg_version.specs.Writing.{AreWritten, IsManifestText, TableEnd, front_in, next_version}
-use Rattle.iceberg_version.proofs.BehindLemmas.{fewer, rows_length}
+use Rattle.iceberg_version.proofs.BehindLemmas.{rows_length}
 use Rattle.iceberg_version.proofs.Shared.{each_length}
 use Rattle.target_iceberg.specs.Writes.{manifests_for, most_manifests}
 use Rattle.target_iceberg.proofs.WrittenRows.{of_paths, removed_any}

@@ -13,9 +13,7 @@ use Rattle.std.proofs.lemmas.List.Elements.{Contains-append_cases}
 use Rattle.iceberg_metadata.specs.Judging.{are_distinct, is_among}
 use Rattle.iceberg_metadata.specs.Paths.{held_schema}
 use Rattle.iceberg_metadata.specs.Schemas.{HeldSchema}
-use Rattle.iceberg_metadata.proofs.LoopLemmas.{next_item}
 use Rattle.iceberg_version.specs.Sound.{have_first_ids, is_own_image, is_under}
-use Rattle.iceberg_version.proofs.Shared.{never_both}
 use Rattle.iceberg_field_ids.proofs.IcebergGiven.{column_paths_wide}
 use Rattle.iceberg_field_ids.specs.Ids.{PassesGreatest, new_count}
 use Rattle.schema_map.specs.Paths.{Path, column_paths, known_id}
@@ -30,6 +28,8 @@ use Rattle.target_iceberg.specs.Following.{AreFirst, AreHeldBy, IsAtCurrent, IsC
 use Rattle.target_iceberg.specs.Newest.{HeldShape, IsTop, is_changed, with_schema, with_schemas}
 use Rattle.target_iceberg.proofs.NewestLemmas.{path_decides}
 use Rattle.target_iceberg.proofs.TypeLemmas.{become_self, first_change, here as held_last, no_change, of_both, same_type}
+use Rattle.lake_basics.proofs.Truth.{never_both}
+use Rattle.lake_basics.proofs.Lists.{next_of}
 
 -- ---- the ids of held schemas
 
@@ -314,11 +314,11 @@ no_commits_left state table index shapes current count commits rest none s name 
 
 pub found_schema : (schemas : List HeldSchema) (i : ℕ) (id : ℤ) (held : HeldSchema) → i < length schemas → held ≡ get_or schemas i held → int_eq held.0 id ≡ true → held_schema (drop i schemas) id ≡ held_schema schemas id → Some held ≡ held_schema schemas id
 found_schema schemas i id held within at named before =
-    sym (ap (λ (l : List HeldSchema). held_schema l id) (next_item schemas i held within at) ∙ ap (λ b. cond b (Some held) (held_schema (drop (i + 1) schemas) id)) named) ∙ before
+    sym (ap (λ (l : List HeldSchema). held_schema l id) (next_of schemas i held within at) ∙ ap (λ b. cond b (Some held) (held_schema (drop (i + 1) schemas) id)) named) ∙ before
 
 pub passed_schema : (schemas : List HeldSchema) (i : ℕ) (id : ℤ) (held : HeldSchema) → i < length schemas → held ≡ get_or schemas i held → int_eq held.0 id ≡ false → held_schema (drop i schemas) id ≡ held_schema schemas id → held_schema (drop (i + 1) schemas) id ≡ held_schema schemas id
 passed_schema schemas i id held within at named before =
-    sym (ap (λ (l : List HeldSchema). held_schema l id) (next_item schemas i held within at) ∙ ap (λ b. cond b (Some held) (held_schema (drop (i + 1) schemas) id)) named) ∙ before
+    sym (ap (λ (l : List HeldSchema). held_schema l id) (next_of schemas i held within at) ∙ ap (λ b. cond b (Some held) (held_schema (drop (i + 1) schemas) id)) named) ∙ before
 
 abbrev pub zero_ids : List Path → List (Path × ℤ)
 zero_ids paths = map (λ p. (p, pos 0)) paths

@@ -14,11 +14,11 @@ use Rattle.iceberg_metadata.specs.Paths.{PathId, current_schema, default_fields,
 use Rattle.iceberg_metadata.specs.Schemas.{HeldSchema}
 use Rattle.iceberg_metadata.specs.declared.metadata.Metadata.{Metadata}
 use Rattle.iceberg_metadata.specs.declared.metadata.SpecField.{SpecField}
-use Rattle.iceberg_metadata.proofs.LoopLemmas.{next_item}
 use Rattle.iceberg_version.specs.Schemas.{AreSpecFields, FIRST_PARTITION_ID, IsSpecField}
 use Rattle.iceberg_version.specs.Sound.{have_first_ids}
 use Rattle.target_iceberg.specs.Form.{HasOwnForm, HasOwnSpec}
 use Rattle.target_iceberg.specs.FormSteps.{AreFields, IsGiven, IsPlain, IsUpTo}
+use Rattle.lake_basics.proofs.Lists.{next_of}
 
 -- ---- item by item
 
@@ -26,14 +26,14 @@ module _ {X : Type 0} (P : X → Type 0) (xs : List X) (i : ℕ) (so_far : AllBy
   module _ (x : X) (within : i < length xs) (is : x ≡ get_or xs i x) where
     pub all_more : P x → AllByRecursion P (drop (i + 1) xs) ↔ AllByRecursion P xs
     all_more here = (
-      λ rest. so_far.0 (subst (AllByRecursion P) (sym (next_item xs i x within is)) (here, rest)),
-      λ all. (subst (AllByRecursion P) (next_item xs i x within is) (so_far.1 all)).1,
+      λ rest. so_far.0 (subst (AllByRecursion P) (sym (next_of xs i x within is)) (here, rest)),
+      λ all. (subst (AllByRecursion P) (next_of xs i x within is) (so_far.1 all)).1,
     )
 
     pub all_stop : (P x → ⊥) → IsTrue false ↔ AllByRecursion P xs
     all_stop never = (
       λ none. absurd (false≢true none),
-      λ all. absurd (never (subst (AllByRecursion P) (next_item xs i x within is) (so_far.1 all)).0),
+      λ all. absurd (never (subst (AllByRecursion P) (next_of xs i x within is) (so_far.1 all)).0),
     )
 
   pub all_end : length xs ≤ i → IsTrue true ↔ AllByRecursion P xs
@@ -52,14 +52,14 @@ module _ (pairs : List PathId) (k : ℕ) (xs : List SpecField) (i : ℕ) (so_far
   module _ (x : SpecField) (within : i < length xs) (is : x ≡ get_or xs i x) where
     pub fields_more : IsSpecField pairs (k + i) x.name x → AreFields pairs (k + (i + 1)) (drop (i + 1) xs) ↔ AreFields pairs k xs
     fields_more here = let next : k + (i + 1) ≡ k + i + 1 = omega arith in (
-      λ rest. so_far.0 (subst (AreFields pairs (k + i)) (sym (next_item xs i x within is)) (here, subst (λ (n : ℕ). AreFields pairs n (drop (i + 1) xs)) next rest)),
-      λ all. subst (λ (n : ℕ). AreFields pairs n (drop (i + 1) xs)) (sym next) (subst (AreFields pairs (k + i)) (next_item xs i x within is) (so_far.1 all)).1,
+      λ rest. so_far.0 (subst (AreFields pairs (k + i)) (sym (next_of xs i x within is)) (here, subst (λ (n : ℕ). AreFields pairs n (drop (i + 1) xs)) next rest)),
+      λ all. subst (λ (n : ℕ). AreFields pairs n (drop (i + 1) xs)) (sym next) (subst (AreFields pairs (k + i)) (next_of xs i x within is) (so_far.1 all)).1,
     )
 
     pub fields_stop : (IsSpecField pairs (k + i) x.name x → ⊥) → IsTrue false ↔ AreFields pairs k xs
     fields_stop never = (
       λ none. absurd (false≢true none),
-      λ all. absurd (never (subst (AreFields pairs (k + i)) (next_item xs i x within is) (so_far.1 all)).0),
+      λ all. absurd (never (subst (AreFields pairs (k + i)) (next_of xs i x within is) (so_far.1 all)).0),
     )
 
   pub fields_end : length xs ≤ i → IsTrue true ↔ AreFields pairs k xs
@@ -175,7 +175,7 @@ pub known_more : (paths : List Path) (ids : List ℤ) (i : ℕ) (p : Path) (path
     → known_id (zip (drop (i + 1) paths) (drop (i + 1) ids)) path ≡ known_id (zip paths ids) path
 known_more paths ids i p path within is other so_far =
     ap (λ (l : List ℤ). known_id (zip (drop (i + 1) paths) l) path) (sym (drop-drop 1 i ids))
-    ∙ sym (known_step p (drop (i + 1) paths) (drop i ids) path other) ∙ ap (λ (l : List Path). known_id (zip l (drop i ids)) path) (sym (next_item paths i p within is)) ∙ so_far
+    ∙ sym (known_step p (drop (i + 1) paths) (drop i ids) path other) ∙ ap (λ (l : List Path). known_id (zip l (drop i ids)) path) (sym (next_of paths i p within is)) ∙ so_far
 
 pub whole_form : (version : ℕ) (m : Metadata) (plain first : Bool) → IsTrue plain ↔ IsPlain version m → plain ≡ true → first ≡ have_first_ids m.schemas → first ≡ true → (r : Result Bool AllocError) → IfOk r (λ own. IsTrue own ↔ HasOwnSpec m) → IfOk r (λ own. IsTrue own ↔ HasOwnForm version m)
 whole_form version m plain first tested passes is first_is (Ok own) spec_is = by_spec version m plain first own tested passes is first_is spec_is

@@ -10,12 +10,14 @@ use Rattle.std.proofs.lemmas.Option.{slice_get-get_or}
 use Rattle.std.proofs.lemmas.Bool.{and_from}
 use Rattle.lake_basics.specs.Outcome.{required}
 use Rattle.lake_basics.specs.declared.limits.TheConstants.{MAX_LIVE_FILES}
+use Rattle.lake_basics.proofs.Texts.{bytes_itself}
+use Rattle.lake_basics.proofs.Numbers.{le_test}
 use Rattle.table_history.specs.Row.{Row}
 use Rattle.table_history.specs.TypeEqLaws.{columns_eq-Decides}
 use Rattle.table_history.specs.TypeTree.{ColumnTrees}
 use Rattle.table_history.specs.declared.table.Table.{Table}
 use Rattle.table_history.proofs.Laws.{same_rows_length}
-use Rattle.table_history.proofs.RowListLemmas.{Contains-cases, Contains-none, bytes_itself}
+use Rattle.table_history.proofs.RowListLemmas.{Contains-cases, Contains-none}
 use Rattle.schema_map.specs.Image.{wide_columns}
 use Rattle.schema_iceberg.proofs.IcebergSchema.{given_found}
 use Rattle.schema_iceberg.proofs.IcebergSound.{iceberg_wide}
@@ -37,7 +39,7 @@ use Rattle.iceberg_version.specs.Sound.{AreRowsOf, are_of, has_content, is_born,
 use Rattle.iceberg_commit.proofs.SoundLemmas.{sound_to}
 use Rattle.iceberg_version.specs.declared.kept.KeptManifest.{KeptManifest}
 use Rattle.iceberg_version.proofs.HeldLemmas.{in_schemas}
-use Rattle.iceberg_version.proofs.Shared.{all_tested, le_test, lt_test}
+use Rattle.iceberg_version.proofs.Shared.{all_tested, lt_test}
 use Rattle.target_core.proofs.HeldRows.{are_held_by}
 use Rattle.target_core.specs.Held.{are_held}
 use Rattle.target_iceberg.specs.Form.{HasOwnForm}

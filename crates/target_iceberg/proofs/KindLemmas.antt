@@ -16,6 +16,7 @@ use Rattle.table_history.specs.declared.table.Commit.{Commit}
 use Rattle.iceberg_version.proofs.BehindLemmas.{wide_kind}
 use Rattle.target_iceberg.specs.Fitting.{ChangesKinds, HeldState, kinds_of, state_behind}
 use Rattle.target_iceberg.specs.Following.{AreKindsOf}
+use Rattle.lake_basics.proofs.Options.{option_decides}
 
 -- ---- Iceberg's types change no kind
 
@@ -67,12 +68,6 @@ module _ (names : List (List ℕ)) (kinds : List (Option PartKind)) (has : Bool)
     kinds_found published apart = s.back (inl (s.are.commit.0 published, (schema, stated, λ same. apart (sym s.are.are ∙ same ∙ sym are))))
 
 -- ---- equal kinds
-
-option_decides : {A : Type 0} {E : A → A → Bool} → ((a b : A) → Decides (E a b) (a ≡ b)) → (a b : Option A) → Decides (option_eq E a b) (a ≡ b)
-option_decides each None None = (λ _. refl, λ _. refl)
-option_decides each None (Some y) = (λ is. absurd (false≢true is), λ same. absurd (cc))
-option_decides each (Some x) None = (λ is. absurd (false≢true is), λ same. absurd (cc))
-option_decides each (Some x) (Some y) = (λ is. ap (λ z. Some z) ((each x y).0 is), λ same. (each x y).1 (cc))
 
 kind_decides : (a b : PartKind) → Decides (eq-value.it a b) (a ≡ b)
 kind_decides a b = (λ is. same_true the_type (search rules) a b is, λ same. ⊎_elim (λ is. is) (λ is. absurd (same_false the_type a b is same)) (cases_Bool (eq-value.it a b)))

@@ -22,12 +22,12 @@ use Rattle.iceberg_table.proofs.LiveLaws.{in_flat}
 use Rattle.iceberg_table.proofs.RowLaws.{distinct_front, shared}
 use Rattle.target_iceberg.specs.Kept.{IsKeptOf, held_of}
 use Rattle.target_iceberg.specs.InspectSteps.{AreLinked, FillsOwner, LinksManifest}
-use Rattle.target_iceberg.specs.OnceLemmas.{none_or_some, some_once}
 use Rattle.iceberg_live.specs.declared.live.LiveRow.{LiveRow}
 use Rattle.iceberg_table.specs.declared.manifest.Manifest.{Manifest}
 use Rattle.iceberg_version.specs.Sound.{OwnEachPath}
 use Rattle.iceberg_version.specs.declared.kept.KeptManifest.{KeptManifest}
 use Rattle.iceberg_version.proofs.Shared.{in_map, nothing_twice, of_map}
+use Rattle.lake_basics.proofs.Options.{none_or_some, some_once}
 
 -- ---- lists
 

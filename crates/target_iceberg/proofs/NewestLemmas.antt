@@ -20,6 +20,7 @@ use Rattle.target_iceberg.specs.Fitting.{IdSchema, type_in}
 use Rattle.target_iceberg.specs.Newest.{HeldShape, IsTop, is_changed, is_older, later, shape_at, with_schema, with_schemas, with_type}
 use Rattle.target_iceberg.specs.Shapes.{shape_of}
 use Rattle.target_iceberg.specs.declared.shape.Shape.{Shape}
+use Rattle.lake_basics.proofs.Lists.{last_of}
 
 -- ---- one path
 
@@ -159,21 +160,12 @@ no_shapes_left id path held goal rest left none so_far = sym (ap (λ (l : List S
 
 -- ---- the first of the paths
 
-last_of : {X : Type 0} (xs : List X) (i : ℕ) (x : X) → i < length xs → x ≡ get_or xs i x → take (i + 1) xs ≡ take i xs ++ x ∷ []
-last_of xs i x within at = take_more xs i x within ∙ ap (λ y. take i xs ++ y ∷ []) (sym at)
-
-pub split_of : {X : Type 0} (xs : List X) (i : ℕ) (x : X) → i < length xs → x ≡ get_or xs i x → xs ≡ take i xs ++ x ∷ drop (i + 1) xs
-split_of xs i x within at = sym (take-append-drop i xs) ∙ ap (λ (l : List _). take i xs ++ l) (drop_more xs i x within ∙ ap (λ y. y ∷ drop (i + 1) xs) (sym at))
-
 pub one_more : {X : Type 0} (P : X → Type 0) (xs : List X) (i : ℕ) (x : X) → i < length xs → x ≡ get_or xs i x → ((y : X) → Contains (take i xs) y → P y) → P x → (y : X) → Contains (take (i + 1) xs) y → P y
 one_more P xs i x within at before here y there =
     ⊎_elim
     (λ earlier. before y earlier)
     (λ last. ⊎_elim (λ (same : x ≡ y). subst P same here) (λ none. absurd (Contains-none y none)) (Contains-cases x [] y last))
     (Contains-append_cases (take i xs) (x ∷ []) y (subst (λ (l : List _). Contains l y) (last_of xs i x within at) there))
-
-pub all_taken : {X : Type 0} (xs : List X) (i : ℕ) → i ≤ length xs → length xs ≤ i → take i xs ≡ xs
-all_taken xs i le ge = let end : i ≡ length xs = omega (arith, le, ge) in ap (λ n. take n xs) end ∙ take-length xs
 
 -- paths whose shapes are the same have the same first change
 pub top_alike : {E : Type 0} (before after other : Path → Option HeldShape) → ((path : Path) → after path ≡ other path) → (paths others : List Path) → paths ≡ others → (r : Result (Option (List ℕ)) E)
@@ -192,6 +184,3 @@ some_path (column name kind nullable columns) path there = ⊎_elim
     (λ (here : Contains (below name (inner_paths kind)) path). ⊎_elim (λ (top : name ∷ [] ≡ path). λ none. cc) (λ inside. some_below name (inner_paths kind) path inside) (Contains-cases (name ∷ []) (map (λ p. name ∷ p) (inner_paths kind)) path here))
     (λ later. some_path columns path later)
     (Contains-append_cases (below name (inner_paths kind)) (column_paths columns) path there)
-
-pub item_there : {X : Type 0} (xs : List X) (i : ℕ) (x : X) → i < length xs → x ≡ get_or xs i x → Contains xs x
-item_there xs i x within at = subst (λ (y : _). Contains xs y) (sym at) (Contains-get_or xs i x within)

@@ -8,6 +8,7 @@ use Rattle.std.proofs.lemmas.Int.{ints}
 use Rattle.std.proofs.lemmas.List.{append_cancel_left}
 use Rattle.std.proofs.lemmas.List.Elements.{Contains-append_cases, Contains-append_left, Contains-append_right}
 use Rattle.lake_basics.specs.declared.limits.TheConstants.{MAX_MANIFEST_ENTRIES}
+use Rattle.lake_basics.proofs.Texts.{any_there}
 use Rattle.lake_store.specs.Disk.{Files}
 use Rattle.table_history.specs.Row.{Row}
 use Rattle.table_history.specs.declared.table.Commit.{Commit}
@@ -37,7 +38,7 @@ use Rattle.target_iceberg.proofs.WrittenManifests.{IsPlacedNext, inherited_low}
 use Rattle.target_iceberg.proofs.WrittenNext.{IsMade, in_joined}
 use Rattle.target_iceberg.specs.OnceLemmas.{manifest_says_once}
 use Rattle.target_iceberg.proofs.WrittenOwn.{made_of}
-use Rattle.target_iceberg.proofs.WrittenRows.{any_removed, removed_any}
+use Rattle.target_iceberg.proofs.WrittenRows.{removed_any}
 use Rattle.target_iceberg.proofs.WrittenStart.{HasEnd, IsFirstEnd, live_rows, rows_held}
 use Rattle.target_iceberg.proofs.WrittenCurrent as written
 use Rattle.target_iceberg.proofs.WrittenVersion as version
@@ -235,7 +236,7 @@ module _ (files after : Files) (id location : List ℕ) (rows : List Row) (end :
       let at = manifest_with end.manifests held.0 ((h.start.rows_are held.0).0 held.1) in
       let x = at.1 in
       let same : x.row.path ≡ path = ap (λ (r : Row). r.path) at.4 ∙ held.2 in
-      let gone : is_lost removed x ≡ true = any_removed removed x.row.path (subst (Contains removed) (sym same) there) in
+      let gone : is_lost removed x ≡ true = any_there removed x.row.path (subst (Contains removed) (sym same) there) in
       let any = any_from (is_lost removed) at.0.rows x at.3 gone in
       let of_list = in_map (carried front number removed) (filter has_rows end.manifests) at.0 (filter_contains has_rows end.manifests at.0 at.2 (filled at.0.rows x at.3)) in
       let in_next : Contains next (carried front number removed at.0) = subst (λ (l : List NextManifest). Contains l (carried front number removed at.0)) (sym h.writes.is.manifests.next_are.is) (Contains-append_left (map (carried front number removed) (filter has_rows end.manifests)) (map (added_manifest front number) parts) (carried front number removed at.0) of_list) in

@@ -6,6 +6,7 @@ use Rattle.std.specs.FinMap as map
 use Rattle.std.specs.Ordering.{int_eq}
 use Rattle.std.proofs.lemmas.Bool.Decides.{Decides-eqb, Decides-int_eq}
 use Rattle.lake_basics.specs.declared.limits.TheConstants.{MAX_ICEBERG_VERSION}
+use Rattle.lake_basics.proofs.Options.{some_of}
 use Rattle.lake_store.specs.Disk.{Files}
 use Rattle.lake_store.proofs.OrderLaws.{names_in_listed}
 use Rattle.table_history.specs.declared.table.Change.{Change}
@@ -40,14 +41,10 @@ version_file files version h =
     let is = ((names_in_listed files metadata_folder).members h.0).0 h.1 in
     subst (λ (name : List ℕ). IsSome (map.get files (path_of name))) h.2.spelled is.1
 
-some_there : (o : Option (List ℕ)) → IsSome o → (bytes : List ℕ) × (o ≡ Some bytes)
-some_there None is = absurd (cc)
-some_there (Some bytes) is = (bytes, refl)
-
 -- the version is there too where its file is as before
 pub version_at : (a b : Files) (version : ℕ) → map.get b (version_path version) ≡ map.get a (version_path version) → HasVersion a version → HasVersion b version
 version_at a b version same h =
-    let file = some_there (map.get a (version_path version)) (version_file a version h) in
+    let file = some_of (map.get a (version_path version)) (version_file a version h) in
     version_held b version file.0 h.2.within (same ∙ file.1)
 
 -- ---- a file that stays

@@ -19,8 +19,8 @@ use Rattle.iceberg_version.specs.Writing.{MAX_SNAPSHOTS, TableEnd, last_of, no_v
 use Rattle.iceberg_version.proofs.Shared.{drop_push, in_drop, in_map, nothing_twice}
 use Rattle.target_iceberg.specs.Form.{held_ids}
 use Rattle.target_iceberg.proofs.WrittenFiles.{in_held, in_held_at}
-use Rattle.target_iceberg.specs.OnceLemmas.{some_once}
 use Rattle.target_iceberg.proofs.WrittenStart.{HasEnd, IsFirstEnd}
+use Rattle.lake_basics.proofs.Options.{some_once}
 
 -- ---- the metadata that a commit goes on from
 

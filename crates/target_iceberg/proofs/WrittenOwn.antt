@@ -6,6 +6,7 @@ use Rattle.std.proofs.lemmas.Int.{ints}
 use Rattle.std.proofs.lemmas.List.{length-append, length-map}
 use Rattle.std.proofs.lemmas.List.Elements.{Contains-append_cases}
 use Rattle.lake_basics.specs.declared.limits.TheConstants.{MAX_MANIFEST_ENTRIES}
+use Rattle.lake_basics.proofs.Options.{some_once}
 use Rattle.lake_store.specs.Disk.{Files}
 use Rattle.table_history.specs.Row.{Row}
 use Rattle.table_history.specs.declared.table.Commit.{Commit}
@@ -28,7 +29,7 @@ use Rattle.target_iceberg.specs.Reached.{CanGoOn, HasOwnEntries}
 use Rattle.target_iceberg.specs.Reading.{SaysCurrent}
 use Rattle.target_iceberg.proofs.WrittenManifests.{IsPlacedNext, held_row, read_in}
 use Rattle.target_iceberg.proofs.WrittenNext.{IsMade}
-use Rattle.target_iceberg.specs.OnceLemmas.{manifest_says_once, metadata_once, says_once, some_once}
+use Rattle.target_iceberg.specs.OnceLemmas.{manifest_says_once, metadata_once, says_once}
 use Rattle.iceberg_table.specs.declared.plan.Plan.{Plan}
 use Rattle.iceberg_commit.proofs.MadeLemmas.{part_short}
 use Rattle.target_iceberg.proofs.WrittenNew.{raised}

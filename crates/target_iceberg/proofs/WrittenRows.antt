@@ -3,7 +3,7 @@ use Rattle.std.proofs.Common.{◌≡◌, ◌⊎◌, ◌↔◌, inl, inr, ⊎_eli
 use Rattle.std.specs.Prelude.{◌||◌, flat_map, nat_lt}
 use Rattle.std.specs.List.{IsDistinct, filter, list_any}
 use Rattle.std.specs.Str.{bytes_eq}
-use Rattle.std.proofs.lemmas.Bool.{cases_Bool, false≢true}
+use Rattle.std.proofs.lemmas.Bool.{cases_Bool, false≢true, not-true}
 use Rattle.std.proofs.lemmas.Bool.Decides.{nat_tests}
 use Rattle.std.proofs.lemmas.Grind.{flat_map-append}
 use Rattle.std.proofs.lemmas.List.Elements.{Contains-append_cases, Contains-append_left, Contains-append_right, filter-append}
@@ -14,21 +14,12 @@ use Rattle.table_history.specs.Tables.{IsRowAfter}
 use Rattle.table_history.proofs.RowListLemmas.{Contains-cases, Contains-filter, Contains-head, Contains-none, Contains-tail, distinct_filter, filter_contains}
 use Rattle.table_history.proofs.TableLemmas.{distinct_order}
 use Rattle.file_links.specs.declared.slots.Held.{Held}
-use Rattle.iceberg_metadata.proofs.ListLemmas.{not_true}
 use Rattle.iceberg_version.specs.Manifests.{AreListed, LiveManifest, NextManifest, added_manifest, born_at, carried, has_rows, is_lost, left, new, rewritten_entries, stays}
 use Rattle.iceberg_version.proofs.BehindLemmas.{distinct_joined}
 use Rattle.target_iceberg.proofs.WrittenStart.{live_rows, rows_held}
+use Rattle.lake_basics.proofs.Texts.{any_there}
 
 -- ---- paths among the removed ones
-
-pub any_removed : (removed : List (List ℕ)) (path : List ℕ) → Contains removed path → list_any (bytes_eq path) removed ≡ true
-any_removed [] path there = absurd (Contains-none path there)
-any_removed (p ∷ removed) path there = by (bytes_eq path p) refl (Contains-cases p removed path there) (λ later. any_removed removed path later)
-  where
-    by : (b : Bool) → bytes_eq path p ≡ b → (p ≡ path) ⊎ Contains removed path → (Contains removed path → list_any (bytes_eq path) removed ≡ true) → (b || list_any (bytes_eq path) removed) ≡ true
-    by true is there rest = refl
-    by false is (inl same) rest = absurd (false≢true (sym is ∙ (bytes_eq-Decides path p).1 (sym same)))
-    by false is (inr later) rest = rest later
 
 pub removed_any : (removed : List (List ℕ)) (path : List ℕ) → list_any (bytes_eq path) removed ≡ true → Contains removed path
 removed_any [] path is = absurd (false≢true is)
@@ -43,7 +34,7 @@ abbrev pub is_left : List (List ℕ) → Row → Bool
 is_left removed row = not (list_any (bytes_eq row.path) removed)
 
 pub left_other : (removed : List (List ℕ)) (row : Row) → is_left removed row ≡ true → Contains removed row.path → ⊥
-left_other removed row is there = false≢true (sym (not_true (list_any (bytes_eq row.path) removed) is) ∙ any_removed removed row.path there)
+left_other removed row is there = false≢true (sym (not-true (list_any (bytes_eq row.path) removed) is) ∙ any_there removed row.path there)
 
 pub other_left : (removed : List (List ℕ)) (row : Row) → (Contains removed row.path → ⊥) → is_left removed row ≡ true
 other_left removed row none = ⊎_elim (λ lost. absurd (none (removed_any removed row.path lost))) (λ kept. ap not kept) (cases_Bool (list_any (bytes_eq row.path) removed))

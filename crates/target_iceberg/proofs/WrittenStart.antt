@@ -37,8 +37,9 @@ use Rattle.target_iceberg.specs.Reached.{CanGoOn, HasOwnEntries, IsReached, Leav
 use Rattle.target_iceberg.specs.Reading.{IsAbsent, IsOurs, SaysCurrent}
 use Rattle.target_iceberg.proofs.WrittenFiles.{version_held}
 use Rattle.target_iceberg.proofs.WrittenLive.{live_are}
-use Rattle.target_iceberg.specs.OnceLemmas.{metadata_once, plan_once, some_once}
+use Rattle.target_iceberg.specs.OnceLemmas.{metadata_once, plan_once}
 use Rattle.iceberg_table.specs.declared.plan.Plan.{Plan}
+use Rattle.lake_basics.proofs.Options.{some_once}
 
 -- ---- live rows
 

@@ -29,8 +29,9 @@ use Rattle.target_core.specs.declared.target.TargetError.{TargetError}
 use Rattle.target_iceberg.specs.Fitting.{HeldState, Unfit, state_of}
 use Rattle.target_iceberg.specs.Kept.{HoldsEnd, IsFirst, IsKeptOf, StandsFor, held_of}
 use Rattle.target_iceberg.specs.Reading.{IsOurs, Reads, SaysCurrent}
-use Rattle.target_iceberg.specs.OnceLemmas.{metadata_once, none_or_some, says_once}
+use Rattle.target_iceberg.specs.OnceLemmas.{metadata_once, says_once}
 use Rattle.target_iceberg.specs.ViewLemmas.{absent_or_ours, one_view, ours_newest}
+use Rattle.lake_basics.proofs.Options.{none_or_some}
 
 -- ---- an end whatever its properties
 

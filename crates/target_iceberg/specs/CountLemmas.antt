@@ -10,12 +10,13 @@ use Rattle.std.proofs.lemmas.List.{length-append}
 use Rattle.std.proofs.lemmas.Slice.Eq.{bytes_eq-Decides}
 use Rattle.std.proofs.lemmas.Bool.{and_from, and_parts}
 use Rattle.lake_basics.specs.declared.limits.TheConstants.{MAX_ICEBERG_VERSION}
+use Rattle.lake_basics.proofs.Lists.{take_front}
+use Rattle.lake_basics.proofs.Numbers.{le_by, le_test}
 use Rattle.lake_store.specs.Disk.{Files, names_in}
 use Rattle.table_history.proofs.RowListLemmas.{Contains-cases, Contains-head, Contains-none, Contains-tail}
 use Rattle.iceberg_metadata.specs.VersionName.{IsVersionName}
 use Rattle.iceberg_table.specs.Folder.{HasVersion, IsNewest, metadata_folder}
 use Rattle.target_core.specs.Views.{View}
-use Rattle.iceberg_version.proofs.Shared.{le_by, le_test}
 use Rattle.target_iceberg.specs.Reading.{Reads, commits_in, version_digits, version_name, version_named}
 use Rattle.target_iceberg.specs.ViewLemmas.{no_commits}
 
@@ -25,15 +26,11 @@ chosen : (b : Bool) (n v : ℕ) → (if b then Some n else None) ≡ Some v → 
 chosen true n v is = (refl, cc)
 chosen false n v is = absurd (cc)
 
-taken_front : (xs ys : List ℕ) → take (length xs) (xs ++ ys) ≡ xs
-taken_front [] ys = refl
-taken_front (x ∷ xs) ys = ap (λ (l : List ℕ). x ∷ l) (taken_front xs ys)
-
 name_digits : (v : ℕ) → version_digits (version_name v) ≡ decimal v
 name_digits v =
     let long = length-append (decimal v) (codes ".metadata.json") in
     let front : length (version_name v) - 15 ≡ length (decimal v) = omega (arith, long) in
-    ap (λ (n : ℕ). take n (decimal v ++ codes ".metadata.json")) front ∙ taken_front (decimal v) (codes ".metadata.json")
+    ap (λ (n : ℕ). take n (decimal v ++ codes ".metadata.json")) front ∙ take_front (decimal v) (codes ".metadata.json")
 
 name_value : (name : List ℕ) (v : ℕ) → IsVersionName name v → digits_value 10 (version_digits name) ≡ v
 name_value name v h =

@@ -31,8 +31,10 @@ use Rattle.target_core.specs.Views.{IsOfSource, IsUnpublished, Standing, View}
 use Rattle.target_iceberg.specs.Inspecting.{HasForm, IsFirstStray, IsForeign, IsNewestRead, IsNotOurs, IsOfThis, IsRefusedSnapshot, IsRefusedVersion, faulty_path}
 use Rattle.target_iceberg.specs.Reading.{IsAbsent, IsCurrent, IsOurs, Reads, SaysSnapshot}
 use Rattle.target_iceberg.specs.FaultLemmas.{IsOfFile, file_told, list_or_fault, manifest_or_fault, manifest_told, plan_or_fault, shares_none, told_at, told_none, version_or_fault}
-use Rattle.target_iceberg.specs.OnceLemmas.{current_once, list_once, manifest_once, manifests_once, metadata_once, newest_once, plan_once, some_once}
+use Rattle.target_iceberg.specs.OnceLemmas.{current_once, list_once, manifest_once, manifests_once, metadata_once, newest_once, plan_once}
 use Rattle.target_iceberg.specs.ViewLemmas.{never_ours}
+use Rattle.lake_basics.proofs.Options.{some_once}
+use Rattle.lake_basics.proofs.Texts.{greater_turned}
 
 -- ---- lists that stop
 
@@ -216,13 +218,10 @@ not_foreign source files path v foreign (inr h) = (λ is. never_ours files v is 
 
 -- ---- one path
 
-turned : (a b : List ℕ) → slice_cmp nat_cmp a b ≡ Greater → slice_cmp nat_cmp b a ≡ Less
-turned a b is = nat_list_cmp_total.antisymm b a ∙ ap ordering_reverse is
-
 less_or_more : (a b : List ℕ) (o p : Ordering) → slice_cmp nat_cmp a b ≡ o → slice_cmp nat_cmp b a ≡ p → (o ≡ Less → ⊥) → (p ≡ Less → ⊥) → a ≡ b
 less_or_more a b Less p is also not_less not_more = absurd (not_less refl)
 less_or_more a b Equal p is also not_less not_more = same_path a b (ap is_eq is)
-less_or_more a b Greater p is also not_less not_more = absurd (not_more (sym also ∙ turned a b is))
+less_or_more a b Greater p is also not_less not_more = absurd (not_more (sym also ∙ greater_turned a b is))
 
 strays : (files : Files) (p q : List ℕ) → IsFirstStray files p → IsFirstStray files q → p ≡ q
 strays files p q a b =

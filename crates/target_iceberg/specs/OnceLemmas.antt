@@ -51,20 +51,12 @@ use Rattle.target_core.specs.Views.{Standing, standing_of}
 use Rattle.target_core.specs.declared.mark.Mark.{Mark}
 use Rattle.target_core.proofs.Marks.{one_mark}
 use Rattle.target_iceberg.specs.Reading.{HasMark, IsCurrent, IsMarked, SaysCurrent}
+use Rattle.lake_basics.proofs.Options.{none_or_some, ok_once, some_once}
 
 -- ---- answers
 
-pub ok_once : {A E : Type 0} (r : Result A E) (x y : A) → r ≡ Ok x → r ≡ Ok y → x ≡ y
-ok_once r x y p q = cc (sym p ∙ q)
-
 pub ok_or_err : {A E : Type 0} (r : Result A E) (x : A) (e : E) → r ≡ Ok x → r ≡ Err e → ⊥
 ok_or_err r x e p q = cc (sym p ∙ q)
-
-pub some_once : {A : Type 0} (o : Option A) (x y : A) → o ≡ Some x → o ≡ Some y → x ≡ y
-some_once o x y p q = cc (sym p ∙ q)
-
-pub none_or_some : {A : Type 0} (o : Option A) (x : A) → o ≡ None → o ≡ Some x → ⊥
-none_or_some o x p q = cc (sym p ∙ q)
 
 -- ---- files of Avro values
 

@@ -19,6 +19,7 @@ use Rattle.target_iceberg.specs.Reached.{IsReached, IsSettled}
 use Rattle.target_iceberg.specs.Reading.{IsAbsent, IsCarried, Reads}
 use Rattle.target_iceberg.specs.SameLemmas.{SameReached, carried_too, files_back, goes_on_too, has_too, newest_too, ours_too, reached_back, reached_in}
 use Rattle.target_iceberg.specs.ViewLemmas.{is_absent}
+use Rattle.lake_basics.proofs.Options.{none_there, some_there}
 
 pub name_in : (name : List ℕ) → IsIn metadata_folder (path_of name)
 name_in name = (name, refl)
@@ -56,12 +57,6 @@ pub carries_own : (new : List ℕ) (a b : Files) (number : ℕ) (change : Change
 carries_own new a b number change s same h = carried_too a b (own_reached a b same) new number change s h
 
 -- ---- what is reached alone
-
-pub none_there : (o : Option (List ℕ)) → o ≡ None → IsSome o → ⊥
-none_there o is there = false≢true (sym (ap is_some is) ∙ there)
-
-some_there : (o : Option (List ℕ)) (bytes : List ℕ) → o ≡ Some bytes → IsSome o
-some_there o bytes is = ap is_some is
 
 module _ (a b : Files) (same : (path : List ℕ) → IsReached a path → map.get b path ≡ map.get a path) (none : (path : List ℕ) → IsIn metadata_folder path → (IsReached a path → ⊥) → map.get b path ≡ None) where
   -- A name that is there in the second files is there in the first.

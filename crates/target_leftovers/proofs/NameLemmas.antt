@@ -13,15 +13,12 @@ use Rattle.std.proofs.lemmas.List.{append_cancel_left, append_cancel_right, leng
 use Rattle.std.proofs.lemmas.List.Sums.{passes_at_first, position_or_len_is, split_at_first}
 use Rattle.std.proofs.lemmas.Str.Parse.{IsNumeralModel, numerals_by_value, tells_all_ascii_digits, digit_at}
 use Rattle.target_leftovers.specs.Names.{AreNumbers, IsDecimal, IsDeltaName, IsIcebergName, IsManifestName, IsNumbered, list, manifest, staged}
+use Rattle.lake_basics.proofs.Texts.{between_unique, same_digits}
 
 -- ---- decimals
 
 own : IsNumeralModel (λ ds. all_ascii_digits ds ≡ true) (digits_value 10)
 own = numerals_by_value _ tells_all_ascii_digits
-
-same_digits : (ds : List ℕ) → list_all is_ascii_digit ds ≡ all_ascii_digits ds
-same_digits [] = refl
-same_digits (c ∷ ds) = ap (λ b. is_ascii_digit c && b) (same_digits ds)
 
 pub decimal_tested : (ds : List ℕ) (are : Bool) → 0 < length ds → (get_or ds 0 0 ≡ 48 → length ds ≡ 1) → are ≡ list_all is_ascii_digit ds → IsTrue are ↔ IsDecimal ds
 decimal_tested ds are some plain is = (
@@ -36,9 +33,6 @@ counted_digits bytes count are some len is = (
 )
 
 -- ---- between two texts
-
-pub between_unique : (front behind a b : List ℕ) → front ++ (a ++ behind) ≡ front ++ (b ++ behind) → a ≡ b
-between_unique front behind a b same = append_cancel_right a b behind (append_cancel_left front (a ++ behind) (b ++ behind) same)
 
 module _ (name front behind : List ℕ) where
   abbrev IsBetween : List ℕ → Type 0
@@ -108,10 +102,6 @@ numbers_parts bytes place found are =
       sym (ap (λ (n : ℕ). drop (n + 1) bytes) here ∙ ap (drop (length are.version + 1)) are.is ∙ drop-append-add are.version (codes "-" ++ are.number) 1),
     )
 
--- all that stands behind a place
-pub behind_place : (n : ℕ) (xs : List ℕ) → take (length xs - n) (drop n xs) ≡ drop n xs
-behind_place n xs = ap (λ k. take k (drop n xs)) (sym (length-drop n xs)) ∙ take-length (drop n xs)
-
 module _ (bytes : List ℕ) (place : ℕ) (found : Some place ≡ position is_hyphen bytes) (first : Bool) (is_first : IsTrue first ↔ IsDecimal (take place bytes)) where
   pub numbers_by : first ≡ true → (second : Bool) → IsTrue second ↔ IsDecimal (drop (place + 1) bytes) → IsTrue second ↔ AreNumbers bytes
   numbers_by whole second is_second = (
@@ -172,8 +162,3 @@ module _ (name : List ℕ) where
       by (inl n) = absurd (false≢true (sym no_staged ∙ is_staged.1 n))
       by (inr (inl n)) = absurd (false≢true (sym no_list ∙ is_list.1 n))
       by (inr (inr x)) = is_manifest.1 x
-
-pub between_by : (name front behind rest : List ℕ) → name ≡ front ++ rest → (r : Option (Bor (List ℕ))) → MatchOption r ((first : List ℕ) → rest ≢ first ++ behind) (λ x. rest ≡ x.now ++ behind)
-    → MatchOption r ((middle : List ℕ) → name ≢ front ++ (middle ++ behind)) (λ x. name ≡ front ++ (x.now ++ behind))
-between_by name front behind rest at None none = λ middle is. none middle (append_cancel_left front rest (middle ++ behind) (sym at ∙ is))
-between_by name front behind rest at (Some x) is = at ∙ ap (λ (l : List ℕ). front ++ l) is

@@ -33,6 +33,7 @@ use Rattle.target_sync.specs.Synced.{HasTable, IsAsBefore, IsAsBeforeOrUnderway,
 use Rattle.target_sync.specs.declared.plan.Mode.{Mode}
 use Rattle.target_sync.specs.declared.plan.Mode.TheVariants as modes
 use Rattle.target_sync.proofs.Histories.{not_marked, one_standing, unmarked}
+use Rattle.lake_basics.proofs.Lists.{get_pushed}
 
 -- ---- places in a history
 
@@ -66,10 +67,6 @@ KeepsKinds image = (schema held : ColumnTrees) → image schema ≡ Some held �
 
 all_there : {X : Type 0} (P : X → Type 0) (xs : List X) (i : ℕ) (x : X) → All P xs → slice_get xs i ≡ Some x → P x
 all_there P xs i x all is = subst P (get_or_from_slice_get xs i x x is) (All-get_or P xs i x (slice_get_within xs i x is) all)
-
-last_place : {X : Type 0} (front : List X) (x : X) → slice_get (front ++ x ∷ []) (length front) ≡ Some x
-last_place [] x = refl
-last_place (y ∷ front) x = last_place front x
 
 last_length : {X : Type 0} (front : List X) (x : X) → length (front ++ x ∷ []) ≡ suc (length front)
 last_length [] x = refl
@@ -151,7 +148,7 @@ module _ (source : SourceMeaning) (laws : HistoryLaws source) (target : Meaning)
         reads = reads;
         shows = (
           last.0,
-          ap (λ (h : History). slice_get h (length front)) split ∙ last_place front last.0,
+          ap (λ (h : History). slice_get h (length front)) split ∙ get_pushed front last.0,
           record {
             standing = standing;
             mark = marked;
@@ -175,7 +172,7 @@ module _ (source : SourceMeaning) (laws : HistoryLaws source) (target : Meaning)
       let front = last.1.0 in
       let many : length history ≡ suc (length front) = ap (λ (h : History). length h) last.1.1 ∙ last_length front last.0 in
       let place : j ≡ length front = omega (arith, all, many) in
-      let there : slice_get history (length front) ≡ Some last.0 = ap (λ (h : History). slice_get h (length front)) last.1.1 ∙ last_place front last.0 in
+      let there : slice_get history (length front) ≡ Some last.0 = ap (λ (h : History). slice_get h (length front)) last.1.1 ∙ get_pushed front last.0 in
       let one : at.shows.0 ≡ last.0 = same_Some at.shows.0 last.0 (sym at.shows.1 ∙ ap (λ (i : ℕ). slice_get history i) place ∙ there) in
       let same : SameTable table last.0.1 = last.3 table is_table in
       let shows : ShowsEntry source.kind target.image last.0 at.view = subst (λ (e : List ℕ × Table). ShowsEntry source.kind target.image e at.view) one at.shows.2 in (

@@ -5,8 +5,9 @@ use Rattle.partition_map.specs.declared.kind.PartKind.{PartKind}
 use Rattle.delta_log.specs.declared.commit.FileAction.{FileAction}
 use Rattle.delta_live.specs.Live.{SpellsNoValue}
 use Rattle.delta_live.specs.RowSteps.{AreRowsOf}
-use Rattle.delta_live.proofs.ValueLemmas.{rows_step, tells_more, there_at}
+use Rattle.delta_live.proofs.ValueLemmas.{rows_step, tells_more}
 use Rattle.delta_live.proofs.rows.rows_of.Goals as goal
+use Rattle.lake_basics.proofs.Lists.{there_at}
 
 pub returns-in_err-row-clause-refused : goal.returns-in_err-row-clause-refused
 returns-in_err-row-clause-refused c =

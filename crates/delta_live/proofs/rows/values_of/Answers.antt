@@ -5,8 +5,9 @@ use Rattle.table_history.specs.declared.row.PartValue.{PartValue}
 use Rattle.partition_map.specs.Stands.{DeltaStands}
 use Rattle.partition_map.specs.declared.kind.PartKind.{PartKind}
 use Rattle.delta_live.specs.Live.{text_of, AreValues}
-use Rattle.delta_live.proofs.ValueLemmas.{values_more, tells_more, there_at}
+use Rattle.delta_live.proofs.ValueLemmas.{values_more, tells_more}
 use Rattle.delta_live.proofs.rows.values_of.Goals as goal
+use Rattle.lake_basics.proofs.Lists.{there_at}
 
 pub returns-in_err-value_of-clause-refused : goal.returns-in_err-value_of-clause-refused
 returns-in_err-value_of-clause-refused c =

@@ -4,8 +4,9 @@ use Rattle.std.proofs.lemmas.List.Elements.{All-push}
 use Rattle.std.proofs.lemmas.Result.{err_from_is_err_and}
 use Rattle.table_history.specs.declared.feature.Feature.TheVariants.{PartitionValue}
 use Rattle.delta_live.specs.RowSteps.{kind_in, PairStands, PairFails}
-use Rattle.delta_live.proofs.ValueLemmas.{tells_more, there_at, last_of}
+use Rattle.delta_live.proofs.ValueLemmas.{tells_more}
 use Rattle.delta_live.proofs.texts.judged_pairs.Goals as goal
+use Rattle.lake_basics.proofs.Lists.{last_of, there_at}
 
 pub returns-in_err-judged_pair-clause-refused : goal.returns-in_err-judged_pair-clause-refused
 returns-in_err-judged_pair-clause-refused c =

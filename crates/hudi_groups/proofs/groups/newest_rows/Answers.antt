@@ -6,8 +6,9 @@ use Rattle.std.proofs.lemmas.List.{append_assoc}
 use Rattle.table_history.specs.declared.row.FileRow.{FileRow}
 use Rattle.hudi_groups.specs.Files.{group_name}
 use Rattle.hudi_groups.specs.GroupSets.{is_row_of_group, newest_rows}
-use Rattle.hudi_groups.proofs.GroupSetLemmas.{has_group-insert, newest_step, empty_of}
+use Rattle.hudi_groups.proofs.GroupSetLemmas.{has_group-insert, newest_step}
 use Rattle.hudi_groups.proofs.groups.newest_rows.Goals as goal
+use Rattle.lake_basics.proofs.Lists.{empty_of}
 
 pub loop-row-preserved : goal.loop-row-preserved
 loop-row-preserved c =

@@ -2,9 +2,9 @@ use Rattle.std.proofs.Common.{not, ◌&&◌, hash_set_len, ap, sym, ◌∙◌}
 use Rattle.std.specs.List.{list_any}
 use Rattle.std.specs.Str.{bytes_eq}
 use Rattle.hudi_groups.specs.GroupSets.{Groups, has_group}
-use Rattle.hudi_groups.proofs.GroupSetLemmas.{empty_of}
 use Rattle.hudi_groups.proofs.GroupIndexLemmas.{has_group-remove}
 use Rattle.hudi_groups.proofs.index.one_less.Goals as goal
+use Rattle.lake_basics.proofs.Lists.{empty_of}
 
 pub returns-then-is_empty : goal.returns-then-is_empty
 returns-then-is_empty c = λ p.

@@ -2,8 +2,9 @@ use Rattle.std.proofs.Common.{List, Some, map, ap, ◌∙◌}
 use Rattle.table_history.specs.declared.table.Table.{Table}
 use Rattle.iceberg_table.specs.declared.manifest.Manifest.{Manifest}
 use Rattle.iceberg_change.proofs.BehindLaws.{goes_held, holds_none, holds_read, listed_read, starts_held, starts_new}
-use Rattle.iceberg_change.proofs.StepLaws.{if_both, if_so}
+use Rattle.iceberg_change.proofs.StepLaws.{if_both}
 use Rattle.iceberg_change.proofs.behind.begin.Goals as goal
+use Rattle.lake_basics.proofs.Options.{ok_also}
 
 pub returns-then-is_for-clause-start : goal.returns-then-is_for-clause-start
 returns-then-is_for-clause-start c =
@@ -15,7 +16,7 @@ returns-then-is_for-clause-start c =
 pub returns-then-is_for-clause-read : goal.returns-then-is_for-clause-read
 returns-then-is_for-clause-read c = λ files location listed.
     let columns = c.args.columns.now in
-    if_so c.start_of.result _ _ c.start_of.ensures.held
+    ok_also c.start_of.result _ _ c.start_of.ensures.held
     (λ s slots. holds_read files location columns c.args.listed.manifests s slots (listed_read files location c.args.listed columns (c.is_for.ensures c.if-is_for.true) listed))
 
 pub returns-clause-start : goal.returns-clause-start
@@ -25,5 +26,5 @@ returns-clause-start c =
 
 pub returns-clause-read : goal.returns-clause-read
 returns-clause-read c = λ files location listed.
-    if_so c.start_of-2.result _ _ c.start_of-2.ensures.held
+    ok_also c.start_of-2.result _ _ c.start_of-2.ensures.held
     (λ s slots. holds_none files location c.args.columns.now s (slots ∙ ap (λ (l : List Manifest). map Some l) c.new.ensures))

@@ -5,8 +5,9 @@ use Rattle.iceberg_version.specs.Advance.{Advances, HoldsJustBehind, OwnEachPath
 use Rattle.iceberg_version.specs.Carrying.{parts_at}
 use Rattle.iceberg_version.specs.declared.carrying.Next.{Next}
 use Rattle.iceberg_version.specs.declared.kept.KeptManifest.{KeptManifest}
-use Rattle.iceberg_version.proofs.KeptLemmas.{advances, counted, fresh_left, held_just, ok_also, on_ok, paths_own}
+use Rattle.iceberg_version.proofs.KeptLemmas.{advances, counted, fresh_left, held_just, on_ok, paths_own}
 use Rattle.iceberg_version.proofs.advancing.advance.Goals as goal
+use Rattle.lake_basics.proofs.Options.{ok_also}
 
 pub owners-requires-clause-fresh : goal.owners-requires-clause-fresh
 owners-requires-clause-fresh c = fresh_left c.args.removed.now c.args.manifests.now c.args.links.now c.end_empty.new.links c.unlink_all.new.links c.end_empty.ensures c.unlink_all.ensures (added_rows (parts_at c.args.parts.now) c.args.next.now) c.requires.distinct c.requires.unheld

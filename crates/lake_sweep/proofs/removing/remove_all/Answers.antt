@@ -3,9 +3,9 @@ use Rattle.std.proofs.lemmas.List.{take_all}
 use Rattle.lake_store.proofs.DiskLaws.{remove_leaves, sync_leaves}
 use Rattle.lake_store.proofs.RunLaws.{reading_begins}
 use Rattle.lake_sweep.specs.Removing.{AreGone}
-use Rattle.lake_sweep.proofs.PickLaws.{longer}
 use Rattle.lake_sweep.proofs.RemovingLaws.{gone_none, no_paths, not_synced, reading_removes, refused_to, removed_to, some_paths, synced_to, to_removes}
 use Rattle.lake_sweep.proofs.removing.remove_all.Goals as goal
+use Rattle.lake_basics.proofs.Lists.{last_of}
 
 pub returns-then-is_empty-clause-none : goal.returns-then-is_empty-clause-none
 returns-then-is_empty-clause-none g c told none = reading_begins g.S.Store g.met.S.Store.only_now c.args.store.now told
@@ -51,7 +51,7 @@ loop-path-preserved g c =
     let i = c.loop-path.path-index in
     let so_far = c.loop-path.invariant in
     let same = c.as_str.ensures.value in
-    let next : take (i + 1) c.args.paths.now ≡ take i c.args.paths.now ++ p ∷ [] = longer c.args.paths.now i c.path-item.result c.loop-path-test.true c.path-item.is ∙ ap (λ (q : List ℕ). take i c.args.paths.now ++ q ∷ []) (sym same) in
+    let next : take (i + 1) c.args.paths.now ≡ take i c.args.paths.now ++ p ∷ [] = last_of c.args.paths.now i c.path-item.result c.loop-path-test.true c.path-item.is ∙ ap (λ (q : List ℕ). take i c.args.paths.now ++ q ∷ []) (sym same) in
     record {
       gone = λ told. removed_to store g.met.S.Store.only_now c.args.paths.now s i mid new told (so_far.gone told) (c.remove.ensures.elapses told) p c.loop-path-test.true next (c.in_ok-remove.ensures.ok told);
       cause = record {
@@ -74,7 +74,7 @@ returns-in_err-remove-clause-removes g c told =
     let new = c.remove.new.self in
     let p = c.as_str.result.now in
     let i = c.loop-path.path-index in
-    let next : take (i + 1) c.args.paths.now ≡ take i c.args.paths.now ++ p ∷ [] = longer c.args.paths.now i c.path-item.result c.loop-path-test.true c.path-item.is ∙ ap (λ (q : List ℕ). take i c.args.paths.now ++ q ∷ []) (sym c.as_str.ensures.value) in
+    let next : take (i + 1) c.args.paths.now ≡ take i c.args.paths.now ++ p ∷ [] = last_of c.args.paths.now i c.path-item.result c.loop-path-test.true c.path-item.is ∙ ap (λ (q : List ℕ). take i c.args.paths.now ++ q ∷ []) (sym c.as_str.ensures.value) in
     refused_to store g.met.S.Store.only_now c.args.paths.now s i mid new told (c.loop-path.invariant.gone told) (c.remove.ensures.elapses told) p c.loop-path-test.true next
     (remove_leaves c.remove.result (store.disk mid) (store.disk new) p (c.remove.ensures.ok told) (c.remove.ensures.err told))
 

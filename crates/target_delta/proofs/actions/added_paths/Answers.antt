@@ -2,8 +2,8 @@ use Rattle.std.proofs.Common.{◌≡◌, List, ℕ, Contains, ap, subst, ◌∙�
 use Rattle.std.specs.Prelude.{◌↔◌, IfOk}
 use Rattle.table_history.specs.Row.{Row}
 use Rattle.table_history.specs.Rows.{paths_of}
-use Rattle.target_delta.proofs.ActionLemmas.{all_taken}
 use Rattle.target_delta.proofs.actions.added_paths.Goals as goal
+use Rattle.lake_basics.proofs.Lists.{all_taken}
 
 pub returns-clause-paths : goal.returns-clause-paths
 returns-clause-paths c =

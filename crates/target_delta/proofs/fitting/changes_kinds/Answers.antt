@@ -3,9 +3,9 @@ use Rattle.std.specs.Prelude.{IsTrue}
 use Rattle.std.proofs.lemmas.Bool.{false≢true}
 use Rattle.table_history.specs.declared.table.Commit.{Commit}
 use Rattle.target_delta.proofs.KindLemmas.{AtStep, step_found, step_none, step_some}
-use Rattle.target_delta.proofs.TextLemmas.{next_of}
 use Rattle.target_delta.proofs.fitting.changes_kinds.Goals as goal
 use Rattle.target_delta.proofs.fitting.changes_kinds.Goals.{in-Some+in_ok-stated+else-has_commit, else-has_commit-via-then-has_commit+else-not-are_same_kinds, else-has_commit-via-else-has_commit, in_default}
+use Rattle.lake_basics.proofs.Lists.{next_of}
 
 pub returns-then-not-are_same_kinds : goal.returns-then-not-are_same_kinds
 returns-then-not-are_same_kinds c = λ end ends.

@@ -3,9 +3,9 @@ use Rattle.std.specs.Prelude.{Contains}
 use Rattle.std.proofs.lemmas.Bool.{false≢true}
 use Rattle.table_history.specs.Row.{Row}
 use Rattle.target_delta.specs.Fitting.{HasValueForm, IsFirstValueForm}
-use Rattle.target_delta.proofs.ActionLemmas.{all_taken}
 use Rattle.target_delta.proofs.FormLemmas.{first_here, none_more}
 use Rattle.target_delta.proofs.fitting.form_among.Goals as goal
+use Rattle.lake_basics.proofs.Lists.{all_taken}
 
 pub returns-then-branch : goal.returns-then-branch
 returns-then-branch c =

@@ -3,9 +3,9 @@ use Rattle.std.specs.Prelude.{Contains}
 use Rattle.table_history.specs.Row.{Row}
 use Rattle.table_history.specs.declared.table.Commit.{Commit}
 use Rattle.target_delta.specs.Fitting.{HasValueForm, IsFirstValueForm, IsFormOf, added_rows}
-use Rattle.target_delta.proofs.ActionLemmas.{all_taken}
 use Rattle.target_delta.proofs.FormLemmas.{first_among, none_among}
 use Rattle.target_delta.proofs.fitting.form_of.Goals as goal
+use Rattle.lake_basics.proofs.Lists.{all_taken}
 
 pub returns-in-Some : goal.returns-in-Some
 returns-in-Some c =

@@ -1,8 +1,8 @@
 use Rattle.std.proofs.Common.{List, ℕ, sym, subst}
 use Rattle.std.specs.Prelude.{Contains}
 use Rattle.std.proofs.lemmas.Bool.{false≢true}
-use Rattle.target_delta.proofs.ActionLemmas.{all_taken}
 use Rattle.target_delta.proofs.inspect.names_version.Goals as goal
+use Rattle.lake_basics.proofs.Lists.{all_taken}
 
 pub returns : goal.returns
 returns c = (

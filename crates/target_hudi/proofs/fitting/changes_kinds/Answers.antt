@@ -3,9 +3,10 @@ use Rattle.std.specs.Prelude.{option_map}
 use Rattle.std.proofs.lemmas.Bool.{false≢true}
 use Rattle.partition_map.specs.declared.kind.PartKind.{PartKind}
 use Rattle.table_history.specs.declared.table.Commit.{Commit}
-use Rattle.target_hudi.proofs.FittingLemmas.{AtStep, kinds_cases, next_of, step_none, step_some}
+use Rattle.target_hudi.proofs.FittingLemmas.{AtStep, kinds_cases, step_none, step_some}
 use Rattle.target_hudi.proofs.fitting.changes_kinds.Goals as goal
 use Rattle.target_hudi.proofs.fitting.changes_kinds.Goals.{in-Some+in_ok-stated+else-are_other_kinds, in_default}
+use Rattle.lake_basics.proofs.Lists.{next_of}
 
 pub loop-commit-preserved : goal.loop-commit-preserved
 loop-commit-preserved c = λ before are.

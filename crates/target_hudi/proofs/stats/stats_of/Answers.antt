@@ -7,8 +7,9 @@ use Rattle.std.specs.Str.{bytes_eq}
 use Rattle.table_history.specs.Row.{Row}
 use Rattle.hudi_instant.specs.declared.instant.Stat.{Stat}
 use Rattle.target_hudi.specs.Writing.{stat_of}
-use Rattle.target_hudi.proofs.StatLemmas.{all_taken, as_many, distinct_stats, item_there, sound_by, stats_by, stats_more}
+use Rattle.target_hudi.proofs.StatLemmas.{as_many, distinct_stats, item_there, sound_by, stats_by, stats_more}
 use Rattle.target_hudi.proofs.stats.stats_of.Goals as goal
+use Rattle.lake_basics.proofs.Lists.{all_taken}
 
 pub loop-row-preserved : goal.loop-row-preserved
 loop-row-preserved c =

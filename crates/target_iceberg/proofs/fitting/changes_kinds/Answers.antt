@@ -2,17 +2,17 @@ use Rattle.std.proofs.Common.{◌≡◌, ◌+◌, List, drop, refl, sym, ap, sub
 use Rattle.std.specs.Prelude.{IsTrue}
 use Rattle.std.proofs.lemmas.Bool.{false≢true}
 use Rattle.table_history.specs.declared.table.Commit.{Commit}
-use Rattle.iceberg_metadata.proofs.LoopLemmas.{next_item}
 use Rattle.target_iceberg.proofs.KindLemmas.{AtKinds, kinds_found, kinds_none, kinds_some}
 use Rattle.target_iceberg.proofs.fitting.changes_kinds.Goals as goal
 use Rattle.target_iceberg.proofs.fitting.changes_kinds.Goals.{in-Some+in_ok-stated+else-has_commit, else-has_commit-via-then-has_commit+else-not-are_same_kinds, else-has_commit-via-else-has_commit, in_default}
+use Rattle.lake_basics.proofs.Lists.{next_of}
 
 pub returns-then-not-are_same_kinds : goal.returns-then-not-are_same_kinds
 returns-then-not-are_same_kinds c = λ state are.
     let i = c.loop-commit.commit-index in
     let commits = c.args.commits.now in
     let commit : Commit = c.commit-item.result in
-    let at = subst (λ (l : List Commit). AtKinds c.args.names.now c.loop-commit.newest.items c.loop-commit.has_commit state commits l) (next_item commits i commit c.loop-commit-test.true c.commit-item.is) (c.loop-commit.invariant state are) in (
+    let at = subst (λ (l : List Commit). AtKinds c.args.names.now c.loop-commit.newest.items c.loop-commit.has_commit state commits l) (next_of commits i commit c.loop-commit-test.true c.commit-item.is) (c.loop-commit.invariant state are) in (
       λ _. kinds_found c.args.names.now c.loop-commit.newest.items c.loop-commit.has_commit state commits commit (drop (i + 1) commits) at c.in-Some.schema c.in-Some.is c.in_ok-stated.stated.items c.in_ok-stated.ensures
           c.if-has_commit.true (λ same. false≢true (sym c.if-not-are_same_kinds.true ∙ c.are_same_kinds.ensures.1 (c.as_slice.ensures.value ∙ same ∙ sym c.as_slice-then-has_commit.ensures.value))),
       λ _. refl,
@@ -23,7 +23,7 @@ loop-commit-preserved c = λ state are.
     let i = c.loop-commit.commit-index in
     let commits = c.args.commits.now in
     let commit : Commit = c.commit-item.result in
-    let at = subst (λ (l : List Commit). AtKinds c.args.names.now c.loop-commit.newest.items c.loop-commit.has_commit state commits l) (next_item commits i commit c.loop-commit-test.true c.commit-item.is) (c.loop-commit.invariant state are) in
+    let at = subst (λ (l : List Commit). AtKinds c.args.names.now c.loop-commit.newest.items c.loop-commit.has_commit state commits l) (next_of commits i commit c.loop-commit-test.true c.commit-item.is) (c.loop-commit.invariant state are) in
     let rest = drop (i + 1) commits in
     elim c.match-commit.branch [
       | in-Some+in_ok-stated+else-has_commit w ↦

@@ -2,8 +2,8 @@ use Rattle.std.proofs.Common.{List, ℕ, ◌≡◌, ◌≢◌, ◌++◌, Some, N
 use Rattle.std.specs.Prelude.{MatchOption}
 use Rattle.std.proofs.lemmas.Bool.Decides.{Decides-eqb}
 use Rattle.std.proofs.lemmas.Slice.Eq.{strip_prefix_is, strip_suffix_is}
-use Rattle.target_iceberg.proofs.NameLemmas.{between_by}
 use Rattle.target_iceberg.proofs.names.between.Goals as goal
+use Rattle.lake_basics.proofs.Texts.{between_by}
 
 pub returns-in_err-rest : goal.returns-in_err-rest
 returns-in_err-rest c =

@@ -1,8 +1,9 @@
 use Rattle.std.proofs.Common.{◌≡◌, ◌+◌, false, List, Contains, take, drop, ap, sym, subst, ◌∙◌}
 use Rattle.schema_map.specs.Paths.{Path}
 use Rattle.target_iceberg.specs.Newest.{is_changed, shape_at}
-use Rattle.target_iceberg.proofs.NewestLemmas.{all_taken, item_there, one_more, split_of}
+use Rattle.target_iceberg.proofs.NewestLemmas.{one_more}
 use Rattle.target_iceberg.proofs.newest.first_changed.Goals as goal
+use Rattle.lake_basics.proofs.Lists.{all_taken, split_of, there_at}
 
 pub loop-path-preserved : goal.loop-path-preserved
 loop-path-preserved c =
@@ -12,7 +13,7 @@ loop-path-preserved c =
 
 pub top_name-requires : goal.top_name-requires
 top_name-requires c =
-    let there : Contains c.args.paths.now c.path-item.result = item_there c.args.paths.now c.loop-path.path-index c.path-item.result c.loop-path-test.true c.path-item.is in
+    let there : Contains c.args.paths.now c.path-item.result = there_at c.args.paths.now c.loop-path.path-index c.path-item.result c.loop-path-test.true c.path-item.is in
     λ none. c.requires c.path-item.result there (sym c.as_slice-then-is_changed.ensures ∙ none)
 
 pub returns-then-is_changed : goal.returns-then-is_changed

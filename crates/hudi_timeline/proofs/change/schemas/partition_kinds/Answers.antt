@@ -1,12 +1,13 @@
 use Rattle.std.proofs.Common.{refl, ◌∙◌, inl, inr}
 use Rattle.std.specs.Option.{option_copied}
 use Rattle.hudi_timeline.proofs.CauseLemmas.{none_lacks}
-use Rattle.hudi_timeline.proofs.KindLemmas.{not_both, unknown, known, changed, unchanged}
+use Rattle.hudi_timeline.proofs.KindLemmas.{unknown, known, changed, unchanged}
 use Rattle.hudi_timeline.proofs.change.schemas.partition_kinds.Goals as goal
+use Rattle.lake_basics.proofs.Truth.{true_not_false}
 
 pub returns-then-not-branch-clause-refused : goal.returns-then-not-branch-clause-refused
 returns-then-not-branch-clause-refused c =
-    inl (refl, inl (λ d. not_both c.in_ok-are_distinct.field-0 (c.in_ok-are_distinct.ensures.distinct.1 d) c.if-not-branch.true))
+    inl (refl, inl (λ d. true_not_false c.in_ok-are_distinct.field-0 (c.in_ok-are_distinct.ensures.distinct.1 d) c.if-not-branch.true))
 
 pub returns-in_default-clause-refused : goal.returns-in_default-clause-refused
 returns-in_default-clause-refused c =

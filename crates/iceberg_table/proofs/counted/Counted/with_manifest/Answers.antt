@@ -1,6 +1,7 @@
 use Rattle.std.proofs.Common.{◌≡◌, ◌+◌, List, true, false, arith, refl, sym, ◌∙◌}
-use Rattle.iceberg_table.proofs.CountLaws.{counts_more, key_put}
+use Rattle.iceberg_table.proofs.CountLaws.{counts_more}
 use Rattle.iceberg_table.proofs.counted.Counted.with_manifest.Goals as goal
+use Rattle.lake_basics.proofs.Texts.{key_put}
 
 pub returns-then-contains-clause-counts : goal.returns-then-contains-clause-counts
 returns-then-contains-clause-counts c = λ read counts.

@@ -1,6 +1,7 @@
 use Rattle.std.proofs.Common.{◌≡◌, ◌<◌, ◌+◌, true, false, arith, refl, sym, ◌∙◌}
 use Rattle.lake_basics.specs.declared.limits.TheConstants.{MAX_ACTIONS}
-use Rattle.source_iceberg.proofs.CountLaws.{counts_more, key_put, many_here}
+use Rattle.lake_basics.proofs.Texts.{key_put}
+use Rattle.source_iceberg.proofs.CountLaws.{counts_more, many_here}
 use Rattle.source_iceberg.proofs.counted.Counted.count.Goals as goal
 
 pub returns-then-contains-clause-counts : goal.returns-then-contains-clause-counts
