@@ -1,5 +1,5 @@
 -- What a schema spells fits it.
-use Rattle.std.proofs.Common.{◌≡◌, ℕ, zero, suc, ◌<◌, List, [], ◌∷◌, ◌++◌, sym, ap, subst, ◌∙◌, arith, inl, inr}
+use Rattle.std.proofs.Common.{ℕ, zero, suc, List, [], ◌∷◌, sym, ap, subst, arith, inl, inr}
 use Rattle.std.specs.List.{AllByRecursion}
 use Rattle.avro_value.specs.Layout.{Layout, Layouts, no_layouts, layouts}
 use Rattle.avro_value.specs.ValueTree.{ValueTree}

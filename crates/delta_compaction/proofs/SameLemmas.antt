@@ -1,5 +1,5 @@
 -- That two commits say the same.
-use Rattle.std.proofs.Common.{◌≡◌, ◌↔◌, ℕ, ℤ, List, [], Option, Some, None, Bool, true, false, Contains, refl, sym, ap, subst, ◌∙◌, ◌+◌, ◌<◌, length, get_or, Ordering, Less, Equal, Greater, is_eq, is_lt, nat_cmp, arith}
+use Rattle.std.proofs.Common.{◌≡◌, ◌↔◌, ℕ, ℤ, List, [], Option, Some, None, Bool, true, false, Contains, refl, sym, ap, subst, ◌∙◌, ◌+◌, ◌<◌, length, get_or, is_eq, is_lt, nat_cmp, arith}
 use Rattle.std.specs.Prelude.{◌&&◌}
 use Rattle.std.specs.Ordering.{ordering_reverse}
 use Rattle.std.specs.Bool.{Decides}
@@ -12,7 +12,6 @@ use Rattle.std.specs.Str.{bytes_eq}
 use Rattle.std.proofs.lemmas.Bool.Decides.{Decides-and, Decides-eqb, Decides-int_eq, Decides-like}
 use Rattle.std.proofs.lemmas.Cmp.{nat_list_cmp_total, nat_list_eq_equiv}
 use Rattle.std.proofs.lemmas.List.Sorted.{ranks_by, IsPermutation-map, IsPermutation-sym, Contains-permutation}
-use Rattle.std.proofs.lemmas.Bool.{false≢true}
 use Rattle.std.proofs.lemmas.List.{length-map, get_or-map}
 use Rattle.std.proofs.lemmas.Map.Keys.{IsDistinct-IsPermutation, apart_from_distinct, sorted_from_all_adjacent}
 use Rattle.std.proofs.lemmas.Slice.Eq.{bytes_eq-Decides, slice_eq-Decides}

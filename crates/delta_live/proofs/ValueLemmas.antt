@@ -2,7 +2,7 @@
 use Rattle.std.proofs.Common.{◌≡◌, ℕ, suc, ◌+◌, ◌<◌, ◌^◌, List, [], ◌∷◌, ◌++◌, length, get_or, take, drop, cond, true, false, Option, Some, None, Contains, refl, sym, ap, subst, ◌∙◌, ⊎_elim}
 use Rattle.std.specs.Prelude.{option_to_list}
 use Rattle.std.specs.Str.{bytes_eq}
-use Rattle.std.proofs.lemmas.List.{take_more, drop_more, append-nil}
+use Rattle.std.proofs.lemmas.List.{append-nil}
 use Rattle.table_history.specs.History.{column_type, FitsColumn, FitColumns}
 use Rattle.table_history.specs.Path.{IsPath}
 use Rattle.table_history.specs.Rows.{paths_of}

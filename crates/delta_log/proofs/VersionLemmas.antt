@@ -1,12 +1,12 @@
 -- Versions as digits.
-use Rattle.std.proofs.Common.{◌≡◌, ◌≢◌, ℕ, zero, suc, ◌+◌, ◌-◌, ◌^◌, ◌<◌, ◌≤◌, List, [], ◌∷◌, ◌++◌, length, get_or, take, drop, replicate, Option, Some, None, MatchOption, Result, Ok, Err, false, refl, sym, ap, subst, ◌∙◌, length-append, arith, codes}
+use Rattle.std.proofs.Common.{◌≡◌, ◌≢◌, ℕ, ◌+◌, ◌-◌, ◌^◌, ◌<◌, ◌≤◌, List, [], ◌∷◌, ◌++◌, length, get_or, take, drop, replicate, Option, Some, None, MatchOption, Result, Ok, Err, false, refl, sym, ap, subst, ◌∙◌, length-append, arith, codes}
 use Rattle.std.proofs.Math.Seq.{take-length}
 use Rattle.std.specs.Result.{result_ok}
 use Rattle.std.specs.Fmt.{char_count, decimal, padded_integral, format_spec}
 use Rattle.std.specs.Str.Parse.{IsNumeral, AllDigits, digits_value, ParsesUnsigned}
 use Rattle.std.proofs.lemmas.Fmt.{decimal_is_IsNumeral, length-decimal-le}
 use Rattle.std.proofs.lemmas.List.{append-nil, take-append-drop, take-append-le, drop-append-le}
-use Rattle.std.proofs.lemmas.Str.Parse.{digit_at, without_leading_plus_none}
+use Rattle.std.proofs.lemmas.Str.Parse.{without_leading_plus_none}
 use Rattle.lake_basics.specs.declared.limits.TheConstants.{MAX_DELTA_VERSION}
 use Rattle.lake_basics.proofs.Texts.{AllDigits-zeros, digits_value-zeros, length-zeros}
 use Rattle.delta_log.specs.VersionName.{IsVersionDigits, IsVersionName}

@@ -1,5 +1,5 @@
 -- One path for each version, and the names in the log's folder.
-use Rattle.std.proofs.Common.{◌≡◌, ◌≢◌, ℕ, ◌+◌, ◌*◌, ◌-◌, ◌<◌, ◌≤◌, List, [], ◌∷◌, ◌++◌, length, get_or, All, Contains, Option, Some, None, Result, Ok, true, false, refl, sym, ap, subst, ◌∙◌, arith, codes, ⊎_elim}
+use Rattle.std.proofs.Common.{◌≡◌, ◌≢◌, ℕ, ◌+◌, ◌*◌, ◌-◌, ◌<◌, ◌≤◌, List, [], ◌∷◌, ◌++◌, length, get_or, All, Contains, Some, None, Result, Ok, true, false, refl, sym, ap, subst, ◌∙◌, arith, codes, ⊎_elim}
 use Rattle.std.specs.Str.Parse.{AllDigits, digits_value_after}
 use Rattle.std.specs.Char.{digit_value}
 use Rattle.std.specs.FinMap as map

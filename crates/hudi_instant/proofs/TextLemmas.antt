@@ -1,5 +1,5 @@
 -- Runs of neighbours, objects of arrays, and what the text of an instant is read back as.
-use Rattle.std.proofs.Common.{◌≡◌, ℕ, suc, ◌+◌, ◌<◌, ◌≤◌, ◌^◌, List, [], ◌∷◌, ◌++◌, length, get_or, length-drop, take, drop, map, Option, Some, None, nat_le, Bool, true, false, cond, Ok, Ordering, Less, Equal, Greater, refl, sym, ap, subst, ◌∙◌, append_assoc, arith, nat_lt, nat_cmp, is_eq}
+use Rattle.std.proofs.Common.{◌≡◌, ℕ, suc, ◌+◌, ◌<◌, ◌≤◌, List, [], ◌∷◌, ◌++◌, length, get_or, length-drop, take, drop, map, Option, Some, None, nat_le, Bool, true, false, cond, Ok, Ordering, Less, Equal, Greater, refl, sym, ap, subst, ◌∙◌, append_assoc, arith, nat_cmp, is_eq}
 use Rattle.std.specs.Prelude.{codes, flat_map, All}
 use Rattle.std.specs.Cmp.Lexicographic.{slice_cmp}
 use Rattle.std.specs.List.{AllByRecursion, prefix_len}

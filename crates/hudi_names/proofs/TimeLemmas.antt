@@ -1,5 +1,5 @@
 -- Times as digits.
-use Rattle.std.proofs.Common.{◌≡◌, ◌≢◌, ℕ, zero, suc, ℤ, pos, negsuc, ◌+◌, ◌-◌, ◌*◌, ◌/◌, ◌%◌, ◌^◌, ◌<◌, ◌≤◌, ◌<ℤ◌, ◌≤ℤ◌, ◌+ℤ◌, ◌*ℤ◌, List, [], ◌∷◌, ◌++◌, length, get_or, replicate, MatchOption, IfSome, Result, Ok, Err, false, refl, sym, ap, subst, ◌∙◌, neg_ℤ, inl, inr, codes, arith, rules}
+use Rattle.std.proofs.Common.{◌≡◌, ◌≢◌, ℕ, suc, ℤ, pos, negsuc, ◌+◌, ◌-◌, ◌*◌, ◌/◌, ◌%◌, ◌^◌, ◌<◌, ◌≤◌, ◌<ℤ◌, ◌≤ℤ◌, ◌+ℤ◌, ◌*ℤ◌, List, [], ◌∷◌, ◌++◌, length, get_or, replicate, MatchOption, IfSome, Result, Ok, Err, false, refl, sym, ap, subst, ◌∙◌, neg_ℤ, inl, inr, codes, arith, rules}
 use Rattle.std.specs.Int.{int_div_euclid, int_rem_euclid}
 use Rattle.std.specs.Char.{digit_value}
 use Rattle.std.specs.Result.{result_ok}

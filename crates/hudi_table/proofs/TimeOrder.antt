@@ -1,6 +1,6 @@
 -- Names in byte order have times in byte order.
 use Rattle.std.proofs.Common.{◌≡◌, ◌≢◌, ℕ, ◌+◌, ◌<◌, ◌==◌, List, [], ◌∷◌, ◌++◌, take, cond, not, true, false, Some, refl, sym, ap, ◌∙◌, arith}
-use Rattle.std.specs.Prelude.{suc, nat_lt}
+use Rattle.std.specs.Prelude.{nat_lt}
 use Rattle.std.specs.Char.{is_ascii_digit}
 use Rattle.std.specs.List.{before_first, list_all, position_or_len}
 use Rattle.std.specs.Ordering.{nat_cmp, ordering_reverse, ordering_then}

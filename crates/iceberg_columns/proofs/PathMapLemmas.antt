@@ -1,5 +1,5 @@
 -- Field ids by their column paths, from the last to the first.
-use Rattle.std.proofs.Common.{◌≡◌, ℕ, suc, ◌-◌, ◌<◌, ◌≤◌, ℤ, List, ◌∷◌, Some, cond, drop, get_or, length, sym, ap, subst, ◌∙◌, Bor, arith, drop-cons, is_eq, nat_cmp}
+use Rattle.std.proofs.Common.{◌≡◌, ℕ, ◌-◌, ◌<◌, ◌≤◌, ℤ, List, ◌∷◌, Some, cond, drop, get_or, length, sym, ap, subst, ◌∙◌, Bor, drop-cons, is_eq, nat_cmp}
 use Rattle.std.specs.BTreeMap as tree
 use Rattle.std.specs.BTreeMap.{BTreeMap}
 use Rattle.std.specs.Cmp.Lexicographic.{slice_cmp, pointwise, lists_ties}

@@ -1,5 +1,5 @@
 -- Known ids that have been kept by their paths, from the last pair to the first.
-use Rattle.std.proofs.Common.{◌≡◌, ℕ, suc, ◌-◌, ◌<◌, ◌≤◌, List, [], ◌∷◌, ◌&&◌, cond, drop, get_or, length, refl, sym, ap, subst, ◌∙◌, arith, Bor, drop-cons}
+use Rattle.std.proofs.Common.{◌≡◌, ℕ, suc, ◌-◌, ◌<◌, ◌≤◌, List, [], ◌∷◌, ◌&&◌, cond, drop, get_or, length, refl, sym, ap, subst, ◌∙◌, Bor, drop-cons}
 use Rattle.std.specs.Prelude.{ℤ, Bool, true, false, Option, Some}
 use Rattle.std.specs.Option.{option_copied}
 use Rattle.std.specs.BTreeMap as sorted

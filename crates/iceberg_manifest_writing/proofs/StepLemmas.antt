@@ -1,7 +1,5 @@
 -- One more item at a step of a loop that maps a list.
-use Rattle.std.proofs.Common.{◌≡◌, ℕ, suc, ◌+◌, ◌<◌, ◌++◌, get_or, drop, append_assoc, add-one, drop-cons, List, [], ◌∷◌, length, map, sym, ap, subst}
-use Rattle.std.proofs.lemmas.List.{map-append}
-use Rattle.std.specs.List.{AllByRecursion}
+use Rattle.std.proofs.Common.{◌≡◌, ℕ, ◌+◌, ◌++◌, drop, append_assoc, List, ◌∷◌, map, sym, subst}
 use Rattle.avro_value.specs.Fitting.{IsSound, AreSound}
 use Rattle.avro_value.specs.ValueTree.{ValueTree, values_of}
 use Rattle.avro_value.specs.Writing.{encoding, values_encoding}

@@ -1,5 +1,5 @@
 -- What stands in the JSON of a type, by its parts.
-use Rattle.std.proofs.Common.{◌≡◌, ◌⊎◌, ℕ, zero, suc, ◌++◌, ℤ, List, [], ◌∷◌, Option, Some, None, codes, refl, sym, ap, subst, ◌∙◌, append_assoc, inl, inr, ⊎_elim}
+use Rattle.std.proofs.Common.{◌≡◌, ◌⊎◌, ℕ, zero, suc, ◌++◌, ℤ, List, [], ◌∷◌, Some, None, codes, refl, sym, ap, subst, ◌∙◌, append_assoc, inl, inr, ⊎_elim}
 use Rattle.serde_json.specs.Data.{Data, string}
 use Rattle.schema_map.specs.Paths.{Path}
 use Rattle.schema_map.specs.Places.{IsWithin, IsNamed}

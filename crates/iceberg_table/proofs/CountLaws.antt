@@ -5,10 +5,9 @@ use Rattle.std.specs.List.{list_any}
 use Rattle.std.specs.Str.{bytes_eq}
 use Rattle.std.proofs.lemmas.List.Elements.{filter-append}
 use Rattle.std.proofs.lemmas.List.Folds.{list_any-append}
-use Rattle.std.proofs.lemmas.Slice.Eq.{bytes_eq-Decides}
 use Rattle.lake_basics.specs.declared.limits.TheConstants.{MAX_ACTIONS}
 use Rattle.lake_basics.proofs.Truth.{or_nothing}
-use Rattle.lake_basics.proofs.Texts.{key_more, same_any}
+use Rattle.lake_basics.proofs.Texts.{key_more}
 use Rattle.iceberg_table.specs.Counted.{AreFew, Counts, before_of}
 use Rattle.iceberg_table.specs.Once.{counted_before, each_once, entries_once, entry_count, has_path}
 use Rattle.iceberg_table.specs.declared.counted.Counted.{Counted}

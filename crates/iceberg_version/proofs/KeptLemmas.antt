@@ -1,6 +1,6 @@
 -- What is kept behind a commit.
 use Rattle.std.proofs.Common.{◌≡◌, ◌≢◌, ℕ, Bool, true, false, cond, Contains, List, [], ◌∷◌, Option, Some, None, IsSome, Result, Ok, Err, map, length, not, nat_eq, filter, slice_get, refl, sym, ap, subst, ◌∙◌, ◌⊎◌, inl, inr, ⊎_elim}
-use Rattle.std.specs.Prelude.{IfOk, OnOk, option_map, unwrap_or}
+use Rattle.std.specs.Prelude.{OnOk, option_map, unwrap_or}
 use Rattle.std.specs.List.{IsDistinct, range_with_len}
 use Rattle.std.specs.Str.{bytes_eq}
 use Rattle.std.proofs.lemmas.Bool.{false≢true}

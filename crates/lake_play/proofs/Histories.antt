@@ -20,7 +20,7 @@ use Rattle.delta_log.specs.declared.action.LineAction.{LineAction}
 use Rattle.delta_log.specs.declared.commit.DeltaCommit.{DeltaCommit}
 use Rattle.delta_table.specs.Log.{IsStep}
 use Rattle.conformance.specs.Histories.{IsExtension, IsHistoryFrom}
-use Rattle.std.specs.Prelude.{option_to_list, unwrap_or}
+use Rattle.std.specs.Prelude.{unwrap_or}
 use Rattle.std.specs.List.{AllByRecursion}
 use Rattle.std.proofs.lemmas.Bool.{false_from_ne_true}
 use Rattle.std.proofs.lemmas.List.Elements.{All-from_recursion}

@@ -1,9 +1,7 @@
 -- How long the JSON is at most that targets write, by its members.
 use Rattle.std.proofs.Common.{◌≡◌, ℕ, ◌+◌, ◌*◌, ◌^◌, ◌≤◌, ◌<◌, ℤ, pos, List, [], ◌∷◌, length, map, Contains, Option, Some, None, Ordering, Less, Equal, Greater, refl, sym, ap, subst, arith}
 use Rattle.std.specs.Cmp.Lexicographic.{slice_cmp}
-use Rattle.std.specs.Fmt.{decimal}
 use Rattle.std.specs.Ordering.{match_ordering, nat_cmp}
-use Rattle.std.proofs.lemmas.Fmt.{length-decimal-le}
 use Rattle.serde_json.specs.Data.{Data, number, Members, no_members, member, put}
 use Rattle.serde_json.specs.Find.{of_integer}
 use Rattle.serde_json.specs.View.{items_of}

@@ -1,5 +1,5 @@
 -- What the files of an Iceberg table say, they say once.
-use Rattle.std.proofs.Common.{◌≡◌, ℕ, List, Option, Some, Result, Ok, sym, ap, ◌∙◌}
+use Rattle.std.proofs.Common.{◌≡◌, ℕ, List, Result, Ok, sym, ap, ◌∙◌}
 use Rattle.avro_schema.specs.Tree.{SchemaTree}
 use Rattle.avro_value.specs.ValueTree.{ValueTree}
 use Rattle.avro_value.specs.declared.api.TheConstants.{MAX_VALUES}

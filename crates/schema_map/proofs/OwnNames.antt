@@ -1,5 +1,5 @@
 -- Names that have been seen, from the last column to the first.
-use Rattle.std.proofs.Common.{◌≡◌, ℕ, suc, zero, ◌-◌, ◌<◌, ◌≤◌, List, [], ◌∷◌, Bool, true, false, not, ◌||◌, cond, drop, get_or, length, refl, sym, ap, subst, ◌∙◌, arith, Bor, drop-cons, rules}
+use Rattle.std.proofs.Common.{◌≡◌, ℕ, suc, zero, ◌-◌, ◌<◌, ◌≤◌, List, [], ◌∷◌, Bool, true, false, not, ◌||◌, cond, drop, get_or, length, refl, sym, ap, subst, ◌∙◌, Bor, drop-cons, rules}
 use Rattle.std.specs.BTreeSet as sorted
 use Rattle.std.specs.BTreeSet.{BTreeSet}
 use Rattle.std.specs.Cmp.Lexicographic.{slice_cmp}

@@ -1,5 +1,5 @@
 -- What is told where the commits after a position aren't read.
-use Rattle.std.proofs.Common.{◌≡◌, ◌⊎◌, ◌+◌, ◌<◌, ◌≤◌, inl, inr, ℕ, List, Some, codes, length, refl, sym, subst, ⊎_elim, arith}
+use Rattle.std.proofs.Common.{◌≡◌, ◌⊎◌, ◌+◌, ◌≤◌, inl, inr, ℕ, List, Some, codes, length, refl, sym, subst, ⊎_elim}
 use Rattle.lake_basics.specs.declared.limits.TheConstants.{MAX_ACTIONS, MAX_COMMITS, MAX_NAMES}
 use Rattle.lake_basics.proofs.Numbers.{le_not_less}
 use Rattle.lake_store.specs.Disk.{Files, names_in}

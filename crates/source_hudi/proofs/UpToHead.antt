@@ -1,5 +1,5 @@
 -- The completed instants that aren't later than the head are those before the first pending one.
-use Rattle.std.proofs.Common.{◌≡◌, ◌≢◌, ℕ, ◌+◌, List, [], ◌∷◌, cond, take, Bool, true, false, Contains, refl, sym, ap, subst, ◌∙◌}
+use Rattle.std.proofs.Common.{◌≡◌, ◌≢◌, ℕ, ◌+◌, List, [], ◌∷◌, cond, take, Bool, true, Contains, refl, sym, ap, subst, ◌∙◌}
 use Rattle.std.specs.List.{prefix_len}
 use Rattle.std.specs.Ordering.{is_le, nat_cmp}
 use Rattle.std.specs.Cmp.Lexicographic.{slice_cmp}

@@ -1,5 +1,5 @@
 -- The commits of an Iceberg table lead along the histories that its newest metadata holds, and its table at the head is the last one there.
-use Rattle.std.proofs.Common.{◌≡◌, ℕ, List, [], ◌∷◌, ◌++◌, Contains, Option, Result, Ok, append_assoc, sym, ap, subst, ◌∙◌}
+use Rattle.std.proofs.Common.{◌≡◌, ℕ, List, [], ◌∷◌, ◌++◌, Contains, Option, append_assoc, sym, ap, subst, ◌∙◌}
 use Rattle.std.specs.Prelude.{reverse, unwrap_or}
 use Rattle.lake_store.specs.Disk.{Files}
 use Rattle.table_history.specs.History.{History, IsHistory, positions_of}

@@ -1,5 +1,5 @@
 -- Rows as a list, against the row of a path.
-use Rattle.std.proofs.Common.{take, slice_get, ◌≡◌, ℕ, zero, suc, ◌<◌, ◌||◌, Bool, true, false, cond, List, [], ◌∷◌, ◌++◌, length, get_or, map, Option, None, Some, filter, not, ◌+◌, ◌↔◌, Ordering, Less, Equal, Greater, is_lt, is_eq, nat_cmp, Contains, MatchOption, refl, sym, ap, subst, ◌∙◌, ◌⊎◌, inl, inr, ⊎_elim, arith}
+use Rattle.std.proofs.Common.{take, slice_get, ◌≡◌, ℕ, zero, suc, ◌<◌, ◌||◌, Bool, true, false, cond, List, [], ◌∷◌, ◌++◌, length, get_or, map, Option, None, Some, filter, not, ◌+◌, ◌↔◌, is_lt, is_eq, nat_cmp, Contains, MatchOption, refl, sym, ap, subst, ◌∙◌, ◌⊎◌, inl, inr, ⊎_elim, arith}
 use Rattle.std.specs.Bool.{Decides}
 use Rattle.std.specs.Cmp.Lexicographic.{slice_cmp, texts_ties}
 use Rattle.std.proofs.lemmas.List.{length-map, get_or-map, length-take, get_or-take}

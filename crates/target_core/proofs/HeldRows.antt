@@ -1,8 +1,7 @@
 -- What is tested of rows that are kept.
-use Rattle.std.proofs.Common.{◌≡◌, ⊎_elim, ℕ, ◌≤◌, ◌&&◌, Bool, true, false, nat_le, List, [], ◌∷◌, length, Contains, refl, subst, arith}
+use Rattle.std.proofs.Common.{◌≡◌, ⊎_elim, ◌≤◌, true, nat_le, List, [], ◌∷◌, length, Contains, refl, subst}
 use Rattle.std.specs.List.{list_all}
-use Rattle.std.proofs.lemmas.Bool.{and_from, false≢true}
-use Rattle.std.proofs.lemmas.Bool.Decides.{nat_tests}
+use Rattle.std.proofs.lemmas.Bool.{and_from}
 use Rattle.lake_basics.specs.declared.limits.TheConstants.{MAX_LIVE_FILES}
 use Rattle.lake_basics.proofs.Truth.{left_true, right_true}
 use Rattle.lake_basics.proofs.Numbers.{le_by, le_test}

@@ -1,6 +1,6 @@
 -- What a folder holds depends on the files in it alone.
-use Rattle.std.proofs.Common.{◌≡◌, ℕ, List, [], ◌∷◌, ◌++◌, Option, Contains, refl, sym, ap, subst}
-use Rattle.std.specs.Prelude.{IsSome, map}
+use Rattle.std.proofs.Common.{◌≡◌, ℕ, List, ◌++◌, Option, Contains, sym, subst}
+use Rattle.std.specs.Prelude.{IsSome}
 use Rattle.lake_store.specs.Disk.{Files, front_of, names_in}
 use Rattle.lake_store.specs.Runs.{IsIn}
 use Rattle.lake_store.proofs.OrderLaws.{names_in_listed, names_in_sorted}

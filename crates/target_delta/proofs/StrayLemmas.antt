@@ -1,5 +1,5 @@
 -- The first stray name of a folder without a version, by the list of its names.
-use Rattle.std.proofs.Common.{◌≡◌, inl, ⊎_elim, ℕ, ◌==◌, ◌&&◌, Bool, true, false, not, List, [], ◌∷◌, ◌++◌, length, take, drop, find, codes, Contains, Some, None, refl, sym, ap, subst, ◌∙◌, arith, if◌then◌else◌}
+use Rattle.std.proofs.Common.{◌≡◌, inl, ⊎_elim, ℕ, ◌==◌, ◌&&◌, Bool, true, false, List, [], ◌∷◌, ◌++◌, length, take, drop, find, codes, Contains, Some, None, refl, sym, ap, subst, ◌∙◌, arith, if◌then◌else◌}
 use Rattle.std.proofs.lemmas.List.{length-append, length-drop, length-take, take-append-drop}
 use Rattle.std.proofs.lemmas.Bool.{and_from, false≢true, not-false}
 use Rattle.std.proofs.lemmas.Bool.Decides.{nat_tests}
@@ -138,8 +138,6 @@ found_none (x ∷ xs) is name there =
       | true ↦ λ stray here. absurd (none-some x (sym here))
       | false ↦ λ quiet later. ⊎_elim (λ (e : x ≡ name). ap is_stray_name (sym e) ∙ quiet) (λ behind. found_none xs later name behind) (Contains-cases x xs name there)
     ] refl is
-
--- ---- what a stray name is
 
 -- ---- the folder
 

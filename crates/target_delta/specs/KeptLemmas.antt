@@ -1,5 +1,5 @@
 -- What is kept of the same files is the same as far as the next commit rests on it.
-use Rattle.std.proofs.Common.{◌≡◌, ◌⊎◌, inl, inr, ⊎_elim, ℕ, suc, List, [], false, Option, Some, None, refl, sym, ap, subst, ◌∙◌, arith}
+use Rattle.std.proofs.Common.{◌≡◌, ◌⊎◌, inl, inr, ⊎_elim, ℕ, suc, List, [], false, Some, refl, sym, ap, subst, ◌∙◌, arith}
 use Rattle.std.proofs.lemmas.Bool.{cases_lt}
 use Rattle.lake_store.specs.Disk.{Files}
 use Rattle.delta_log.specs.declared.commit.DeltaCommit.{DeltaCommit}

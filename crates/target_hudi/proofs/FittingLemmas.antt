@@ -1,11 +1,9 @@
 -- Whether commits fit what is kept: the kinds of partition columns along the commits, and the first commit with a fault.
-use Rattle.std.proofs.Common.{◌≡◌, ◌≢◌, ◌⊎◌, ⊎_elim, inl, inr, ℕ, ◌+◌, ◌<◌, ◌≤◌, List, [], ◌∷◌, ◌++◌, length, get_or, take, drop, Bool, Contains, Decides, Option, Some, None, Result, Err, Ok, refl, sym, ap, subst, ◌∙◌, arith, rules}
+use Rattle.std.proofs.Common.{◌≡◌, ◌≢◌, ◌⊎◌, ⊎_elim, inl, inr, ℕ, ◌+◌, ◌<◌, List, [], ◌∷◌, length, get_or, take, drop, Bool, Contains, Decides, Option, Some, None, Result, Err, Ok, refl, sym, ap, subst, ◌∙◌, rules}
 use lib.Pointwise.{pointwise}
 use Rattle.std.specs.Prelude.{IfErr, OnOk, option_map}
 use Rattle.std.specs.Option.{option_eq}
-use Rattle.std.proofs.Math.Seq.{take-length}
 use Rattle.std.proofs.lemmas.Bool.{cases_Bool, false≢true}
-use Rattle.std.proofs.lemmas.List.{drop_more, take-append-drop, take_more}
 use Rattle.std.proofs.lemmas.List.Elements.{Contains-append_cases, Contains-append_right}
 use Rattle.std.proofs.lemmas.Slice.Eq.{slice_eq-Decides}
 use denote.Enum.Bare.{same_false, same_true}
@@ -22,7 +20,7 @@ use Rattle.table_history.proofs.RowListLemmas.{Contains-none, Contains-head, Con
 use Rattle.partition_map.specs.Folder.{CarriesValues}
 use Rattle.lake_basics.specs.declared.limits.TheConstants.{MAX_PUBLISHED_COMMITS}
 use Rattle.lake_basics.specs.Outcome.{GivesUnlessMemory}
-use Rattle.lake_basics.proofs.Lists.{last_of, next_of, split_of}
+use Rattle.lake_basics.proofs.Lists.{last_of, split_of}
 use Rattle.lake_basics.proofs.Options.{option_decides}
 use Rattle.table_history.specs.declared.limit.LimitKind.{LimitKind}
 use Rattle.schema_avro.specs.AvroWriting.{avro_schema_text}

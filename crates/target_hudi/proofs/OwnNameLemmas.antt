@@ -1,6 +1,6 @@
 -- Which names of instants in a timeline's folder are own, by what is read of them.
 use Rattle.std.proofs.Common.{◌≡◌, ◌≢◌, ◌⊎◌, inl, inr, ⊎_elim, ◌==◌, ℕ, ◌+◌, Bool, true, false, not, cond, List, [], ◌∷◌, ◌++◌, take, Contains, ◌↔◌, MatchOption, Option, Some, None, refl, sym, ap, subst, ◌∙◌, arith}
-use Rattle.std.specs.Prelude.{ℤ, codes, is_some, option_map, suc}
+use Rattle.std.specs.Prelude.{ℤ, codes, is_some, option_map}
 use Rattle.std.specs.Char.{is_ascii_digit}
 use Rattle.std.specs.Cmp.Lexicographic.{slice_cmp}
 use Rattle.std.specs.List.{AllByRecursion, before_first, list_all, position_or_len}

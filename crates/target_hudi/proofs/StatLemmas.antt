@@ -4,7 +4,6 @@ use Rattle.std.specs.Prelude.{◌↔◌, ◌≢◌, IfOk, Result, Ok, Err, codes
 use Rattle.std.specs.List.{AllByRecursion, IsDistinct, suffix_len}
 use Rattle.std.specs.Str.{bytes_eq}
 use Rattle.std.specs.Str.Pattern.{RFindsChar, SplitsAroundMatch}
-use Rattle.std.proofs.Math.Seq.{take-length}
 use Rattle.std.proofs.lemmas.Bool.{cases_Bool, eqb-true}
 use Rattle.std.proofs.lemmas.Str.{len_utf8_ascii}
 use Rattle.std.proofs.lemmas.Str.Pattern.{NoCharPasses-char}

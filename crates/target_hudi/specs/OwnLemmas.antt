@@ -1,6 +1,5 @@
 -- What is foreign or too much in a Hudi target's files depends on its own folder alone.
-use Rattle.std.proofs.Common.{◌≡◌, inl, inr, ⊎_elim, ℕ, ◌<◌, List, [], ◌∷◌, ◌++◌, length, Option, None, Some, Contains, codes, refl, sym, ap, subst, ◌∙◌}
-use Rattle.std.specs.Prelude.{map}
+use Rattle.std.proofs.Common.{◌≡◌, inl, inr, ⊎_elim, ℕ, ◌<◌, List, ◌∷◌, ◌++◌, length, Option, None, Some, Contains, codes, sym, subst, ◌∙◌}
 use Rattle.lake_basics.specs.declared.limits.TheConstants.{MAX_COMMITS, MAX_NAMES}
 use Rattle.lake_basics.proofs.Lists.{mapped_itself}
 use Rattle.lake_store.specs.Disk.{Files, front_of, names_in}

@@ -4,7 +4,7 @@ use Rattle.std.proofs.Common.{Decides, rules}
 use lib.Pointwise.{pointwise}
 use Rattle.std.specs.Prelude.{IsTrue, unwrap_or}
 use Rattle.std.specs.Option.{option_eq}
-use Rattle.std.proofs.lemmas.Bool.{cases_Bool, false≢true}
+use Rattle.std.proofs.lemmas.Bool.{cases_Bool}
 use Rattle.std.proofs.lemmas.Slice.Eq.{slice_eq-Decides}
 use denote.Enum.Bare.{same_false, same_true}
 use Rattle.partition_map.specs.contracts.kind.PartKind.{the_type}
