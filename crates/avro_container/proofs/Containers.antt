@@ -1,5 +1,5 @@
 -- Reading a container meets what a container is.
-use Rattle.std.proofs.Common.{◌≡◌, ℕ, ◌+◌, ◌-◌, ◌<◌, ◌≤◌, ◌⊎◌, Bool, true, false, cond, List, [], ◌∷◌, ◌++◌, length, map, Option, Some, None, Result, Ok, Err, IfOk, IfErr, MatchResult, refl, sym, ap, subst, ◌∙◌, arith, inl, inr}
+use Rattle.std.proofs.Common.{◌≡◌, ℕ, ◌+◌, ◌-◌, ◌≤◌, ◌⊎◌, Bool, true, false, cond, List, [], length, map, Option, Some, None, Result, Ok, Err, IfOk, IfErr, MatchResult, refl, sym, ap, subst, ◌∙◌, arith, inl, inr}
 use Rattle.std.specs.Str.{bytes_eq}
 use Rattle.std.proofs.lemmas.Slice.Eq.{bytes_eq-Decides}
 use Rattle.std.proofs.lemmas.List.{length-append}
@@ -63,7 +63,7 @@ schema_ok meta t e = go (first_named schema_name meta) refl (sym (schema_is meta
 pub schema_again : (meta : Pairs) (t : SchemaTree) → HasSchema meta t → schema_in meta ≡ Ok t
 schema_again meta t h = schema_is meta ∙ ap schema_from h.1 ∙ ap schema_by (text_read h.0 t h.2)
 
-schema_flaw : (meta : Pairs) (w : Flaw) → schema_in meta ≡ Err w → w ≡ flaw.BadSchema
+pub schema_flaw : (meta : Pairs) (w : Flaw) → schema_in meta ≡ Err w → w ≡ flaw.BadSchema
 schema_flaw meta w e = go (first_named schema_name meta) (sym (schema_is meta) ∙ e)
   where
     on : (r : Result SchemaTree SchemaError) → schema_by r ≡ Err w → w ≡ flaw.BadSchema
@@ -109,11 +109,11 @@ codec_ok meta u e = go (first_named codec_name meta) refl (sym (codec_is meta) �
     go None is q = inl is
     go (Some codec) is q = on codec is (bytes_eq codec null_codec) refl q
 
-codec_again : (meta : Pairs) → IsPlain meta → codec_in meta ≡ Ok tt
+pub codec_again : (meta : Pairs) → IsPlain meta → codec_in meta ≡ Ok tt
 codec_again meta (inl none) = codec_is meta ∙ ap codec_from none
 codec_again meta (inr null) = codec_is meta ∙ ap codec_from null
 
-codec_flaw : (meta : Pairs) (w : Flaw) → codec_in meta ≡ Err w → w ≡ flaw.Codec
+pub codec_flaw : (meta : Pairs) (w : Flaw) → codec_in meta ≡ Err w → w ≡ flaw.Codec
 codec_flaw meta w e = go (first_named codec_name meta) (sym (codec_is meta) ∙ e)
   where
     on : (b : Bool) → ◌≡◌ {A = Result (Unit {0}) Flaw} (cond b (Ok tt) (Err flaw.Codec)) (Err w) → w ≡ flaw.Codec

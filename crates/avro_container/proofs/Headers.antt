@@ -51,7 +51,7 @@ magic_takes bytes rest e = go (run_at 4 bytes) refl e
             let front : t.0 ≡ magic = sym t.2.0 ∙ (bytes_eq-Decides x.0 magic).0 h in
             t.1 ∙ ap (λ (a : List ℕ). a ++ x.1) front ∙ ap (λ (r : List ℕ). magic ++ r) (ok_is x.1 rest k)
 
-magic_again : (rest : List ℕ) → after_magic (magic ++ rest) ≡ Ok rest
+pub magic_again : (rest : List ℕ) → after_magic (magic ++ rest) ≡ Ok rest
 unfolding after_magic
 magic_again rest = rw (run_again 4 magic magic rest (refl, refl), after_magic) refl
 

@@ -52,7 +52,7 @@ values_in len (Ok vs) = Ok vs
 values_in len (Err f) = Err (error_of len f)
 
 -- no block stands where there are no bytes
-none_waits : (b : Behind) → b.rest ≡ [] → block_in b ≡ Err (flaw_at flaw.Short 0)
+pub none_waits : (b : Behind) → b.rest ≡ [] → block_in b ≡ Err (flaw_at flaw.Short 0)
 none_waits b none =
     ap (λ (r : List ℕ). block_at (layout_of b.schema) b.marker r b.budget) none
     ∙ block_refused (layout_of b.schema) b.marker [] b.budget (flaw_at flaw.Short 0) (inl (Short, inl (inl (refl, tt, omega arith)), inl (refl, (refl, refl))))

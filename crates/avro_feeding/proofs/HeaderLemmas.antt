@@ -1,6 +1,5 @@
 -- What the bytes of a header come to, by its parts.
-use Rattle.std.proofs.Common.{◌≡◌, ℕ, zero, suc, ◌-◌, Bool, true, false, List, length, cond, Option, Some, None, Result, Ok, Err, is_err, refl, sym, ap, ◌∙◌}
-use Rattle.std.specs.Str.{bytes_eq}
+use Rattle.std.proofs.Common.{◌≡◌, ℕ, zero, suc, ◌-◌, true, List, length, Option, Some, None, Result, Ok, Err, is_err, refl, sym, ap, ◌∙◌}
 use Rattle.lake_basics.specs.Outcome.{◌>>=◌}
 use Rattle.avro_schema.specs.Tree.{SchemaTree}
 use Rattle.avro_value.specs.declared.api.TheConstants.{MAX_VALUES}
@@ -9,8 +8,9 @@ use Rattle.avro_value.specs.ValueTree.{ValueTree}
 use Rattle.avro_container.specs.declared.fault.Flaw.{Flaw}
 use Rattle.avro_container.specs.declared.fault.Flaw.TheVariants as flaw
 use Rattle.avro_container.specs.declared.fault.ContainerFault.{ContainerFault}
-use Rattle.avro_container.specs.Format.{Pairs, first_named, codec_name, null_codec}
+use Rattle.avro_container.specs.Format.{Pairs}
 use Rattle.avro_container.specs.Reading.{Step, step_of, header_at, schema_in, codec_in}
+use Rattle.avro_container.proofs.Containers.{codec_flaw}
 use Rattle.avro_feeding.specs.Feeding.{Behind, in_header, in_blocks, Fed, further, refusal, waits_or_refused, opened, schema_named, schema_of_header, schema_at, behind_block, after_block, read_on, after_header, read_header, schema_of_state}
 use Rattle.avro_feeding.specs.Views.{named_at}
 use Rattle.avro_feeding.proofs.PieceLemmas.{block_in, with_header, opened_is}
@@ -62,18 +62,6 @@ schema_is_named bytes = on_header (header_at MAX_VALUES bytes) ∙ ap schema_by 
     on_header (Err f) = refl
 
 -- ---- the codec
-
-pub codec_flaw : (meta : Pairs) (w : Flaw) → codec_in meta ≡ Err w → w ≡ flaw.Codec
-unfolding codec_in
-codec_flaw meta w e = go (first_named codec_name meta) e
-  where
-    on : (b : Bool) → ◌≡◌ {A = Result (Unit {0}) Flaw} (cond b (Ok tt) (Err flaw.Codec)) (Err w) → w ≡ flaw.Codec
-    on true q = absurd (cc)
-    on false q = cc
-
-    go : (o : Option (List ℕ)) → ◌≡◌ {A = Result (Unit {0}) Flaw} (elim o as (λ _. Result (Unit {0}) Flaw) [ None ↦ Ok tt | Some codec ↦ cond (bytes_eq codec null_codec) (Ok tt) (Err flaw.Codec) ]) (Err w) → w ≡ flaw.Codec
-    go None q = absurd (cc)
-    go (Some codec) q = on (bytes_eq codec null_codec) q
 
 pub other_codec : (meta : Pairs) (w : Flaw) → codec_in meta ≡ Err w → codec_in meta ≡ Err flaw.Codec
 other_codec meta w e = e ∙ ap Err (codec_flaw meta w e)

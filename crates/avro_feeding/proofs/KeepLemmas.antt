@@ -1,12 +1,10 @@
 -- What is kept behind a header, and behind which blocks another one is refused.
 use Rattle.std.specs.List.{concat}
 use Rattle.std.specs.Prelude.{IfOk, IfErr}
-use Rattle.std.proofs.Common.{◌≡◌, ◌⊎◌, ℕ, zero, suc, ◌+◌, ◌-◌, ◌^◌, ◌<◌, Bool, true, false, List, [], ◌∷◌, ◌++◌, length, Option, Some, None, Result, Ok, Err, refl, sym, ap, subst, ◌∙◌, append_assoc, arith, inl, inr}
+use Rattle.std.proofs.Common.{◌≡◌, ◌⊎◌, ℕ, zero, suc, ◌+◌, ◌-◌, ◌^◌, ◌<◌, Bool, true, false, List, [], ◌∷◌, ◌++◌, length, Option, Some, None, Ok, Err, refl, sym, ap, subst, ◌∙◌, append_assoc, arith, inl, inr}
 use Rattle.std.proofs.lemmas.List.{length-append, append-nil}
 use Rattle.std.proofs.lemmas.List.Concat.{flat_map-cons}
 use Rattle.avro_schema.specs.Tree.{SchemaTree}
-use Rattle.avro_schema.specs.declared.error.SchemaError.{SchemaError}
-use Rattle.avro_schema.specs.Reading.{schema_of}
 use Rattle.avro_value.specs.declared.api.TheConstants.{MAX_VALUES}
 use Rattle.avro_value.specs.Layout.{layout_of}
 use Rattle.avro_value.specs.ValueTree.{ValueTree, value_count, total}
@@ -14,21 +12,19 @@ use Rattle.avro_value.proofs.BlockLaws.{total-append}
 use Rattle.avro_value.proofs.NumberLaws.{bind_ok, ok_is}
 use Rattle.avro_value.proofs.FaultLaws.{bind_err}
 use Rattle.avro_container.specs.declared.error.ContainerError.{ContainerError}
-use Rattle.avro_container.specs.declared.fault.Flaw.{Flaw}
 use Rattle.avro_container.specs.declared.fault.Flaw.TheVariants as flaw
 use Rattle.avro_container.specs.declared.fault.ContainerFault.{ContainerFault}
 use Rattle.avro_container.specs.Faults.{FaultsInHeader}
-use Rattle.avro_container.specs.Format.{Pairs, Header, HasSchema, IsPlain, Blocks, first_named, schema_name}
+use Rattle.avro_container.specs.Format.{Pairs, Header, HasSchema, IsPlain, Blocks}
 use Rattle.avro_container.specs.Laws.{flaw_error}
 use Rattle.avro_container.specs.Reading.{Step, step_of, header_at, schema_in, codec_in, blocks_at, container_at}
-use Rattle.avro_container.proofs.Containers.{container_takes, container_faulty}
+use Rattle.avro_container.proofs.Containers.{codec_flaw, container_faulty, container_takes, schema_flaw}
 use Rattle.avro_container.proofs.Headers.{placed_ok, placed_err, header_takes, header_again, header_faulty}
 use Rattle.avro_container.proofs.WholeBlocks.{block_takes, block_faulty}
 use Rattle.avro_feeding.specs.Feeding.{Behind, Place, in_header, in_blocks, Refusal, State, Fed, nothing_read, is_short, further, refusal, waits_or_refused, stopped, opened, schema_at, behind_block, after_block, read_on, after_header, fed, fed_all, joined}
 use Rattle.avro_feeding.specs.Laws.{StandsBehind, FaultsNext, KeepsBehind, KeepsHeader, Keeps, RefusesNext, is_header_flaw}
 use Rattle.avro_feeding.proofs.BlockStays.{not_short}
 use Rattle.avro_feeding.proofs.EndLemmas.{short_is, place_is}
-use Rattle.avro_feeding.proofs.HeaderLemmas.{codec_flaw}
 use Rattle.avro_feeding.proofs.PieceLemmas.{block_in, shorter, with_codec, with_schema, with_header, opened_is, any_cut}
 
 -- ---- blocks
@@ -203,18 +199,6 @@ keeps_behind bytes b values small is = go (opened bytes) refl is
     go (Err f) opening e = absurd (never_blocks b bytes (schema_at bytes) (refusal 0 bytes f) (ap (λ (q : Fed). q.0) (sym e)))
 
 -- ---- a header at fault
-
-schema_flaw : (meta : Pairs) (w : Flaw) → schema_in meta ≡ Err w → w ≡ flaw.BadSchema
-unfolding schema_in
-schema_flaw meta w e = go (first_named schema_name meta) e
-  where
-    on : (r : Result SchemaTree SchemaError) → ◌≡◌ {A = Result SchemaTree Flaw} (elim r as (λ _. Result SchemaTree Flaw) [ Err e ↦ Err flaw.BadSchema | Ok t ↦ Ok t ]) (Err w) → w ≡ flaw.BadSchema
-    on (Ok t) q = absurd (cc)
-    on (Err e) q = cc
-
-    go : (o : Option (List ℕ)) → ◌≡◌ {A = Result SchemaTree Flaw} (elim o as (λ _. Result SchemaTree Flaw) [ None ↦ Err flaw.BadSchema | Some text ↦ elim (schema_of text) as (λ _. Result SchemaTree Flaw) [ Err e ↦ Err flaw.BadSchema | Ok t ↦ Ok t ] ]) (Err w) → w ≡ flaw.BadSchema
-    go None q = cc
-    go (Some text) q = on (schema_of text) q
 
 -- How the header's bytes fail: in the header, in its schema, or in its codec.
 opened_faulty : (bytes : List ℕ) (f : ContainerFault) → opened bytes ≡ Err f → FaultsInHeader MAX_VALUES bytes f ⊎ (f.flaw ≡ flaw.BadSchema) ⊎ (f.flaw ≡ flaw.Codec)

@@ -14,14 +14,15 @@ use Rattle.avro_value.specs.declared.input.BlockSize.{BlockSize}
 use Rattle.avro_value.specs.Reading.{Item, Read, fault_at, item_at, run_at, text_at, bytes_at, many_at, block_at, sized_at, block_ends, one_block_at, blocks_at, with_count, entry_at, all_blocks_at}
 use Rattle.avro_value.specs.Spelling.{LengthPrefixed, PrefixedText}
 use Rattle.avro_value.proofs.BlockLaws.{HeadTaken, block_takes, after_block, number_item_again, negative_signed, eqb_false}
-use Rattle.avro_value.proofs.ItemLaws.{run_takes, run_again, bytes_takes, bytes_again, text_takes, text_again}
+use Rattle.avro_value.proofs.ItemLaws.{run_takes, bytes_takes, bytes_again, text_takes, text_again}
 use Rattle.avro_value.proofs.NumberLaws.{even_signed}
 use Rattle.avro_value.proofs.ReaderLaws.{TakesBy, AgainBy, item_takes, item_again}
 use Rattle.avro_value.proofs.ValueLaws.{counted_takes, counted_again}
 use Rattle.avro_container.specs.declared.fault.ContainerFault.{ContainerFault}
 use Rattle.avro_container.specs.declared.fault.Flaw.TheVariants as flaw
 use Rattle.avro_container.specs.Format.{Pairs, magic}
-use Rattle.avro_container.specs.Reading.{Step, flaw_at, after_magic, meta_at, meta_fault_by, meta_step, run_in, header_at}
+use Rattle.avro_container.specs.Reading.{Step, flaw_at, meta_at, meta_fault_by, meta_step, run_in, header_at}
+use Rattle.avro_container.proofs.Headers.{magic_again}
 use Rattle.avro_feeding.specs.declared.metadata.Next.TheVariants as next
 use Rattle.avro_feeding.specs.declared.metadata.PairsLeft.{PairsLeft}
 use Rattle.avro_feeding.specs.declared.metadata.Resume.{Resume}
@@ -33,10 +34,6 @@ use Rattle.avro_feeding.specs.Views.{IsFedBy, summary}
 use Rattle.avro_feeding.proofs.PieceLemmas.{with_header, opened_is}
 
 -- ---- the header, by what follows its magic
-
-magic_again : (rest : List ℕ) → after_magic (magic ++ rest) ≡ Ok rest
-unfolding after_magic
-magic_again rest = rw (run_again 4 magic magic rest (refl, refl), after_magic) refl
 
 meta_is : (rest : List ℕ) → meta_at rest MAX_VALUES ≡ blocks_at pair_at (length rest + 1) rest (MAX_VALUES - 1)
 unfolding meta_at all_blocks_at with_count

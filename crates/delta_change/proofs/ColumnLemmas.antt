@@ -40,6 +40,7 @@ use Rattle.delta_change.specs.Change.{LacksFirstActions, IsOutsideGrammar, Lacks
 use Rattle.delta_change.specs.ChangeSteps.{is_reader, has_other_reader, is_known, is_unknown, lists_unknown, needs_other_feature, is_mapping, maps_columns, first_feature, unshown_by, unshown, is_column, is_named, told_by, outlined_by, judged, judged_schema, part_column, judged_columns, changes_partition, changes_base, unchanged, ColumnsBehind, stated_columns, kept_columns, lacks_first_actions, columns_by, columns_of, AreColumnsBehind}
 use Rattle.delta_log.specs.Grammar.{lists_features}
 use Rattle.delta_log.specs.Judging.{is_memory}
+use Rattle.delta_log.proofs.SaysLemmas.{version_three}
 use Rattle.delta_live.specs.Live.{PartColumns, ArePartColumns}
 use Rattle.delta_change.specs.TableBehind.{partition_behind, Spells, StatesSchema, IsSchemaBehind}
 use Rattle.delta_change.proofs.AnyLemmas.{any_from, any_to}
@@ -91,10 +92,6 @@ reader_not_shown : (c : DeltaCommit) → has_other_reader c.protocol ≡ false �
 reader_not_shown c h shows =
     let known : is_reader shows.0.reader ≡ true = not-false _ (sym (ap has_other_reader shows.1) ∙ h) in
     ⊎_elim shows.2 (λ more. ⊎_elim shows.3 shows.4 more) (reader_three shows.0.reader known)
-
-version_three : (z : ℤ) → lists_features z ≡ true → z ≡ pos 3
-version_three (pos v) h = ap pos (eqb-true v 3 h)
-version_three (negsuc n) h = absurd (false≢true h)
 
 known_any : (name : List ℕ) → list_any (bytes_eq name) known_features ≡ is_known name
 known_any name =

@@ -1,5 +1,5 @@
 -- The names of columns, as a set that is filled column by column.
-use Rattle.std.proofs.Common.{◌≡◌, ℕ, ◌+◌, ◌<◌, ◌≤◌, Bool, true, false, cond, ◌||◌, ◌&&◌, List, [], ◌∷◌, ◌++◌, length, get_or, drop, map, Option, Some, is_some, Bor, refl, sym, ap, ◌∙◌, rules}
+use Rattle.std.proofs.Common.{◌≡◌, ℕ, ◌+◌, ◌<◌, ◌≤◌, Bool, true, false, cond, ◌||◌, ◌&&◌, List, [], ◌∷◌, ◌++◌, length, get_or, drop, Option, Some, is_some, Bor, refl, sym, ap, ◌∙◌}
 use Rattle.std.specs.List.{list_any, list_all}
 use Rattle.std.specs.Str.{bytes_eq}
 use Rattle.std.proofs.lemmas.Cmp.{nat_list_eq_equiv}
@@ -7,11 +7,11 @@ use Rattle.std.proofs.lemmas.List.{drop_more, drop_all}
 use Rattle.std.proofs.lemmas.List.Folds.{list_any-append}
 use Rattle.std.proofs.lemmas.Slice.Eq.{bytes_eq-Decides}
 use Rattle.table_history.specs.History.{column_type}
-use Rattle.table_history.specs.SchemaView.{type_view, column_view, columns_view}
-use Rattle.table_history.specs.TypeTree.{TypeTree, ColumnTree, ColumnTrees, column, columns_of}
+use Rattle.table_history.specs.SchemaView.{type_view, columns_view}
+use Rattle.table_history.specs.TypeTree.{TypeTree, ColumnTrees, column}
 use Rattle.table_history.specs.declared.schema.Column.{Column}
-use Rattle.table_history.specs.declared.schema.ColumnType.{the_lemmas}
 use Rattle.lake_basics.proofs.Truth.{or_nothing}
+use Rattle.partition_map.proofs.ColumnLemmas.{column_here}
 
 abbrev pub At : List ℕ → Bor (List ℕ) → Bool
 At name = λ (key : Bor (List ℕ)). bytes_eq name key.now
@@ -43,11 +43,6 @@ put keys after v n name t b rest all is longer before =
     ap (λ (x : Bool). x || is_some (column_type rest name)) (inserted keys after v name (list_any (At v.now) keys) refl longer ∙ ap (λ (x : Bool). list_any (At name) keys || x) here)
     ∙ or_assoc (list_any (At name) keys) (bytes_eq n name) (is_some (column_type rest name))
     ∙ ap (λ (x : Bool). list_any (At name) keys || x) (sym (some_first (bytes_eq n name) t (column_type rest name))) ∙ before
-
-column_here : (cs : List Column) (i : ℕ) (c : Column) → i < length cs → c ≡ get_or cs i c → columns_view (drop i cs) ≡ column c.name (type_view c.kind) c.nullable (columns_view (drop (i + 1) cs))
-column_here cs i c within at =
-    let shown : column_view c ≡ record { name = c.name; kind = type_view c.kind; nullable = c.nullable } = search (rules, the_lemmas) in
-    ap columns_view (drop_more cs i c within) ∙ ap (λ (d : Column). columns_view (d ∷ drop (i + 1) cs)) (sym at) ∙ ap (λ (d : ColumnTree). columns_of (d ∷ map column_view (drop (i + 1) cs))) shown
 
 pub put_column : (cs : List Column) (i : ℕ) (c : Column) → i < length cs → c ≡ get_or cs i c → (keys after : List (Bor (List ℕ))) (v : Bor (List ℕ)) (name : List ℕ)
     → v.now ≡ c.name → after ≡ cond (list_any (At v.now) keys) keys (keys ++ v ∷ [])

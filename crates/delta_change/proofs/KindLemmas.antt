@@ -12,23 +12,9 @@ use Rattle.partition_map.specs.Kind.{part_kind_of, IsOfKind}
 use Rattle.partition_map.specs.declared.kind.PartKind.{PartKind}
 use Rattle.partition_map.specs.declared.kind.PartKind.TheVariants as kind
 use Rattle.partition_map.proofs.Laws.{kind_of_type}
+use Rattle.partition_map.proofs.ColumnLemmas.{itself, same_kind}
 use Rattle.delta_live.specs.Live.{PartColumns, ArePartColumns}
 use Rattle.delta_live.proofs.ValueLemmas.{fits_kind}
-
-same_kind : (a b : PartKind) → is_same_kind a b ≡ true → a ≡ b
-same_kind kind.Boolean kind.Boolean h = refl
-same_kind kind.Int kind.Int h = refl
-same_kind kind.Long kind.Long h = refl
-same_kind kind.Text kind.Text h = refl
-same_kind kind.Date kind.Date h = refl
-same_kind _ _ h = absurd (false≢true h)
-
-itself : (a : PartKind) → is_same_kind a a ≡ true
-itself kind.Boolean = refl
-itself kind.Int = refl
-itself kind.Long = refl
-itself kind.Text = refl
-itself kind.Date = refl
 
 -- a column of these names that has a kind in both schemas has the same one
 abbrev pub KeepKinds : ColumnTrees → ColumnTrees → List (List ℕ) → Type 0

@@ -20,7 +20,7 @@ use Rattle.delta_change.proofs.TableLemmas.{before_rows, after_kinds, step_colum
 
 -- ---- one change
 
-one_kind : (schema : ColumnTrees) (names : List (List ℕ)) → KeepKinds schema schema names
+pub one_kind : (schema : ColumnTrees) (names : List (List ℕ)) → KeepKinds schema schema names
 one_kind schema names name there o k was is = cc (sym was ∙ is)
 
 -- A change leads live rows on.

@@ -1,6 +1,6 @@
 -- The table that the files make, read one after another, is the one that their versions stand for.
 use Rattle.std.proofs.Common.{◌≡◌, ◌↔◌, ◌⊎◌, inl, inr, ⊎_elim, ℕ, zero, suc, ◌+◌, ◌-◌, ◌*◌, ◌<◌, ◌≤◌, List, [], ◌∷◌, ◌++◌, length, Contains, Option, Some, None, refl, sym, ap, subst, ◌∙◌, append_assoc, length-append, arith}
-use Rattle.std.specs.Prelude.{min, unwrap_or}
+use Rattle.std.specs.Prelude.{min}
 use Rattle.std.specs.FinMap as map
 use Rattle.std.proofs.lemmas.Bool.{cases_eq, cases_lt}
 use Rattle.std.proofs.lemmas.List.Elements.{All-nil, All-push}
@@ -9,14 +9,12 @@ use Rattle.lake_basics.specs.declared.limits.TheConstants.{MAX_DELTA_VERSION}
 use Rattle.lake_store.specs.Disk.{Files}
 use Rattle.table_history.specs.Row.{Row}
 use Rattle.table_history.specs.Rows.{SameRows}
-use Rattle.table_history.specs.TypeTree.{ColumnTrees}
 use Rattle.table_history.specs.declared.table.Table.{Table}
 use Rattle.table_history.proofs.RowListLemmas.{Contains-none}
-use Rattle.delta_change.specs.TableBehind.{IsSchemaBehind, Spells, StatesSchema, partition_behind}
+use Rattle.delta_change.specs.TableBehind.{IsSchemaBehind, Spells, partition_behind}
 use Rattle.delta_change.proofs.ColumnLemmas.{one_schema}
-use Rattle.delta_change.proofs.KindLemmas.{KeepKinds, same_columns}
-use Rattle.delta_change.proofs.TableLemmas.{kinds_stay, partition_kept}
-use Rattle.partition_map.specs.declared.kind.PartKind.{PartKind}
+use Rattle.delta_change.proofs.KindLemmas.{same_columns}
+use Rattle.delta_change.proofs.LawLemmas.{one_kind}
 use Rattle.delta_live.specs.Live.{ArePartColumns, IsLive, IsLiveOver, PartColumns}
 use Rattle.delta_live.proofs.LiveLemmas.{live_behind}
 use Rattle.delta_log.specs.Readable.{IsReadableCommit}
@@ -25,6 +23,7 @@ use Rattle.delta_log.specs.declared.commit.MetaData.{MetaData}
 use Rattle.delta_table.specs.Log.{IsLiveBefore, IsNewestMeta, IsReadLog, IsStep, SaysCommit}
 use Rattle.delta_table.specs.Versions.{IsVersionPath}
 use Rattle.delta_table.proofs.PathLaws.{says_once}
+use Rattle.delta_table.proofs.LogLaws.{columns_stay}
 use Rattle.delta_compaction.specs.Law.{IsNewestPart, StandsFor}
 use Rattle.delta_compaction.proofs.AgreeLemmas.{agreeing_stands}
 use Rattle.delta_compact.specs.Blocks.{IsBlockPath}
@@ -33,26 +32,6 @@ use Rattle.delta_compact.specs.Whole.{AllCompacted, AreReadParts, IsTableBefore,
 use Rattle.delta_compact.proofs.Counting.{block_under}
 use Rattle.delta_compact.proofs.Paths.{one_path}
 use Rattle.delta_compact.proofs.Said.{HaveSaid, live_held, live_listed, newest_held, said_behind, said_taken, taken_length}
-
--- ---- the columns
-
--- the partition columns keep their kinds
-pub columns_stay : (c : DeltaCommit) (t next : Table) (columns : PartColumns) (step : IsStep c (Some t) next) → ArePartColumns t.schema t.partition columns → step.columns ≡ columns
-columns_stay c t next columns step were = by c.meta refl step.schema
-  where
-    names : next.partition ≡ partition_behind c.meta (Some t)
-    names = step.partition
-
-    go : (stated : Option ColumnTrees) → StatesSchema c.meta stated → next.schema ≡ unwrap_or stated t.schema → step.columns ≡ columns
-    go stated states schema =
-        let kept = kinds_stay c t stated states step.supported.1.1.1.1.1.0 in
-        let same = partition_kept c t stated states step.supported.1.1.1.1.1.0 in
-        let now = subst (λ p. ArePartColumns (unwrap_or stated t.schema) p step.columns) names (subst (λ s. ArePartColumns s next.partition step.columns) schema step.kinds) in
-        sym (same_columns t.schema (unwrap_or stated t.schema) (partition_behind c.meta (Some t)) columns step.columns (subst (λ p. ArePartColumns t.schema p columns) (sym same) were) now kept)
-
-    by : (o : Option MetaData) → c.meta ≡ o → IsSchemaBehind o (Some t) next.schema → step.columns ≡ columns
-    by None is schema = go None (subst (λ m. StatesSchema m None) (sym is) refl) schema
-    by (Some m) is schema = go (Some next.schema) (subst (λ o. StatesSchema o (Some next.schema)) (sym is) schema) refl
 
 -- ---- a table made of what was said
 
@@ -301,19 +280,13 @@ pub record IsSame (a b : Table) : Type 0 where
   pub partition : a.partition ≡ b.partition
   pub rows : SameRows a.rows b.rows
 
-pub keep_all : (schema : ColumnTrees) (names : List (List ℕ)) → KeepKinds schema schema names
-keep_all schema names name there o k was is = kind_once o k (sym was ∙ is)
-  where
-    kind_once : (a b : PartKind) → Some a ≡ Some b → a ≡ b
-    kind_once a b e = cc
-
 pub one_table : (files : Files) (count : ℕ) (a b : Table) → IsTableBefore files count a → IsTableBefore files count b → IsSame a b
 one_table files count a b x y =
     let meta = one_meta files count x.meta y.meta x.newest y.newest in
     let schema : a.schema ≡ b.schema = one_schema y.meta a.schema b.schema (subst (λ m. Spells m a.schema) meta x.schema) y.schema in
     let partition : a.partition ≡ b.partition = x.partition ∙ ap (λ (m : MetaData). m.partition) meta ∙ sym y.partition in
     let mine = subst (λ s. ArePartColumns s b.partition x.live.columns) schema (subst (λ p. ArePartColumns a.schema p x.live.columns) partition x.live.kinds) in
-    let columns : x.live.columns ≡ y.live.columns = same_columns b.schema b.schema b.partition x.live.columns y.live.columns mine y.live.kinds (keep_all b.schema b.partition) in
+    let columns : x.live.columns ≡ y.live.columns = same_columns b.schema b.schema b.partition x.live.columns y.live.columns mine y.live.kinds (one_kind b.schema b.partition) in
     record {
       schema = schema;
       partition = partition;

@@ -17,6 +17,7 @@ use Rattle.delta_log.specs.declared.error.LineFault.TheVariants.{Malformed}
 use Rattle.delta_log.specs.Grammar as grammar
 use Rattle.delta_log.specs.Grammar.{is_space, line_action, object_action, only_action}
 use Rattle.delta_log.specs.Readable.{meta_in, path_in, protocol_in, uri_in}
+use Rattle.delta_log.proofs.SaysLemmas.{there}
 use Rattle.delta_compaction.specs.declared.key.LineKey.TheVariants as key
 use Rattle.delta_compaction.specs.Lines.{ActsOnUri, HasMember, IsAbout, line_json}
 
@@ -28,10 +29,6 @@ Gave {A} r f b = (x : A) × (r ≡ Ok x) × (f x ≡ Ok b)
 gave : {A B : Type 0} (r : Result A LineFault) (f : A → Result B LineFault) (b : B) → (r >>= f) ≡ Ok b → Gave r f b
 gave (Ok x) f b e = (x, refl, e)
 gave (Err fault) f b e = absurd (cc)
-
-there : {A : Type 0} (o : Option A) (x : A) → required Malformed o ≡ Ok x → o ≡ Some x
-there None x e = absurd (cc)
-there (Some y) x e = let same : y ≡ x = cc in ap (λ z. Some z) same
 
 -- ---- the parts of an action
 

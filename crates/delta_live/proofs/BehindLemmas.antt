@@ -16,8 +16,8 @@ use Rattle.std.proofs.lemmas.Slice.Eq.{bytes_eq-Decides}
 use Rattle.table_history.specs.Rows.{row_at, paths_of, HasPath, HasDistinctPaths, IsInByteOrder, IsInPathOrder}
 use Rattle.table_history.specs.Tables.{IsDiff}
 use Rattle.table_history.specs.declared.row.FileRow.{FileRow}
-use Rattle.table_history.proofs.RowListLemmas.{Contains-none, Contains-head, Contains-tail, Contains-cases, Contains-filter, filter_contains, distinct_filter, row_at-found, row_at-itself, Contains-paths, lacks, Contains-lacking}
-use Rattle.table_history.proofs.TableLemmas.{Contains-paths_cases, there_or_not}
+use Rattle.table_history.proofs.RowListLemmas.{Contains-cases, Contains-filter, Contains-head, Contains-lacking, Contains-none, Contains-paths, Contains-tail, all_at, distinct_filter, filter_contains, lacks, row_at-found, row_at-itself}
+use Rattle.table_history.proofs.TableLemmas.{Contains-paths_cases, same_path, there_or_not}
 use Rattle.delta_log.specs.declared.commit.FileAction.{FileAction}
 use Rattle.delta_log.specs.declared.commit.FileAction.TheVariants as file
 use Rattle.delta_log.specs.Commit.{file_path, file_paths}
@@ -26,10 +26,6 @@ use Rattle.delta_live.specs.RowSteps.{has_path, removed_paths, added_paths, lost
 use Rattle.lake_basics.proofs.Lists.{empty_of}
 
 -- ---- lists of texts
-
-all_at : {X : Type 0} (P : X → Type 0) (xs : List X) (x : X) → AllByRecursion P xs → Contains xs x → P x
-all_at P [] x all h = absurd (Contains-none x h)
-all_at P (y ∷ ys) x all h = ⊎_elim (λ e. subst P e all.0) (λ later. all_at P ys x all.1 later) (Contains-cases y ys x h)
 
 all_from : {X : Type 0} (P : X → Type 0) (xs : List X) → ((x : X) → Contains xs x → P x) → AllByRecursion P xs
 all_from P [] h = tt
@@ -48,7 +44,7 @@ distinct_one_more x xs new distinct =
     (all_from (λ y. bytes_eq x y ≡ false) xs (λ y there. ⊎_elim (λ t. absurd (new (subst (Contains xs) (sym ((bytes_eq-Decides x y).0 t)) there))) (λ n. n) (cases_Bool (bytes_eq x y))))
     distinct
 
-distinct_both : (xs ys : List (List ℕ)) → IsDistinct bytes_eq xs → IsDistinct bytes_eq ys → ((x : List ℕ) → Contains xs x → Contains ys x → ⊥) → IsDistinct bytes_eq (xs ++ ys)
+pub distinct_both : (xs ys : List (List ℕ)) → IsDistinct bytes_eq xs → IsDistinct bytes_eq ys → ((x : List ℕ) → Contains xs x → Contains ys x → ⊥) → IsDistinct bytes_eq (xs ++ ys)
 distinct_both [] ys d e apart = e
 distinct_both (x ∷ xs) ys d e apart =
     distinct_one_more x (xs ++ ys)
@@ -133,10 +129,6 @@ has_row before path h = some_row before path (row_at before path) refl h
 row_has : (before : List FileRow) (row : FileRow) → HasDistinctPaths before → Contains before row → has_path before row.path ≡ true
 row_has before row d there = ap is_some (row_at-itself before row d there)
 
-pub one_row : (rows : List FileRow) → HasDistinctPaths rows → (r s : FileRow) → Contains rows r → Contains rows s → r.path ≡ s.path → r ≡ s
-one_row rows distinct r s has_r has_s e =
-    let same : Some r ≡ Some s = sym (row_at-itself rows r distinct has_r) ∙ ap (row_at rows) e ∙ row_at-itself rows s distinct has_s in cc
-
 module _ (before rows : List FileRow) (files : List FileAction) (before_distinct : HasDistinctPaths before) (distinct : IsDistinct bytes_eq (file_paths files)) (added : paths_of rows ≡ added_paths files) where
   pub rows_distinct : HasDistinctPaths rows
   rows_distinct = subst (IsDistinct bytes_eq) (sym added) (added_distinct files distinct)
@@ -176,7 +168,7 @@ module _ (before rows : List FileRow) (files : List FileAction) (before_distinct
         (λ b.
         let n = Contains-paths_cases new row.path b in
         let fresh = (new_is n.0).0 n.1 in
-        fresh.1 (subst (Contains before) (one_row rows rows_distinct row n.0 there fresh.0 (sym n.2)) was))
+        fresh.1 (subst (Contains before) (same_path rows rows_distinct row n.0 there fresh.0 (sym n.2)) was))
         lost)
         (Contains-append_cases (filter (is_kept files) before) rows row stays)
 
@@ -199,7 +191,7 @@ module _ (before rows : List FileRow) (files : List FileAction) (before_distinct
         (λ b.
         let n = Contains-paths_cases rows row.path (subst (λ l. Contains l row.path) (sym added) b) in
         ⊎_elim
-        (λ held. absurd (lost (Contains-append_right kept rows row (subst (Contains rows) (one_row before before_distinct n.0 row held was n.2) n.1))))
+        (λ held. absurd (lost (Contains-append_right kept rows row (subst (Contains rows) (same_path before before_distinct n.0 row held was n.2) n.1))))
         (λ fresh. Contains-append_right (removed_paths files) (paths_of new) row.path (subst (Contains (paths_of new)) n.2 (Contains-paths new n.0 ((new_is n.0).1 (n.1, fresh)))))
         (there_or_not before n.0))
         (either_path files row.path (on_path row.path files acted)) in

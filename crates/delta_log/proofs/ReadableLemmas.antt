@@ -217,7 +217,7 @@ misplaced_excluded lines before a rest grammar =
     ⊎_elim (λ h. all_middle (λ x. NamesNoPath x → ⊥) before a rest grammar.uris h)
     (⊎_elim (λ h. two_many protocol_in before a rest grammar.protocols h.0 h.1) (λ h. two_many meta_in before a rest grammar.metas h.0 h.1))
 
-again_excluded : (lines : List (List ℕ)) (before : List LineAction) (a : LineAction) (rest : List LineAction) → AreLinesInGrammar lines (before ++ a ∷ rest) → ActsAgain before a → ⊥
+pub again_excluded : (lines : List (List ℕ)) (before : List LineAction) (a : LineAction) (rest : List LineAction) → AreLinesInGrammar lines (before ++ a ∷ rest) → ActsAgain before a → ⊥
 again_excluded lines before a rest grammar again =
     let whole : paths (before ++ a ∷ rest) ≡ paths (before ++ a ∷ []) ++ paths rest =
     ap paths (sym (append_assoc before (a ∷ []) rest)) ∙ flat_map-append (λ x. option_to_list (path_in x)) (before ++ a ∷ []) rest in
@@ -297,7 +297,7 @@ pub commit_readable : (bytes : List ℕ) (c : DeltaCommit) → commit_of bytes �
 unfolding Reads
 commit_readable bytes c is = reads_whole bytes (Ok c) is
 
-same_stated : (actions : List LineAction) (c d : DeltaCommit) → States actions c → States actions d → c ≡ d
+pub same_stated : (actions : List LineAction) (c d : DeltaCommit) → States actions c → States actions d → c ≡ d
 same_stated actions c d says also =
     ap (λ o. record { protocol = o; meta = c.meta; files = c.files }) (same_options c.protocol d.protocol (says.protocol ∙ sym also.protocol))
     ∙ ap (λ o. record { protocol = d.protocol; meta = o; files = c.files }) (same_options c.meta d.meta (says.meta ∙ sym also.meta))

@@ -32,7 +32,7 @@ gave : {A B : Type 0} (r : Result A LineFault) (f : A → Result B LineFault) (b
 gave (Ok x) f b e = (x, refl, e)
 gave (Err fault) f b e = absurd (cc)
 
-there : {A : Type 0} (o : Option A) (x : A) → required Malformed o ≡ Ok x → o ≡ Some x
+pub there : {A : Type 0} (o : Option A) (x : A) → required Malformed o ≡ Ok x → o ≡ Some x
 there None x e = absurd (cc)
 there (Some y) x e = let same : y ≡ x = cc in ap (λ z. Some z) same
 
@@ -57,7 +57,7 @@ text_or_null_is (string s) t e = ap text_or_null_data (ok_same (Some s) t e)
 text_or_null_is (array ds) t e = absurd (cc)
 text_or_null_is (object ms) t e = absurd (cc)
 
-reads_text_or_null : (t : Option (List ℕ)) → text_or_null (text_or_null_data t) ≡ Ok t
+pub reads_text_or_null : (t : Option (List ℕ)) → text_or_null (text_or_null_data t) ≡ Ok t
 reads_text_or_null None = refl
 reads_text_or_null (Some t) = refl
 
@@ -146,7 +146,7 @@ listed_read true None needed = let none : false ≡ true = needed refl in absurd
 listed_read true (Some ts) needed = refl
 listed_read false r needed = refl
 
-version_three : (v : ℤ) → lists_features v ≡ true → v ≡ pos 3
+pub version_three : (v : ℤ) → lists_features v ≡ true → v ≡ pos 3
 version_three (pos n) e = let three : n ≡ 3 = grind (arith, nat_tests) in ap pos three
 version_three (negsuc n) e = absurd (cc)
 

@@ -132,7 +132,7 @@ step_made c base change next grammar supported is after =
 -- ---- live files
 
 -- the partition columns keep their kinds
-columns_stay : (c : DeltaCommit) (t next : Table) (columns : PartColumns) (step : IsStep c (Some t) next) → ArePartColumns t.schema t.partition columns → step.columns ≡ columns
+pub columns_stay : (c : DeltaCommit) (t next : Table) (columns : PartColumns) (step : IsStep c (Some t) next) → ArePartColumns t.schema t.partition columns → step.columns ≡ columns
 columns_stay c t next columns step were = by c.meta refl step.schema
   where
     names : next.partition ≡ partition_behind c.meta (Some t)

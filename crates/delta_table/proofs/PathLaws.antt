@@ -73,7 +73,7 @@ path_once version p q ip iq =
 pub bytes_once : (files : Files) (version : ℕ) (x y : List ℕ) → HoldsVersion files version x → HoldsVersion files version y → x ≡ y
 bytes_once files version x y hx hy = same_Some x y (sym hx.there ∙ ap (map.get files) (path_once version hx.path hy.path hx.is hy.is) ∙ hy.there)
 
-ok_once : (r : Result DeltaCommit DeltaError) (c d : DeltaCommit) → r ≡ Ok c → r ≡ Ok d → c ≡ d
+pub ok_once : (r : Result DeltaCommit DeltaError) (c d : DeltaCommit) → r ≡ Ok c → r ≡ Ok d → c ≡ d
 ok_once r c d a b = cc
 
 -- and says one commit
@@ -117,7 +117,7 @@ plain_digits ds all b there e =
 plain_suffix : All (λ b. b ≢ 47) (codes ".json")
 plain_suffix = All-from_recursion (λ (b : ℕ). b ≢ 47) (codes ".json") (λ e. omega (arith, e), (λ e. omega (arith, e), (λ e. omega (arith, e), (λ e. omega (arith, e), (λ e. omega (arith, e), tt)))))
 
-version_is_name : (name : List ℕ) (version : ℕ) → IsVersionName name version → IsName name
+pub version_is_name : (name : List ℕ) (version : ℕ) → IsVersionName name version → IsName name
 version_is_name name version of =
     let padded = of.padded in (
       λ none. let len = (parts_of name version of).len in let short : length name ≡ 0 = ap length none in omega (arith, len, short),

@@ -40,17 +40,14 @@ use Rattle.delta_text.specs.Writing.{add_data, protocol_data, meta_data_data, st
 use Rattle.delta_text.specs.Again.{HasReadableStats, HasReadableUri, IsFileAgain, IsProtocolAgain, HasReadableParts}
 use Rattle.delta_log.proofs.FaultLemmas.{distinct_last}
 use Rattle.delta_log.proofs.ReadableLemmas.{distinct_front}
+use Rattle.delta_log.proofs.SaysLemmas.{reads_text_or_null}
 use Rattle.delta_text.proofs.SortedLemmas.{sorted_pairs_same}
 use Rattle.delta_text.proofs.WrittenLemmas.{is_line, is_line-compact_text, each-members_with}
 
 -- ---- parts
 
-value_again : (v : Option (List ℕ)) → text_or_null (text_or_null_data v) ≡ Ok v
-value_again None = refl
-value_again (Some s) = refl
-
 values_again : (vs : List (List ℕ × Option (List ℕ))) → each partition_value (pairs (members_with text_or_null_data vs no_members)) ≡ Ok (sorted_pairs vs)
-values_again vs = each-members_with text_or_null text_or_null_data value_again vs no_members [] refl
+values_again vs = each-members_with text_or_null text_or_null_data reads_text_or_null vs no_members [] refl
 
 settings_again : (ps : List (List ℕ × List ℕ)) → each setting (pairs (members_with string ps no_members)) ≡ Ok (sorted_pairs ps)
 settings_again ps = each-members_with (text Malformed) string (λ s. refl) ps no_members [] refl

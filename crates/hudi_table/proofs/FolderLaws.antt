@@ -53,7 +53,7 @@ commit_named action.MergeOnRead time name is = cc
 commit_named action.Restore time name is = cc
 commit_named action.Unknown time name is = cc
 
-done_state : (s : State) → is_done s ≡ true → s ≡ state.Completed
+pub done_state : (s : State) → is_done s ≡ true → s ≡ state.Completed
 done_state state.Requested done = cc
 done_state state.Inflight done = cc
 done_state state.Completed done = refl

@@ -58,7 +58,7 @@ rise (x ∷ s) (y ∷ t) r q ds dt less e =
     then_by (nat_cmp x y) (cmp (s ++ 46 ∷ r) (t ++ 46 ∷ q)) (cmp s t) less (λ l. rise s t r q rest_s rest_t l) e
 
 -- what stands before the first dot
-before_dot : (s r : List ℕ) → list_all is_ascii_digit s ≡ true → before_first (λ b. b == 46) (s ++ 46 ∷ r) ≡ s
+pub before_dot : (s r : List ℕ) → list_all is_ascii_digit s ≡ true → before_first (λ b. b == 46) (s ++ 46 ∷ r) ≡ s
 before_dot [] r ds = refl
 before_dot (x ∷ s) r ds =
     let parts = and_parts (is_ascii_digit x) (list_all is_ascii_digit s) ds in

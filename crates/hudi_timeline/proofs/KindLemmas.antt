@@ -15,24 +15,11 @@ use Rattle.partition_map.specs.declared.kind.PartKind.TheVariants as kind
 use Rattle.partition_map.proofs.Laws.{hive_of_kind, kind_of_type}
 use Rattle.partition_map.specs.declared.folder.FolderStyle.{FolderStyle}
 use Rattle.partition_map.specs.Columns.{column_kind, HasOtherKind, is_same_kind}
+use Rattle.partition_map.proofs.ColumnLemmas.{itself, same_kind}
 use Rattle.hudi_timeline.specs.Schemas.{AreKindsOf}
 use Rattle.hudi_files.specs.Values.{PartsStand}
 
 -- ---- the same kind
-same_kind : (a b : PartKind) → is_same_kind a b ≡ true → a ≡ b
-same_kind kind.Boolean kind.Boolean h = refl
-same_kind kind.Int kind.Int h = refl
-same_kind kind.Long kind.Long h = refl
-same_kind kind.Text kind.Text h = refl
-same_kind kind.Date kind.Date h = refl
-same_kind _ _ h = absurd (false≢true h)
-
-itself : (a : PartKind) → is_same_kind a a ≡ true
-itself kind.Boolean = refl
-itself kind.Int = refl
-itself kind.Long = refl
-itself kind.Text = refl
-itself kind.Date = refl
 
 other_kind : (a b : PartKind) → is_same_kind a b ≡ false → a ≢ b
 other_kind a b h e = false≢true (sym h ∙ ap (λ k. is_same_kind a k) (sym e) ∙ itself a)
@@ -51,18 +38,18 @@ kind_of t (value.Text s) h = inr (kind.Text, ap part_kind_of h, tt)
 kind_of t (value.Date d) h = inr (kind.Date, ap part_kind_of h, tt)
 
 -- ---- a column that has a kind
-value_of : (k : PartKind) → (v : PartValue) × (v ≢ value.Null) × IsOfKind k v
+pub value_of : (k : PartKind) → (v : PartValue) × (v ≢ value.Null) × IsOfKind k v
 value_of kind.Boolean = (value.Boolean true, λ e. absurd cc, tt)
 value_of kind.Int = (value.Int (pos 0), λ e. absurd cc, tt)
 value_of kind.Long = (value.Long (pos 0), λ e. absurd cc, tt)
 value_of kind.Text = (value.Text [], λ e. absurd cc, tt)
 value_of kind.Date = (value.Date (pos 0), λ e. absurd cc, tt)
 
-some_kind : (o : Option PartKind) → o ≢ None → (k : PartKind) × (o ≡ Some k)
+pub some_kind : (o : Option PartKind) → o ≢ None → (k : PartKind) × (o ≡ Some k)
 some_kind None h = absurd (h refl)
 some_kind (Some k) h = (k, refl)
 
-typed : (o : Option TypeTree) → option_and_then part_kind_of o ≢ None → (t : TypeTree) × (v : PartValue) × (o ≡ Some t) × (v ≢ value.Null) × IsOfType t v
+pub typed : (o : Option TypeTree) → option_and_then part_kind_of o ≢ None → (t : TypeTree) × (v : PartValue) × (o ≡ Some t) × (v ≢ value.Null) × IsOfType t v
 typed None h = absurd (h refl)
 typed (Some t) h =
     let is = some_kind (part_kind_of t) h in

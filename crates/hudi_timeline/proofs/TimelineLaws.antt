@@ -190,7 +190,7 @@ module _ (table : HudiTable) (base : Option Table) (u : Completed) (change : Cha
   step_are : AreKindsOf next.schema table.partition is.kinds
   step_are = subst (λ s. AreKindsOf s table.partition is.kinds) (sym step_schema) is.are_kinds.are
 
-one_kinds : (u : Completed) (table : HudiTable) (base : Option Table) (ks ls : List PartKind) → AreKinds u table base ks → AreKinds u table base ls → ks ≡ ls
+pub one_kinds : (u : Completed) (table : HudiTable) (base : Option Table) (ks ls : List PartKind) → AreKinds u table base ks → AreKinds u table base ls → ks ≡ ls
 one_kinds u table base ks ls a b =
     let both : Some a.schema ≡ Some b.schema = sym a.in_force ∙ b.in_force in
     let same : a.schema ≡ b.schema = cc in

@@ -19,6 +19,7 @@ use Rattle.table_history.proofs.TableLemmas.{Contains-paths_cases}
 use Rattle.table_history.proofs.SameTableLemmas.{rows_back}
 use Rattle.iceberg_change.specs.Behind.{AreApart}
 use Rattle.lake_basics.proofs.Texts.{bytes_differ}
+use Rattle.iceberg_table.proofs.RowLaws.{distinct_front}
 
 -- ---- distinct paths
 
@@ -44,9 +45,6 @@ distinct_moved xs ys moved distinct = IsDistinct-IsPermutation bytes_eq nat_list
 
 pub same_moved : (xs ys : List FileRow) → IsPermutation xs ys → SameRows xs ys
 same_moved xs ys moved row = (λ h. Contains-permutation xs ys row moved h, λ h. Contains-permutation ys xs row (IsPermutation-sym xs ys moved) h)
-
-pub front_distinct : (xs ys : List FileRow) → HasDistinctPaths (xs ++ ys) → HasDistinctPaths xs
-front_distinct xs ys distinct = distinct_back ys xs (distinct_moved (xs ++ ys) (ys ++ xs) (IsPermutation-append_comm xs ys) distinct)
 
 all_of : {X : Type 0} (P : X → Type 0) (xs : List X) → ((x : X) → Contains xs x → P x) → AllByRecursion P xs
 all_of P [] each = tt
@@ -111,7 +109,7 @@ module _ (before held start kept left came all : List FileRow)
 
   -- the rows that go may be put to those that weren't held
   pub left_distinct : HasDistinctPaths left
-  left_distinct = front_distinct left start (distinct_back kept (left ++ start) parts_distinct)
+  left_distinct = distinct_front left start (distinct_back kept (left ++ start) parts_distinct)
 
   pub left_apart : AreApart left start
   left_apart = parts_apart left start (distinct_back kept (left ++ start) parts_distinct)
@@ -129,7 +127,7 @@ module _ (before held start kept left came all : List FileRow)
         kept_apart x there.0 hx ((went_is there.0).0 there.1) (is ∙ sym there.2)
 
     pub all_distinct : HasDistinctPaths all
-    all_distinct = distinct_moved (kept ++ came) all (IsPermutation-sym all (kept ++ came) whole) (distinct_both kept came (front_distinct kept (left ++ start) parts_distinct) new came_apart)
+    all_distinct = distinct_moved (kept ++ came) all (IsPermutation-sym all (kept ++ came) whole) (distinct_both kept came (distinct_front kept (left ++ start) parts_distinct) new came_apart)
 
     -- there are as many as before, less those that went, and those that came besides
     pub all_length : HasDistinctPaths before → length went + length all ≡ length before + length came

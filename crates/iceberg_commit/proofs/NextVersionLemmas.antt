@@ -29,6 +29,7 @@ use Rattle.iceberg_metadata.specs.declared.metadata.Metadata.{Metadata}
 use Rattle.iceberg_metadata.proofs.ListLemmas.{all_from, among_Decides}
 use Rattle.iceberg_table.specs.Lists.{AreRows}
 use Rattle.iceberg_table.specs.Manifests.{AreEntries}
+use Rattle.iceberg_table.proofs.PlanLaws.{in_schemas}
 use Rattle.target_core.specs.Conditions.{CanPublish}
 use Rattle.target_core.specs.Views.{IsAdvanced, IsSchemaAfter, Origin, standing_of}
 use Rattle.target_core.specs.declared.mark.Mark.{Mark}
@@ -43,7 +44,6 @@ use Rattle.iceberg_version.specs.Writing as writing
 use Rattle.iceberg_version.specs.declared.carrying.Next.{Next}
 use Rattle.iceberg_version.specs.declared.kept.IcebergKept.{IcebergKept}
 use Rattle.iceberg_version.specs.declared.kept.KeptManifest.{KeptManifest}
-use Rattle.iceberg_version.proofs.HeldLemmas.{in_schemas}
 use Rattle.iceberg_version.proofs.NextLemmas.{all_next}
 use Rattle.iceberg_version.proofs.Shared.{each_length, in_map, of_map}
 use Rattle.iceberg_commit.specs.Behind.{AreAddedParts, IsTableBehind}

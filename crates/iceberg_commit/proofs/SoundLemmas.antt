@@ -1,6 +1,6 @@
 -- Sound metadata, as a test and as facts.
-use Rattle.std.proofs.Common.{◌≡◌, ℕ, ℤ, pos, List, Bool, true, false, not, Contains, Option, Some, None, Result, Ok, Err, refl, sym, ap, ◌∙◌, arith}
-use Rattle.std.specs.Prelude.{◌≤ℤ◌, ◌&&◌, int_lt, flat_map, IfSome}
+use Rattle.std.proofs.Common.{◌≡◌, ℕ, ℤ, pos, List, Bool, true, false, not, Contains, Result, Ok, Err, refl, sym, ap, ◌∙◌, arith}
+use Rattle.std.specs.Prelude.{◌≤ℤ◌, ◌&&◌, int_lt, flat_map}
 use Rattle.std.specs.Bool.{Decides}
 use Rattle.std.specs.Cmp.Lexicographic.{pointwise}
 use Rattle.std.specs.List.{list_all}
@@ -23,9 +23,10 @@ use Rattle.iceberg_metadata.specs.Schemas.{HeldSchema}
 use Rattle.iceberg_metadata.specs.Writing.{CanBeHeld, schema_data}
 use Rattle.iceberg_metadata.specs.declared.metadata.Metadata.{Metadata}
 use Rattle.iceberg_metadata.specs.declared.metadata.Snapshot.{Snapshot}
-use Rattle.iceberg_metadata.proofs.ListLemmas.{all_from, among_Decides, distinct_Decides}
+use Rattle.iceberg_metadata.proofs.ListLemmas.{all_from, distinct_Decides}
 use Rattle.iceberg_metadata.proofs.LocationLemmas.{names_Decides}
 use Rattle.iceberg_metadata.proofs.PathLemmas.{renamed_Decides}
+use Rattle.iceberg_metadata.proofs.ConsistentLemmas.{among_if_any}
 use Rattle.iceberg_version.specs.Sound.{IsSoundMetadata, held_field_ids, held_schema_ids, is_read_again, is_same_schema, is_sound_metadata, is_sound_snapshot, is_upto}
 use Rattle.iceberg_version.proofs.Shared.{all_tested}
 
@@ -58,12 +59,6 @@ upto_Decides last id = (
   λ h. let is : int_lt last id ≡ false = not-true (int_lt last id) h in grind (arith, ints, is),
   λ within. not_from_false (int_lt last id) (false_from_ne_true (int_lt last id) (λ (over : int_lt last id ≡ true). absurd (grind (arith, ints, over, within)))),
 )
-
--- ---- snapshots
-
-among_if_any : (ids : List ℤ) (id : Option ℤ) → Decides (is_among_if_any ids id) (IfSome id (λ i. Contains ids i))
-among_if_any ids None = (λ h. tt, λ h. refl)
-among_if_any ids (Some id) = among_Decides ids id
 
 -- ---- all of it
 

@@ -45,21 +45,21 @@ cons_among n p [] h = absurd h
 cons_among n p (q ∷ ps) (inl e) = (q, inl refl, e)
 cons_among n p (q ∷ ps) (inr h) = let t = cons_among n p ps h in (t.0, inr t.1, t.2)
 
-cons_distinct : (n : List ℕ) (ps : List Path) → AreDistinct ps → AreDistinct (map (λ q. n ∷ q) ps)
+pub cons_distinct : (n : List ℕ) (ps : List Path) → AreDistinct ps → AreDistinct (map (λ q. n ∷ q) ps)
 unfolding Tail
 cons_distinct n [] d = tt
 cons_distinct n (q ∷ ps) d = (λ h. let t = cons_among n (n ∷ q) ps h in let e : t.0 ≡ q = let f : n ∷ t.0 ≡ n ∷ q = t.2 in cc in d.0 (subst (λ r. IsAmong r ps) e t.1), cons_distinct n ps d.1)
 
-not_empty_map : (n : List ℕ) (ps : List Path) → IsAmong [] (map (λ q. n ∷ q) ps) → ⊥
+pub not_empty_map : (n : List ℕ) (ps : List Path) → IsAmong [] (map (λ q. n ∷ q) ps) → ⊥
 not_empty_map n [] h = h
 not_empty_map n (q ∷ ps) (inl e) = absurd (cc)
 not_empty_map n (q ∷ ps) (inr h) = not_empty_map n ps h
 
-below_distinct : (n : List ℕ) (ps : List Path) → (IsAmong [] ps → ⊥) → AreDistinct ps → AreDistinct (below n ps)
+pub below_distinct : (n : List ℕ) (ps : List Path) → (IsAmong [] ps → ⊥) → AreDistinct ps → AreDistinct (below n ps)
 unfolding Tail
 below_distinct n ps full d = (λ h. let t = cons_among n (n ∷ []) ps h in let e : t.0 ≡ [] = let f : n ∷ t.0 ≡ n ∷ [] = t.2 in cc in full (subst (λ r. IsAmong r ps) e t.1), cons_distinct n ps d)
 
-below_full : (n : List ℕ) (ps : List Path) → IsAmong [] (below n ps) → ⊥
+pub below_full : (n : List ℕ) (ps : List Path) → IsAmong [] (below n ps) → ⊥
 below_full n ps (inl e) = absurd (cc)
 below_full n ps (inr h) = not_empty_map n ps h
 
@@ -153,7 +153,7 @@ known_among (k ∷ known) p i e = at (known_among known p i) (pointwise bytes_eq
     at more true h = inl (cc)
     at more false h = inr (more h)
 
-path_same : (p q : Path) → pointwise bytes_eq p q ≡ true → p ≡ q
+pub path_same : (p q : Path) → pointwise bytes_eq p q ≡ true → p ≡ q
 path_same p q e = (slice_eq-Decides bytes_eq-Decides p q (pointwise bytes_eq p q) refl).0 e
 
 one_path : (known : List (Path × ℤ)) (p q : Path) (i : ℤ) → AreDistinct (map (λ k. k.1) known) → known_id known p ≡ Some i → known_id known q ≡ Some i → p ≡ q
@@ -183,7 +183,7 @@ record Taken (known : List (Path × ℤ)) (last : ℤ) (path : Path) (paths : Li
   rest : ids_for known later paths ≡ Ok others
   how : ((known_id known path ≡ Some id) × (later ≡ last)) ⊎ ((later ≡ last +ℤ pos 1) × (id ≡ later) × (known_id known path ≡ None))
 
-next_found : (last : ℤ) (b : Bool) (id : ℤ) → int_lt last (pos 2147483647) ≡ b → next_id last ≡ Ok id → last +ℤ pos 1 ≡ id
+pub next_found : (last : ℤ) (b : Bool) (id : ℤ) → int_lt last (pos 2147483647) ≡ b → next_id last ≡ Ok id → last +ℤ pos 1 ≡ id
 next_found last b id is e = at b id (rw is at e)
   where
     at : (b : Bool) (id : ℤ) → cond b (Ok (last +ℤ pos 1)) (Err (Limit Versions)) ≡ Ok id → last +ℤ pos 1 ≡ id

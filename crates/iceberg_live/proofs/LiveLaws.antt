@@ -18,6 +18,7 @@ use Rattle.iceberg_manifest.specs.declared.error.Fault.TheVariants.{Malformed, O
 use Rattle.iceberg_manifest.specs.declared.error.ManifestError.{ManifestError}
 use Rattle.iceberg_manifest.specs.declared.error.ManifestError.TheVariants as errors
 use Rattle.iceberg_manifest.specs.declared.info.ManifestInfo.{ManifestInfo}
+use Rattle.iceberg_manifest.proofs.ContainerLaws.{memory_alone}
 use Rattle.iceberg_live.specs.declared.live.LiveRow.{LiveRow}
 use Rattle.iceberg_metadata.proofs.LocationLemmas.{behind_found, behind_given}
 use Rattle.iceberg_live.proofs.EachLaws.{filter_passes, each_found, each_given, each_stops}
@@ -187,15 +188,6 @@ rows_refused location info entries f h =
 
 -- ---- the call
 
-memory_is : (e : ManifestError) → is_memory e ≡ true → e ≡ errors.Memory
-memory_is errors.Memory is = refl
-memory_is errors.Malformed is = absurd (cc)
-memory_is errors.Codec is = absurd (cc)
-memory_is errors.RowDeletes is = absurd (cc)
-memory_is errors.FileFormat is = absurd (cc)
-memory_is errors.OutsideTable is = absurd (cc)
-memory_is (errors.Limit which) is = absurd (cc)
-
 module _ (location : List ℕ) (info : ManifestInfo) (entries : List EntryData) where
   found_at : (rows : List LiveRow) (r : Result (List LiveRow) Fault) → rows_in (front_of location) info entries ≡ r → with_fault error_of r ≡ Ok rows → AreLiveRows location info entries rows
   found_at rows (Ok found) is h = let same : found ≡ rows = cc in subst (AreLiveRows location info entries) same (rows_found location info entries found is)
@@ -210,7 +202,7 @@ module _ (location : List ℕ) (info : ManifestInfo) (entries : List EntryData) 
   found (Err e) h = tt
 
   not_memory : (e : ManifestError) (b : Bool) → is_memory e ≡ b → FailsUnlessMemory b e (live_rows_of location info entries) → (e ≡ errors.Memory) ⊎ (live_rows_of location info entries ≡ Err e)
-  not_memory e true is h = inl (memory_is e is)
+  not_memory e true is h = inl (memory_alone e is)
   not_memory e false is h = inr h
 
   pub refused : (result : Result (List LiveRow) ManifestError) → GivesUnlessMemory is_memory (λ rows. rows) result (live_rows_of location info entries) → IfErr result (λ e. (e ≡ errors.Memory) ⊎ IsFirstFault location info entries e)

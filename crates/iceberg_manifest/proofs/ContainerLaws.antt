@@ -4,6 +4,7 @@ use Rattle.std.specs.Result.{ForOk}
 use Rattle.lake_basics.specs.Outcome.{GivesUnlessMemory, FailsUnlessMemory}
 use Rattle.avro_schema.specs.Tree.{SchemaTree, tree_of}
 use Rattle.avro_value.specs.ValueTree.{ValueTree, value_tree, value_count, total}
+use Rattle.avro_value.proofs.ValueLaws.{size_pos}
 use Rattle.avro_container.specs.Format.{Pairs, IsWithin}
 use Rattle.avro_container.specs.Laws.{IsRefused, IsThat}
 use Rattle.avro_container.specs.declared.container.Container.{Container}
@@ -21,7 +22,7 @@ pub record Reads (limit : ℕ) (bytes : List ℕ) (r : Result Container Containe
   pub refused : IfErr r (λ e. (e ≡ container.Memory) ⊎ IsRefused limit bytes e)
   pub first : (e : ContainerError) → IsRefused limit bytes e → (r ≡ Err e) ⊎ (r ≡ Err container.Memory)
 
-memory_alone : (e : ManifestError) → is_memory e ≡ true → e ≡ errors.Memory
+pub memory_alone : (e : ManifestError) → is_memory e ≡ true → e ≡ errors.Memory
 memory_alone errors.Memory h = refl
 memory_alone errors.Malformed h = absurd (cc)
 memory_alone errors.Codec h = absurd (cc)
@@ -123,25 +124,9 @@ module _ {B : Type 0} (scan : Scan B) (limit : ℕ) (bytes : List ℕ) where
 
 -- ---- how many values a container has
 
-one_each : (v : ValueTree) → 1 ≤ value_count v
-one_each ValueTree.null = omega arith
-one_each (ValueTree.boolean b) = omega arith
-one_each (ValueTree.int n) = omega arith
-one_each (ValueTree.long n) = omega arith
-one_each (ValueTree.float bs) = omega arith
-one_each (ValueTree.double bs) = omega arith
-one_each (ValueTree.bytes bs) = omega arith
-one_each (ValueTree.text bs) = omega arith
-one_each (ValueTree.fixed bs) = omega arith
-one_each (ValueTree.enum_of i) = omega arith
-one_each (ValueTree.array_of vs) = omega arith
-one_each (ValueTree.map_of es) = omega arith
-one_each (ValueTree.union_of i v) = omega arith
-one_each (ValueTree.record_of vs) = omega arith
-
 length_within : {A : Type 0} (f : A → ValueTree) (xs : List A) → length xs ≤ total value_count (map f xs)
 length_within f [] = omega arith
-length_within f (x ∷ xs) = omega (arith, one_each (f x), length_within f xs)
+length_within f (x ∷ xs) = omega (arith, size_pos (f x), length_within f xs)
 
 pub few_values : (limit : ℕ) (bytes : List ℕ) (r : Result Container ContainerError) → IfOk r (λ c. IsWithin limit bytes c.meta (tree_of c.schema) (map value_tree c.values)) → ForOk r (λ c. length c.values ≤ limit)
 few_values limit bytes (Ok c) h x is = let same : c ≡ x = cc in subst (λ (d : Container). length d.values ≤ limit) same (omega (arith, length_within value_tree c.values, h.few))

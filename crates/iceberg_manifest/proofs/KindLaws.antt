@@ -43,7 +43,7 @@ bind_ok : {A B E : Type 0} (r : Result A E) (f : A → Result B E) (b : B) → (
 bind_ok (Ok a) f b is = (a, refl, is)
 bind_ok (Err e) f b is = absurd (cc)
 
-fault_ok : {A E F : Type 0} (name : E → F) (r : Result A E) (a : A) → with_fault name r ≡ Ok a → r ≡ Ok a
+pub fault_ok : {A E F : Type 0} (name : E → F) (r : Result A E) (a : A) → with_fault name r ≡ Ok a → r ≡ Ok a
 fault_ok name (Ok x) a is = ap Ok (ok_is x a is)
 fault_ok name (Err d) a is = absurd (cc)
 

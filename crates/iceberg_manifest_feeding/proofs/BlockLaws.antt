@@ -1,22 +1,20 @@
 -- What reading makes of bytes that are a header and whole blocks, and of what stands behind them.
-use Rattle.std.proofs.Common.{◌≡◌, inl, inr, ℕ, zero, suc, ◌+◌, ◌-◌, ◌<◌, List, [], ◌∷◌, ◌++◌, length, Ok, Err, refl, sym, ap, subst, ◌∙◌, append_assoc, arith}
+use Rattle.std.proofs.Common.{◌≡◌, ℕ, zero, suc, ◌+◌, ◌-◌, ◌<◌, List, [], ◌∷◌, ◌++◌, length, Ok, refl, sym, ap, ◌∙◌, append_assoc, arith}
 use Rattle.std.proofs.lemmas.List.{append-nil}
 use Rattle.std.proofs.lemmas.List.Concat.{flat_map-cons}
 use Rattle.avro_value.specs.Layout.{Layout, layout_of}
 use Rattle.avro_value.specs.ValueTree.{ValueTree, value_count, total}
 use Rattle.avro_value.specs.declared.api.TheConstants.{MAX_VALUES}
-use Rattle.avro_value.specs.declared.fault.Fault.TheVariants.{Short}
 use Rattle.avro_value.proofs.BlockLaws.{total-append}
-use Rattle.avro_container.specs.Format.{Block, Blocks, IsPlain, Pairs}
-use Rattle.avro_container.specs.Reading.{codec_in, flaw_at}
+use Rattle.avro_container.specs.Format.{Block, Blocks}
 use Rattle.avro_container.specs.declared.fault.Flaw.TheVariants as flaw
-use Rattle.avro_container.proofs.BlockRefusals.{block_refused}
-use Rattle.avro_container.proofs.Containers.{schema_again}
+use Rattle.avro_container.proofs.Containers.{codec_again, schema_again}
 use Rattle.avro_container.proofs.Headers.{header_again}
 use Rattle.avro_container.proofs.WholeBlocks.{block_again, block_length}
 use Rattle.avro_feeding.specs.Feeding.{Behind, Fed, and_fed, after_block, after_header, behind_block, fed, further, in_blocks, joined, nothing_read, opened, read_blocks, read_on, with_block}
 use Rattle.avro_feeding.specs.Laws.{StandsBehind}
 use Rattle.avro_feeding.proofs.PieceLemmas.{added, block_in, opened_is, read_more}
+use Rattle.avro_feeding.proofs.EndLemmas.{none_waits}
 
 -- ---- blocks one by one
 
@@ -78,11 +76,6 @@ blocks_step fuel b = refl
 pub read_step : (b : Behind) → read_blocks b ≡ after_block b (read_on (length b.rest)) (block_in b)
 read_step b = ap (λ (n : ℕ). read_on n b) (one_more (length b.rest)) ∙ blocks_step (length b.rest) b
 
-none_waits : (b : Behind) → b.rest ≡ [] → block_in b ≡ Err (flaw_at flaw.Short 0)
-none_waits b none =
-    let front = block_refused (layout_of b.schema) b.marker [] b.budget (flaw_at flaw.Short 0) (inl (Short, inl (inl (refl, tt, omega arith)), inl (refl, (refl, refl)))) in
-    subst (λ (r : List ℕ). block_in (record b { rest = r }) ≡ Err (flaw_at flaw.Short 0)) (sym none) front
-
 waits_on : (fuel : ℕ) (b : Behind) → 0 < fuel → b.rest ≡ [] → read_on fuel b ≡ (Ok (in_blocks b), [])
 waits_on zero b some none = absurd (omega arith)
 waits_on (suc fuel) b some none = blocks_step fuel b ∙ ap (after_block b (read_on fuel)) (none_waits b none)
@@ -126,11 +119,6 @@ read_over (vs ∷ blocks) b left sixteen p few =
 
 -- ---- bytes that stand behind blocks
 
-plain_codec : (meta : Pairs) → IsPlain meta → codec_in meta ≡ Ok tt
-unfolding codec_in
-plain_codec meta (inl none) = rw (codec_in, none) refl
-plain_codec meta (inr some) = rw (codec_in, some) refl
-
 -- what is read of bytes that are a header, blocks of these values, and what stands behind them
 pub record ReadsOn (bytes : List ℕ) (front : List (List ValueTree)) (b : Behind) : Type 0 where
   pub blocks : List (List ValueTree)
@@ -147,7 +135,7 @@ stands_read bytes front b s =
     let few = s.few in
     let over = read_over p.blocks begin b.budget s.is_header.sixteen p.are (omega (arith, few, sum)) in
     let header = header_again MAX_VALUES s.meta b.marker s.header (s.blocks ++ b.rest) s.is_header in
-    let opening : opened all ≡ Ok (added begin b.rest) = opened_is all ∙ rw (header, schema_again s.meta b.schema s.schema, plain_codec s.meta s.plain) refl in
+    let opening : opened all ≡ Ok (added begin b.rest) = opened_is all ∙ rw (header, schema_again s.meta b.schema s.schema, codec_again s.meta s.plain) refl in
     record {
       blocks = p.blocks;
       values = p.values;

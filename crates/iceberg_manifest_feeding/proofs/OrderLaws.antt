@@ -30,9 +30,9 @@ use Rattle.iceberg_manifest.specs.EntryReading.{entries_in as entries_read}
 use Rattle.iceberg_manifest.specs.Scans.{entry_error}
 use Rattle.iceberg_manifest.specs.declared.error.EntryFault.{EntryFault}
 use Rattle.iceberg_manifest.specs.declared.error.EntryFault.TheVariants as entry
-use Rattle.iceberg_manifest.specs.declared.error.ManifestError.{ManifestError}
 use Rattle.iceberg_manifest.specs.declared.error.ManifestError.TheVariants as errors
 use Rattle.iceberg_manifest.specs.declared.partition.PartColumn.{PartColumn}
+use Rattle.iceberg_manifest.proofs.ContainerLaws.{clash, same_err}
 use Rattle.iceberg_manifest_feeding.specs.Laws.{IsFaultForGood, IsLimitOfValues, IsReadOrRefused, IsReadSound, IsRefusedOnce}
 use Rattle.iceberg_manifest_feeding.specs.Order.{IsFaultAtEnd, IsFaultWithin}
 use Rattle.iceberg_manifest_feeding.specs.Steps.{Entries, ended_by, entries_in}
@@ -42,24 +42,18 @@ use Rattle.iceberg_manifest_feeding.proofs.ReadLaws.{reads}
 
 -- ---- read, or refused once
 
-err_once : {A : Type 0} (r : Result A ManifestError) (d e : ManifestError) → r ≡ Err d → r ≡ Err e → d ≡ e
-err_once r d e p q = cc
-
-ok_or_err : {A : Type 0} (r : Result A ManifestError) (x : A) (e : ManifestError) → r ≡ Ok x → r ≡ Err e → ⊥
-ok_or_err r x e p q = cc
-
 pub read_or_refused : IsReadOrRefused
-read_or_refused columns bytes entries e stands (inl fault) = ok_or_err (entries_in columns (fed nothing_read bytes)) entries e (read_whole columns bytes entries stands).read (refused_within columns bytes e fault)
-read_or_refused columns bytes entries e stands (inr fault) = ok_or_err (ended_by columns (fed nothing_read bytes).0) tt e (read_whole columns bytes entries stands).ends (refused_end columns bytes e fault).1.ends
+read_or_refused columns bytes entries e stands (inl fault) = clash (entries_in columns (fed nothing_read bytes)) entries e (read_whole columns bytes entries stands).read (refused_within columns bytes e fault)
+read_or_refused columns bytes entries e stands (inr fault) = clash (ended_by columns (fed nothing_read bytes).0) tt e (read_whole columns bytes entries stands).ends (refused_end columns bytes e fault).1.ends
 
 pub refused_once : IsRefusedOnce
-refused_once columns bytes d e (inl p) (inl q) = err_once (entries_in columns (fed nothing_read bytes)) d e (refused_within columns bytes d p) (refused_within columns bytes e q)
-refused_once columns bytes d e (inl p) (inr q) = (let end = refused_end columns bytes e q in absurd (ok_or_err (entries_in columns (fed nothing_read bytes)) end.0 d end.1.read (refused_within columns bytes d p)))
-refused_once columns bytes d e (inr p) (inl q) = (let end = refused_end columns bytes d p in absurd (ok_or_err (entries_in columns (fed nothing_read bytes)) end.0 e end.1.read (refused_within columns bytes e q)))
-refused_once columns bytes d e (inr p) (inr q) = err_once (ended_by columns (fed nothing_read bytes).0) d e (refused_end columns bytes d p).1.ends (refused_end columns bytes e q).1.ends
+refused_once columns bytes d e (inl p) (inl q) = same_err (entries_in columns (fed nothing_read bytes)) d e (refused_within columns bytes d p) (refused_within columns bytes e q)
+refused_once columns bytes d e (inl p) (inr q) = (let end = refused_end columns bytes e q in absurd (clash (entries_in columns (fed nothing_read bytes)) end.0 d end.1.read (refused_within columns bytes d p)))
+refused_once columns bytes d e (inr p) (inl q) = (let end = refused_end columns bytes d p in absurd (clash (entries_in columns (fed nothing_read bytes)) end.0 e end.1.read (refused_within columns bytes e q)))
+refused_once columns bytes d e (inr p) (inr q) = same_err (ended_by columns (fed nothing_read bytes).0) d e (refused_end columns bytes d p).1.ends (refused_end columns bytes e q).1.ends
 
 pub read_sound : IsReadSound
-read_sound columns bytes now e h fault = ok_or_err (entries_in columns (fed nothing_read bytes)) now.entries e (reads columns bytes now h) (refused_within columns bytes e fault)
+read_sound columns bytes now e h fault = clash (entries_in columns (fed nothing_read bytes)) now.entries e (reads columns bytes now h) (refused_within columns bytes e fault)
 
 -- ---- a fault stays
 
@@ -151,7 +145,7 @@ module _ (which : LimitKind) where
 
   no_scan : (r : Result (List EntryData) EntryFault) → ◌≡◌ {A = Entries} (with_fault entry_error r) (Err (errors.Limit which)) → ⊥
   no_scan (Ok es) is = cc
-  no_scan (Err f) is = no_entry f (err_once (with_fault {A = List EntryData} entry_error (Err f)) (entry_error f) (errors.Limit which) refl is)
+  no_scan (Err f) is = no_entry f (same_err (with_fault {A = List EntryData} entry_error (Err f)) (entry_error f) (errors.Limit which) refl is)
 
   within_limit : (columns : List PartColumn) (bytes : List ℕ) → IsFaultWithin columns bytes (errors.Limit which) → which ≡ Values
   within_limit columns bytes (inl (f, first, header, is)) = of_container (error_of (length bytes) f) is

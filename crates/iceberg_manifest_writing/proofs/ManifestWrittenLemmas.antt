@@ -27,6 +27,7 @@ use Rattle.partition_map.specs.Avro.{avro_value_of, branch_of}
 use Rattle.partition_map.specs.Kind.{IsOfKind}
 use Rattle.partition_map.specs.declared.kind.PartKind.{PartKind}
 use Rattle.partition_map.specs.declared.kind.PartKind.TheVariants.{Boolean, Int, Long, Text, Date}
+use Rattle.partition_map.proofs.ColumnLemmas.{distinct_from}
 use Rattle.table_history.specs.declared.row.PartValue.{PartValue}
 use Rattle.table_history.specs.declared.row.PartValue.TheVariants as value
 use Rattle.schema_map.specs.Image.{is_avro_name}
@@ -306,11 +307,6 @@ none_in : (name : List ℕ) (names : List (List ℕ)) → AllByRecursion (λ n. 
 none_in name [] others = refl
 none_in name (n ∷ ns) others = rw (others.0, none_in name ns others.1) refl
 
-names_distinct : (names : List (List ℕ)) → IsDistinct bytes_eq names → are_distinct names ≡ true
-unfolding IsDistinct
-names_distinct [] own = refl
-names_distinct (n ∷ ns) own = rw (none_in n ns own.0, names_distinct ns own.1) refl
-
 unnamed : (kind : PartKind) → plain.names_in (nullable_type (kind_type kind)) ≡ []
 unnamed Boolean = refl
 unnamed Int = refl
@@ -358,7 +354,7 @@ parts_plain parts sound own none level types = record {
 manifest_plain : (cs : List PartColumn) (names : List (List ℕ)) → length names ≡ length cs → IsDistinct bytes_eq names → AllByRecursion HasId cs → length cs ≤ MAX_PARTITION_COLUMNS → IsPlain (entry_type (part_fields cs names))
 manifest_plain cs names named own ids few =
     let types = parts_types cs names in
-    parts_plain (part_fields cs names) (parts_sound cs names ids) (ap are_distinct (names_kept cs names named) ∙ names_distinct names own) (parts_unnamed cs names) (parts_level cs names) (omega (arith, types, few))
+    parts_plain (part_fields cs names) (parts_sound cs names ids) (ap are_distinct (names_kept cs names named) ∙ distinct_from names own) (parts_unnamed cs names) (parts_level cs names) (omega (arith, types, few))
 
 -- ---- the names of the fields
 

@@ -24,7 +24,7 @@ module _ {X : Type 0} (p : X → Bool) (P : X → Type 0) (same : (x : X) → De
 
 -- ---- ids
 
-among_if_any : (ids : List ℤ) (id : Option ℤ) → Decides (is_among_if_any ids id) (IfSome id (λ i. Contains ids i))
+pub among_if_any : (ids : List ℤ) (id : Option ℤ) → Decides (is_among_if_any ids id) (IfSome id (λ i. Contains ids i))
 among_if_any ids None = (λ h. tt, λ h. refl)
 among_if_any ids (Some id) = among_Decides ids id
 

@@ -15,7 +15,7 @@ use Rattle.iceberg_metadata.specs.Judging.{is_path, is_id, is_first, is_renamed}
 use Rattle.iceberg_metadata.specs.Paths.{PathId, path_of, IsRenamed}
 use Rattle.iceberg_metadata.proofs.ListLemmas.{all_from, all_false}
 
-path_Decides : (p q : Path) → Decides (pointwise bytes_eq p q) (p ≡ q)
+pub path_Decides : (p q : Path) → Decides (pointwise bytes_eq p q) (p ≡ q)
 path_Decides p q = slice_eq-Decides bytes_eq-Decides p q (pointwise bytes_eq p q) refl
 
 -- ---- what is met first

@@ -7,13 +7,13 @@ use Rattle.std.specs.List.{AllByRecursion}
 use Rattle.std.specs.Ordering.{match_ordering}
 use Rattle.std.proofs.lemmas.Bool.{or_from, or_parts}
 use Rattle.serde_json.specs.Data.{Data, string, array, object, Items, Members, no_members, member, put, depth, items_depth, members_depth}
-use Rattle.serde_json.specs.Find.{of_integer, is_float}
 use Rattle.serde_json.specs.Read.{max_depth}
 use Rattle.serde_json.specs.View.{items_of}
 use Rattle.serde_json.specs.Written.{has_float, items_have_float, members_have_float}
 use Rattle.json_reading.specs.Json.{members_with}
 use Rattle.schema_iceberg.specs.IcebergWriting.{first_id, ids_behind, iceberg_data, iceberg_fields}
 use Rattle.schema_iceberg.proofs.IcebergSchema.{given_found}
+use Rattle.schema_iceberg.proofs.FlatMapping.{flat_id}
 use Rattle.table_history.specs.SchemaSize.{levels, column_levels}
 use Rattle.table_history.specs.TypeTree as tree
 use Rattle.table_history.specs.TypeTree.{TypeTree, ColumnTrees, no_columns, column}
@@ -123,10 +123,6 @@ snapshot_within s =
 
 -- ---- schemas
 
-integer_flat : (z : ℤ) → is_float (of_integer z) ≡ false
-integer_flat (pos n) = refl
-integer_flat (negsuc n) = refl
-
 mutual
   flat_type : (t : TypeTree) (ids : List ℤ) → has_float (iceberg_data t ids).0 ≡ false
   flat_type tree.boolean ids = refl
@@ -143,16 +139,16 @@ mutual
   flat_type tree.timestamp_ntz ids = refl
   flat_type (tree.decimal p s) ids = refl
   flat_type (tree.struct_of cs) ids = or_from _ _ (flat_fields cs ids) refl
-  flat_type (tree.list_of t b) ids = or_from _ _ (flat_type t (ids_behind ids)) (or_from _ _ (integer_flat (first_id ids)) refl)
+  flat_type (tree.list_of t b) ids = or_from _ _ (flat_type t (ids_behind ids)) (or_from _ _ (flat_id (first_id ids)) refl)
   flat_type (tree.map_of k v b) ids =
       let key = iceberg_data k (ids_behind ids) in
-      or_from _ _ (flat_type k (ids_behind ids)) (or_from _ _ (integer_flat (first_id ids)) (or_from _ _ (flat_type v (ids_behind key.1)) (or_from _ _ (integer_flat (first_id key.1)) refl)))
+      or_from _ _ (flat_type k (ids_behind ids)) (or_from _ _ (flat_id (first_id ids)) (or_from _ _ (flat_type v (ids_behind key.1)) (or_from _ _ (flat_id (first_id key.1)) refl)))
 
   flat_fields : (cs : ColumnTrees) (ids : List ℤ) → items_have_float (items_of (iceberg_fields cs ids).0) ≡ false
   flat_fields no_columns ids = refl
   flat_fields (column m t b cs) ids =
       let kind = iceberg_data t (ids_behind ids) in
-      or_from _ _ (or_from _ _ (integer_flat (first_id ids)) (or_from _ _ (flat_type t (ids_behind ids)) refl)) (flat_fields cs kind.1)
+      or_from _ _ (or_from _ _ (flat_id (first_id ids)) (or_from _ _ (flat_type t (ids_behind ids)) refl)) (flat_fields cs kind.1)
 
 mutual
   -- a type of so many levels takes fewer than three levels of JSON for each
@@ -189,7 +185,7 @@ held_within s held =
     let found = given_found held.0 (Ok (s.1, s.2)) held.1 in
     let small = found.1.levels in
     let h = few_field_depths s.1 s.2 in
-    record { no_float = or_from _ _ (flat_fields s.1 s.2) (or_from _ _ (integer_flat s.0) refl); shallow = omega (arith, small, h) }
+    record { no_float = or_from _ _ (flat_fields s.1 s.2) (or_from _ _ (flat_id s.0) refl); shallow = omega (arith, small, h) }
 
 schemas_within : (ss : List HeldSchema) → All CanBeHeld ss → AllByRecursion (λ s. Within 95 (schema_data s)) ss
 schemas_within [] held = tt

@@ -1,10 +1,11 @@
 -- What is kept of the schemas of a list, one after another.
-use Rattle.std.proofs.Common.{◌≡◌, ℕ, ◌+◌, ◌<◌, ℤ, Bool, true, false, List, [], ◌∷◌, length, get_or, drop, Result, Ok, Err, codes, refl, sym, ap, subst, ◌∙◌, drop-cons, add-one}
+use Rattle.std.proofs.Common.{◌≡◌, ℕ, ◌+◌, ◌<◌, ℤ, Bool, true, false, List, [], ◌∷◌, length, get_or, drop, Result, Ok, Err, codes, refl, sym, ap, subst, ◌∙◌}
 use Rattle.std.proofs.lemmas.List.{append_assoc, append-nil}
 use Rattle.serde_json.specs.Data.{Data, Items}
 use Rattle.serde_json.specs.View.{view, items_view}
 use Rattle.serde_json.specs.declared.value.Value.{Value}
 use Rattle.json_reading.specs.Json.{items}
+use Rattle.json_reading.proofs.Laws.{items-drop}
 use Rattle.iceberg_metadata.specs.declared.metadata.Metadata.{Metadata}
 use Rattle.iceberg_metadata.specs.Errors.{is_memory}
 use Rattle.iceberg_metadata.specs.Members.{format_version, list_in}
@@ -43,13 +44,10 @@ all_kept h whole before = sym before ∙ ap Ok (with_none h)
 
 -- ---- places
 
-item_at : (vs : List Value) (i : ℕ) (v : Value) → i < length vs → v ≡ get_or vs i v → items (items_view (drop i vs)) ≡ view v ∷ items (items_view (drop (i + 1) vs))
-item_at vs i v within at = ap (λ l. items (items_view l)) (drop-cons vs i v within ∙ (λ k. sym at k ∷ drop (sym (add-one i) k) vs))
-
 pub next_kept : (vs : List Value) (i : ℕ) (v : Value) (h new : HeldSchemas) (id given : ℤ) (columns : ReadColumns) (whole : Result HeldSchemas MetadataError) → i < length vs → v ≡ get_or vs i v → given ≡ id
     → schema_reading (view v) ≡ Ok (id, columns) → new ≡ with_reading h (given, columns) → each_beside h (items (items_view (drop i vs))) ≡ whole → each_beside new (items (items_view (drop (i + 1) vs))) ≡ whole
 next_kept vs i v h new id given columns whole within at same is made before =
-    let one = one_more h (view v) (items (items_view (drop (i + 1) vs))) (id, columns) whole is (sym (ap (each_beside h) (item_at vs i v within at)) ∙ before) in
+    let one = one_more h (view v) (items (items_view (drop (i + 1) vs))) (id, columns) whole is (sym (ap (each_beside h) (items-drop vs i v within at)) ∙ before) in
     ap (λ x. each_beside x (items (items_view (drop (i + 1) vs)))) (made ∙ ap (λ n. with_reading h (n, columns)) same) ∙ one
 
 -- ---- refusals behind the schemas

@@ -1,8 +1,7 @@
 -- The rows of a manifest list are of data or of deletes.
-use Rattle.std.proofs.Common.{◌≡◌, ◌⊎◌, ◌+◌, ℕ, ℤ, pos, Bool, true, false, List, [], ◌∷◌, Contains, Result, Ok, Err, ap, sym, subst, inl, inr, ⊎_elim}
+use Rattle.std.proofs.Common.{◌≡◌, ◌⊎◌, ◌+◌, ℕ, ℤ, pos, Bool, true, false, List, [], ◌∷◌, Contains, Ok, sym, subst, inl, inr, ⊎_elim}
 use Rattle.std.specs.Prelude.{if◌then◌else◌}
 use Rattle.std.specs.Ordering.{int_eq}
-use Rattle.lake_basics.specs.Outcome.{with_fault}
 use Rattle.avro_schema.specs.Tree.{SchemaTree}
 use Rattle.avro_value.specs.ValueTree.{ValueTree}
 use Rattle.table_history.proofs.RowListLemmas.{Contains-cases, Contains-none}
@@ -12,6 +11,7 @@ use Rattle.iceberg_manifest.specs.Lists.{AreEach}
 use Rattle.iceberg_manifest.specs.Scans.{flaw_error, infos_of}
 use Rattle.iceberg_manifest.specs.Values.{record_value, required_text, whole_or_zero}
 use Rattle.iceberg_manifest.specs.declared.info.ManifestInfo.{ManifestInfo}
+use Rattle.iceberg_manifest.proofs.KindLaws.{fault_ok}
 use Rattle.iceberg_metadata.specs.declared.metadata.Metadata.{Metadata}
 use Rattle.iceberg_metadata.proofs.StepLemmas.{bind_ok, gave, given, ok_is}
 use Rattle.iceberg_table.specs.Lists.{AreRows, HaveContents, IsListed}
@@ -44,13 +44,9 @@ rows_content plan place (v ∷ vs) infos read i there =
     (λ later. rows_content plan (place + 1) vs others.0 others.1 i later)
     (Contains-cases first.0 others.0 i (subst (λ (l : List ManifestInfo). Contains l i) (sym (ok_is (first.0 ∷ others.0) infos others.2)) there))
 
-without_fault : {A E F : Type 0} (name : E → F) (r : Result A E) (x : A) → with_fault name r ≡ Ok x → r ≡ Ok x
-without_fault name (Ok y) x is = ap (λ z. Ok z) (ok_is y x is)
-without_fault name (Err e) x is = absurd (cc)
-
 infos_content : (t : SchemaTree) (vs : List ValueTree) (infos : List ManifestInfo) → infos_of t vs ≡ Ok infos → (i : ManifestInfo) → Contains infos i → HasContent i
 unfolding infos_in
-infos_content t vs infos read = let plan = bind_ok (list_plan t) _ infos (without_fault flaw_error (infos_in t vs) infos read) in rows_content plan.0 0 vs infos plan.2
+infos_content t vs infos read = let plan = bind_ok (list_plan t) _ infos (fault_ok flaw_error (infos_in t vs) infos read) in rows_content plan.0 0 vs infos plan.2
 
 pub contents_listed : (m : Metadata) (bytes : List ℕ) (infos : List ManifestInfo) (list : List ManifestFile) → AreRows bytes infos → AreEach (IsListed m) infos list → HaveContents list
 contents_listed m bytes infos list rows each = λ file there.

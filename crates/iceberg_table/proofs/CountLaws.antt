@@ -37,7 +37,7 @@ once_more xs rs =
     let sum : entries_once (xs ++ rs) ≡ entries_once xs + entry_count (fresh xs (each_once rs)) = ap entry_count (once_append xs rs) ∙ count_append (each_once xs) (fresh xs (each_once rs)) in
     omega (arith, sum)
 
-one_left : (x r : Manifest) (b c : Bool) → has_path r.file.path x ≡ b → filter (λ (s : Manifest). not (has_path s.file.path x)) (cond c [] (r ∷ [])) ≡ cond (b || c) [] (r ∷ [])
+pub one_left : (x r : Manifest) (b c : Bool) → has_path r.file.path x ≡ b → filter (λ (s : Manifest). not (has_path s.file.path x)) (cond c [] (r ∷ [])) ≡ cond (b || c) [] (r ∷ [])
 one_left x r true true is = refl
 one_left x r false true is = refl
 one_left x r true false is = ap (λ (b : Bool). cond (not b) (r ∷ []) []) is
@@ -48,7 +48,7 @@ fresh_one [] r = refl
 fresh_one (x ∷ xs) r =
     ap (λ (l : List Manifest). filter (λ (s : Manifest). not (has_path s.file.path x)) l) (fresh_one xs r) ∙ one_left x r (has_path r.file.path x) (list_any (has_path r.file.path) xs) refl
 
-own_count : (r : Manifest) (c : Bool) → entry_count (cond c [] (r ∷ [])) ≡ cond c 0 r.entries
+pub own_count : (r : Manifest) (c : Bool) → entry_count (cond c [] (r ∷ [])) ≡ cond c 0 r.entries
 own_count r true = refl
 own_count r false = let n = r.entries in omega arith
 
@@ -63,7 +63,7 @@ count_one xs r b is =
 
 -- ---- what is counted
 
-read_more : (read : List Manifest) (r : Manifest) (path : List ℕ) → list_any (has_path path) (read ++ r ∷ []) ≡ (list_any (has_path path) read || bytes_eq path r.file.path)
+pub read_more : (read : List Manifest) (r : Manifest) (path : List ℕ) → list_any (has_path path) (read ++ r ∷ []) ≡ (list_any (has_path path) read || bytes_eq path r.file.path)
 read_more read r path = list_any-append (has_path path) read (r ∷ []) ∙ ap (λ (b : Bool). list_any (has_path path) read || b) (or_nothing (bytes_eq path r.file.path))
 
 -- The manifest was counted, or its path and its entries come besides.

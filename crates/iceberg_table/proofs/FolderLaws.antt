@@ -18,7 +18,7 @@ abbrev pub IsNewestOf : (ℕ → Type 0) → Option ℕ → Type 0
 IsNewestOf Held newest = MatchOption newest ((v : ℕ) → Held v → ⊥) (IsNewest Held)
 
 -- a name is one version's
-one_version : (name : List ℕ) (v w : ℕ) → IsVersionName name v → IsVersionName name w → v ≡ w
+pub one_version : (name : List ℕ) (v w : ℕ) → IsVersionName name v → IsVersionName name w → v ≡ w
 one_version name v w nv nw =
     let small_v = nv.within in
     let small_w = nw.within in

@@ -70,7 +70,7 @@ in_filter : (es : List EntryData) (x : EntryData) → Contains es x → is_live 
 in_filter [] x there live = absurd (Contains-none x there)
 in_filter (e ∷ es) x there live = in_filter_by e es x (is_live e) refl live (⊎_elim (λ same. inl same) (λ later. inr (in_filter es x later live)) (Contains-cases e es x there))
 
-live_true : (e : EntryData) → e.status < 2 → is_live e ≡ true
+pub live_true : (e : EntryData) → e.status < 2 → is_live e ≡ true
 live_true e low = grind (arith, nat_tests)
 
 -- an entry has one row

@@ -1,5 +1,5 @@
 -- The plan of a snapshot in a table's own metadata is sound.
-use Rattle.std.proofs.Common.{◌≡◌, ◌≢◌, ◌⊎◌, ◌≤◌, ◌<◌, ℕ, ℤ, List, [], ◌∷◌, ◌++◌, Bool, true, false, cond, Contains, length, map, All, Option, None, Some, Result, Ok, Err, refl, sym, ap, subst, ◌∙◌, inl, inr, ⊎_elim, arith}
+use Rattle.std.proofs.Common.{◌≡◌, ◌≢◌, ◌⊎◌, ◌≤◌, ◌<◌, ℕ, ℤ, List, [], ◌∷◌, Bool, true, false, cond, Contains, length, map, All, Option, None, Some, Result, Ok, Err, refl, sym, ap, subst, ◌∙◌, inl, inr, ⊎_elim, arith}
 use Rattle.std.specs.Prelude.{IfOk, flat_map, nat_lt, option_and_then, option_map}
 use Rattle.std.specs.List.{AllByRecursion, IsDistinct}
 use Rattle.std.specs.Ordering.{int_eq}
@@ -157,11 +157,11 @@ held_there : (ss : List HeldSchema) (id : ℤ) → Contains (map (λ (s : HeldSc
 held_there [] id there = absurd (Contains-none id there)
 held_there (s ∷ ss) id there = held_by s ss id (int_eq s.0 id) refl (⊎_elim (λ same. inl same) (λ later. inr (held_there ss id later)) (Contains-cases s.0 (map (λ (t : HeldSchema). t.0) ss) id there))
 
-in_schemas_by : (s : HeldSchema) (ss : List HeldSchema) (id : ℤ) (t : HeldSchema) (b : Bool) → cond b (Some s) (held_schema ss id) ≡ Some t → (held_schema ss id ≡ Some t → Contains ss t) → Contains (s ∷ ss) t
+pub in_schemas_by : (s : HeldSchema) (ss : List HeldSchema) (id : ℤ) (t : HeldSchema) (b : Bool) → cond b (Some s) (held_schema ss id) ≡ Some t → (held_schema ss id ≡ Some t → Contains ss t) → Contains (s ∷ ss) t
 in_schemas_by s ss id t true is rest = let same : s ≡ t = cc in subst (Contains (s ∷ ss)) same (Contains-head s ss)
 in_schemas_by s ss id t false is rest = Contains-tail s ss t (rest is)
 
-in_schemas : (ss : List HeldSchema) (id : ℤ) (t : HeldSchema) → held_schema ss id ≡ Some t → Contains ss t
+pub in_schemas : (ss : List HeldSchema) (id : ℤ) (t : HeldSchema) → held_schema ss id ≡ Some t → Contains ss t
 in_schemas [] id t is = absurd (cc)
 in_schemas (s ∷ ss) id t is = in_schemas_by s ss id t (int_eq s.0 id) is (in_schemas ss id t)
 

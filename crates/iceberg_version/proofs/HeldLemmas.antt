@@ -31,6 +31,7 @@ use Rattle.iceberg_version.specs.Schemas.{AddsSchema, AreNextSchemas, KeepsSchem
 use Rattle.iceberg_version.specs.Sound.{IsSoundMetadata, have_first_ids, is_under}
 use Rattle.iceberg_version.proofs.IdLemmas.{known_there, own_paths, still_agree}
 use Rattle.iceberg_version.proofs.Shared.{in_flat, map_push, of_flat, of_map}
+use Rattle.iceberg_table.proofs.PlanLaws.{in_schemas}
 
 -- ---- tests of lists
 
@@ -112,14 +113,6 @@ schema_id_by s ss id t false at is rest = rest is
 pub schema_id : (ss : List HeldSchema) (id : ℤ) (t : HeldSchema) → held_schema ss id ≡ Some t → t.0 ≡ id
 schema_id [] id t is = absurd (cc)
 schema_id (s ∷ ss) id t is = schema_id_by s ss id t (int_eq s.0 id) refl is (schema_id ss id t)
-
-in_schemas_by : (s : HeldSchema) (ss : List HeldSchema) (id : ℤ) (t : HeldSchema) (b : Bool) → cond b (Some s) (held_schema ss id) ≡ Some t → (held_schema ss id ≡ Some t → Contains ss t) → Contains (s ∷ ss) t
-in_schemas_by s ss id t true is rest = let same : s ≡ t = cc in subst (Contains (s ∷ ss)) same (Contains-head s ss)
-in_schemas_by s ss id t false is rest = Contains-tail s ss t (rest is)
-
-pub in_schemas : (ss : List HeldSchema) (id : ℤ) (t : HeldSchema) → held_schema ss id ≡ Some t → Contains ss t
-in_schemas [] id t is = absurd (cc)
-in_schemas (s ∷ ss) id t is = in_schemas_by s ss id t (int_eq s.0 id) is (in_schemas ss id t)
 
 -- a schema that can be held has an id for each column path
 pub held_size : (s : HeldSchema) → CanBeHeld s → length (column_paths s.1) ≡ length s.2

@@ -1,5 +1,5 @@
 -- The field ids that a new schema gets beside those that are known.
-use Rattle.std.proofs.Common.{◌≡◌, ◌≢◌, ◌≤◌, ℕ, List, [], ◌∷◌, ◌++◌, map, length, Bool, true, false, Contains, Ok, Err, refl, sym, ap, subst, ◌∙◌, arith, cond, inl, inr, ⊎_elim}
+use Rattle.std.proofs.Common.{◌≡◌, ◌≢◌, ◌≤◌, ℕ, List, [], ◌∷◌, ◌++◌, map, length, Bool, true, false, Contains, Ok, refl, sym, ap, subst, ◌∙◌, arith, cond, inl, inr, ⊎_elim}
 use Rattle.std.specs.Prelude.{◌⊎◌, ◌≤ℤ◌, ◌<ℤ◌, ◌+ℤ◌, ℤ, pos, int_lt, Option, Some, None, codes, is_some}
 use Rattle.std.specs.List.{zip}
 use Rattle.std.proofs.lemmas.Int.{ints}
@@ -11,7 +11,6 @@ use Rattle.std.specs.Str.{bytes_eq}
 use Rattle.table_history.specs.History.{column_type}
 use Rattle.table_history.specs.TypeTree as tree
 use Rattle.table_history.specs.TypeTree.{TypeTree, ColumnTrees, no_columns, column}
-use Rattle.table_history.specs.declared.limit.LimitKind.TheVariants.{Versions}
 use Rattle.table_history.specs.Sound.{is_named, have_own_names, IsSoundType, AreSound, IsSound}
 use Rattle.table_history.proofs.RowListLemmas.{Contains-cases, Contains-head, Contains-none, Contains-tail}
 use Rattle.lake_basics.specs.Outcome.{◌>>=◌}
@@ -20,7 +19,7 @@ use Rattle.schema_map.specs.Paths.{Path, below, inner_paths, column_paths, known
 use Rattle.iceberg_field_ids.specs.Ids.{next_id, id_step, ids_for}
 use Rattle.schema_map.specs.Among.{IsAmong}
 use Rattle.iceberg_field_ids.specs.OwnIds.{AreDistinct}
-use Rattle.schema_map.specs.declared.fault.MapError.TheVariants.{Limit}
+use Rattle.iceberg_field_ids.proofs.OwnIdsGiven.{below_distinct, below_full, next_found, path_same}
 use Rattle.schema_map.proofs.Bound.{bound}
 
 -- ---- the paths of a schema are distinct
@@ -50,22 +49,6 @@ cons_among : (n : List ℕ) (p : Path) (ps : List Path) → IsAmong p (map (λ q
 cons_among n p [] h = absurd h
 cons_among n p (q ∷ ps) (inl e) = (q, inl refl, e)
 cons_among n p (q ∷ ps) (inr h) = let t = cons_among n p ps h in (t.0, inr t.1, t.2)
-
-cons_distinct : (n : List ℕ) (ps : List Path) → AreDistinct ps → AreDistinct (map (λ q. n ∷ q) ps)
-cons_distinct n [] d = tt
-cons_distinct n (q ∷ ps) d = (λ h. let t = cons_among n (n ∷ q) ps h in let e : t.0 ≡ q = let f : n ∷ t.0 ≡ n ∷ q = t.2 in cc in d.0 (subst (λ r. IsAmong r ps) e t.1), cons_distinct n ps d.1)
-
-not_empty_map : (n : List ℕ) (ps : List Path) → IsAmong [] (map (λ q. n ∷ q) ps) → ⊥
-not_empty_map n [] h = h
-not_empty_map n (q ∷ ps) (inl e) = absurd (cc)
-not_empty_map n (q ∷ ps) (inr h) = not_empty_map n ps h
-
-below_distinct : (n : List ℕ) (ps : List Path) → (IsAmong [] ps → ⊥) → AreDistinct ps → AreDistinct (below n ps)
-below_distinct n ps full d = (λ h. let t = cons_among n (n ∷ []) ps h in let e : t.0 ≡ [] = let f : n ∷ t.0 ≡ n ∷ [] = t.2 in cc in full (subst (λ r. IsAmong r ps) e t.1), cons_distinct n ps d)
-
-below_full : (n : List ℕ) (ps : List Path) → IsAmong [] (below n ps) → ⊥
-below_full n ps (inl e) = absurd (cc)
-below_full n ps (inr h) = not_empty_map n ps h
 
 -- a path below a name begins with it
 abbrev Begins : List ℕ → Path → Type 0
@@ -155,13 +138,6 @@ record Taken (known : List (Path × ℤ)) (last : ℤ) (path : Path) (paths : Li
   rest : ids_for known later paths ≡ Ok others
   how : ((known_id known path ≡ Some id) × (later ≡ last)) ⊎ ((later ≡ last +ℤ pos 1) × (id ≡ later) × (known_id known path ≡ None))
 
-next_found : (last : ℤ) (b : Bool) (id : ℤ) → int_lt last (pos 2147483647) ≡ b → next_id last ≡ Ok id → last +ℤ pos 1 ≡ id
-next_found last b id is e = at b id (rw is at e)
-  where
-    at : (b : Bool) (id : ℤ) → cond b (Ok (last +ℤ pos 1)) (Err (Limit Versions)) ≡ Ok id → last +ℤ pos 1 ≡ id
-    at true id h = cc
-    at false id h = absurd (cc)
-
 first_taken : (known : List (Path × ℤ)) (last : ℤ) (path : Path) (paths : List Path) (ids : List ℤ) (o : Option ℤ) → known_id known path ≡ o → ids_for known last (path ∷ paths) ≡ Ok ids → Taken known last path paths ids
 first_taken known last path paths ids (Some i) is e =
     let f : (ids_for known last paths >>= λ others. Ok (i ∷ others)) ≡ Ok ids = rw is at e in
@@ -244,9 +220,6 @@ new_apart known last (path ∷ paths) ids own e p q there_p there_q new_p new_q 
 
 -- ---- known paths
 
-path_is : (p q : Path) → pointwise bytes_eq p q ≡ true → p ≡ q
-path_is p q h = (slice_eq-Decides bytes_eq-Decides p q (pointwise bytes_eq p q) refl).0 h
-
 path_itself : (p : Path) → pointwise bytes_eq p p ≡ true
 path_itself p = (slice_eq-Decides bytes_eq-Decides p p (pointwise bytes_eq p p) refl).1 refl
 
@@ -255,7 +228,7 @@ known_among [] path id h = absurd (cc)
 known_among (k ∷ known) path id h = at (known_among known path id) (pointwise bytes_eq k.0 path) refl h
   where
     at : (known_id known path ≡ Some id → Contains known (path, id)) → (b : Bool) → pointwise bytes_eq k.0 path ≡ b → cond b (Some k.1) (known_id known path) ≡ Some id → Contains (k ∷ known) (path, id)
-    at rest true is e = subst (λ x. Contains (k ∷ known) x) (let f : k.1 ≡ id = cc in let g : k.0 ≡ path = path_is k.0 path is in (λ i. (g i, f i))) (Contains-head k known)
+    at rest true is e = subst (λ x. Contains (k ∷ known) x) (let f : k.1 ≡ id = cc in let g : k.0 ≡ path = path_same k.0 path is in (λ i. (g i, f i))) (Contains-head k known)
     at rest false is e = Contains-tail k known (path, id) (rest e)
 
 pub known_some : (known : List (Path × ℤ)) (p : Path × ℤ) → Contains known p → known_id known p.0 ≡ None → ⊥

@@ -33,6 +33,7 @@ use Rattle.target_hudi.specs.InspectLemmas as hudi_inspect
 use Rattle.target_hudi.specs.ViewLemmas as hudi_view
 use Rattle.target_hudi.specs.WideLemmas as hudi_wide
 use Rattle.target_hudi.specs.declared.target.HudiTarget.{HudiTarget}
+use Rattle.target_hudi.specs.InspectLemmas.{none_is_some}
 use Rattle.iceberg_version.proofs.Shared.{in_drop, slice_there}
 use Rattle.target_iceberg.specs.InspectLemmas as iceberg_inspect
 use Rattle.target_iceberg.specs.ViewLemmas as iceberg_view
@@ -117,16 +118,13 @@ module _ (script : Script) (stopped : Bool) (old new : FuseStore) (may : MayFail
 
 -- ---- views of the same files
 
-pub marked_none : (view : View) (standing : Standing) → IsUnpublished view → view.mark ≡ Some standing → ⊥
-marked_none view standing unpublished mark = let no : view.mark ≡ None = ap (λ (v : View). v.mark) unpublished in cc
-
 module _ (target : TargetFacts) (views : Views target) (history : History) (files : Files) where
   -- what reads the same files shows the same table
   pub shows_start : (n : ℕ) (view start : View) → target.files.reads files view → target.files.reads files start → ShowsTable Delta target.files.image history n view → ShowsTable Delta target.files.image history n start
   shows_start zero view start reads other shows =
       ⊎_elim
       (λ (same : SameView start view).
-      ⊎_elim (λ (un : IsUnpublished start). un) (λ (is : IsPublished start). absurd (marked_none view is.1.0 shows (sym same.mark ∙ is.1.1))) (views.published files start other))
+      ⊎_elim (λ (un : IsUnpublished start). un) (λ (is : IsPublished start). absurd (none_is_some view is.1.0 shows (sym same.mark ∙ is.1.1))) (views.published files start other))
       (λ both. both.0)
       (views.one_view files start view other reads)
   shows_start (suc k) view start reads other shows =
@@ -145,7 +143,7 @@ module _ (target : TargetFacts) (views : Views target) (history : History) (file
           schema = entry.schema ∙ ap (λ (s : ColumnTrees). Some s) (sym same.schema);
         },
       ))
-      (λ (both : IsUnpublished start × IsUnpublished view). absurd (marked_none view entry.standing both.1 entry.mark))
+      (λ (both : IsUnpublished start × IsUnpublished view). absurd (none_is_some view entry.standing both.1 entry.mark))
       (views.one_view files start view other reads)
 
   pub like_entry : (entry : List ℕ × Table) (view : View) → ShowsEntry Delta target.files.image entry view → IsLike view.table entry.1
@@ -200,7 +198,7 @@ module _ (target : TargetFacts) (views : Views target) (mode : Mode) (now : ℕ)
   -- ---- what is read of the source
 
   since_by : (n : ℕ) (start : View) → n ≤ length front → ShowsTable Delta target.files.image front n start → (e : SourceError) → IsSinceFault from_delta files start e → IsPlayedFault first e
-  since_by zero start le shows e since = absurd (marked_none start since.0 shows since.1)
+  since_by zero start le shows e since = absurd (none_is_some start since.0 shows since.1)
   since_by (suc k) start le shows e since =
       let entry = shows.0 in
       let at = entry_of 0 None commits front is k entry shows.1 in
@@ -242,7 +240,7 @@ module _ (target : TargetFacts) (views : Views target) (mode : Mode) (now : ℕ)
     lead_by n shows true full = inr (sync.along.in_full tt front (is_history commits front is few) holds start due full)
     lead_by zero shows false full =
         ⊎_elim
-        (λ (since : AreSinceMark from_delta mode files start due.partition due.commits due.full). absurd (marked_none start since.marked.0 shows since.marked.1))
+        (λ (since : AreSinceMark from_delta mode files start due.partition due.commits due.full). absurd (none_is_some start since.marked.0 shows since.marked.1))
         (λ (in_full : IsInFull from_delta mode files start due.head due.partition due.commits due.full). absurd (true_false (sym in_full.way ∙ full)))
         due.way
     lead_by (suc k) shows false full =
@@ -269,14 +267,14 @@ module _ (target : TargetFacts) (views : Views target) (mode : Mode) (now : ℕ)
         let stated : Some whole.table.schema ≡ Some schema = sym whole.change.schema ∙ ap (λ (c : Commit). c.change.schema) one ∙ states in
         let same : whole.table.schema ≡ schema = cc in
         (last.0, last_there, sym (last.3 whole.table whole.is_table).schema ∙ same)
-    states_by zero shows false full commit schema there states = let is = since full in absurd (marked_none start is.marked.0 shows is.marked.1)
+    states_by zero shows false full commit schema there states = let is = since full in absurd (none_is_some start is.marked.0 shows is.marked.1)
     states_by (suc k) shows false full commit schema there states =
         let found = stated_along shows.0.1 (drop (k + 1) front) due.commits (along_by k shows full) commit schema there states in
         (found.0, in_drop (k + 1) front found.0 found.1, found.2)
 
     columns_by : (n : ℕ) → ShowsTable Delta target.files.image front n start → (b : Bool) → due.full ≡ b → HasColumns front due.partition
     columns_by n shows true full = let whole = in_full full in (last.0, last_there, sym (whole.columns ∙ (last.3 whole.table whole.is_table).partition))
-    columns_by zero shows false full = let is = since full in absurd (marked_none start is.marked.0 shows is.marked.1)
+    columns_by zero shows false full = let is = since full in absurd (none_is_some start is.marked.0 shows is.marked.1)
     columns_by (suc k) shows false full = let is = since full in (shows.0, slice_there front k shows.0 shows.1, sym (is.columns ∙ shows.2.partition))
 
   -- What is due is so to a view that shows the table at which the target stands.

@@ -43,6 +43,7 @@ use Rattle.target_hudi.specs.HudiMeaning as hudi_meaning
 use Rattle.target_hudi.specs.Kept as hudi_kept
 use Rattle.target_hudi.specs.declared.kept.HudiKept.{HudiKept}
 use Rattle.target_hudi.specs.declared.target.HudiTarget.{HudiTarget}
+use Rattle.target_hudi.specs.InspectLemmas.{none_is_some}
 use Rattle.target_iceberg.specs.Fitting as iceberg
 use Rattle.target_iceberg.specs.Fitting.{Unfit}
 use Rattle.target_iceberg.specs.KeptLemmas as iceberg_kept
@@ -51,7 +52,7 @@ use Rattle.target_sync.specs.Along.{IsToLast}
 use Rattle.target_sync.specs.Targets.{TargetFacts, target_facts}
 use Rattle.lake_play.specs.Causes.{IsUnfitBetween, LeadFrom}
 use Rattle.lake_play.specs.Formats.{to_hudi, to_iceberg}
-use Rattle.lake_play.proofs.Causes.{Views, hudi_views, iceberg_views, marked_none}
+use Rattle.lake_play.proofs.Causes.{Views, hudi_views, iceberg_views}
 
 -- ---- the tables
 
@@ -124,7 +125,7 @@ module _ (number : ℕ) (target : TargetFacts) (views : Views target) (commits :
 
   held_at : (n : ℕ) (view : View) → target.files.reads files view → ShowsTable Delta target.files.image (drill_history number 200) n unfit.start → SameView unfit.start view → HasColumnsOf view
   held_at zero view reads none same =
-      ⊎_elim (λ (un : IsUnpublished view). inl un) (λ (published : IsPublished view). absurd (marked_none unfit.start published.1.0 none (same.mark ∙ published.1.1))) (views.published files view reads)
+      ⊎_elim (λ (un : IsUnpublished view). inl un) (λ (published : IsPublished view). absurd (none_is_some unfit.start published.1.0 none (same.mark ∙ published.1.1))) (views.published files view reads)
   held_at (suc k) view reads shown same =
       let of = table_of number shown.0 (slice_there (drill_history number 200) k shown.0 shown.1) in
       inr (
@@ -158,8 +159,8 @@ module _ (number : ℕ) (target : TargetFacts) (views : Views target) (commits :
       let place : unfit.j ≡ suc since.0 = omega (arith, at) in
       let shown : ShowsTable Delta target.files.image (drill_history number 200) (suc since.0) unfit.start = subst (λ (n : ℕ). ShowsTable Delta target.files.image (drill_history number 200) n unfit.start) place unfit.shows in
       absurd (⊎_elim
-      (λ (same : SameView unfit.start view). marked_none view shown.2.standing none (sym same.mark ∙ shown.2.mark))
-      (λ (both : IsUnpublished unfit.start × IsUnpublished view). marked_none unfit.start shown.2.standing both.0 shown.2.mark)
+      (λ (same : SameView unfit.start view). none_is_some view shown.2.standing none (sym same.mark ∙ shown.2.mark))
+      (λ (both : IsUnpublished unfit.start × IsUnpublished view). none_is_some unfit.start shown.2.standing both.0 shown.2.mark)
       (views.one_view files unfit.start view unfit.reads reads)))
       (λ (whole : IsToLast unfit.front unfit.start unfit.due). (whole.commit, whole.only))
       unfit.leads

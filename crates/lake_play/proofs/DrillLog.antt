@@ -1,5 +1,5 @@
 -- The log of a drill passes no number where it is read.
-use Rattle.std.proofs.Common.{◌≡◌, inl, inr, ⊎_elim, ℕ, zero, suc, ◌+◌, ◌*◌, ◌≤◌, ◌<◌, true, List, [], ◌∷◌, ◌++◌, length, map, Contains, Option, Some, None, Result, Ok, refl, sym, ap, subst, ◌∙◌, codes, arith}
+use Rattle.std.proofs.Common.{◌≡◌, inl, inr, ⊎_elim, ℕ, zero, suc, ◌+◌, ◌*◌, ◌≤◌, ◌<◌, true, List, [], ◌∷◌, ◌++◌, length, map, Contains, Option, Some, None, refl, sym, ap, subst, ◌∙◌, codes, arith}
 use Rattle.std.specs.Prelude.{IsSome, slice_get}
 use Rattle.std.specs.Bool.{Decides}
 use Rattle.std.specs.Cmp.Lexicographic.{slice_cmp}
@@ -48,7 +48,7 @@ use Rattle.delta_table.specs.Versions.{HasVersion, HoldsVersion, IsVersionPath, 
 use Rattle.delta_table.specs.declared.error.LogError.{LogError}
 use Rattle.delta_table.specs.declared.error.LogError.TheVariants as log
 use Rattle.delta_table.proofs.LogLaws.{step_made}
-use Rattle.delta_table.proofs.PathLaws.{bytes_once, path_once}
+use Rattle.delta_table.proofs.PathLaws.{bytes_once, ok_once, path_once}
 use Rattle.table_history.specs.Tables.{SameTable}
 use Rattle.source_core.specs.declared.error.SourceError.TheVariants as source
 use Rattle.source_delta.specs.LikeLemmas.{LikeBefore, SameBefore, like_before, next_like, next_same}
@@ -153,15 +153,12 @@ module _ (number : ℕ) (files : Files) (commits : List (List ℕ)) (first_of : 
 
 -- ---- what is read of it
 
-ok_same : (r : Result DeltaCommit DeltaError) (c d : DeltaCommit) → r ≡ Ok c → r ≡ Ok d → c ≡ d
-ok_same r c d is also = cc
-
 module _ (number : ℕ) (said : AreSaid number) (files : Files) (is : IsDrillLog number files) where
   says_is : (version : ℕ) (c : DeltaCommit) → SaysCommit files version c → (version < 200) × (c ≡ drill_commit number version)
   says_is version c says =
       let of = is.each version says.bytes says.holds in
       let read : IsReadableCommit says.bytes (drill_commit number version) = subst (λ (b : List ℕ). IsReadableCommit b (drill_commit number version)) (sym of.1) (said.says version of.0) in
-      (of.0, ok_same (commit_of says.bytes) c (drill_commit number version) (is_read says.bytes c says.readable) (is_read says.bytes (drill_commit number version) read))
+      (of.0, ok_once (commit_of says.bytes) c (drill_commit number version) (is_read says.bytes c says.readable) (is_read says.bytes (drill_commit number version) read))
 
   step : (version : ℕ) (c : DeltaCommit) → SaysCommit files version c → IsStep c (base_of number version) (table_after number (suc version))
   step version c says =

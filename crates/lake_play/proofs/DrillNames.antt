@@ -23,6 +23,7 @@ use Rattle.table_history.specs.declared.table.Commit.{Commit}
 use Rattle.table_history.specs.declared.table.Table.{Table}
 use Rattle.target_core.specs.Views.{IsUnpublished, View}
 use Rattle.target_hudi.specs.declared.target.HudiTarget.{HudiTarget}
+use Rattle.target_hudi.specs.InspectLemmas.{none_is_some}
 use Rattle.iceberg_version.specs.KeptEnd as iceberg_kept
 use Rattle.target_iceberg.specs.Writes.{most_manifests}
 use Rattle.target_iceberg.specs.declared.target.IcebergTarget.{IcebergTarget}
@@ -39,7 +40,6 @@ use Rattle.lake_play.specs.Playing.{Brings, Crashes, Extends, IsSynced, scripted
 use Rattle.lake_play.specs.Scripted.{known_room, some_of, stop_of}
 use Rattle.lake_play.specs.Standing.{IsFresh}
 use Rattle.lake_play.proofs.AtSyncs.{Stays, StaysBy}
-use Rattle.lake_play.proofs.Causes.{marked_none}
 use Rattle.lake_play.proofs.DrillChanges.{AreEntries, AreOfDrill, IsSmall, added_most, are_entries, entries_drop, entry_at, entry_last, of_drill, removed_most, small_along}
 use Rattle.lake_play.proofs.DrillDue.{few_due}
 use Rattle.lake_play.proofs.DrillEvents.{drill_weight}
@@ -273,7 +273,7 @@ module _ (number now : ℕ) (commits : List (List ℕ)) (front behind : History)
 
     module _ (due : Due from_delta modes.Sync before start) where
       since_small : (k : ℕ) (view : View) → view ≡ start → ShowsTable Delta facts.files.image front k view → due.full ≡ false → AreSinceMark from_delta modes.Sync before start due.partition due.commits due.full → AllByRecursion IsSmall due.commits
-      since_small zero view same none full since = absurd (marked_none start since.marked.0 (subst IsUnpublished same none) since.marked.1)
+      since_small zero view same none full since = absurd (none_is_some start since.marked.0 (subst IsUnpublished same none) since.marked.1)
       since_small (suc k) view same there full since =
           let entries = are_entries number front behind keeps.split in
           let at = entry_at number 0 k front there.0 entries there.1 in

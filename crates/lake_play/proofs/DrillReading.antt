@@ -23,9 +23,10 @@ use Rattle.target_sync.specs.declared.status.Side.TheVariants as side
 use Rattle.target_sync.specs.declared.status.Status.TheVariants as status
 use Rattle.lake_play.specs.Causes.{PassesNumber}
 use Rattle.lake_play.specs.Formats.{from_delta}
-use Rattle.lake_play.proofs.Causes.{Views, like_entry, marked_none, shows_start}
+use Rattle.lake_play.proofs.Causes.{Views, like_entry, shows_start}
 use Rattle.lake_play.proofs.DrillLog.{AreFirst, IsDrillLog, at_head_small, drill_log, from_position_small, from_scratch_small}
 use Rattle.lake_play.proofs.Places.{numbers_back}
+use Rattle.target_hudi.specs.InspectLemmas.{none_is_some}
 
 module _ (number : ℕ) (said : AreSaid number) (target : TargetFacts) (views : Views target) (mode : Mode) (now : ℕ) (commits : List (List ℕ)) (first : AreFirst number commits) (which : LimitKind) (n : ℕ) {files : Files}
     (passes : PassesNumber target mode now (drill_history number 200) commits files (status.Limit side.Source which n)) where
@@ -33,7 +34,7 @@ module _ (number : ℕ) (said : AreSaid number) (target : TargetFacts) (views : 
   log = drill_log number files commits first passes.over.log
 
   since_by : (j : ℕ) (start : View) → ShowsTable Delta target.files.image (drill_history number 200) j start → IsSinceFault from_delta files start (source.Limit which n) → ⊥
-  since_by zero start none since = marked_none start since.0 none since.1
+  since_by zero start none since = none_is_some start since.0 none since.1
   since_by (suc k) start shows since =
       let at = numbers_back (entry_after number) 200 k shows.0 shows.1 in
       let one : since.0 ≡ shows.2.standing = same_Some since.0 shows.2.standing (sym since.1 ∙ shows.2.mark) in

@@ -19,6 +19,7 @@ use Rattle.table_history.specs.declared.table.Table.{Table}
 use Rattle.target_core.specs.Folders.{SameIn, folder_of}
 use Rattle.target_core.specs.Meaning.{Meaning}
 use Rattle.target_hudi.specs.ViewLemmas as hudi_view
+use Rattle.target_hudi.specs.InspectLemmas.{none_is_some}
 use Rattle.target_iceberg.specs.CountLemmas as iceberg_count
 use Rattle.target_iceberg.specs.IcebergMeaning.{iceberg_meaning}
 use Rattle.target_iceberg.specs.TableId.{table_id}
@@ -34,7 +35,7 @@ use Rattle.lake_play.specs.Playing.{Extends, IsSynced, PlaysAll, nothing_played,
 use Rattle.lake_play.specs.Standing.{BothHaveEachOnce, HasEachOnce, IsFresh, IsSyncedEarly, floor_behind, is_same, meaning_of_hudi, meaning_of_iceberg}
 use Rattle.lake_play.specs.declared.playing.Progress.{Progress}
 use Rattle.lake_play.proofs.Histories.{same_length}
-use Rattle.lake_play.proofs.Once.{Counts, IsOnce, once_more, one_place, unmarked}
+use Rattle.lake_play.proofs.Once.{Counts, IsOnce, once_more, one_place}
 use Rattle.lake_play.proofs.Plays.{Keeps, begins, crash_keeps, extend_keeps, nothing_keeps, shorten_keeps, sync_keeps}
 use Rattle.lake_play.proofs.Syncs.{floor_other, same_beside}
 use Rattle.lake_play.proofs.Targets.{IsPlayed, Laws, at_front, first_get, hudi_laws, iceberg_laws}
@@ -192,7 +193,7 @@ module _ (kind : Kind) (target : Meaning) (side : Side kind target) (history : H
         within = omega arith;
         at = at;
         commits = no_commits at.view at.shows;
-        named = λ standing mark. absurd (unmarked at.view standing at.shows mark);
+        named = λ standing mark. absurd (none_is_some at.view standing at.shows mark);
         early = inl (omega (arith, empty));
       }
 

@@ -1,12 +1,9 @@
 -- Why the source isn't read while events are played: for a number that is passed, or for a version that was removed.
-use Rattle.std.proofs.Common.{◌≡◌, inl, inr, ⊎_elim, ℕ, zero, suc, ◌+◌, ◌^◌, ◌≤◌, ◌<◌, List, [], ◌∷◌, ◌++◌, length, All, Contains, Option, Some, None, Ok, refl, sym, ap, subst, ◌∙◌, append_assoc, arith}
-use Rattle.std.specs.Prelude.{option_map, option_to_list, slice_get}
+use Rattle.std.proofs.Common.{◌≡◌, inl, inr, ⊎_elim, ℕ, zero, suc, ◌+◌, ◌^◌, ◌≤◌, ◌<◌, List, [], ◌∷◌, ◌++◌, length, All, Contains, Option, Some, None, Ok, refl, sym, ap, subst, ◌∙◌, arith}
+use Rattle.std.specs.Prelude.{option_map, slice_get}
 use Rattle.std.specs.Fmt.{decimal}
-use Rattle.std.specs.List.{IsDistinct}
-use Rattle.std.specs.Str.{bytes_eq}
 use Rattle.std.proofs.lemmas.Bool.{cases_lt}
 use Rattle.std.proofs.lemmas.Fmt.{decimal_injective}
-use Rattle.std.proofs.lemmas.Grind.{flat_map-append}
 use Rattle.lake_basics.specs.Outcome.{each}
 use Rattle.lake_basics.specs.declared.limits.TheConstants.{MAX_ACTIONS, MAX_COMMITS, MAX_DELTA_VERSION}
 use Rattle.lake_basics.proofs.Lists.{all_middle, some_at}
@@ -22,11 +19,11 @@ use Rattle.conformance.specs.Histories.{IsExtension, IsHistoryFrom}
 use Rattle.delta_change.specs.Change.{HasLargeSchema, IsChangeRefusal, Shows, commit_features}
 use Rattle.delta_change.specs.TableBehind.{IsSchemaBehind}
 use Rattle.delta_log.proofs.EachLemmas.{Cuts, cut_each}
-use Rattle.delta_log.proofs.ReadableLemmas.{distinct_front, misplaced_excluded, none_first}
+use Rattle.delta_log.proofs.ReadableLemmas.{again_excluded, misplaced_excluded, none_first}
 use Rattle.delta_log.proofs.SaysLemmas.{says_action, reads_action, reads_each}
 use Rattle.delta_log.specs.Grammar.{line_action}
 use Rattle.delta_log.specs.Judging.{lines_of}
-use Rattle.delta_log.specs.Readable.{ActsAgain, AreLinesInGrammar, IsAtFault, IsFirstFault, IsMisplaced, IsReadableCommit, ShowsOnLine, line_features, path_in, paths}
+use Rattle.delta_log.specs.Readable.{ActsAgain, AreLinesInGrammar, IsAtFault, IsFirstFault, IsMisplaced, IsReadableCommit, ShowsOnLine, line_features}
 use Rattle.delta_log.specs.declared.action.LineAction.{LineAction}
 use Rattle.delta_log.specs.declared.commit.DeltaCommit.{DeltaCommit}
 use Rattle.delta_log.specs.declared.commit.MetaData.{MetaData}
@@ -56,12 +53,6 @@ abbrev pub IsMild : DeltaError → Type 0
 IsMild errors.Memory = Unit {0}
 IsMild (errors.Limit which) = Unit {0}
 IsMild _ = ⊥
-
-again_excluded : (lines : List (List ℕ)) (before : List LineAction) (a : LineAction) (rest : List LineAction) → AreLinesInGrammar lines (before ++ a ∷ rest) → ActsAgain before a → ⊥
-again_excluded lines before a rest grammar again =
-    let whole : paths (before ++ a ∷ rest) ≡ paths (before ++ a ∷ []) ++ paths rest =
-    ap paths (sym (append_assoc before (a ∷ []) rest)) ∙ flat_map-append (λ x. option_to_list (path_in x)) (before ++ a ∷ []) rest in
-    again (distinct_front (paths (before ++ a ∷ [])) (paths rest) (subst (IsDistinct bytes_eq) whole grammar.distinct))
 
 abbrev IsPlain : LineAction → Type 0
 IsPlain a = NoneOf (λ f. ShowsOnLine f a) line_features

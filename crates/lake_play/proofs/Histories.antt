@@ -37,6 +37,7 @@ use Rattle.delta_log.specs.declared.commit.FileAction.{FileAction}
 use Rattle.delta_log.specs.declared.commit.FileAction.TheVariants as file
 use Rattle.delta_log.specs.declared.commit.MetaData.{MetaData}
 use Rattle.delta_log.specs.declared.error.LineFault.{LineFault}
+use Rattle.delta_log.proofs.ReadableLemmas.{same_stated}
 use Rattle.delta_table.specs.Versions.{AreVersions, HasVersion}
 use Rattle.delta_table.specs.declared.versions.Versions.{Versions}
 use Rattle.delta_table.proofs.PathLaws.{bytes_once}
@@ -178,18 +179,11 @@ same_before history (suc version) = refl
 ok_same : (r : Result (List LineAction) LineFault) (a b : List LineAction) → r ≡ Ok a → r ≡ Ok b → a ≡ b
 ok_same r a b is also = cc
 
-pub one_commit : (actions : List LineAction) (c d : DeltaCommit) → States actions c → States actions d → c ≡ d
-one_commit actions c d a b =
-    let protocol = same_options c.protocol d.protocol (a.protocol ∙ sym b.protocol) in
-    let meta = same_options c.meta d.meta (a.meta ∙ sym b.meta) in
-    let files = a.files ∙ sym b.files in
-    λ i. record { protocol = protocol i; meta = meta i; files = files i }
-
 -- What is read of the bytes is the commit that makes the next table.
 pub says_extension : (bytes : List ℕ) (base : Option Table) (next : Table) (c : DeltaCommit) → IsExtension bytes base next → IsReadableCommit bytes c → IsStep c base next
 says_extension bytes base next c made readable =
     let actions : readable.actions ≡ made.actions = ok_same (each line_action (lines_of bytes)) readable.actions made.actions (reads_each (lines_of bytes) readable.actions readable.readable.grammar.says) (reads_each (lines_of bytes) made.actions made.grammar.says) in
-    let same = one_commit made.actions made.commit c made.states (subst (λ (l : List LineAction). States l c) actions readable.states) in
+    let same = same_stated made.actions made.commit c made.states (subst (λ (l : List LineAction). States l c) actions readable.states) in
     subst (λ (d : DeltaCommit). IsStep d base next) same made.step
 
 -- ---- what is there holds the history

@@ -1,11 +1,9 @@
 -- Reading a Hudi target that is absent or ours passes no number but those of names, of a file's bytes and of completed instants.
 use Rattle.std.proofs.Common.{◌≡◌, ◌⊎◌, inl, inr, ℕ, ◌≤◌, ◌<◌, List, [], ◌∷◌, ◌++◌, length, Contains, Option, None, Some, Result, refl, sym, ap, subst, ◌∙◌, codes, arith}
-use Rattle.std.specs.Prelude.{Err, Ok, option_map, unwrap_or}
-use Rattle.std.proofs.lemmas.Bool.{false≢true}
+use Rattle.std.specs.Prelude.{Err, Ok, option_map}
 use Rattle.lake_basics.specs.declared.limits.TheConstants.{MAX_COMMITS, MAX_FILE_BYTES, MAX_NAMES}
 use Rattle.lake_basics.proofs.Lists.{none_longer}
 use Rattle.lake_store.specs.Disk.{Files, names_in}
-use Rattle.table_history.specs.First.{IsFirst, NoneOf}
 use Rattle.table_history.specs.Row.{Row}
 use Rattle.table_history.specs.Rows.{SameRows}
 use Rattle.table_history.specs.Tables.{IsAfter}
@@ -18,9 +16,7 @@ use Rattle.table_history.specs.declared.table.Change.{Change}
 use Rattle.table_history.specs.declared.table.Table.{Table}
 use Rattle.partition_map.specs.declared.kind.PartKind.{PartKind}
 use Rattle.schema_map.specs.declared.fault.MapError.{MapError}
-use Rattle.hudi_names.specs.declared.error.HudiError.{HudiError}
 use Rattle.hudi_names.specs.declared.error.HudiError.TheVariants as errors
-use Rattle.hudi_instant.specs.Instants.{json_instant}
 use Rattle.hudi_instant.specs.declared.instant.Instant.{Instant}
 use Rattle.hudi_properties.specs.declared.table.HudiTable.{HudiTable}
 use Rattle.hudi_timeline.specs.Causes.{IsInForce, IsRefusalOf, Passes, change_limits, rows_before, table_before}
@@ -38,9 +34,10 @@ use Rattle.hudi_table.specs.declared.reading.Naming.TheVariants.{External}
 use Rattle.hudi_commit.specs.Names.{claims_folder, timeline_folder}
 use Rattle.target_core.specs.Views.{View}
 use Rattle.target_hudi.specs.Inspecting.{IsCrowded, IsLarge, IsReadUpTo, PassesIn}
-use Rattle.target_hudi.specs.OnceLemmas.{one_instant, one_kinds, one_table_of, one_timeline}
+use Rattle.target_hudi.specs.OnceLemmas.{leads_schema, one_instant, one_kinds, one_table_of, one_timeline}
 use Rattle.target_hudi.specs.Reading.{IsAbsent, IsOurs, Reads, completed_in}
 use Rattle.target_hudi.specs.ReadingLemmas.{in_middle}
+use Rattle.target_hudi.specs.FaultLemmas.{none_first, unreadable_or_read}
 
 -- ---- a number over a table of the same schema and rows
 
@@ -67,22 +64,10 @@ module _ (u : Completed) (table : HudiTable) where
       (h.0, record { schema = h.1.schema; in_force = in_force_too a b h.1.schema same h.1.in_force; are = h.1.are }, h.2, h.3, λ row there. live_too a b rows h.0 row (h.4 row there), h.5)
   passes_too a b same rows _ h = h
 
-none_first : {A : Type 0} (P Q : A → Type 0) (xs : List A) (x : A) → ((y : A) → Q y → P y) → NoneOf P xs → IsFirst Q xs x → ⊥
-none_first P Q [] x from none h = h
-none_first P Q (y ∷ ys) x from none (inl here) = none.0 (from y here.1)
-none_first P Q (y ∷ ys) x from none (inr later) = none_first P Q ys x from none.1 later.1
-
 -- What makes a change of one table passes no number over another one of the same schema and rows.
 change_or_limit : (u : Completed) (table : HudiTable) (a b : Option Table) (change : Change) (which : LimitKind) → schema_in a ≡ schema_in b → SameRows (rows_before a) (rows_before b) → IsChangeOf u table a change → IsRefusalOf u table b (errors.Limit which) → ⊥
 change_or_limit u table a b change which same rows is refused =
     none_first (Passes u table a) (Passes u table b) change_limits which (passes_too u table b a (sym same) (λ row. ((rows row).1, (rows row).0))) is.numbers refused.2
-
-schema_along : (table : HudiTable) (base other : Option Table) (timeline : Timeline) (t u : Table) → (table_before table base).schema ≡ (table_before table other).schema → LeadsThrough table base timeline t → LeadsThrough table other timeline u → t.schema ≡ u.schema
-schema_along table base other [] t u same h k = ap (λ (x : Table). x.schema) h ∙ same ∙ sym (ap (λ (x : Table). x.schema) k)
-schema_along table base other (c ∷ timeline) t u same h k =
-    let stated : Ok h.0.schema ≡ Ok k.0.schema = sym h.2.schema ∙ k.2.schema in
-    let schema : h.0.schema ≡ k.0.schema = cc in
-    schema_along table (Some h.1) (Some k.1) timeline t u (h.3.schema ∙ (λ i. unwrap_or (schema i) (same i)) ∙ sym k.3.schema) h.4 k.4
 
 -- ---- along a timeline
 
@@ -175,7 +160,7 @@ ends_alike table [] a b h k = subst (AreAlike a) (h ∙ sym k) (alike_itself a)
 ends_alike table (u ∷ timeline) a b h k =
     let s = first_leads table u timeline a h in
     let t = first_leads table u timeline b k in
-    let schema : s.0.schema ≡ t.0.schema = schema_along table None None (u ∷ timeline) s.0 t.0 refl s.2 t.2 in
+    let schema : s.0.schema ≡ t.0.schema = leads_schema table None None (u ∷ timeline) s.0 t.0 refl s.2 t.2 in
     let alike : AreAlike (Some s.0) (Some t.0) = record {
       schema = ap (λ (c : ColumnTrees). Some c) schema;
       rows = λ row. (rows_along table u timeline s.0 t.0 schema s.2 t.2 row, rows_along table u timeline t.0 s.0 (sym schema) t.2 s.2 row);
@@ -209,14 +194,6 @@ taken files table front c behind latest whole read all =
     }
 
 -- ---- no number
-
-unreadable_or_read : (files : Files) (c : CompletedInstant) (i : Instant) (e : HudiError) → SaysInstant files c i → IsUnreadable files c e → ⊥
-unreadable_or_read files c i e says (inl h) = false≢true (sym says.first ∙ h.0)
-unreadable_or_read files c i e says (inr (first, bytes, holds, refused)) =
-    let there : Some says.bytes ≡ Some bytes = sym says.holds ∙ holds in
-    let one : says.bytes ≡ bytes = cc in
-    let told : ◌≡◌ {A = Result Instant HudiError} (Ok i) (Err e) = sym says.reads ∙ ap json_instant one ∙ refused in
-    cc
 
 -- An instant among those that are read passes no number, by itself or over the table before it.
 read_or_limit : (files : Files) (table : HudiTable) (front : List CompletedInstant) (c : CompletedInstant) (behind : List CompletedInstant) (latest : Option Latest) (whole : Latest) (which : LimitKind)

@@ -27,6 +27,7 @@ use Rattle.iceberg_version.specs.declared.kept.IcebergKept.{IcebergKept}
 use Rattle.iceberg_version.proofs.Shared.{slice_there}
 use Rattle.target_core.specs.Written.{AreWritten}
 use Rattle.target_hudi.proofs.FittedLemmas.{wide_kinds}
+use Rattle.target_hudi.specs.InspectLemmas.{none_is_some}
 use Rattle.target_iceberg.proofs.WrittenCurrent as written
 use Rattle.target_iceberg.proofs.WrittenFiles.{metadata_at}
 use Rattle.target_iceberg.proofs.WrittenLive.{live_are}
@@ -90,7 +91,6 @@ use Rattle.lake_play.specs.Playing.{Brings, IsSynced, scripted}
 use Rattle.lake_play.specs.Scripted.{scripted_store}
 use Rattle.lake_play.specs.Standing.{meaning_of_iceberg}
 use Rattle.lake_play.proofs.AtSyncs.{Stays}
-use Rattle.lake_play.proofs.Causes.{marked_none}
 use Rattle.lake_play.proofs.DrillFits.{table_of}
 use Rattle.lake_play.proofs.EachOnce.{iceberg_side}
 use Rattle.lake_play.proofs.EntryCounts.{once_up_to, one_up_to}
@@ -527,7 +527,7 @@ module _ (number : ℕ) (t : IcebergTarget) (plain : (front : List ℕ) → t.lo
     since_leads : due.full ≡ false → (k : ℕ) → was.k ≡ k → ShowsTable Delta facts.files.image front k start → was.k + come.count ≤ on.j → Leads
     since_leads full zero at shows reach =
         ⊎_elim
-        (λ (since : AreSinceMark from_delta modes.Sync before start due.partition due.commits due.full). absurd (marked_none start since.marked.0 shows since.marked.1))
+        (λ (since : AreSinceMark from_delta modes.Sync before start due.partition due.commits due.full). absurd (none_is_some start since.marked.0 shows since.marked.1))
         (λ (whole : IsInFull from_delta modes.Sync before start due.head due.partition due.commits due.full). absurd (false≢true (sym full ∙ whole.way)))
         due.way
     since_leads full (suc k) at shows reach =

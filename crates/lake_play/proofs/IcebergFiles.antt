@@ -52,7 +52,7 @@ use Rattle.lake_play.specs.Playing.{Brings, IsSynced, scripted}
 use Rattle.lake_play.specs.Scripted.{scripted_store}
 use Rattle.lake_play.specs.Standing.{meaning_of_iceberg}
 use Rattle.lake_play.proofs.AtSyncs.{Stays}
-use Rattle.lake_play.proofs.Causes.{due_shows, iceberg_views, marked_none}
+use Rattle.lake_play.proofs.Causes.{due_shows, iceberg_views}
 use Rattle.lake_play.proofs.DrillDue.{few_due}
 use Rattle.lake_play.proofs.DrillRows.{IsDueCommit}
 use Rattle.lake_play.proofs.DueCommits.{due_partition, each_due, origin_is}
@@ -66,6 +66,7 @@ use Rattle.lake_play.proofs.Newest.{AllMay, IsStep, OfNewest, of_behind, of_kept
 use Rattle.lake_play.proofs.Plays.{Keeps}
 use Rattle.lake_play.proofs.Syncs.{alone, going}
 use Rattle.lake_play.proofs.Targets.{IsPlayed}
+use Rattle.target_hudi.specs.InspectLemmas.{none_is_some}
 
 -- ---- the newest version's metadata
 
@@ -157,7 +158,7 @@ first_states files start reads due id location kept stands none commit commits a
     due.way
   where
     some_commit : Reads files start → (standing : Standing) → start.mark ≡ Some standing → 0 < start.commits
-    some_commit (inl nothing) standing marked = absurd (marked_none start standing nothing.1 marked)
+    some_commit (inl nothing) standing marked = absurd (none_is_some start standing nothing.1 marked)
     some_commit (inr ours) standing marked = ours.first
 
 all_later : (version : ℕ) (commits : List Commit) → 0 < version → ((commit : Commit) → Contains commits commit → (schema : ColumnTrees) → commit.change.schema ≡ Some schema → schema ≡ drill_schema) → AllMay MayState version commits

@@ -38,6 +38,7 @@ use Rattle.target_iceberg.specs.AlikeLemmas.{held_ours}
 use Rattle.target_iceberg.specs.Kept.{HoldsEnd, IsFirst, IsKeptOf, StandsFor, held_of}
 use Rattle.target_iceberg.specs.OnceLemmas.{metadata_once, says_once}
 use Rattle.target_iceberg.specs.Reading.{IsOurs, SaysCurrent}
+use Rattle.target_iceberg.proofs.KeptLemmas.{rows_within}
 use Rattle.lake_play.specs.Standing.{meaning_of_iceberg}
 use Rattle.lake_play.proofs.DrillRows.{IsDrillRow, entry_in, entry_row, few_rows}
 use Rattle.lake_play.proofs.IcebergTexts.{IsDrillEnd, small_row}
@@ -94,17 +95,6 @@ kept_small links (r ∷ manifests) (k ∷ kept) are small =
       count = omega (arith, more, both, own, others);
     }
 
--- a manifest has no more rows than all
-part_few : (manifests : List Manifest) (r : Manifest) → Contains manifests r → length r.rows ≤ length (rows_of manifests)
-part_few [] r there = absurd (Contains-none r there)
-part_few (s ∷ manifests) r there =
-    let both = length-append (rows_in s.rows) (rows_of manifests) in
-    let own = length-map s.rows (λ (live : LiveRow). live.row) in
-    ⊎_elim
-    (λ (here : s ≡ r). let same : length s.rows ≡ length r.rows = ap (λ (m : Manifest). length m.rows) here in omega (arith, both, own, same))
-    (λ later. let rest = part_few manifests r later in omega (arith, both, rest))
-    (Contains-cases s manifests r there)
-
 in_rows : (manifests : List Manifest) (r : Manifest) (live : LiveRow) → Contains manifests r → Contains r.rows live → Contains (rows_of manifests) live.row
 in_rows manifests r live there inside = in_flat (λ (s : Manifest). rows_in s.rows) manifests r live.row there (in_map (λ (l : LiveRow). l.row) r.rows live inside)
 
@@ -160,7 +150,7 @@ module _ (number : ℕ) (id location : List ℕ) (kept : IcebergKept) (files : F
     each_read : (r : Manifest) → Contains h.current.manifests r → IsSmallRead r
     each_read r there = record {
       path = path_small r there;
-      few = let all = count in let part = part_few h.current.manifests r there in omega (arith, all, part);
+      few = let all = count in let part = rows_within h.current.manifests r there in omega (arith, all, part);
       rows = λ live inside. small_row number live.row (all_rows live.row (in_rows h.current.manifests r live there inside));
     }
 

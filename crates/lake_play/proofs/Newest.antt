@@ -19,10 +19,10 @@ use Rattle.iceberg_table.specs.Files.{SaysMetadata}
 use Rattle.iceberg_table.specs.Folder.{HasVersion, IsNewest, version_path}
 use Rattle.iceberg_table.specs.Plan.{snapshot_schema}
 use Rattle.iceberg_table.specs.declared.error.Fault.TheVariants as fault
+use Rattle.iceberg_table.proofs.PlanLaws.{in_schemas}
 use Rattle.iceberg_version.specs.KeptEnd.{end_of, view_of}
 use Rattle.iceberg_version.specs.Writing.{no_version}
 use Rattle.iceberg_version.specs.declared.kept.IcebergKept.{IcebergKept}
-use Rattle.iceberg_version.proofs.HeldLemmas.{in_schemas}
 use Rattle.iceberg_commit.specs.NextVersion.{VersionFiles, version_files}
 use Rattle.target_core.specs.Views.{Origin, View}
 use Rattle.target_core.specs.Written.{AreWritten}

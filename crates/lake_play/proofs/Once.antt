@@ -41,6 +41,7 @@ use Rattle.lake_play.proofs.Logs.{HoldsCommits}
 use Rattle.lake_play.proofs.Syncs.{alone}
 use Rattle.lake_play.proofs.Targets.{shows_front, shows_whole}
 use Rattle.lake_basics.proofs.Lists.{some_at}
+use Rattle.target_hudi.specs.InspectLemmas.{none_is_some}
 
 -- ---- the laws of a target that are used
 
@@ -49,9 +50,6 @@ pub record Counts (target : Meaning) : Type 0 where
   pub commits_read : (files : Files) (v : View) → target.reads files v → target.commits_in files ≡ v.commits
 
 -- ---- views
-
-pub unmarked : (view : View) (standing : Standing) → IsUnpublished view → view.mark ≡ Some standing → ⊥
-unmarked view standing unpublished mark = let no : view.mark ≡ None = ap (λ (v : View). v.mark) unpublished in cc
 
 pub advanced_count : (image : ColumnTrees → Option ColumnTrees) (origin : Origin) (start view : View) (commits : List Commit) → IsAdvancedAll image origin start commits view → view.commits ≡ start.commits + length commits
 advanced_count image origin start view [] leads = let same = leads.commits in omega (arith, same)
@@ -86,13 +84,13 @@ module _ (target : Meaning) (counts : Counts target) (commits : List (List ℕ))
   same_place zero zero v w rv rw sv sw = refl
   same_place zero (suc b) v w rv rw sv sw =
       absurd (⊎_elim
-      (λ (same : SameView v w). unmarked v sw.2.standing sv (same.mark ∙ sw.2.mark))
-      (λ (both : IsUnpublished v × IsUnpublished w). unmarked w sw.2.standing both.1 sw.2.mark)
+      (λ (same : SameView v w). none_is_some v sw.2.standing sv (same.mark ∙ sw.2.mark))
+      (λ (both : IsUnpublished v × IsUnpublished w). none_is_some w sw.2.standing both.1 sw.2.mark)
       (counts.one_view files v w rv rw))
   same_place (suc a) zero v w rv rw sv sw =
       absurd (⊎_elim
-      (λ (same : SameView v w). unmarked w sv.2.standing sw (sym same.mark ∙ sv.2.mark))
-      (λ (both : IsUnpublished v × IsUnpublished w). unmarked v sv.2.standing both.0 sv.2.mark)
+      (λ (same : SameView v w). none_is_some w sv.2.standing sw (sym same.mark ∙ sv.2.mark))
+      (λ (both : IsUnpublished v × IsUnpublished w). none_is_some v sv.2.standing both.0 sv.2.mark)
       (counts.one_view files v w rv rw))
   same_place (suc a) (suc b) v w rv rw sv sw =
       ⊎_elim
@@ -102,7 +100,7 @@ module _ (target : Meaning) (counts : Counts target) (commits : List (List ℕ))
       let second = place_of b sw.0 sw.1 in
       let to : decimal a ≡ decimal b = sym first.0 ∙ sym sv.2.position ∙ ap (λ (s : Standing). s.to) one ∙ sw.2.position ∙ second.0 in
       ap suc (decimal_injective a b first.1 second.1 to))
-      (λ (both : IsUnpublished v × IsUnpublished w). absurd (unmarked v sv.2.standing both.0 sv.2.mark))
+      (λ (both : IsUnpublished v × IsUnpublished w). absurd (none_is_some v sv.2.standing both.0 sv.2.mark))
       (counts.one_view files v w rv rw)
 
   -- The target stands at one table alone.
@@ -261,7 +259,7 @@ module _ (target : TargetFacts) (counts : Counts target.files) (now : ℕ) (old 
   marked_so view reads standing mark named =
       ⊎_elim
       (λ (same : SameView on.at.view view). named (sym same.mark ∙ mark))
-      (λ (both : IsUnpublished on.at.view × IsUnpublished view). absurd (unmarked on.at.view standing both.0 mark))
+      (λ (both : IsUnpublished on.at.view × IsUnpublished view). absurd (none_is_some on.at.view standing both.0 mark))
       (counts.one_view after on.at.view view on.at.reads reads)
 
   same_count : (view : View) → target.files.reads after view → on.at.view.commits ≡ view.commits

@@ -40,6 +40,7 @@ use Rattle.target_core.specs.Views.{Standing, View}
 use Rattle.target_core.specs.declared.target.TargetError.{TargetError}
 use Rattle.target_core.specs.declared.target.TargetError.TheVariants as target_error
 use Rattle.target_hudi.specs.declared.target.HudiTarget.{HudiTarget}
+use Rattle.target_hudi.specs.InspectLemmas.{none_is_some}
 use Rattle.target_iceberg.proofs.TypeLemmas.{become_self, same_type}
 use Rattle.target_iceberg.specs.CountLemmas.{commits_read}
 use Rattle.target_iceberg.specs.Fitting.{ChangesType, HasTypeChange, HeldState, IdSchema, IsFirstChange, Unfit, is_current, may_become, state_behind, state_of, stated_in, type_at}
@@ -66,7 +67,7 @@ use Rattle.lake_play.specs.Playing.{Brings, Extends, IsSynced, PlaysAll, nothing
 use Rattle.lake_play.specs.Scripted.{scripted_store}
 use Rattle.lake_play.specs.Standing.{IsFresh, floor_behind}
 use Rattle.lake_play.specs.declared.playing.Progress.{Progress}
-use Rattle.lake_play.proofs.Causes.{due_states, iceberg_views, marked_none}
+use Rattle.lake_play.proofs.Causes.{due_states, iceberg_views}
 use Rattle.lake_play.proofs.Gains.{stays_or_comes}
 use Rattle.lake_play.proofs.Histories.{same_length}
 use Rattle.lake_play.proofs.Logs.{HoldsCommits, extended_elsewhere, shed_elsewhere}
@@ -172,7 +173,7 @@ module _ (schema : ColumnTrees) (t : IcebergTarget) (mode : Mode) (now : ℕ) (o
   same_count start reads kept stands = sym (commits_read before start reads) ∙ commits_read before (view_of kept) stands.reads
 
   some_commit : (start : View) (standing : Standing) → Reads before start → start.mark ≡ Some standing → 0 < start.commits
-  some_commit start standing (inl nothing) marked = absurd (marked_none start standing nothing.1 marked)
+  some_commit start standing (inl nothing) marked = absurd (none_is_some start standing nothing.1 marked)
   some_commit start standing (inr ours) marked = ours.first
 
   -- a target without a commit takes the whole table

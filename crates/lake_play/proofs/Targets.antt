@@ -9,7 +9,7 @@ use Rattle.lake_store.specs.Disk.{Disk, Files, IsClean, MayLeave, empty_disk, fr
 use Rattle.lake_store.specs.Runs.{IsIn}
 use Rattle.lake_store.proofs.OrderLaws.{names_in_listed}
 use Rattle.source_core.specs.Histories.{IsAt, ShowsTable}
-use Rattle.table_history.proofs.RowListLemmas.{Contains-head, Contains-none}
+use Rattle.table_history.proofs.RowListLemmas.{Contains-none}
 use Rattle.table_history.specs.History.{History}
 use Rattle.table_history.specs.TypeTree.{ColumnTrees}
 use Rattle.table_history.specs.declared.kind.Kind.TheVariants.{Delta}
@@ -20,6 +20,7 @@ use Rattle.target_core.specs.Meaning.{Meaning}
 use Rattle.target_core.specs.Views.{View, absent}
 use Rattle.target_hudi.specs.Reading as hudi_reading
 use Rattle.target_hudi.specs.SettledLemmas as hudi
+use Rattle.target_hudi.proofs.KeepsLemmas.{none_of}
 use Rattle.target_iceberg.specs.Reading as iceberg_reading
 use Rattle.target_iceberg.specs.SettledLemmas as iceberg
 use Rattle.hudi_table.specs.Instants.{timeline_of}
@@ -39,10 +40,6 @@ pub record Laws (target : Meaning) : Type 0 where
 
 not_there : (path : List ℕ) → IsSome (map.get empty_disk.files path) → ⊥
 not_there path is = let none : map.get empty_disk.files path ≡ None = map.get-empty (slice_cmp nat_cmp) path in cc
-
-none_of : (xs : List (List ℕ)) → ((x : List ℕ) → Contains xs x → ⊥) → xs ≡ []
-none_of [] none = refl
-none_of (x ∷ xs) none = absurd (none x (Contains-head x xs))
 
 no_names : (folder : List ℕ) → names_in empty_disk.files folder ≡ []
 no_names folder = none_of (names_in empty_disk.files folder) (λ name there. not_there (front_of folder ++ name) ((((names_in_listed empty_disk.files folder).members name).0 there).1))

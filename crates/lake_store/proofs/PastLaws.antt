@@ -38,7 +38,7 @@ grown_by old files dirty past past' new change view is back = grown (record { fi
 pub same_disk : (a b : Disk) → a.files ≡ b.files → a.dirty ≡ b.dirty → a ≡ b
 same_disk a b files dirty = λ i. record { files = files i; dirty = dirty i }
 
-get-with_here : (m : Files) (p : List ℕ) (o : Option (List ℕ)) → map.get (with_file m p o) p ≡ o
+pub get-with_here : (m : Files) (p : List ℕ) (o : Option (List ℕ)) → map.get (with_file m p o) p ≡ o
 get-with_here m p None = get-remove_here m p
 get-with_here m p (Some b) = get-insert_here m p b
 

@@ -1,10 +1,9 @@
 -- The versions of an Iceberg table in rising order, and the paths of a version's lists.
-use Rattle.std.proofs.Common.{◌≡◌, ◌⊎◌, inl, inr, ⊎_elim, ℕ, suc, ◌+◌, ◌<◌, ◌≤◌, eqb, List, [], ◌∷◌, ◌++◌, length, take, drop, get_or, codes, Contains, Option, None, Some, Result, Ok, Err, refl, sym, ap, subst, ◌∙◌, drop-cons, arith}
+use Rattle.std.proofs.Common.{◌≡◌, ◌⊎◌, inl, inr, ⊎_elim, ℕ, suc, ◌+◌, ◌<◌, ◌≤◌, eqb, List, [], ◌∷◌, ◌++◌, length, take, drop, get_or, Contains, Option, None, Some, Result, Ok, Err, refl, sym, ap, subst, ◌∙◌, drop-cons, arith}
 use Rattle.std.specs.Prelude.{◌↔◌, IfOk, MatchOption}
 use Rattle.std.specs.List.{dedup}
 use Rattle.std.specs.List.Retain.{DiffersFromLast, IsFiltered}
 use Rattle.std.specs.List.Sorted.{IsPermutation, IsSorted, IsStrictlySortedBy}
-use Rattle.std.specs.Fmt.{decimal}
 use Rattle.std.specs.Ordering.{nat_cmp}
 use Rattle.std.proofs.lemmas.List.Filters.{dedup_is}
 use Rattle.std.proofs.lemmas.List.Kept.{Contains-dedup_nat, Contains-from_dedup}
@@ -12,7 +11,7 @@ use Rattle.std.proofs.lemmas.List.Sorted.{Contains-permutation, IsPermutation-sy
 use Rattle.std.proofs.lemmas.Map.Keys.{IsStrictlyIncreasing-dedup, sorted_from_strictly_increasing}
 use Rattle.std.specs.declared.cmp.Ordering.TheVariants.{Less}
 use Rattle.std.proofs.lemmas.Bool.Decides.{nat_tests}
-use Rattle.std.proofs.lemmas.List.{append_cancel_left, take-append-drop, take_all, take_more}
+use Rattle.std.proofs.lemmas.List.{take-append-drop, take_all, take_more}
 use Rattle.std.proofs.lemmas.List.Elements.{Contains-append_left, Contains-append_cases, Contains-push, Contains-push_cases}
 use Rattle.std.specs.List.{AllByRecursion}
 use Rattle.table_history.proofs.RowListLemmas.{Contains-cases, Contains-none}
@@ -20,23 +19,16 @@ use Rattle.iceberg_live.specs.MetadataPaths.{IsMetadataPath}
 use Rattle.iceberg_manifest.specs.Lists.{AreEach}
 use Rattle.iceberg_manifest.specs.declared.error.ManifestError.{ManifestError}
 use Rattle.iceberg_manifest.specs.declared.error.ManifestError.TheVariants as manifest
-use Rattle.iceberg_metadata.proofs.NameLemmas.{split_decimal}
 use Rattle.iceberg_metadata.specs.VersionName.{IsVersionName}
 use Rattle.iceberg_metadata.specs.declared.metadata.Snapshot.{Snapshot}
 use Rattle.iceberg_table.proofs.EachLaws.{each_push}
 use Rattle.iceberg_table.specs.Folder.{IsNamed}
+use Rattle.iceberg_table.proofs.FolderLaws.{one_version}
 use Rattle.lake_sweep.specs.Order.{AreInOrder}
 use Rattle.lake_sweep.specs.declared.error.SweepError.{SweepError}
 use Rattle.lake_sweep.proofs.Lists.{order_after}
 
 -- ---- the versions that names are of
-
--- a name is one version's
-one_version : (name : List ℕ) (v w : ℕ) → IsVersionName name v → IsVersionName name w → v ≡ w
-one_version name v w nv nw =
-    let small_v = nv.within in
-    let small_w = nw.within in
-    split_decimal (decimal v ++ codes ".metadata.json") (decimal v) (codes ".metadata.json") v w refl refl (omega (arith, small_v)) (omega (arith, small_w)) (append_cancel_left (codes "v") (decimal v ++ codes ".metadata.json") (decimal w ++ codes ".metadata.json") (sym nv.spelled ∙ nw.spelled))
 
 -- the versions with that of a name which has none
 pub with_none : (name : List ℕ) (versions : List ℕ) → ((v : ℕ) → ¬ IsVersionName name v) → (v : ℕ) → Contains versions v ↔ (Contains versions v ⊎ IsVersionName name v)

@@ -33,7 +33,7 @@ known : (o : Option (Option PartKind)) (a b : Option PartKind) → is_some o ≡
 known None a b h = absurd (false≢true h)
 known (Some k) a b h = refl
 
-column_here : (cs : List Column) (i : ℕ) (c : Column) → i < length cs → c ≡ get_or cs i c → columns_view (drop i cs) ≡ column c.name (type_view c.kind) c.nullable (columns_view (drop (i + 1) cs))
+pub column_here : (cs : List Column) (i : ℕ) (c : Column) → i < length cs → c ≡ get_or cs i c → columns_view (drop i cs) ≡ column c.name (type_view c.kind) c.nullable (columns_view (drop (i + 1) cs))
 column_here cs i c within at =
     let shown : column_view c ≡ record { name = c.name; kind = type_view c.kind; nullable = c.nullable } = search (rules, the_lemmas) in
     ap columns_view (drop_more cs i c within) ∙ ap (λ (d : Column). columns_view (d ∷ drop (i + 1) cs)) (sym at) ∙ ap (λ (d : ColumnTree). columns_of (d ∷ map column_view (drop (i + 1) cs))) shown
@@ -89,7 +89,7 @@ no_column_left cs i past old name before =
     sym (ap (λ (rest : List Column). unwrap_or (old name) (column_kind (columns_view rest) name)) (drop_all i cs past)) ∙ before
 
 -- ---- columns of another kind
-same_kind : (a b : PartKind) → is_same_kind a b ≡ true → a ≡ b
+pub same_kind : (a b : PartKind) → is_same_kind a b ≡ true → a ≡ b
 same_kind kind.Boolean kind.Boolean h = refl
 same_kind kind.Int kind.Int h = refl
 same_kind kind.Long kind.Long h = refl
@@ -97,7 +97,7 @@ same_kind kind.Text kind.Text h = refl
 same_kind kind.Date kind.Date h = refl
 same_kind _ _ h = absurd (false≢true h)
 
-itself : (a : PartKind) → is_same_kind a a ≡ true
+pub itself : (a : PartKind) → is_same_kind a a ≡ true
 itself kind.Boolean = refl
 itself kind.Int = refl
 itself kind.Long = refl
@@ -173,7 +173,7 @@ distinct_to [] h = distinct_nothing
 distinct_to (x ∷ xs) h =
     let both = false_and_true (list_any (bytes_eq x) xs) (are_distinct xs) h in IsDistinct-cons bytes_eq x xs (not_again x xs both.0) (distinct_to xs both.1)
 
-distinct_from : (xs : List (List ℕ)) → IsDistinct bytes_eq xs → are_distinct xs ≡ true
+pub distinct_from : (xs : List (List ℕ)) → IsDistinct bytes_eq xs → are_distinct xs ≡ true
 distinct_from [] d = refl
 distinct_from (x ∷ xs) d =
     (λ i. not (none_again x xs (IsDistinct-head bytes_eq x xs d) i) && distinct_from xs (IsDistinct-tail bytes_eq x xs d) i)

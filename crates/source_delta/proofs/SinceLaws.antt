@@ -42,7 +42,7 @@ first_under (suc w) version none = by (nat_lt version w) refl
     by true is = let behind : version < w = grind (arith, nat_tests) in let next : w + 1 ≡ suc w = omega arith in absurd (none w next behind)
     by false is = let from : w ≤ version = grind (arith, nat_tests) in omega (arith, from)
 
-small : (n : ℕ) → n ≤ MAX_DELTA_VERSION → n < 2 ^ 64
+pub small : (n : ℕ) → n ≤ MAX_DELTA_VERSION → n < 2 ^ 64
 small n h = omega (arith, h)
 
 module _ (files : Files) (position : List ℕ) (version newest : ℕ) (spelled : position ≡ decimal version) (within : version ≤ MAX_DELTA_VERSION) (is : IsNewest files newest) (versions : Versions) (are : AreVersions (HasVersion files) versions) where

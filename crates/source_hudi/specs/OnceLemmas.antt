@@ -1,5 +1,5 @@
 -- A timeline makes one table, up to the order of its rows, and where it has a head, a table is there.
-use Rattle.std.proofs.Common.{◌≡◌, ℕ, List, [], ◌∷◌, ◌++◌, map, Option, Some, None, refl, sym, ap, subst, ◌∙◌}
+use Rattle.std.proofs.Common.{◌≡◌, ℕ, List, [], ◌∷◌, ◌++◌, Option, Some, None, refl, sym, ap, subst, ◌∙◌}
 use Rattle.lake_store.specs.Disk.{Files}
 use Rattle.table_history.specs.Row.{Row}
 use Rattle.table_history.specs.Rows.{HasDistinctPaths, SameRows}
@@ -8,14 +8,12 @@ use Rattle.table_history.specs.declared.table.Change.{Change}
 use Rattle.table_history.specs.declared.table.Table.{Table}
 use Rattle.table_history.proofs.Laws.{change_applied}
 use Rattle.table_history.proofs.SameTableLemmas.{same_itself}
-use Rattle.partition_map.specs.Columns.{column_kind}
-use Rattle.partition_map.specs.declared.kind.PartKind.{PartKind}
-use Rattle.hudi_timeline.specs.Causes.{AreKinds, rows_before, table_before}
+use Rattle.hudi_timeline.specs.Causes.{rows_before, table_before}
 use Rattle.hudi_timeline.specs.Change.{IsChangeOf, LeadsThrough}
 use Rattle.hudi_timeline.specs.Live.{Completed, IsLiveAfter, Timeline, completed}
 use Rattle.hudi_timeline.specs.Schemas.{schema_after}
-use Rattle.hudi_timeline.proofs.CauseLemmas.{kinds_same}
 use Rattle.hudi_timeline.proofs.ChangeLemmas.{schema_is}
+use Rattle.hudi_timeline.proofs.TimelineLaws.{one_kinds}
 use Rattle.hudi_groups.specs.declared.form.Form.TheVariants.{Base}
 use Rattle.hudi_instant.specs.Instants.{json_instant}
 use Rattle.hudi_instant.specs.declared.instant.Instant.{Instant}
@@ -62,12 +60,6 @@ timeline_once files (c ∷ cs) a b x y =
 
 -- ---- what an instant makes
 
-kinds_once : (u : Completed) (table : HudiTable) (base : Option Table) (a b : List PartKind) → AreKinds u table base a → AreKinds u table base b → a ≡ b
-kinds_once u table base a b x y =
-    let both : Some x.schema ≡ Some y.schema = sym x.in_force ∙ y.in_force in
-    let same : x.schema ≡ y.schema = cc in
-    kinds_same a b (sym x.are ∙ ap (λ s. map (column_kind s) table.partition) same ∙ y.are)
-
 applied : (table : HudiTable) (base : Option Table) (change : Change) (next : Table) (after : List Row) → IsDiff (rows_before base) after change.removed change.added → HasDistinctPaths (rows_before base) → HasDistinctPaths after
     → IsAfter (table_before table base) change next → SameRows next.rows after
 applied table None change next after diff before distinct is = change_applied (empty_table table.partition) after change next diff before distinct is
@@ -83,7 +75,7 @@ made_by u table base change next columns is to =
       schema = in_force ∙ ap (λ s. Some s) (sym schema);
       partition = to.partition ∙ columns;
       rows = λ kinds are row.
-          let same = kinds_once u table base is.kinds kinds is.are_kinds are in
+          let same = one_kinds u table base is.kinds kinds is.are_kinds are in
           let rows = applied table base change next is.after is.diff is.before_distinct is.distinct to row in (
             λ there. subst (λ ks. IsLiveAfter table ks u (rows_before base) row) same ((is.live row).0 (rows.0 there)),
             λ live. rows.1 ((is.live row).1 (subst (λ ks. IsLiveAfter table ks u (rows_before base) row) (sym same) live)),

@@ -9,7 +9,7 @@ use Rattle.std.proofs.lemmas.Map.Views.{All-after_first}
 use Rattle.table_history.specs.Rows.{IsInByteOrder, IsInPathOrder, paths_of}
 use Rattle.table_history.specs.Tables.{IsDiff}
 use Rattle.table_history.specs.declared.row.FileRow.{FileRow}
-use Rattle.table_history.proofs.RowListLemmas.{Contains-cases, Contains-head, Contains-none, Contains-tail}
+use Rattle.table_history.proofs.RowListLemmas.{Contains-cases, Contains-head, Contains-none, Contains-paths}
 use Rattle.sync_driver.specs.Checked.{IsDifference, IsFirstDifference}
 
 abbrev order : List ℕ → List ℕ → Ordering
@@ -24,12 +24,6 @@ none_before first rest sorted other there less =
     ⊎_elim (λ (is : first ≡ other). not_both first first (subst (λ (p : List ℕ). order p first ≡ Less) (sym is) less) (subst (λ (p : List ℕ). order p first ≡ Less) (sym is) less))
     (λ (later : Contains rest other). not_both other first less (All-contains (λ q. order first q ≡ Less) rest other (All-after_first order first rest sorted) later))
     (Contains-cases first rest other there)
-
-contains_path : (rows : List FileRow) (row : FileRow) → Contains rows row → Contains (paths_of rows) row.path
-contains_path [] row there = absurd (Contains-none row there)
-contains_path (r ∷ rows) row there =
-    ⊎_elim (λ (is : r ≡ row). subst (λ (p : List ℕ). Contains (r.path ∷ paths_of rows) p) (ap (λ (x : FileRow). x.path) is) (Contains-head r.path (paths_of rows)))
-    (λ (later : Contains rows row). Contains-tail r.path (paths_of rows) row.path (contains_path rows row later)) (Contains-cases r rows row there)
 
 -- what isn't before the lesser of the two
 pub not_before : (a b : List ℕ) → order a b ≢ Greater → (other : List ℕ) → (order other b ≡ Less → ⊥) → order other a ≡ Less → ⊥
@@ -50,7 +44,7 @@ module _ (held rows : List FileRow) (removed : List (List ℕ)) (added : List Fi
   -- a difference is in one of the two lists
   in_lists : (other : List ℕ) → IsDifference held rows other → Contains removed other ⊎ Contains (paths_of added) other
   in_lists other (inl lost) = inl ((diff.removed_paths other).1 (lost.0, lost.1, lost.2, lost.3))
-  in_lists other (inr new) = inr (subst (λ (p : List ℕ). Contains (paths_of added) p) new.3 (contains_path added new.0 ((diff.added_rows new.0).1 (new.1, new.2))))
+  in_lists other (inr new) = inr (subst (λ (p : List ℕ). Contains (paths_of added) p) new.3 (Contains-paths added new.0 ((diff.added_rows new.0).1 (new.1, new.2))))
 
   lost_is : (path : List ℕ) → Contains removed path → IsDifference held rows path
   lost_is path there = inl ((diff.removed_paths path).0 there)

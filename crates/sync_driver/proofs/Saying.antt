@@ -1,5 +1,5 @@
 -- How what a command tells goes on from line to line.
-use Rattle.std.proofs.Common.{◌≡◌, ◌≢◌, ◌++◌, ◌∷◌, ◌+◌, ◌≤◌, List, [], ℕ, length, map, suc, take, inl, inr, ⊎_elim, refl, sym, ap, subst, ◌∙◌, append_assoc, arith}
+use Rattle.std.proofs.Common.{◌≡◌, ◌≢◌, ◌++◌, ◌∷◌, ◌+◌, List, [], ℕ, length, map, suc, take, inl, inr, ⊎_elim, refl, sym, ap, subst, ◌∙◌, append_assoc, arith}
 use Rattle.std.proofs.Math.Seq.{take-length}
 use Rattle.std.proofs.lemmas.List.{append-nil}
 use Rattle.std.specs.Prelude.{IsErrOf, OnErr, OnOk, Result, Ok, Err}
@@ -15,6 +15,7 @@ use Rattle.table_lines.specs.TableLines.{lines_over}
 use Rattle.sync_driver.specs.Tellings.{Puts, Tells, cut_of_put, put_status}
 use Rattle.target_sync.specs.declared.status.Status.{Status}
 use Rattle.target_sync.specs.declared.status.Status.TheVariants.{Done, Memory, SinkFault}
+use Rattle.target_sync.proofs.Following.{rose_from}
 
 -- ---- putting lines out
 
@@ -97,9 +98,6 @@ take_behind (c ∷ first) second n =
 none_of_both : (first second : List ℕ) → first ++ second ≡ [] → (first ≡ []) × (second ≡ [])
 none_of_both [] second none = (refl, none)
 none_of_both (c ∷ first) second none = absurd (cc none)
-
-rose_from : (a b c : ℕ) → a ≤ b → Rose b c → Rose a c
-rose_from a b c le rose = omega (arith, le, rose)
 
 module _ {O : Type 0} (sink : Ghosts O) (old mid new : O) (first second : List ℕ) (due given : Status) where
   pub told_behind : Tells sink old mid first Done Done → Tells sink mid new second due given → Tells sink old new (first ++ second) due given

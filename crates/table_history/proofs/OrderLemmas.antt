@@ -13,7 +13,7 @@ use Rattle.table_history.proofs.RowListLemmas.{Contains-none, Contains-head, Con
 not_both : (x y : List ℕ) → slice_cmp nat_cmp x y ≡ Less → slice_cmp nat_cmp y x ≡ Less → ⊥
 not_both x y a b = let wrong : Less ≡ Greater = sym a ∙ nat_list_cmp_total.antisymm x y ∙ ap ordering_reverse b in cc
 
-not_itself : (x : List ℕ) → slice_cmp nat_cmp x x ≡ Less → ⊥
+pub not_itself : (x : List ℕ) → slice_cmp nat_cmp x x ≡ Less → ⊥
 not_itself x a = not_both x x a a
 
 module _ {X : Type 0} (key : X → List ℕ) where

@@ -95,7 +95,7 @@ distinct_order texts order = IsDistinct-same texts (IsDistinct-from_sorted (slic
         IsDistinct-cons bytes_eq x xs (AllByRecursion-same x xs (IsDistinct-head _ x xs h)) (IsDistinct-same xs (IsDistinct-tail _ x xs h))
 
 -- two rows of one path are one
-same_path : (rows : List FileRow) → HasDistinctPaths rows → (r s : FileRow) → Contains rows r → Contains rows s → r.path ≡ s.path → r ≡ s
+pub same_path : (rows : List FileRow) → HasDistinctPaths rows → (r s : FileRow) → Contains rows r → Contains rows s → r.path ≡ s.path → r ≡ s
 same_path rows distinct r s has_r has_s e =
     let same : Some r ≡ Some s = sym (row_at-itself rows r distinct has_r) ∙ ap (row_at rows) e ∙ row_at-itself rows s distinct has_s in cc
 

@@ -9,7 +9,7 @@ use Rattle.table_history.proofs.Laws.{in_order_same}
 use Rattle.target_core.specs.Folders.{SameIn}
 use Rattle.lake_basics.proofs.Lists.{mapped_itself}
 
-one_order : (xs ys : List (List ℕ)) → IsInByteOrder xs → IsInByteOrder ys → ((x : List ℕ) → Contains xs x → Contains ys x) → ((x : List ℕ) → Contains ys x → Contains xs x) → xs ≡ ys
+pub one_order : (xs ys : List (List ℕ)) → IsInByteOrder xs → IsInByteOrder ys → ((x : List ℕ) → Contains xs x → Contains ys x) → ((x : List ℕ) → Contains ys x → Contains xs x) → xs ≡ ys
 one_order xs ys sorted too there back = in_order_same (λ (x : List ℕ). x) xs ys (subst IsInByteOrder (sym (mapped_itself xs)) sorted) (subst IsInByteOrder (sym (mapped_itself ys)) too) (λ x. (there x, back x))
 
 pub same_back : (folder : List ℕ) (a b : Files) → SameIn folder a b → SameIn folder b a

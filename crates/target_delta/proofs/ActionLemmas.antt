@@ -5,13 +5,13 @@ use Rattle.std.proofs.lemmas.List.Elements.{All-cons, All-nil}
 use Rattle.std.proofs.lemmas.Bool.{cases_Bool, false≢true, not-true}
 use Rattle.std.proofs.lemmas.Slice.Eq.{bytes_eq-Decides}
 use Rattle.table_history.proofs.RowListLemmas.{Contains-cases, Contains-filter, Contains-head, Contains-none, Contains-paths, Contains-tail, filter_contains}
-use Rattle.delta_live.proofs.BehindLemmas.{has_row, one_row}
+use Rattle.delta_live.proofs.BehindLemmas.{has_row}
 use Rattle.std.specs.Str.{bytes_eq}
 use Rattle.table_history.specs.Path.{IsPath}
 use Rattle.table_history.specs.Row.{Row}
 use Rattle.table_history.specs.Rows.{HasDistinctPaths, HasPath, IsInByteOrder, paths_of, row_at}
 use Rattle.table_history.specs.declared.table.Change.{Change}
-use Rattle.table_history.proofs.TableLemmas.{Contains-paths_cases}
+use Rattle.table_history.proofs.TableLemmas.{Contains-paths_cases, same_path}
 use Rattle.delta_log.specs.Commit.{file_path, file_paths}
 use Rattle.delta_log.specs.Sound.{IsSoundFile}
 use Rattle.delta_log.specs.declared.commit.FileAction.TheVariants as file
@@ -124,7 +124,7 @@ module _ (partition : List (List ℕ)) (rows : List Row) where
 added_row : (added rows : List Row) → LeavesAdded added rows → HasDistinctPaths rows → (row : Row) → Contains rows row → Contains (paths_of added) row.path → Contains added row
 added_row added rows leaves distinct row there path =
     let from = Contains-paths_cases added row.path path in
-    subst (λ (r : Row). Contains added r) (one_row rows distinct from.0 row (leaves from.0 from.1) there from.2) from.1
+    subst (λ (r : Row). Contains added r) (same_path rows distinct from.0 row (leaves from.0 from.1) there from.2) from.1
 
 pub can_add : (partition : List (List ℕ)) (added rows : List Row) → LeavesAdded added rows → HasDistinctPaths rows → (paths : List (List ℕ)) → ((path : List ℕ) → Contains paths path ↔ Contains (paths_of added) path)
     → ((row : Row) → Contains added row → CanAdd partition row) → (row : Row) → Contains rows row → Contains paths row.path → CanAdd partition row
@@ -150,7 +150,7 @@ actions_are partition change rows lost paths adds files leaves loses distinct lo
   from_row = λ f there. let from = add_from partition rows paths adds f added there in (from.0, added_row change.added rows leaves distinct from.0 from.1 ((paths_is from.0.path).0 from.2), from.3);
   of_row = λ row there.
       let at = add_at partition rows paths adds row.path added ((paths_is row.path).1 (Contains-paths change.added row there)) in
-      (at.0, at.1, subst (λ (r : Row). IsAddOf partition r at.0) (one_row rows distinct at.2.0 row at.2.1 (leaves row there) at.2.2) at.2.3);
+      (at.0, at.1, subst (λ (r : Row). IsAddOf partition r at.0) (same_path rows distinct at.2.0 row at.2.1 (leaves row there) at.2.2) at.2.3);
   removes_order = subst (λ (l : List (List ℕ)). IsInByteOrder l) (sym (remove_paths lost)) lost_order;
   adds_order = subst (λ (l : List (List ℕ)). IsInByteOrder l) (sym (add_paths partition rows paths adds added)) paths_order;
 }

@@ -5,7 +5,6 @@ use Rattle.std.specs.List.{AllByRecursion, IsDistinct}
 use Rattle.std.specs.Str.{bytes_eq}
 use Rattle.std.proofs.lemmas.Bool.{cases_Bool, false≢true}
 use Rattle.std.proofs.lemmas.List.{length-append}
-use Rattle.std.proofs.lemmas.Map.Keys.{IsDistinct-cons, IsDistinct-head, IsDistinct-tail}
 use Rattle.std.proofs.lemmas.Slice.Eq.{bytes_eq-Decides}
 use Rattle.lake_basics.specs.declared.limits.TheConstants.{MAX_ACTIONS, MAX_LIVE_FILES}
 use Rattle.lake_basics.proofs.Texts.{fewer}
@@ -29,6 +28,7 @@ use Rattle.target_delta.specs.NewVersion.{IsWrittenOf}
 use Rattle.target_delta.specs.Writing.{AreActions, LeavesAdded, have_ntz, ntz_protocol, plain_protocol, protocol_due}
 use Rattle.target_delta.specs.declared.kept.DeltaKept.{DeltaKept}
 use Rattle.target_delta.proofs.StepLemmas.{due_is, path_from}
+use Rattle.delta_live.proofs.BehindLemmas.{distinct_both}
 
 -- ---- distinct texts that are all among others
 
@@ -60,13 +60,6 @@ apart_from x (y ∷ ys) none = (
 all_both : (P : List ℕ → Type 0) (xs ys : List (List ℕ)) → AllByRecursion P xs → AllByRecursion P ys → AllByRecursion P (xs ++ ys)
 all_both P [] ys a b = b
 all_both P (x ∷ xs) ys a b = (a.0, all_both P xs ys a.1 b)
-
-pub distinct_both : (xs ys : List (List ℕ)) → IsDistinct bytes_eq xs → IsDistinct bytes_eq ys → ((x : List ℕ) → Contains xs x → Contains ys x → ⊥) → IsDistinct bytes_eq (xs ++ ys)
-distinct_both [] ys a b apart = b
-distinct_both (x ∷ xs) ys a b apart =
-    IsDistinct-cons bytes_eq x (xs ++ ys)
-    (all_both (λ y. bytes_eq x y ≡ false) xs ys (IsDistinct-head bytes_eq x xs a) (apart_from x ys (apart x (Contains-head x xs))))
-    (distinct_both xs ys (IsDistinct-tail bytes_eq x xs a) b (λ y there. apart y (Contains-tail x xs y there)))
 
 -- ---- the actions
 

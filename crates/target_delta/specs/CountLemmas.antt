@@ -13,7 +13,6 @@ use Rattle.std.specs.FinMap as map
 use Rattle.std.proofs.Math.ListN.{length-take}
 use Rattle.std.proofs.lemmas.Bool.{and_from, cases_Bool, cases_lt, false≢true, or_left, or_right}
 use Rattle.std.proofs.lemmas.Str.Parse.{digit_from_value}
-use Rattle.std.specs.Ordering.{is_eq}
 use Rattle.std.proofs.lemmas.Bool.Decides.{nat_tests}
 use Rattle.std.proofs.lemmas.Map.Keys.{IsDistinct-cons}
 use Rattle.std.proofs.lemmas.Map.Steps.{length-le_from_distinct_below, le-length_from_below}
@@ -22,14 +21,14 @@ use Rattle.lake_basics.specs.declared.limits.TheConstants.{MAX_DELTA_VERSION}
 use Rattle.lake_basics.proofs.Truth.{left_true, right_true}
 use Rattle.lake_basics.proofs.Numbers.{le_by, le_test}
 use Rattle.lake_basics.proofs.Options.{some_there}
-use Rattle.lake_store.specs.Disk.{Files, IsName, names_in}
+use Rattle.lake_store.specs.Disk.{Files, names_in}
 use Rattle.lake_store.proofs.OrderLaws.{names_in_listed, names_in_sorted}
 use Rattle.delta_log.specs.VersionName.{IsVersionName}
 use Rattle.delta_log.proofs.VersionLemmas.{name_of_parts, parts_of}
-use Rattle.lake_store.proofs.DiskLaws.{path_here}
-use Rattle.delta_table.proofs.PathLaws.{path_once}
+use Rattle.delta_table.proofs.PathLaws.{path_once, version_is_name}
 use Rattle.delta_table.specs.Versions.{HasVersion, log_folder}
 use Rattle.table_history.proofs.RowListLemmas.{Contains-none, Contains-head, Contains-tail, Contains-cases}
+use Rattle.table_history.proofs.OrderLemmas.{not_itself}
 use Rattle.target_delta.specs.Names.{HasVersions, path_of}
 use Rattle.target_delta.specs.NameLemmas.{same_behind}
 use Rattle.target_delta.specs.ReadingLemmas.{reached_there}
@@ -142,9 +141,6 @@ one_name : (name other : List ℕ) (v : ℕ) → version_named name ≡ Some v �
 one_name name other v h k =
     same_behind name other (path_of name) refl (path_once v (path_of name) (path_of other) (record { name = name; named = version_by_name name v h; split = refl }) (record { name = other; named = version_by_name other v k; split = refl }))
 
-not_less_itself : (name : List ℕ) → slice_cmp nat_cmp name name ≡ Less → ⊥
-not_less_itself name less = false≢true (sym (ap is_eq less) ∙ path_here name)
-
 all_less : (name : List ℕ) (names : List (List ℕ)) (other : List ℕ) → AllByRecursion (λ y. slice_cmp nat_cmp name y ≡ Less) names → Contains names other → slice_cmp nat_cmp name other ≡ Less
 all_less name [] other all there = absurd (Contains-none other there)
 all_less name (n ∷ names) other all there = ⊎_elim (λ (same : n ≡ other). subst (λ (m : List ℕ). slice_cmp nat_cmp name m ≡ Less) same all.0) (λ later. all_less name names other all.1 later) (Contains-cases n names other there)
@@ -167,7 +163,7 @@ distinct_versions (name ∷ names) sorted =
           (apart_numbers v (filter_map version_named names) (λ there.
           let other = picked_from version_named names v there in
           let same : name ≡ other.0 = one_name name other.0 v is other.2 in
-          not_less_itself name (subst (λ (m : List ℕ). slice_cmp nat_cmp name m ≡ Less) (sym same) (all_less name names other.0 sorted.0 other.1))))
+          not_itself name (subst (λ (m : List ℕ). slice_cmp nat_cmp name m ≡ Less) (sym same) (all_less name names other.0 sorted.0 other.1))))
           (distinct_versions names sorted.1)
     ] refl
 
@@ -183,12 +179,6 @@ no_slash [] all there =
     (Contains-cases 110 [] 47 f)) (Contains-cases 111 (110 ∷ []) 47 e)) (Contains-cases 115 (111 ∷ 110 ∷ []) 47 d)) (Contains-cases 106 (115 ∷ 111 ∷ 110 ∷ []) 47 b)) (Contains-cases 46 (106 ∷ 115 ∷ 111 ∷ 110 ∷ []) 47 there)
 no_slash (c ∷ ds) all there = ⊎_elim (λ (same : c ≡ 47). digit_byte c all.0 same) (λ later. no_slash ds all.1 later) (Contains-cases c (ds ++ codes ".json") 47 there)
 
-pub proper : (name : List ℕ) (v : ℕ) → IsVersionName name v → IsName name
-proper name v h = (
-  λ (none : name ≡ []). let len = (parts_of name v h).len in let zero_len : length name ≡ 0 = ap length none in omega (arith, len, zero_len),
-  λ there. no_slash h.padded.digits h.padded.padded.numeral.1 (subst (λ (n : List ℕ). Contains n 47) h.padded.split there),
-)
-
 has_by_name : (files : Files) (name : List ℕ) (v : ℕ) → IsVersionName name v → IsSome (map.get files (path_of name)) → HasVersion files v
 has_by_name files name v named there = reached_there files (path_of name) (record { version = v; named = record { name = name; named = named; split = refl }; there = there })
 
@@ -196,7 +186,7 @@ pub listed : (files : Files) (v : ℕ) → HasVersion files v → Contains (vers
 listed files v h =
     let is = h.1.is in
     let there : IsSome (map.get files (path_of is.name)) = subst (λ (p : List ℕ). IsSome (map.get files p)) is.split (some_there (map.get files h.1.path) h.0 h.1.there) in
-    picked version_named (names_in files log_folder) is.name v (((names_in_listed files log_folder).members is.name).1 (proper is.name v is.named, there)) (named_version is.name v is.named)
+    picked version_named (names_in files log_folder) is.name v (((names_in_listed files log_folder).members is.name).1 (version_is_name is.name v is.named, there)) (named_version is.name v is.named)
 
 pub from_list : (files : Files) (v : ℕ) → Contains (versions_in files) v → HasVersion files v
 from_list files v there =

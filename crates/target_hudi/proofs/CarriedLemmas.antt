@@ -1,6 +1,6 @@
 -- A row whose folder carries its values is read back with them.
 use Rattle.std.proofs.Common.{◌≡◌, inl, inr, ℕ, ◌-◌, ◌≤◌, List, [], ◌∷◌, length, drop, Contains, Option, None, Some, refl, sym, ap, subst, ◌∙◌, arith, length-append}
-use Rattle.std.specs.Prelude.{◌≢◌, option_and_then, option_map}
+use Rattle.std.specs.Prelude.{option_and_then, option_map}
 use Rattle.std.proofs.lemmas.Bool.{cond-true, le-leb}
 use Rattle.std.proofs.lemmas.List.Prefix.{end_rest}
 use Rattle.std.proofs.lemmas.Str.{is_utf8-from_IsUtf8}
@@ -20,7 +20,7 @@ use Rattle.partition_map.proofs.FolderLemmas.{value_part_says}
 use Rattle.partition_map.proofs.Laws.{kind_of_type}
 use Rattle.hudi_timeline.specs.Schemas.{AreKindsOf}
 use Rattle.hudi_files.specs.Values.{HasValues, PartStands, PartsStand, component_parts, value_parts}
-use Rattle.hudi_timeline.proofs.KindLemmas.{kind_exactly}
+use Rattle.hudi_timeline.proofs.KindLemmas.{kind_exactly, some_kind}
 use Rattle.hudi_files.proofs.ValueLemmas.{value_parts-length}
 use Rattle.target_core.specs.Conditions.{HasKind}
 use Rattle.target_hudi.proofs.KnownLemmas.{Known, known_as, known_both, not_false, stands, stands_so}
@@ -48,10 +48,6 @@ of_kinds schema (name ∷ names) (kind ∷ kinds) (v ∷ vs) are fit =
     let first : column_kind schema name ≡ Some kind = cc in
     let rest : AreKindsOf schema names kinds = cc in
     (value_kind (column_type schema name) kind v first fit.0, of_kinds schema names kinds vs rest fit.1)
-
-some_kind : (found : Option PartKind) → found ≢ None → (kind : PartKind) × (found ≡ Some kind)
-some_kind None filled = absurd (filled refl)
-some_kind (Some kind) filled = (kind, refl)
 
 pub kinds_there : (schema : ColumnTrees) (names : List (List ℕ)) → ((name : List ℕ) → Contains names name → HasKind schema name) → (kinds : List PartKind) × AreKindsOf schema names kinds
 kinds_there schema [] have = ([], refl)

@@ -75,7 +75,7 @@ no_column : (schema : ColumnTrees) → column_count schema ≡ 0 → schema ≡ 
 no_column no_columns none = refl
 no_column (column n t b cs) none = absurd (omega (arith, none))
 
-none_of : (names : List (List ℕ)) → ((name : List ℕ) → Contains names name → ⊥) → names ≡ []
+pub none_of : (names : List (List ℕ)) → ((name : List ℕ) → Contains names name → ⊥) → names ≡ []
 none_of [] none = refl
 none_of (name ∷ names) none = absurd (none name (Contains-head name names))
 

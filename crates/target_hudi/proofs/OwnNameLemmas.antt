@@ -1,9 +1,9 @@
 -- Which names of instants in a timeline's folder are own, by what is read of them.
-use Rattle.std.proofs.Common.{◌≡◌, ◌≢◌, ◌⊎◌, inl, inr, ⊎_elim, ◌==◌, ℕ, ◌+◌, Bool, true, false, not, cond, List, [], ◌∷◌, ◌++◌, take, Contains, ◌↔◌, MatchOption, Option, Some, None, refl, sym, ap, subst, ◌∙◌, arith}
+use Rattle.std.proofs.Common.{◌≡◌, ◌≢◌, ◌⊎◌, inl, inr, ⊎_elim, ◌==◌, ℕ, ◌+◌, Bool, true, false, not, List, [], ◌∷◌, ◌++◌, Contains, ◌↔◌, MatchOption, Option, Some, None, refl, sym, ap, subst, ◌∙◌, arith}
 use Rattle.std.specs.Prelude.{ℤ, codes, is_some, option_map}
 use Rattle.std.specs.Char.{is_ascii_digit}
 use Rattle.std.specs.Cmp.Lexicographic.{slice_cmp}
-use Rattle.std.specs.List.{AllByRecursion, before_first, list_all, position_or_len}
+use Rattle.std.specs.List.{AllByRecursion, list_all}
 use Rattle.std.specs.Ordering.{nat_cmp, ordering_reverse}
 use Rattle.std.specs.Str.{bytes_eq}
 use Rattle.std.specs.declared.cmp.Ordering.{Ordering}
@@ -29,12 +29,12 @@ use Rattle.hudi_table.specs.Instants.{has_name, instant_named, instant_with, ins
 use Rattle.hudi_table.specs.declared.instants.InstantName.{InstantName}
 use Rattle.hudi_table.proofs.FolderLaws.{SaysOf, instant_says}
 use Rattle.hudi_table.proofs.UpLists.{Up, picked, sorted_up, up_picked}
+use Rattle.hudi_table.proofs.TimeOrder.{before_dot}
 use Rattle.hudi_commit.specs.Names.{Inflight, IsThere, Requested, Stage, claim_path, claims_folder, completed_name, completed_path, pending_name, timeline_folder, timeline_path}
 use Rattle.hudi_commit.proofs.NameLaws.{completed_is_name, is_instant_of}
 use Rattle.target_hudi.specs.Inspecting.{IsFirstForeignName, LooksUpClaims}
 use Rattle.target_hudi.specs.InspectSteps.{HasOwnForm, IsOwnInstant}
 use Rattle.target_hudi.specs.Reading.{HasOwnNames, HasOwnProperties, IsOwnName, NamesInstant}
-use Rattle.lake_basics.proofs.Lists.{take_one_more}
 
 abbrev Instant : Type 0
 Instant = ℕ × Action × State
@@ -58,14 +58,6 @@ name_decided names name b is = (
 
 above_dot : (c : ℕ) → is_ascii_digit c ≡ true → (c == 46) ≡ false
 above_dot c h = grind (arith, nat_tests)
-
-before_dot : (s r : List ℕ) → list_all is_ascii_digit s ≡ true → before_first (λ b. b == 46) (s ++ 46 ∷ r) ≡ s
-before_dot [] r ds = refl
-before_dot (x ∷ s) r ds =
-    let parts = and_parts (is_ascii_digit x) (list_all is_ascii_digit s) ds in
-    let other = above_dot x parts.0 in
-    let k = position_or_len (λ b. b == 46) (s ++ 46 ∷ r) in
-    ap (λ b. take (cond (not b) (1 + k) 0) (x ∷ s ++ 46 ∷ r)) other ∙ take_one_more k x (s ++ 46 ∷ r) ∙ ap (λ l. x ∷ l) (before_dot s r parts.1)
 
 digits_all : (t : List ℕ) → IsDigits t → list_all is_ascii_digit t ≡ true
 digits_all t is = (and_parts _ (list_all is_ascii_digit t) (is_instant_of t is)).1

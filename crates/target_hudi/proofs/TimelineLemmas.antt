@@ -32,11 +32,11 @@ use Rattle.hudi_table.specs.Folder.{AreInOrder, IsEarlier, IsUpTo}
 use Rattle.hudi_table.specs.Instants.{has_name, is_commit, is_replacecommit, time_of}
 use Rattle.hudi_table.specs.declared.instants.CompletedInstant.{CompletedInstant}
 use Rattle.hudi_table.proofs.FolderLaws.{order_of_folder}
-use Rattle.hudi_table.proofs.TimeOrder.{earlier_still, times_rise, up_to_itself}
+use Rattle.hudi_table.proofs.TimeOrder.{before_dot, earlier_still, times_rise, up_to_itself}
 use Rattle.hudi_commit.specs.Names.{IsInstantIn, IsThere, completed_name, completed_path, timeline_folder, timeline_path}
 use Rattle.hudi_commit.proofs.NameLaws.{completed_is_name, is_instant_of}
 use Rattle.hudi_commit.proofs.OrderlyLaws.{there, there_none}
-use Rattle.target_hudi.specs.InstantLemmas.{before_dot, beside, from_name, from_there, has, in_byte_order, named, replaced}
+use Rattle.target_hudi.specs.InstantLemmas.{beside, from_name, from_there, has, in_byte_order, named, replaced}
 use Rattle.target_hudi.specs.Kept.{IsNewest}
 use Rattle.target_hudi.specs.Reading.{completed_in}
 use Rattle.lake_basics.proofs.Truth.{and_false}

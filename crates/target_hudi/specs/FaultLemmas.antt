@@ -74,7 +74,7 @@ module _ (u : Completed) (table : HudiTable) where
   shows_too a b same feature.PartitionValue h = (h.0, record { schema = h.1.schema; in_force = in_force_too a b h.1.schema same h.1.in_force; are = h.1.are }, h.2)
   shows_too a b same _ h = h
 
-none_first : {A : Type 0} (P Q : A → Type 0) (xs : List A) (x : A) → ((y : A) → Q y → P y) → NoneOf P xs → IsFirst Q xs x → ⊥
+pub none_first : {A : Type 0} (P Q : A → Type 0) (xs : List A) (x : A) → ((y : A) → Q y → P y) → NoneOf P xs → IsFirst Q xs x → ⊥
 none_first P Q [] x from none h = h
 none_first P Q (y ∷ ys) x from none (inl here) = none.0 (from y here.1)
 none_first P Q (y ∷ ys) x from none (inr later) = none_first P Q ys x from none.1 later.1
@@ -138,7 +138,7 @@ module _ (files : Files) (table : HudiTable) (c : CompletedInstant) (behind : Li
 
 -- ---- no fault
 
-unreadable_or_read : (files : Files) (c : CompletedInstant) (i : Instant) (e : HudiError) → SaysInstant files c i → IsUnreadable files c e → ⊥
+pub unreadable_or_read : (files : Files) (c : CompletedInstant) (i : Instant) (e : HudiError) → SaysInstant files c i → IsUnreadable files c e → ⊥
 unreadable_or_read files c i e says (inl h) = false≢true (sym says.first ∙ h.0)
 unreadable_or_read files c i e says (inr (first, bytes, holds, refused)) =
     let there : Some says.bytes ≡ Some bytes = sym says.holds ∙ holds in

@@ -77,7 +77,7 @@ module _ (source : Kind) (files : Files) (path : List ℕ) (v : View) (h : IsFir
       let all = subst (λ (cs : List CompletedInstant). IsLatestOf files External h.table.table cs ours.latest) h.before.split read in
       not_faulty source files h.table h.before.front h.instant h.before.behind h.latest ours.latest here.0 h.before.read all here.1 (here.2 ∙ format) h.faulty
 
-none_is_some : (v : View) (standing : Standing) → IsUnpublished v → v.mark ≡ Some standing → ⊥
+pub none_is_some : (v : View) (standing : Standing) → IsUnpublished v → v.mark ≡ Some standing → ⊥
 none_is_some v standing none some =
     let told : ◌≡◌ {A = Option Standing} None (Some standing) = sym (ap (λ (w : View). w.mark) none) ∙ some in
     cc

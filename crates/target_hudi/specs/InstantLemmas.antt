@@ -1,8 +1,8 @@
 -- Which completed instants a folder has: those that its names tell, and the same ones where a reader of the timeline sees the same.
-use Rattle.std.proofs.Common.{◌≡◌, inr, ℕ, suc, ◌+◌, ◌==◌, ◌&&◌, Bool, true, false, not, List, [], ◌∷◌, ◌++◌, cond, length, map, take, codes, Contains, Option, Some, None, refl, sym, ap, subst, ◌∙◌, arith}
+use Rattle.std.proofs.Common.{◌≡◌, inr, ℕ, ◌+◌, ◌==◌, ◌&&◌, Bool, true, false, List, [], ◌∷◌, ◌++◌, cond, length, map, codes, Contains, Option, Some, None, refl, sym, ap, subst, ◌∙◌, arith}
 use Rattle.std.specs.Prelude.{option_map}
 use Rattle.std.specs.Char.{is_ascii_digit}
-use Rattle.std.specs.List.{AllByRecursion, before_first, list_all, position_or_len}
+use Rattle.std.specs.List.{AllByRecursion, list_all}
 use Rattle.std.specs.List.Sorted.{IsStrictlySortedBy}
 use Rattle.std.specs.Ordering.{nat_cmp}
 use Rattle.std.specs.Cmp.Lexicographic.{slice_cmp}
@@ -29,6 +29,8 @@ use Rattle.hudi_table.specs.Instants.{completed_of, has_name, instant_named, ins
 use Rattle.hudi_table.specs.declared.instants.CompletedInstant.{CompletedInstant}
 use Rattle.hudi_table.specs.declared.instants.InstantName.{InstantName}
 use Rattle.hudi_table.proofs.UpLists.{Up, picked, picked_from, sorted_up, up_picked}
+use Rattle.hudi_table.proofs.FolderLaws.{done_state}
+use Rattle.hudi_table.proofs.TimeOrder.{before_dot}
 use Rattle.hudi_commit.specs.Names.{IsInstantIn, IsThere, completed_name, timeline_folder}
 use Rattle.hudi_commit.specs.Orderly.{IsSameTimeline}
 use Rattle.hudi_commit.proofs.NameLaws.{is_instant_of}
@@ -50,11 +52,6 @@ pub record IsNamed (files : Files) (c : CompletedInstant) : Type 0 where
 
 abbrev Said : Type 0
 Said = ℕ × Action × State
-
-done_state : (s : State) → is_done s ≡ true → s ≡ state.Completed
-done_state state.Requested done = absurd (cc)
-done_state state.Inflight done = absurd (cc)
-done_state state.Completed done = refl
 
 named_parts : (names : List (List ℕ)) (name : List ℕ) (o : Option Said) (i : InstantName) → option_map (λ (p : Said). instant_with names name p.1 p.2) o ≡ Some i → (p : Said) × (o ≡ Some p) × (instant_with names name p.1 p.2 ≡ i)
 named_parts names name None i is = absurd (cc)
@@ -159,15 +156,6 @@ replaced digits is =
 
 above_dot : (c : ℕ) → is_ascii_digit c ≡ true → (c == 46) ≡ false
 above_dot c is = grind (arith, nat_tests)
-
--- what stands before the first dot
-pub before_dot : (digits rest : List ℕ) → list_all is_ascii_digit digits ≡ true → before_first (λ b. b == 46) (digits ++ 46 ∷ rest) ≡ digits
-before_dot [] rest all = refl
-before_dot (c ∷ digits) rest all =
-    let parts = and_parts (is_ascii_digit c) (list_all is_ascii_digit digits) all in
-    let k = position_or_len (λ b. b == 46) (digits ++ 46 ∷ rest) in
-    let one : 1 + k ≡ suc k = omega arith in
-    ap (λ b. take (cond (not b) (1 + k) 0) (c ∷ digits ++ 46 ∷ rest)) (above_dot c parts.0) ∙ ap (λ n. take n (c ∷ digits ++ 46 ∷ rest)) one ∙ ap (λ l. c ∷ l) (before_dot digits rest parts.1)
 
 -- the name of the commit of a replacecommit's time
 pub beside : (name : List ℕ) (digits : ℕ) → instant_of name ≡ Some (digits, action.ReplaceCommit, state.Completed) → instant_of (time_of name ++ codes ".commit") ≡ Some (digits, action.Commit, state.Completed)

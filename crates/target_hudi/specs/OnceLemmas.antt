@@ -78,7 +78,7 @@ one_timeline files naming (c ∷ cs) t u h k =
 
 -- ---- the table behind a timeline
 
-leads_schema : (table : HudiTable) (base other : Option Table) (timeline : Timeline) (t u : Table) → (table_before table base).schema ≡ (table_before table other).schema → LeadsThrough table base timeline t → LeadsThrough table other timeline u → t.schema ≡ u.schema
+pub leads_schema : (table : HudiTable) (base other : Option Table) (timeline : Timeline) (t u : Table) → (table_before table base).schema ≡ (table_before table other).schema → LeadsThrough table base timeline t → LeadsThrough table other timeline u → t.schema ≡ u.schema
 leads_schema table base other [] t u same h k = ap (λ (x : Table). x.schema) h ∙ same ∙ sym (ap (λ (x : Table). x.schema) k)
 leads_schema table base other (c ∷ timeline) t u same h k =
     let stated : Ok h.0.schema ≡ Ok k.0.schema = sym h.2.schema ∙ k.2.schema in

@@ -5,12 +5,10 @@ use Rattle.lake_basics.proofs.Lists.{mapped_itself}
 use Rattle.lake_store.specs.Disk.{Files, front_of, names_in}
 use Rattle.lake_store.specs.Runs.{IsIn}
 use Rattle.lake_store.proofs.OrderLaws.{names_in_listed, names_in_sorted}
-use Rattle.table_history.specs.Rows.{IsInByteOrder}
 use Rattle.table_history.specs.declared.kind.Kind.{Kind}
 use Rattle.table_history.specs.declared.limit.LimitKind.{LimitKind}
 use Rattle.table_history.specs.declared.table.Commit.{Commit}
 use Rattle.table_history.specs.declared.table.Table.{Table}
-use Rattle.table_history.proofs.Laws.{in_order_same}
 use Rattle.std.proofs.lemmas.List.Elements.{Contains-append_left}
 use Rattle.hudi_names.specs.declared.error.HudiError.{HudiError}
 use Rattle.hudi_names.specs.declared.error.HudiError.TheVariants as errors
@@ -29,6 +27,7 @@ use Rattle.hudi_commit.specs.Orderly.{LacksProperties}
 use Rattle.hudi_commit.proofs.StepLaws.{in_timeline}
 use Rattle.target_core.specs.Folders.{SameIn}
 use Rattle.target_core.specs.Views.{Origin, Standing}
+use Rattle.target_core.specs.FolderLemmas.{one_order}
 use Rattle.target_hudi.specs.Inspecting.{HasForeignProperties, IsCrowded, IsFaulty, IsFirstForeignName, IsForeign, IsForeignName, IsLarge, IsReadUpTo, LooksUpClaims, PassesIn}
 use Rattle.target_hudi.specs.Reading.{HasOwnNames, HasOwnProperties, IsMarkAt, IsOwnName, NamesInstant}
 use Rattle.target_hudi.specs.Writing.{Passes, TimelineEnd}
@@ -36,9 +35,6 @@ use Rattle.target_hudi.specs.ReadingLemmas.{AreCompleted, read_too, says_propert
 use Rattle.target_hudi.specs.SettledLemmas.{completed_own, own_sym, own_there, own_timeline}
 
 -- ---- names
-
-one_order : (xs ys : List (List ℕ)) → IsInByteOrder xs → IsInByteOrder ys → ((x : List ℕ) → Contains xs x → Contains ys x) → ((x : List ℕ) → Contains ys x → Contains xs x) → xs ≡ ys
-one_order xs ys sorted too there back = in_order_same (λ (x : List ℕ). x) xs ys (subst IsInByteOrder (sym (mapped_itself xs)) sorted) (subst IsInByteOrder (sym (mapped_itself ys)) too) (λ x. (there x, back x))
 
 module _ (folder : List ℕ) (inside : (name : List ℕ) → IsIn timeline_folder (front_of folder ++ name)) where
   names_too : (a b : Files) → SameIn timeline_folder a b → (name : List ℕ) → Contains (names_in a folder) name → Contains (names_in b folder) name

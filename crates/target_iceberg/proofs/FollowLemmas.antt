@@ -13,6 +13,7 @@ use Rattle.std.proofs.lemmas.List.Elements.{Contains-append_cases}
 use Rattle.iceberg_metadata.specs.Judging.{are_distinct, is_among}
 use Rattle.iceberg_metadata.specs.Paths.{held_schema}
 use Rattle.iceberg_metadata.specs.Schemas.{HeldSchema}
+use Rattle.iceberg_metadata.proofs.PathLemmas.{path_Decides}
 use Rattle.iceberg_version.specs.Sound.{have_first_ids, is_own_image, is_under}
 use Rattle.iceberg_field_ids.proofs.IcebergGiven.{column_paths_wide}
 use Rattle.iceberg_field_ids.specs.Ids.{PassesGreatest, new_count}
@@ -26,7 +27,6 @@ use Rattle.table_history.proofs.RowListLemmas.{Contains-cases, Contains-head, Co
 use Rattle.target_iceberg.specs.Fitting.{ChangesType, HasTypeChange, HeldState, IdSchema, IsFirstChange, IsFirstTypeChange, held_behind, is_current, may_become, state_behind, state_with, stated_in, type_at}
 use Rattle.target_iceberg.specs.Following.{AreFirst, AreHeldBy, IsAtCurrent, IsChangeOf, IsReady}
 use Rattle.target_iceberg.specs.Newest.{HeldShape, IsTop, is_changed, with_schema, with_schemas}
-use Rattle.target_iceberg.proofs.NewestLemmas.{path_decides}
 use Rattle.target_iceberg.proofs.TypeLemmas.{become_self, first_change, here as held_last, no_change, of_both, same_type}
 use Rattle.lake_basics.proofs.Truth.{never_both}
 use Rattle.lake_basics.proofs.Lists.{next_of}
@@ -329,7 +329,7 @@ own_known (p ∷ all) path there = ⊎_elim
     (λ (here : pointwise bytes_eq p path ≡ true). ap (λ b. is_some (cond b (Some (pos 0)) (known_id (zero_ids all) path))) here)
     (λ (off : pointwise bytes_eq p path ≡ false).
     ap (λ b. is_some (cond b (Some (pos 0)) (known_id (zero_ids all) path))) off
-    ∙ ⊎_elim (λ (same : p ≡ path). absurd (false≢true (sym off ∙ (path_decides p path).1 same))) (λ later. own_known all path later) (Contains-cases p all path there))
+    ∙ ⊎_elim (λ (same : p ≡ path). absurd (false≢true (sym off ∙ (path_Decides p path).1 same))) (λ later. own_known all path later) (Contains-cases p all path there))
     (cases_Bool (pointwise bytes_eq p path))
 
 none_new : (all paths : List Path) → ((path : Path) → Contains paths path → Contains all path) → new_count (zero_ids all) paths ≡ 0

@@ -35,10 +35,10 @@ use Rattle.iceberg_table.specs.Tables.{IsTableOfSnapshots, rows_in, rows_of}
 use Rattle.iceberg_table.proofs.EachLaws.{each_back}
 use Rattle.iceberg_table.specs.declared.manifest.Manifest.{Manifest}
 use Rattle.iceberg_table.specs.declared.snapshot.SnapshotTable.{SnapshotTable}
+use Rattle.iceberg_table.proofs.PlanLaws.{in_schemas}
 use Rattle.iceberg_version.specs.Sound.{AreRowsOf, are_of, has_content, is_born, is_of, is_own_image, is_sound_metadata, is_sound_owner}
 use Rattle.iceberg_commit.proofs.SoundLemmas.{sound_to}
 use Rattle.iceberg_version.specs.declared.kept.KeptManifest.{KeptManifest}
-use Rattle.iceberg_version.proofs.HeldLemmas.{in_schemas}
 use Rattle.iceberg_version.proofs.Shared.{all_tested, lt_test}
 use Rattle.target_core.proofs.HeldRows.{are_held_by}
 use Rattle.target_core.specs.Held.{are_held}
@@ -81,7 +81,7 @@ sound_metadata version m own form = sound_to version m (record {
 -- ---- owners
 
 -- a manifest has no more rows than all of them
-rows_within : (ms : List Manifest) (m : Manifest) → Contains ms m → length m.rows ≤ length (rows_of ms)
+pub rows_within : (ms : List Manifest) (m : Manifest) → Contains ms m → length m.rows ≤ length (rows_of ms)
 rows_within [] m there = absurd (Contains-none m there)
 rows_within (x ∷ ms) m there =
     let all = length-append (rows_in x.rows) (rows_of ms) in

@@ -1,5 +1,5 @@
 -- How the newest shapes are kept, path by path.
-use Rattle.std.proofs.Common.{◌≡◌, ◌≢◌, ⊎_elim, ℕ, ◌<◌, ◌+◌, Bool, true, false, cond, Decides, List, [], ◌∷◌, length, get_or, take, drop, map, Contains, Option, Some, None, refl, sym, ap, subst, ◌∙◌, arith}
+use Rattle.std.proofs.Common.{◌≡◌, ◌≢◌, ⊎_elim, ℕ, ◌<◌, ◌+◌, Bool, true, false, cond, List, [], ◌∷◌, length, get_or, take, drop, map, Contains, Option, Some, None, refl, sym, ap, subst, ◌∙◌, arith}
 use Rattle.std.specs.Prelude.{ℤ, int_lt, IfOk, Result, Vec}
 use Rattle.std.specs.Cmp.Lexicographic.{pointwise}
 use Rattle.std.specs.List.{zip}
@@ -10,7 +10,6 @@ use Rattle.std.proofs.lemmas.Bool.{cases_Bool, cond-false, cond-true, false≢tr
 use Rattle.std.proofs.lemmas.Int.{ints}
 use Rattle.std.proofs.lemmas.List.{drop_more}
 use Rattle.std.proofs.lemmas.List.Elements.{Contains-append_cases}
-use Rattle.std.proofs.lemmas.Slice.Eq.{bytes_eq-Decides, slice_eq-Decides}
 use Rattle.indexmap.specs.IndexMap.{IndexMap, UpdatesBy}
 use Rattle.schema_map.specs.Paths.{Path, below, column_paths, inner_paths}
 use Rattle.table_history.specs.TypeTree.{ColumnTrees, TypeTree, column, no_columns}
@@ -20,14 +19,12 @@ use Rattle.target_iceberg.specs.Newest.{HeldShape, IsTop, is_changed, is_older, 
 use Rattle.target_iceberg.specs.Shapes.{shape_of}
 use Rattle.target_iceberg.specs.declared.shape.Shape.{Shape}
 use Rattle.lake_basics.proofs.Lists.{last_of}
+use Rattle.iceberg_metadata.proofs.PathLemmas.{path_Decides}
 
 -- ---- one path
 
-pub path_decides : (p q : Path) → Decides (pointwise bytes_eq p q) (p ≡ q)
-path_decides p q = slice_eq-Decides bytes_eq-Decides p q (pointwise bytes_eq p q) refl
-
 other_path : (p q : Path) → (p ≡ q → ⊥) → pointwise bytes_eq p q ≡ false
-other_path p q apart = ⊎_elim (λ one. absurd (apart ((path_decides p q).0 one))) (λ no. no) (cases_Bool (pointwise bytes_eq p q))
+other_path p q apart = ⊎_elim (λ one. absurd (apart ((path_Decides p q).0 one))) (λ no. no) (cases_Bool (pointwise bytes_eq p q))
 
 abbrev Key : Type 0
 Key = Vec (List ℕ) Global
@@ -39,7 +36,7 @@ abbrev by : Path → Key → Bool
 by path key = pointwise bytes_eq path key.items
 
 key_test : (path : Path) → IsKeyTest key_eq (by path)
-key_test path x y here = ap (λ (p : Path). pointwise bytes_eq p y.items) ((path_decides path x.items).0 here)
+key_test path x y here = ap (λ (p : Path). pointwise bytes_eq p y.items) ((path_Decides path x.items).0 here)
 
 apart_from : (key path : Path) → (key ≡ path → ⊥) → (test : Key → Bool) → ((k : Key) → test k ≡ true → key ≡ k.items) → AreApart test (by path)
 apart_from key path apart test at k here = other_path path k.items (λ (same : path ≡ k.items). apart (at k here ∙ sym same))
@@ -52,11 +49,11 @@ pub kept_at : {S : Type 0} (m n : IndexMap Key HeldShape S) (key : Key) (shape :
     → shape_at n path ≡ cond (pointwise bytes_eq key.items path) (Some shape) (shape_at m path)
 kept_at m n key shape updates path = ⊎_elim
     (λ (here : pointwise bytes_eq key.items path ≡ true).
-    let same : key.items ≡ path = (path_decides key.items path).0 here in
+    let same : key.items ≡ path = (path_Decides key.items path).0 here in
     subst (λ (p : Path). shape_at n p ≡ Some shape) same updates.1 ∙ sym (cond-true (pointwise bytes_eq key.items path) (Some shape) (shape_at m path) here))
     (λ (off : pointwise bytes_eq key.items path ≡ false).
-    let apart : key.items ≡ path → ⊥ = λ same. false≢true (sym off ∙ (path_decides key.items path).1 same) in
-    same_elsewhere m.entries n.entries (key_eq key) (by path) updates.3 (key_test path) (apart_from key.items path apart (key_eq key) (λ k here. (path_decides key.items k.items).0 here))
+    let apart : key.items ≡ path → ⊥ = λ same. false≢true (sym off ∙ (path_Decides key.items path).1 same) in
+    same_elsewhere m.entries n.entries (key_eq key) (by path) updates.3 (key_test path) (apart_from key.items path apart (key_eq key) (λ k here. (path_Decides key.items k.items).0 here))
     ∙ sym (cond-false (pointwise bytes_eq key.items path) (Some shape) (shape_at m path) off))
     (cases_Bool (pointwise bytes_eq key.items path))
 
@@ -115,7 +112,7 @@ newer_kept m n key id shape updates older other =
     kept_at m n key (id, shape) updates other
     ∙ ⊎_elim
     (λ (here : pointwise bytes_eq key.items other ≡ true).
-    let same : key.items ≡ other = (path_decides key.items other).0 here in
+    let same : key.items ≡ other = (path_Decides key.items other).0 here in
     let now : later (shape_at m other) (id, shape) ≡ Some (id, shape) = ap (λ b. cond b (Some (id, shape)) (shape_at m other)) (ap (λ (p : Path). is_older (shape_at m p) id) (sym same) ∙ older) in
     ap (λ o. cond (pointwise bytes_eq key.items other) o (shape_at m other)) (sym now))
     (λ (off : pointwise bytes_eq key.items other ≡ false).
@@ -125,7 +122,7 @@ newer_kept m n key id shape updates older other =
 pub older_left : {S : Type 0} (m : IndexMap Key HeldShape S) (path : Path) (id : ℤ) (shape : Shape) → is_older (shape_at m path) id ≡ false → (other : Path) → shape_at m other ≡ cond (pointwise bytes_eq path other) (later (shape_at m other) (id, shape)) (shape_at m other)
 older_left m path id shape newer other = ⊎_elim
     (λ (here : pointwise bytes_eq path other ≡ true).
-    let same : path ≡ other = (path_decides path other).0 here in
+    let same : path ≡ other = (path_Decides path other).0 here in
     let now : later (shape_at m other) (id, shape) ≡ shape_at m other = ap (λ b. cond b (Some (id, shape)) (shape_at m other)) (ap (λ (p : Path). is_older (shape_at m p) id) (sym same) ∙ newer) in
     sym (cond-true (pointwise bytes_eq path other) (later (shape_at m other) (id, shape)) (shape_at m other) here ∙ now))
     (λ (off : pointwise bytes_eq path other ≡ false). sym (cond-false (pointwise bytes_eq path other) (later (shape_at m other) (id, shape)) (shape_at m other) off))

@@ -1,7 +1,6 @@
 -- The rows of a current snapshot's manifests are those that are live in it.
-use Rattle.std.proofs.Common.{◌≡◌, ◌≢◌, ◌↔◌, ⊎_elim, ℕ, pos, ◌<◌, List, [], true, Contains, refl, sym, subst, arith}
+use Rattle.std.proofs.Common.{◌≡◌, ◌≢◌, ◌↔◌, ⊎_elim, ℕ, pos, List, [], Contains, refl, sym, subst}
 use Rattle.std.specs.List.{filter}
-use Rattle.std.proofs.lemmas.Bool.Decides.{nat_tests}
 use Rattle.lake_store.specs.Disk.{Files}
 use Rattle.table_history.specs.Row.{Row}
 use Rattle.table_history.proofs.RowListLemmas.{Contains-filter, Contains-none, filter_contains}
@@ -20,15 +19,12 @@ use Rattle.iceberg_table.specs.Tables.{rows_in, rows_of}
 use Rattle.iceberg_table.specs.declared.list.ManifestFile.{ManifestFile}
 use Rattle.iceberg_table.specs.declared.manifest.Manifest.{Manifest}
 use Rattle.iceberg_table.proofs.EachLaws.{each_back, each_of}
-use Rattle.iceberg_table.proofs.LiveLaws.{columns_same, list_same, of_flat, row_once}
+use Rattle.iceberg_table.proofs.LiveLaws.{columns_same, list_same, live_true, of_flat, row_once}
 use Rattle.iceberg_version.proofs.Shared.{in_flat, in_map, of_map}
 use Rattle.target_iceberg.specs.Reading.{SaysCurrent}
 use Rattle.target_iceberg.specs.OnceLemmas.{list_once}
 
 -- ---- lists
-
-pub live_true : (e : EntryData) → e.status < 2 → is_live e ≡ true
-live_true e low = grind (arith, nat_tests)
 
 module _ (files : Files) (m : Metadata) (current : SaysCurrent files m) where
   abbrev columns : List PartColumn

@@ -1,8 +1,8 @@
 -- What becomes of the manifests of a list, and their live rows.
-use Rattle.std.proofs.Common.{◌≡◌, ◌≢◌, inl, inr, ℕ, pos, ◌+◌, ◌≤◌, List, [], ◌∷◌, ◌++◌, map, length, Bool, true, false, cond, Contains, Result, Ok, Err, refl, sym, ap, subst, arith}
+use Rattle.std.proofs.Common.{◌≡◌, ◌≢◌, inl, inr, ℕ, pos, ◌+◌, ◌≤◌, List, [], ◌∷◌, ◌++◌, map, length, Bool, true, false, cond, Contains, Result, Ok, refl, sym, ap, subst, arith}
 use Rattle.std.specs.Prelude.{flat_map, nat_lt}
 use Rattle.std.specs.List.{AllByRecursion, filter, list_any}
-use Rattle.lake_basics.specs.Outcome.{◌>>=◌, with_fault}
+use Rattle.lake_basics.specs.Outcome.{◌>>=◌}
 use Rattle.table_history.specs.Path.{IsPath}
 use Rattle.table_history.specs.Row.{Row}
 use Rattle.table_history.proofs.RowListLemmas.{Contains-head, Contains-tail}
@@ -18,6 +18,7 @@ use Rattle.iceberg_manifest.specs.Entry.{is_live}
 use Rattle.iceberg_metadata.specs.Location.{front_of}
 use Rattle.iceberg_manifest.specs.Scans.{flaw_error}
 use Rattle.iceberg_manifest.specs.declared.info.ManifestInfo.{ManifestInfo}
+use Rattle.iceberg_manifest.proofs.KindLaws.{fault_ok}
 use Rattle.iceberg_live.specs.declared.live.LiveRow.{LiveRow}
 use Rattle.iceberg_metadata.proofs.StepLemmas.{bind_ok, ok_is}
 use Rattle.iceberg_table.specs.Lists.{AreRows}
@@ -135,15 +136,11 @@ row_step = (
       (first.0, others.0, others.1, ok_is (first.0 ∷ others.0) infos others.2),
 )
 
-no_fault : {B E F : Type 0} (f : E → F) (r : Result B E) (x : B) → with_fault f r ≡ Ok x → r ≡ Ok x
-no_fault f (Ok y) x is = cc
-no_fault f (Err e) x is = absurd (cc)
-
 -- a list has no more rows than values
 pub few_rows : (bytes : List ℕ) (infos : List ManifestInfo) → AreRows bytes infos → length infos ≤ MAX_VALUES
 unfolding infos_in
 few_rows bytes infos are =
-    let read = no_fault flaw_error (list_plan are.schema >>= λ plan. list_rows plan 0 are.values) infos are.read in
+    let read = fault_ok flaw_error (list_plan are.schema >>= λ plan. list_rows plan 0 are.values) infos are.read in
     let plan = bind_ok (list_plan are.schema) (λ plan. list_rows plan 0 are.values) infos read in
     let same = rows_length list_rows row_step plan.0 0 are.values infos plan.2 in
     let few = are.container.few in

@@ -31,10 +31,10 @@ use Rattle.iceberg_table.specs.Files.{SaysMetadata}
 use Rattle.iceberg_table.specs.Folder.{HasVersion, IsNewest, path_of}
 use Rattle.iceberg_table.specs.Plan.{IsPlanOf, names_of, part_columns, snapshot_schema}
 use Rattle.iceberg_table.specs.declared.plan.Plan.{Plan}
+use Rattle.iceberg_table.proofs.PlanLaws.{in_schemas}
 use Rattle.iceberg_version.specs.Names.{list_name}
 use Rattle.iceberg_version.specs.Schemas.{AreSpecFields, FIRST_PARTITION_ID, Schemas}
 use Rattle.iceberg_version.specs.Writing.{AreColumns, TableEnd, mark_of, snapshot_of, stated_behind}
-use Rattle.iceberg_version.proofs.HeldLemmas.{in_schemas}
 use Rattle.iceberg_version.proofs.NamePathLemmas.{list_path}
 use Rattle.iceberg_version.proofs.Shared.{in_flat}
 use Rattle.target_core.specs.Views.{Origin, standing_at}

@@ -54,7 +54,7 @@ caused_as Idle Other from source target mode now files None is = from is
 caused_as Idle Other from source target mode now files (Some (Ok report)) is = is
 caused_as Idle Other from source target mode now files (Some (Err e)) is = refusal_as Idle Other from source target mode now files e is
 
-rose_from : (a b c : ℕ) → a ≤ b → Rose b c → Rose a c
+pub rose_from : (a b c : ℕ) → a ≤ b → Rose b c → Rose a c
 rose_from a b c le rose = omega (arith, le, rose)
 
 -- ---- files that are only read before

@@ -1,22 +1,18 @@
 -- Of an image that a crash may leave in a part of the disk there is one of the whole disk that is the same there.
-use Rattle.std.proofs.Common.{◌≡◌, ◌⊎◌, ◌||◌, inl, inr, ℕ, Bool, true, false, List, [], ◌∷◌, Option, Some, None, cond, refl, sym, ap, ◌∙◌}
+use Rattle.std.proofs.Common.{◌≡◌, ◌⊎◌, ◌||◌, inl, inr, ℕ, Bool, true, false, List, [], ◌∷◌, cond, refl, sym, ap, ◌∙◌}
 use Rattle.std.specs.FinMap as map
 use Rattle.std.specs.FinSet as set
 use Rattle.std.specs.List.{list_any}
 use Rattle.lake_store.specs.Disk.{Disk, Files, IsClean, MayLeave, with_file}
 use Rattle.lake_store.specs.Runs.{IsIn, KeepsImage}
-use Rattle.lake_store.proofs.DiskLaws.{get-insert_here, get-remove_here, is_path, path_cases, path_here, path_other}
-use Rattle.lake_store.proofs.PastLaws.{get-with_other}
+use Rattle.lake_store.proofs.DiskLaws.{is_path, path_cases, path_here, path_other}
+use Rattle.lake_store.proofs.PastLaws.{get-with_here, get-with_other}
 use Rattle.target_core.specs.Folders.{SameIn}
 
 -- the files with those of the image at these paths
 abbrev mixed : Files → Files → List (List ℕ) → Files
 mixed files image [] = files
 mixed files image (path ∷ paths) = with_file (mixed files image paths) path (map.get image path)
-
-get-with_here : (files : Files) (path : List ℕ) (file : Option (List ℕ)) → map.get (with_file files path file) path ≡ file
-get-with_here files path None = get-remove_here files path
-get-with_here files path (Some bytes) = get-insert_here files path bytes
 
 get_here : (files image : Files) (path : List ℕ) (paths : List (List ℕ)) (q : List ℕ) → map.get (mixed files image paths) q ≡ cond (list_any (is_path q) paths) (map.get image q) (map.get files q) → (q ≡ path) ⊎ ¬ (q ≡ path)
     → map.get (mixed files image (path ∷ paths)) q ≡ cond (list_any (is_path q) (path ∷ paths)) (map.get image q) (map.get files q)
