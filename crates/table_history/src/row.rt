@@ -91,6 +91,17 @@ impl FileRow {
     }
 }
 
+// Equal rows, in their order.
+pub(crate) fn copy_rows(rows: &[FileRow], alloc: Global) -> Result<Vec<FileRow>, AllocError>
+    ensures { IfOk result (λ v. v.items ≡ rows.now) }
+{
+    let mut copies = Vec::with_capacity(alloc, rows.len())?;
+    for row in rows {
+        copies.push(row.copy(alloc)?)?;
+    }
+    Ok(copies)
+}
+
 fn copy_values(values: &[PartValue], alloc: Global) -> Result<Vec<PartValue>, AllocError>
     ensures { IfOk result (λ v. v.items ≡ values.now) }
 {

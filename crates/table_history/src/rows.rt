@@ -147,10 +147,10 @@ impl FileRows {
         &mut self,
         alloc: Global,
         removed: &[Text],
-        added: &[FileRow],
+        added: Vec<FileRow>,
     ) -> Result<(), AllocError>
         ensures ok { OnOk result ((p : List ℕ) → row_at self.new p
-            ≡ option_or (row_at added.now p)
+            ≡ option_or (row_at added.items p)
             (if list_any (bytes_eq p) removed.now then None else row_at self.old p)) }
         ensures distinct { OnOk result (HasDistinctPaths self.new) }
         ensures was_distinct { OnOk result (HasDistinctPaths self.old) }
@@ -173,13 +173,12 @@ struct Arrival {
 }
 
 // The rows, each with its key.
-fn arrivals_of(rows: &[FileRow], alloc: Global) -> Result<Vec<Arrival>, AllocError>
-    ensures rows { IfOk result (λ v. map (λ a. a.row) v.items ≡ rows.now) }
+fn arrivals_of(rows: Vec<FileRow>, alloc: Global) -> Result<Vec<Arrival>, AllocError>
+    ensures rows { IfOk result (λ v. map (λ a. a.row) v.items ≡ rows.items) }
 {
     let mut arrivals = Vec::with_capacity(alloc, rows.len())?;
     for row in rows {
         let key = Vec::from_slice(alloc, row.path.as_bytes())?;
-        let row = row.copy(alloc)?;
         arrivals.push(Arrival { key, row })?;
     }
     Ok(arrivals)

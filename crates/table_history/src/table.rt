@@ -2,9 +2,9 @@
 
 ghost use Rattle.std.specs.Prelude.{◌≡◌, map, IfOk, OnOk, OnErr, Some};
 ghost use Rattle.table_history.specs.Rows.{SameRows};
-ghost use Rattle.table_history.specs.Tables.{CanApply, IsAfter, IsDiff, LeadsTo, empty_table};
+ghost use Rattle.table_history.specs.Tables.{CanApply, IsAfter, IsDiff, LeadsTo, change_of, empty_table};
 
-use crate::row::FileRow;
+use crate::row::{FileRow, copy_rows};
 use crate::rows::FileRows;
 use crate::schema::Schema;
 use lake_basics::{Items, Text};
@@ -64,10 +64,39 @@ impl Table {
         ensures ok { OnOk result (IsAfter self.old change.now self.new) }
         ensures err { OnErr result (self.new ≡ self.old) }
     {
-        let stated = copy_stated(&change.schema, alloc)?;
-        self.rows
-            .update(alloc, change.removed.as_slice(), change.added.as_slice())?;
-        if let Some(schema) = stated {
+        let schema = copy_stated(&change.schema, alloc)?;
+        let added = copy_rows(change.added.as_slice(), alloc)?;
+        self.make(alloc, schema, change.removed.as_slice(), added)
+    }
+
+    /// Makes the change as `apply` does. The rows and the schema move into the table, without a copy.
+    pub fn apply_owned(&mut self, alloc: Global, change: Change) -> Result<(), AllocError>
+        requires { CanApply self.old change }
+        ensures ok { OnOk result (IsAfter self.old change self.new) }
+        ensures err { OnErr result (self.new ≡ self.old) }
+    {
+        let Change {
+            schema,
+            removed,
+            added,
+        } = change;
+        self.make(alloc, schema, removed.as_slice(), added.into_vec())
+    }
+
+    fn make(
+        &mut self,
+        alloc: Global,
+        schema: Option<Schema>,
+        removed: &[Text],
+        added: Vec<FileRow>,
+    ) -> Result<(), AllocError>
+        requires { CanApply self.old (change_of schema removed.now added.items) }
+        ensures ok { OnOk result
+            (IsAfter self.old (change_of schema removed.now added.items) self.new) }
+        ensures err { OnErr result (self.new ≡ self.old) }
+    {
+        self.rows.update(alloc, removed, added)?;
+        if let Some(schema) = schema {
             self.schema = schema;
         }
         Ok(())
