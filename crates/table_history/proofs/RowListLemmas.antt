@@ -95,6 +95,13 @@ row_at-itself (r ∷ rows) row distinct h =
     (Contains-cases r rows row h)
 
 -- the answer of a look-up
+pub row_at-lacks : (rows : List FileRow) (path : List ℕ) → (HasPath rows path → ⊥) → row_at rows path ≡ None
+row_at-lacks rows path lacks = by (row_at rows path) refl
+  where
+    by : (found : Option FileRow) → row_at rows path ≡ found → row_at rows path ≡ None
+    by None is = is
+    by (Some row) is = let there = row_at-found rows path row is in absurd (lacks (row, there.0, there.1))
+
 pub row_at-cases : (rows : List FileRow) (path : List ℕ) (r : Option (Bor FileRow)) → option_copied r ≡ row_at rows path
     → MatchOption r (HasPath rows path → ⊥) (λ w. Contains rows w.now × (w.now.path ≡ path))
 row_at-cases rows path None h = row_at-none rows path (sym h)

@@ -1,5 +1,5 @@
 //! The live files of a table, by their paths.
-ghost use Rattle.std.specs.Prelude.{◌≡◌, ◌↔◌, ◌<◌, ◌≤◌, ℕ, List, [], ◌∷◌, length, map, if◌then◌else◌, Some, None, IsTrue, IfOk, OnOk, OnErr, IfSome, MatchOption, slice_get, vec_len, Contains, All};
+ghost use Rattle.std.specs.Prelude.{◌≡◌, ◌↔◌, ◌<◌, ◌≤◌, ◌++◌, ℕ, List, [], ◌∷◌, length, map, if◌then◌else◌, Some, None, IsTrue, IfOk, OnOk, OnErr, IfSome, MatchOption, slice_get, vec_len, Contains, All};
 ghost use Rattle.std.specs.List.{list_any, IsDistinct};
 ghost use Rattle.std.specs.Option.{option_copied, option_or};
 ghost use Rattle.std.specs.Str.{bytes_eq};
@@ -139,6 +139,18 @@ impl FileRows {
             drop(map.insert(key, row.copy(alloc)?)?);
         }
         Ok(FileRows { map })
+    }
+
+    /// Puts a row in behind the others, of whose path there is none. For want of memory the rows stay as
+    /// they are.
+    pub fn insert(&mut self, alloc: Global, row: FileRow) -> Result<(), AllocError>
+        requires { ¬ HasPath self.old row.path }
+        ensures ok { OnOk result (self.new ≡ self.old ++ row ∷ []) }
+        ensures err { OnErr result (self.new ≡ self.old) }
+    {
+        let key = Vec::from_slice(alloc, row.path.as_bytes())?;
+        drop(self.map.insert(key, row)?);
+        Ok(())
     }
 
     // Takes out the rows of these paths, and then puts the added rows in. A row of `added` replaces
