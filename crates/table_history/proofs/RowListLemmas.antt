@@ -2,7 +2,7 @@
 use Rattle.std.proofs.Common.{take, slice_get, ◌≡◌, ℕ, zero, suc, ◌<◌, ◌||◌, Bool, true, false, cond, List, [], ◌∷◌, ◌++◌, length, get_or, map, Option, None, Some, filter, not, ◌+◌, ◌↔◌, is_lt, is_eq, nat_cmp, Contains, MatchOption, refl, sym, ap, subst, ◌∙◌, ◌⊎◌, inl, inr, ⊎_elim, arith}
 use Rattle.std.specs.Bool.{Decides}
 use Rattle.std.specs.Cmp.Lexicographic.{slice_cmp, texts_ties}
-use Rattle.std.proofs.lemmas.List.{length-map, get_or-map, length-take, get_or-take}
+use Rattle.std.proofs.lemmas.List.{length-map, get_or-map}
 use Rattle.std.specs.List.{IsDistinct, AllByRecursion, list_any}
 use Rattle.std.specs.List.Sorted.{IsSortedBy, IsPermutation}
 use Rattle.std.specs.Cmp.{IsStrictWeakOrder}
@@ -277,20 +277,3 @@ order_sorted old new moved distinct up =
     let first : get_or rows k d ≡ (get_or new k e).now = get_or-map (λ (r : Bor FileRow). r.now) new k e d before in
     let second : get_or rows (k + 1) d ≡ (get_or new (k + 1) e).now = get_or-map (λ (r : Bor FileRow). r.now) new (k + 1) e d inside in
     (λ i. is_lt (slice_cmp nat_cmp (second i).path (first i).path)) ∙ up k e (omega arith) inside)
-
--- no row before the i-th has its path
-pub absent_before : (rows : List FileRow) (i : ℕ) (row : FileRow) → HasDistinctPaths rows → i < length rows → get_or rows i row ≡ row → row_at (take i rows) row.path ≡ None
-absent_before rows i row distinct within here = by (row_at (take i rows) row.path) refl
-  where
-    by : (a : Option FileRow) → row_at (take i rows) row.path ≡ a → a ≡ None
-    by None e = refl
-    by (Some r) e =
-        let found = row_at-found (take i rows) row.path r e in
-        let k = found.0.0 in
-        let below : k < i = omega (arith, found.0.1, length-take i rows) in
-        let first : get_or (paths_of rows) k [] ≡ row.path =
-        get_or-map (λ w. w.path) rows k r [] (omega arith) ∙ ap (λ w. w.path) (sym (get_or-take i rows k r below) ∙ found.0.2) ∙ found.1 in
-        let second : get_or (paths_of rows) i [] ≡ row.path = get_or-map (λ w. w.path) rows i row [] within ∙ ap (λ w. w.path) here in
-        let inside : i < length (paths_of rows) = subst (λ n. i < n) (sym (length-map rows (λ w. w.path))) within in
-        let apart = apart_from_distinct bytes_eq (paths_of rows) k i [] distinct below inside in
-        absurd (false≢true (sym apart ∙ (λ j. bytes_eq (first j) (second j)) ∙ bytes_itself row.path))

@@ -7,6 +7,7 @@ pub mod TypeTreeCode
 pub mod SchemaView
 pub mod Rows
 pub mod RowMap
+pub mod RowSet
 pub mod Tables
 pub mod Path
 pub mod History

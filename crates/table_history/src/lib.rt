@@ -2,6 +2,7 @@
 //! names of formats, features and limits, and the form of a path.
 #![tactic(auto)]
 
+mod by_path;
 mod feature;
 mod kind;
 mod limit;

@@ -66,11 +66,11 @@ impl Table {
     {
         let schema = copy_stated(&change.schema, alloc)?;
         let added = copy_rows(change.added.as_slice(), alloc)?;
-        self.make(alloc, schema, change.removed.as_slice(), added)
+        self.make(schema, change.removed.as_slice(), added)
     }
 
     /// Makes the change as `apply` does. The rows and the schema move into the table, without a copy.
-    pub fn apply_owned(&mut self, alloc: Global, change: Change) -> Result<(), AllocError>
+    pub fn apply_owned(&mut self, _alloc: Global, change: Change) -> Result<(), AllocError>
         requires { CanApply self.old change }
         ensures ok { OnOk result (IsAfter self.old change self.new) }
         ensures err { OnErr result (self.new ≡ self.old) }
@@ -80,12 +80,11 @@ impl Table {
             removed,
             added,
         } = change;
-        self.make(alloc, schema, removed.as_slice(), added.into_vec())
+        self.make(schema, removed.as_slice(), added.into_vec())
     }
 
     fn make(
         &mut self,
-        alloc: Global,
         schema: Option<Schema>,
         removed: &[Text],
         added: Vec<FileRow>,
@@ -95,7 +94,7 @@ impl Table {
             (IsAfter self.old (change_of schema removed.now added.items) self.new) }
         ensures err { OnErr result (self.new ≡ self.old) }
     {
-        self.rows.update(alloc, removed, added)?;
+        self.rows.update(removed, added)?;
         if let Some(schema) = schema {
             self.schema = schema;
         }
