@@ -10,7 +10,7 @@ use Rattle.std.proofs.lemmas.List.Sums.{prefix_len_stops, suffix_len-le-length}
 use Rattle.std.proofs.lemmas.Map.Keys.{IsDistinct-head, IsDistinct-tail}
 use Rattle.std.proofs.lemmas.Slice.Eq.{bytes_eq-Decides}
 use Rattle.std.specs.declared.alloc.Global.{Global}
-use Rattle.table_history.specs.RowMap.{Key, key_eq}
+use Rattle.hudi_groups.specs.PathKeys.{Key, key_eq}
 use Rattle.table_history.specs.Rows.{HasDistinctPaths, SameRows, row_at}
 use Rattle.table_history.specs.declared.row.FileRow.{FileRow}
 use Rattle.table_history.proofs.RowListLemmas.{Contains-none, Contains-head, Contains-one, Contains-tail, Contains-cases, Contains-filter, filter_contains, row_at-found, row_at-itself, all_at}

@@ -9,7 +9,7 @@ use Rattle.std.proofs.lemmas.Bool.{cases_Bool}
 use Rattle.std.proofs.lemmas.Cmp.{nat_list_eq_equiv}
 use Rattle.std.proofs.lemmas.List.{reverse-append}
 use Rattle.std.proofs.lemmas.Slice.Eq.{bytes_eq-Decides}
-use Rattle.table_history.specs.RowMap.{Key, key_eq}
+use Rattle.hudi_groups.specs.PathKeys.{Key, key_eq}
 use Rattle.table_history.specs.declared.row.FileRow.{FileRow}
 use Rattle.hudi_groups.specs.declared.form.Form.{Form}
 use Rattle.hudi_groups.specs.Files.{group_name}

@@ -6,7 +6,7 @@ use Rattle.std.specs.HashMap.{HashMap, get_by}
 use Rattle.std.specs.declared.hash.FoldHasher.{FoldHasher}
 use Rattle.std.specs.declared.hash.BuildHasherDefault.{BuildHasherDefault}
 use Rattle.table_history.specs.Row.{Row}
-use Rattle.table_history.specs.RowMap.{Key}
+use Rattle.hudi_groups.specs.PathKeys.{Key}
 use Rattle.hudi_groups.specs.declared.form.Form.TheVariants.{Base}
 use Rattle.hudi_groups.specs.declared.index.Paths.{Paths}
 use Rattle.hudi_groups.specs.declared.index.Paths.TheVariants.{One, Many}

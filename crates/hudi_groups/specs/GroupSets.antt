@@ -8,7 +8,7 @@ use Rattle.std.specs.declared.hash.FoldHasher.{FoldHasher}
 use Rattle.std.specs.declared.hash.BuildHasherDefault.{BuildHasherDefault}
 use Rattle.table_history.specs.Path.{is_slash}
 use Rattle.table_history.specs.Row.{Row}
-use Rattle.table_history.specs.RowMap.{Key}
+use Rattle.hudi_groups.specs.PathKeys.{Key}
 use Rattle.table_history.specs.Rows.{row_at}
 use Rattle.hudi_groups.specs.declared.form.Form.{Form}
 use Rattle.hudi_groups.specs.Group.{joined}

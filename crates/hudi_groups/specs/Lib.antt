@@ -2,3 +2,4 @@ pub mod Files
 pub mod Group
 pub mod GroupIndex
 pub mod GroupSets
+pub mod PathKeys

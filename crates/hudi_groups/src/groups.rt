@@ -3,7 +3,7 @@
 ghost use Rattle.std.specs.Prelude.{◌≡◌, ◌||◌, ◌++◌, ℕ, List, reverse, IfOk};
 ghost use Rattle.std.specs.List.{list_any, IsDistinct};
 ghost use Rattle.table_history.specs.Path.{is_slash};
-ghost use Rattle.table_history.specs.RowMap.{key_eq};
+ghost use Rattle.hudi_groups.specs.PathKeys.{key_eq};
 ghost use Rattle.hudi_groups.specs.Group.{joined};
 ghost use Rattle.hudi_groups.specs.Files.{group_name};
 ghost use Rattle.hudi_groups.specs.GroupSets.{has_group, is_row_of_group, names_group, newest_rows, row_in_group, rows_at_group, rows_at_paths, is_touched};

@@ -4,7 +4,7 @@ ghost use Rattle.std.specs.Prelude.{◌≡◌, ◌&&◌, ◌||◌, ◌++◌, ℕ
 ghost use Rattle.std.specs.HashMap.{get_by};
 ghost use Rattle.std.specs.List.{list_any, IsDistinct};
 ghost use Rattle.std.specs.Str.{bytes_eq};
-ghost use Rattle.table_history.specs.RowMap.{Key, key_eq};
+ghost use Rattle.hudi_groups.specs.PathKeys.{Key, key_eq};
 ghost use Rattle.hudi_groups.specs.declared.form.Form.TheVariants.{Base};
 ghost use Rattle.hudi_groups.specs.declared.index.Paths.TheVariants.{One, Many};
 ghost use Rattle.hudi_groups.specs.GroupIndex.{IsIndexOf, has_path, is_among, is_path_of, is_row_of, paths_at, rows_among, rows_by_index};

@@ -6,7 +6,6 @@ pub mod TypeEqLaws
 pub mod TypeTreeCode
 pub mod SchemaView
 pub mod Rows
-pub mod RowMap
 pub mod RowSet
 pub mod Tables
 pub mod Path

@@ -1,6 +1,6 @@
 use Rattle.std.proofs.Common.{◌≡◌, ◌++◌, ◌⊎◌, Contains}
 use Rattle.std.specs.List.{IsDistinct}
-use Rattle.table_history.specs.RowMap.{Key, key_eq}
+use Rattle.hudi_groups.specs.PathKeys.{Key, key_eq}
 use Rattle.hudi_groups.specs.GroupIndex.{paths_at, rows_by_index}
 use Rattle.hudi_groups.proofs.index.rows_by_index.Given as goal
 

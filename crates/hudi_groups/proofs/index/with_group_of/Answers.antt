@@ -2,7 +2,7 @@ use Rattle.std.proofs.Common.{◌≡◌, Option, Some, [], ◌∷◌, sym, ap, s
 use Rattle.std.specs.List.{IsDistinct}
 use Rattle.std.specs.Option.{option_copied}
 use Rattle.std.proofs.lemmas.Result.{IfOk-weaker}
-use Rattle.table_history.specs.RowMap.{Key, key_eq}
+use Rattle.hudi_groups.specs.PathKeys.{Key, key_eq}
 use Rattle.hudi_groups.specs.declared.index.Paths.{Paths}
 use Rattle.hudi_groups.specs.declared.index.Paths.TheVariants.{One}
 use Rattle.hudi_groups.specs.GroupIndex.{keys_in}

@@ -2,7 +2,7 @@ use Rattle.std.proofs.Common.{◌≡◌, ℕ, List, ◌||◌, None, Some, ap, sy
 use Rattle.std.proofs.lemmas.Result.{IfOk-weaker}
 use Rattle.std.specs.Map.{KeepsOthers}
 use Rattle.std.specs.Str.{bytes_eq}
-use Rattle.table_history.specs.RowMap.{key_eq}
+use Rattle.hudi_groups.specs.PathKeys.{key_eq}
 use Rattle.hudi_groups.specs.declared.form.Form.TheVariants.{Base}
 use Rattle.hudi_groups.specs.Files.{group_name}
 use Rattle.hudi_groups.specs.GroupIndex.{is_among}

@@ -1,4 +1,4 @@
--- Keys of maps that are the bytes of a path.
+-- Keys of maps that are the bytes of a path or of a group's name.
 use Rattle.std.specs.Prelude.{ℕ, Bool, Vec}
 use Rattle.std.specs.Str.{bytes_eq}
 use Rattle.std.specs.declared.alloc.Global.{Global}
