@@ -21,7 +21,6 @@ use Rattle.std.proofs.lemmas.Slice.Eq.{bytes_eq-Decides}
 use Rattle.table_history.specs.declared.row.FileRow.{FileRow}
 use Rattle.table_history.specs.Rows.{row_at, HasPath, HasDistinctPaths, IsInPathOrder, paths_of}
 use Rattle.table_history.proofs.RowLemmas.{row_eq, row_eq-Decides}
-use Rattle.lake_basics.proofs.Texts.{bytes_itself}
 use Rattle.lake_basics.proofs.Truth.{rising}
 
 -- ---- `Contains` at the head
