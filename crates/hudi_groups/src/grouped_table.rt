@@ -86,6 +86,21 @@ impl GroupedTable {
         Ok(GroupedTable { table, index: next })
     }
 
+    /// The table after a change that it takes over, whose rows are not copied.
+    pub fn with_owned_change(
+        self,
+        alloc: Global,
+        change: Change,
+    ) -> Result<GroupedTable, AllocError>
+        requires { CanApply self change }
+        ensures { IfOk result (λ next. IsAfter self change next) }
+    {
+        let GroupedTable { mut table, index } = self;
+        let next = next_index(alloc, index, &change)?;
+        table.apply_owned(alloc, change)?;
+        Ok(GroupedTable { table, index: next })
+    }
+
     /// The rows of these groups, where the rows of the table have distinct paths. It fails for want
     /// of memory alone.
     pub fn rows_of_groups(
