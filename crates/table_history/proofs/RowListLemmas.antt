@@ -1,5 +1,5 @@
 -- Rows as a list, against the row of a path.
-use Rattle.std.proofs.Common.{take, slice_get, ◌≡◌, ℕ, zero, suc, ◌<◌, ◌||◌, Bool, true, false, cond, List, [], ◌∷◌, ◌++◌, length, get_or, map, Option, None, Some, filter, not, ◌+◌, ◌↔◌, is_lt, is_eq, nat_cmp, Contains, MatchOption, refl, sym, ap, subst, ◌∙◌, ◌⊎◌, inl, inr, ⊎_elim, arith}
+use Rattle.std.proofs.Common.{take, slice_get, ◌≡◌, ℕ, zero, suc, ◌<◌, ◌||◌, Bool, true, false, cond, List, [], ◌∷◌, ◌++◌, length, get_or, map, Option, None, Some, filter, not, ◌+◌, ◌↔◌, is_lt, is_eq, nat_cmp, Contains, refl, sym, ap, subst, ◌∙◌, ◌⊎◌, inl, inr, ⊎_elim, arith}
 use Rattle.std.specs.Bool.{Decides}
 use Rattle.std.specs.Cmp.Lexicographic.{slice_cmp, texts_ties}
 use Rattle.std.proofs.lemmas.List.{length-map, get_or-map}
@@ -8,7 +8,7 @@ use Rattle.std.specs.List.Sorted.{IsSortedBy, IsPermutation}
 use Rattle.std.specs.Cmp.{IsStrictWeakOrder}
 use Rattle.std.proofs.lemmas.List.Sorted.{ranks_by, IsPermutation-map, IsPermutation-sym, Contains-permutation}
 use Rattle.std.specs.Ordering.{ordering_reverse}
-use Rattle.std.specs.Option.{option_or, option_copied}
+use Rattle.std.specs.Option.{option_or}
 use Rattle.std.specs.Str.{bytes_eq}
 use Rattle.std.specs.Borrow.{Bor}
 use Rattle.std.proofs.lemmas.Bool.{cases_Bool, cond-true, cond-false, false≢true}
@@ -93,18 +93,13 @@ row_at-itself (r ∷ rows) row distinct h =
     ∙ row_at-itself rows row (IsDistinct-tail bytes_eq r.path (paths_of rows) distinct) later)
     (Contains-cases r rows row h)
 
--- the answer of a look-up
+-- where no row has the path, none is found
 pub row_at-lacks : (rows : List FileRow) (path : List ℕ) → (HasPath rows path → ⊥) → row_at rows path ≡ None
 row_at-lacks rows path lacks = by (row_at rows path) refl
   where
     by : (found : Option FileRow) → row_at rows path ≡ found → row_at rows path ≡ None
     by None is = is
     by (Some row) is = let there = row_at-found rows path row is in absurd (lacks (row, there.0, there.1))
-
-pub row_at-cases : (rows : List FileRow) (path : List ℕ) (r : Option (Bor FileRow)) → option_copied r ≡ row_at rows path
-    → MatchOption r (HasPath rows path → ⊥) (λ w. Contains rows w.now × (w.now.path ≡ path))
-row_at-cases rows path None h = row_at-none rows path (sym h)
-row_at-cases rows path (Some w) h = row_at-found rows path w.now (sym h)
 
 pub row_at-append : (xs ys : List FileRow) (path : List ℕ) → row_at (xs ++ ys) path ≡ option_or (row_at xs path) (row_at ys path)
 row_at-append [] ys path = refl
@@ -121,10 +116,10 @@ removed_step true false x = refl
 removed_step false true x = refl
 removed_step false false x = refl
 
-pub arrival_step : (a : Option FileRow) (b : Bool) (r : FileRow) (x : Option FileRow) → option_or a (cond b (Some r) x) ≡ option_or (option_or a (cond b (Some r) None)) x
-arrival_step None true r x = refl
-arrival_step None false r x = refl
-arrival_step (Some s) b r x = refl
+pub added_step : (a : Option FileRow) (b : Bool) (r : FileRow) (x : Option FileRow) → option_or a (cond b (Some r) x) ≡ option_or (option_or a (cond b (Some r) None)) x
+added_step None true r x = refl
+added_step None false r x = refl
+added_step (Some s) b r x = refl
 
 -- a row that is found at the path of another is that one exactly where that one is there
 pub found_same : (rows : List FileRow) (row held : FileRow) → HasDistinctPaths rows → Some held ≡ row_at rows row.path → (held ≡ row → Contains rows row) × (Contains rows row → held ≡ row)

@@ -195,6 +195,6 @@ fn insert_rows(rows: &mut RowSet, mut added: Vec<FileRow>)
     ensures unique { IsUnique same_path rows.new }
 {
     while let Some(row) = added.pop() {
-        rows.replace(RowByPath { row }).unwrap();
+        drop(rows.replace(RowByPath { row }).unwrap());
     }
 }
