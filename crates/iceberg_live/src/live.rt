@@ -7,12 +7,12 @@ ghost use Rattle.iceberg_live.specs.LiveRows.{AreLiveRows, IsFirstFault, live_ro
 ghost use Rattle.iceberg_metadata.specs.Location.{front_of};
 ghost use Rattle.iceberg_live.specs.Live.{path_in_table as path_in_table_of, row_path as row_path_of, inherited as inherited_from, live_row as live_row_of, rows_in};
 
-use iceberg_manifest::{Entry, Fault, ManifestError, ManifestInfo};
+use iceberg_manifest::{Entries, Entry, Fault, ManifestError, ManifestInfo};
 use iceberg_metadata::{after_front, location_front};
 use lake_basics::limits::MAX_PATH_BYTES;
 use lake_basics::{Items, ReadError, Text};
-use std::alloc::{AllocError, Global};
-use table_history::{FileRow, LimitKind, PartValue, Values, path_form_of_any_length};
+use std::alloc::Global;
+use table_history::{FileRow, LimitKind, path_form_of_any_length};
 
 /// A live row of a manifest: the file, and the snapshot and the data sequence number of the commit
 /// that added it.
@@ -68,31 +68,15 @@ fn inherited(status: u8, number: Option<i64>, from: i64) -> Result<i64, ReadErro
     }
 }
 
-fn copy_of(alloc: Global, values: &Values) -> Result<Values, AllocError>
-    ensures { IfOk result (λ v. v ≡ values.now) }
-{
-    Ok(Items::from_vec(copies(alloc, values.as_slice())?))
-}
-
-fn copies(alloc: Global, values: &[PartValue]) -> Result<Vec<PartValue>, AllocError>
-    ensures { IfOk result (λ v. v.items ≡ values.now) }
-{
-    let mut copies = Vec::with_capacity(alloc, values.len())?;
-    for value in values {
-        copies.push(value.copy(alloc)?)?;
-    }
-    Ok(copies)
-}
-
 /// The row of a live entry.
 #[tactic(auto, unfolding(crate::specs::Live::live_row))]
 fn live_row(
     alloc: Global,
     front: &[u8],
     info: &ManifestInfo,
-    entry: &Entry,
+    entry: Entry,
 ) -> Result<LiveRow, ReadError<Fault>>
-    ensures { Gives (λ r. r) result (live_row_of front.now info.now entry.now) }
+    ensures { Gives (λ r. r) result (live_row_of front.now info.now entry) }
 {
     let snapshot = inherited(entry.status, entry.snapshot, info.added_snapshot_id)?;
     let sequence = inherited(entry.status, entry.sequence, info.sequence_number)?;
@@ -100,7 +84,7 @@ fn live_row(
     let path = row_path(alloc, front, &entry.path)?;
     let row = FileRow {
         path,
-        values: copy_of(alloc, &entry.values)?,
+        values: entry.values,
         count: entry.count,
         size: entry.size,
     };
@@ -115,9 +99,9 @@ fn rows(
     alloc: Global,
     front: &[u8],
     info: &ManifestInfo,
-    entries: &[Entry],
+    entries: Vec<Entry>,
 ) -> Result<Vec<LiveRow>, ReadError<Fault>>
-    ensures { Gives (λ rs. rs.items) result (rows_in front.now info.now entries.now) }
+    ensures { Gives (λ rs. rs.items) result (rows_in front.now info.now entries.items) }
 {
     let mut rows = Vec::new(alloc);
     for entry in entries {
@@ -142,24 +126,24 @@ fn error(fault: Fault) -> ManifestError
 
 fn found_rows(
     alloc: Global,
-    entries: &[Entry],
+    entries: Entries,
     info: &ManifestInfo,
     location: &str,
 ) -> Result<Vec<LiveRow>, ReadError<Fault>>
-    ensures { Gives (λ rs. rs.items) result (rows_in (front_of location.now) info.now entries.now) }
+    ensures { Gives (λ rs. rs.items) result (rows_in (front_of location.now) info.now entries) }
 {
     let front = location_front(alloc, location)?;
-    rows(alloc, front.as_slice(), info, entries)
+    rows(alloc, front.as_slice(), info, entries.into_vec())
 }
 
 fn answer(
     alloc: Global,
-    entries: &[Entry],
+    entries: Entries,
     info: &ManifestInfo,
     location: &str,
 ) -> Result<Rows, ManifestError>
     ensures { GivesUnlessMemory is_memory (λ rows. rows) result
-        (live_rows_of location.now info.now entries.now) }
+        (live_rows_of location.now info.now entries) }
 {
     match found_rows(alloc, entries, info, location) {
         Ok(rows) => Ok(Items::from_vec(rows)),
@@ -176,21 +160,21 @@ fn answer(
 /// where its path in the table is too long.
 pub fn live_rows(
     alloc: Global,
-    entries: &[Entry],
+    entries: Entries,
     info: &ManifestInfo,
     location: &str,
 ) -> Result<Rows, ManifestError>
     // What is found are the rows of the live entries.
-    ensures found { IfOk result (λ rows. AreLiveRows location.now info.now entries.now rows) }
+    ensures found { IfOk result (λ rows. AreLiveRows location.now info.now entries rows) }
     // Where each live entry has a row, these are found, unless memory runs out.
-    ensures only { (rows : List LiveRow) → AreLiveRows location.now info.now entries.now rows
+    ensures only { (rows : List LiveRow) → AreLiveRows location.now info.now entries rows
         → MatchResult result (λ found. found ≡ rows) (λ e. e ≡ ManifestError.Memory) }
     // What is refused is the first live entry at fault.
     ensures refused { IfErr result (λ e. (e ≡ ManifestError.Memory)
-        ⊎ IsFirstFault location.now info.now entries.now e) }
+        ⊎ IsFirstFault location.now info.now entries e) }
     // The same as a function.
     ensures exact { GivesUnlessMemory is_memory (λ rows. rows) result
-        (live_rows_of location.now info.now entries.now) }
+        (live_rows_of location.now info.now entries) }
 {
     answer(alloc, entries, info, location)
 }

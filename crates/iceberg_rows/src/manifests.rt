@@ -105,7 +105,7 @@ fn rows_of(
         return Err(ManifestError::Malformed);
     };
     let entries = read_manifest(alloc, manifest, &[])?;
-    live_rows(alloc, entries.as_slice(), info, location)
+    live_rows(alloc, entries, info, location)
 }
 
 /// Adds the live rows of a manifest, as `rows_of` has them.

@@ -54,15 +54,15 @@ fn content_of(
     location: &str,
     file: &ManifestFile,
     before: u64,
-    entries: &Entries,
+    entries: Entries,
 ) -> Result<Content, ReadError<Fault>>
     requires { before ≤ MAX_ACTIONS }
-    ensures count { IfOk result (λ c. c.entries ≡ length entries.now) }
+    ensures count { IfOk result (λ c. c.entries ≡ length entries) }
     ensures within { IfOk result (λ c. before + c.entries ≤ MAX_ACTIONS) }
     ensures rows { IfOk result
-        (λ c. AreLiveRows location.now file.now.info entries.now c.rows) }
+        (λ c. AreLiveRows location.now file.now.info entries c.rows) }
     ensures refused { IfErr result
-        (IsFault (IsEntriesFault location.now file.now before entries.now)) }
+        (IsFault (IsEntriesFault location.now file.now before entries)) }
 {
     let count = entries.len() as u64;
     if count > MAX_ACTIONS - before {
@@ -70,7 +70,7 @@ fn content_of(
             which: LimitKind::Actions,
         }));
     }
-    match live_rows(alloc, entries.as_slice(), &file.info, location) {
+    match live_rows(alloc, entries, &file.info, location) {
         Ok(rows) => Ok(Content {
             entries: count,
             rows,
@@ -99,7 +99,7 @@ fn content_in(
         → IfErr result (IsFault (IsManifestFault location.now columns.now before file.now bytes)) }
 {
     match feeder.finish(columns) {
-        Ok(entries) => content_of(alloc, location, file, before, &entries),
+        Ok(entries) => content_of(alloc, location, file, before, entries),
         Err(error) => Err(manifest_fault(error)),
     }
 }
