@@ -1,23 +1,20 @@
 -- A table of rows, with one row more, and with those of manifests more.
-use Rattle.std.proofs.Common.{◌≡◌, ◌≢◌, ◌⊎◌, ℕ, ◌+◌, List, [], ◌∷◌, ◌++◌, Bool, true, false, cond, Contains, Option, None, Some, map, refl, sym, ap, subst, ◌∙◌, inl, inr, ⊎_elim, append_assoc, append-nil, arith, Bor}
-use Rattle.std.specs.Prelude.{IfOk, IfErr, MatchOption, is_some, flat_map}
+use Rattle.std.proofs.Common.{◌≡◌, ◌≢◌, ◌⊎◌, ℕ, ◌+◌, List, [], ◌∷◌, ◌++◌, true, false, Contains, Option, None, Some, sym, ap, subst, ◌∙◌, inl, inr, ⊎_elim, append_assoc, append-nil, arith, Bor}
+use Rattle.std.specs.Prelude.{MatchOption, is_some}
 use Rattle.std.specs.List.{IsDistinct, list_any}
 use Rattle.std.specs.Str.{bytes_eq}
 use Rattle.std.proofs.lemmas.Bool.{cases_Bool, false≢true}
 use Rattle.std.proofs.lemmas.Cmp.{nat_list_eq_equiv}
 use Rattle.std.proofs.lemmas.Grind.{flat_map-append}
-use Rattle.std.proofs.lemmas.List.{map-append, drop_more, take_more}
+use Rattle.std.proofs.lemmas.List.{map-append}
 use Rattle.std.proofs.lemmas.List.Elements.{Contains-append_left, Contains-append_right, Contains-append_cases, Contains-push, Contains-push_cases}
 use Rattle.std.proofs.lemmas.Map.Keys.{IsDistinct-cons, IsDistinct-head, IsDistinct-push, IsDistinct-tail, IsDistinct-from_apart}
 use Rattle.std.proofs.lemmas.Slice.Eq.{bytes_eq-Decides}
 use Rattle.iceberg_metadata.proofs.ListLemmas.{any_to}
 use Rattle.table_history.specs.Rows.{HasDistinctPaths, HasPath, SameRows, paths_of}
-use Rattle.table_history.specs.Tables.{CanApply, IsAfter}
 use Rattle.table_history.specs.TypeTree.{ColumnTrees}
 use Rattle.table_history.specs.declared.row.FileRow.{FileRow}
-use Rattle.table_history.specs.declared.table.Change.{Change}
 use Rattle.table_history.specs.declared.table.Table.{Table}
-use Rattle.table_history.proofs.Laws.{one_row_fits}
 use Rattle.table_history.proofs.RowListLemmas.{Contains-head, Contains-none, Contains-one, Contains-paths, all_at}
 use Rattle.table_history.proofs.TableLemmas.{Contains-paths_cases}
 use Rattle.iceberg_live.specs.declared.live.LiveRow.{LiveRow}
@@ -88,27 +85,25 @@ module _ (schema : ColumnTrees) (partition : List (List ℕ)) (rows : List FileR
   there_before : HasPath rows row.path → HasPath table.rows row.path
   there_before h = (h.0, (is.same h.0).1 h.1, h.2)
 
-  pub row_added : (change : Change) (new : Table) → change ≡ record { schema = None; removed = []; added = row ∷ [] } → (HasPath table.rows row.path → ⊥) → IsAfter table change new → IsTableOfRows schema partition (rows ++ row ∷ []) new
-  row_added change new made lacks after = by (subst (λ (c : Change). IsAfter table c new) made after)
+  pub row_added : (longer : List FileRow) → longer ≡ table.rows ++ row ∷ [] → (HasPath table.rows row.path → ⊥) → IsTableOfRows schema partition (rows ++ row ∷ []) (record table { rows = longer })
+  row_added longer pushed lacks = record {
+    schema = is.schema;
+    partition = is.partition;
+    distinct = paths_push rows row is.distinct (λ h. lacks (there_before h));
+    same = λ r. (
+      λ there. further table.rows rows (λ s. (is.same s).0) r (subst (λ l. Contains l r) pushed there),
+      λ there. subst (λ l. Contains l r) (sym pushed) (further rows table.rows (λ s. (is.same s).1) r there),
+    );
+    own = subst HasDistinctPaths (sym pushed) (paths_push table.rows row is.own lacks);
+  }
     where
-      by : IsAfter table (record { schema = None; removed = []; added = row ∷ [] }) new → IsTableOfRows schema partition (rows ++ row ∷ []) new
-      by step = record {
-        schema = step.schema ∙ is.schema;
-        partition = step.partition ∙ is.partition;
-        distinct = paths_push rows row is.distinct (λ h. lacks (there_before h));
-        same = λ r. (
-          λ there. ⊎_elim (λ one. subst (Contains (rows ++ row ∷ [])) (Contains-one row r one) (Contains-push rows row)) (λ was. Contains-append_left rows (row ∷ []) r ((is.same r).0 was.0)) ((step.rows r).0 there),
-          λ there. (step.rows r).1 (⊎_elim (λ was. inr ((is.same r).1 was, λ gone. Contains-none r.path gone)) (λ same. inl (subst (Contains (row ∷ [])) same (Contains-head row []))) (Contains-push_cases rows row r there)),
-        );
-        own = step.distinct;
-      }
+      further : (xs ys : List FileRow) → ((r : FileRow) → Contains xs r → Contains ys r) → (r : FileRow) → Contains (xs ++ row ∷ []) r → Contains (ys ++ row ∷ []) r
+      further xs ys also r there =
+          ⊎_elim (λ was. Contains-append_left ys (row ∷ []) r (also r was)) (λ same. subst (Contains (ys ++ row ∷ [])) same (Contains-push ys row)) (Contains-push_cases xs row r there)
 
   -- a row whose path is there
   pub row_shared : (rest : List FileRow) → HasPath table.rows row.path → HasDistinctPaths (rows ++ row ∷ rest) → ⊥
   row_shared rest there = shared rows row rest (there_too there)
-
-pub fits_new : (table : Table) (row : FileRow) (change : Change) → change ≡ record { schema = None; removed = []; added = row ∷ [] } → (HasPath table.rows row.path → ⊥) → CanApply table change
-fits_new table row change made lacks = one_row_fits table row change (ap (λ (c : Change). c.removed) made) (ap (λ (c : Change). c.added) made) lacks
 
 -- ---- item by item
 

@@ -1,6 +1,6 @@
 //! The table of live rows.
 
-ghost use Rattle.std.specs.Prelude.{◌≡◌, ◌++◌, ◌∷◌, [], List, ℕ, None, IfErr, IfOk, IsErrOf, length};
+ghost use Rattle.std.specs.Prelude.{◌≡◌, ◌++◌, ◌∷◌, [], List, ℕ, IfErr, IfOk, IsErrOf};
 ghost use Rattle.table_history.specs.Rows.{HasPath};
 ghost use Rattle.table_history.specs.TypeTree.{ColumnTrees};
 ghost use Rattle.table_history.specs.declared.row.FileRow.{FileRow};
@@ -13,7 +13,7 @@ use crate::file::refusal;
 use iceberg_live::Rows;
 use lake_basics::{Items, ReadError, Text};
 use std::alloc::{AllocError, Global};
-use table_history::{Change, Feature, FileRow, FileRows, Schema, Table};
+use table_history::{Feature, FileRow, FileRows, Schema, Table};
 
 /// A table, and live rows that it has.
 #[derive(Drop)]
@@ -22,44 +22,20 @@ pub(crate) struct JoinedRows {
     pub(crate) rows: Rows,
 }
 
-/// The change that adds a row.
-fn adding(alloc: Global, row: FileRow) -> Result<Change, AllocError>
-    ensures { IfOk result (λ c. c ≡ record { schema = None; removed = []; added = row ∷ [] }) }
-{
-    let mut added = Items::new(alloc);
-    added.push(row)?;
-    Ok(Change {
-        schema: None,
-        removed: Items::new(alloc),
-        added,
-    })
-}
-
-/// The row that a change adds which adds no other.
-fn only_added(change: Change) -> FileRow
-    requires { length change.added ≡ 1 }
-    ensures { change.added ≡ result ∷ [] }
-{
-    let Change { added, .. } = change;
-    added.into_vec().pop().unwrap()
-}
-
-/// The table with a row more, of whose path it has none, and the row.
-fn with_row(alloc: Global, table: Table, row: FileRow) -> Result<(Table, FileRow), ReadError<Fault>>
+/// The table with a row more, of whose path it has none.
+fn with_row(alloc: Global, table: Table, row: FileRow) -> Result<Table, ReadError<Fault>>
     ensures found { (schema : ColumnTrees) (partition : List (List ℕ)) (rows : List FileRow)
         → IsTableOfRows schema partition rows table
-        → IfOk result (λ x. IsTableOfRows schema partition (rows ++ row ∷ []) x.0) }
-    ensures same { IfOk result (λ x. x.1 ≡ row) }
+        → IfOk result (IsTableOfRows schema partition (rows ++ row ∷ [])) }
     ensures refused { IfErr result (IsFault
         (λ f. IsShared f × HasPath table.rows row.path)) }
 {
     if table.rows.get(row.path.as_bytes()).is_some() {
         return Err(unsupported(Feature::SharedFile));
     }
-    let change = adding(alloc, row)?;
     let mut table = table;
-    table.apply(alloc, &change)?;
-    Ok((table, only_added(change)))
+    table.rows.insert(alloc, row)?;
+    Ok(table)
 }
 
 /// The table with the rows of a manifest more.
@@ -74,10 +50,10 @@ fn with_rows(alloc: Global, before: Table, live: Rows) -> Result<JoinedRows, Rea
 {
     let mut table = before;
     let mut rows = Vec::with_capacity(alloc, live.len())?;
-    for mut found in live.into_vec() {
-        let (longer, row) = with_row(alloc, table, found.row)?;
+    for found in live.into_vec() {
+        let row = found.row.copy(alloc)?;
+        let longer = with_row(alloc, table, row)?;
         table = longer;
-        found.row = row;
         rows.push(found)?;
     }
     Ok(JoinedRows {

@@ -1,4 +1,4 @@
-use Rattle.std.proofs.Common.{◌≡◌, ◌++◌, ◌∷◌, [], List, Result, length, sym, ap, subst, ◌∙◌, append-nil, rules}
+use Rattle.std.proofs.Common.{◌≡◌, ◌++◌, ◌∷◌, [], List, Result, length, sym, subst, ◌∙◌, append-nil, rules}
 use Rattle.std.specs.Prelude.{IfErr}
 use Rattle.std.proofs.lemmas.Result.{err_from_is_err_and}
 use Rattle.lake_basics.specs.declared.outcome.ReadError.{ReadError}
@@ -35,8 +35,8 @@ returns-in_err-longer-clause-refused c schema partition rows is =
     let P : Fault → Type 0 = λ f. IsShared f × (HasDistinctPaths (rows ++ rows_in live) → ⊥) in
     subst (λ (r : Result JoinedRows (ReadError Fault)). IfErr r (IsFault P)) (sym exit.1)
     (subst (IsFault P) (sym exit.2)
-    (fault_further (λ f. IsShared f × HasPath c.loop-found.table.rows x.row.path) P c.in_err-longer.field-0.0
-    (λ f shows. (shows.0, row_stops rows live front more x split (row_shared schema partition (rows ++ rows_in front) c.loop-found.table (so_far.table schema partition rows is) x.row (rows_in more) shows.1)))
+    (fault_further (λ f. IsShared f × HasPath c.loop-found.table.rows c.in_ok-row.row.path) P c.in_err-longer.field-0.0
+    (λ f shows. (shows.0, row_stops rows live front more x split (row_shared schema partition (rows ++ rows_in front) c.loop-found.table (so_far.table schema partition rows is) x.row (rows_in more) (subst (λ (r : FileRow). HasPath c.loop-found.table.rows r.path) c.in_ok-row.ensures shows.1))))
     c.in_err-longer.ensures.refused))
 
 pub loop-found-preserved : goal.loop-found-preserved
@@ -47,11 +47,11 @@ loop-found-preserved c =
     let more = c.next.new.self.rest.items in
     let so_far = c.loop-found.invariant in
     let split : live ≡ front ++ x ∷ more = left_next live front c.loop-found.found-iterator.rest.items more x so_far.parts c.in-Some.ensures.steps.0 in
-    let with : FileRow → LiveRow = λ row. record { row = row; snapshot = x.snapshot; sequence = x.sequence } in
-    let pushed : c.push.new.self.items ≡ front ++ x ∷ [] = c.in_ok-push.ensures.items ∙ ap (λ (row : FileRow). front ++ with row ∷ []) c.in_ok-longer.ensures.same in
+    let pushed : c.push.new.self.items ≡ front ++ x ∷ [] = c.in_ok-push.ensures.items in
     record {
       parts = subst (λ (l : List LiveRow). live ≡ l ++ more) (sym pushed) (left_moved live front more x split);
-      table = λ schema partition rows is. row_next schema partition rows front c.push.new.self.items x c.in_ok-longer.longer pushed (c.in_ok-longer.ensures.found schema partition (rows ++ rows_in front) (so_far.table schema partition rows is));
+      table = λ schema partition rows is. row_next schema partition rows front c.push.new.self.items x c.in_ok-longer.longer pushed
+          (subst (λ (r : FileRow). IsTableOfRows schema partition ((rows ++ rows_in front) ++ r ∷ []) c.in_ok-longer.longer) c.in_ok-row.ensures (c.in_ok-longer.ensures.found schema partition (rows ++ rows_in front) (so_far.table schema partition rows is)));
     }
 
 pub returns-clause-found : goal.returns-clause-found
