@@ -1,6 +1,5 @@
 -- What is told of a file that is refused.
-use Rattle.std.proofs.Common.{◌≡◌, ◌⊎◌, ℕ, ◌<◌, List, Some, refl, sym, subst, ◌∙◌, ⊎_elim}
-use Rattle.std.specs.FinMap as map
+use Rattle.std.proofs.Common.{◌≡◌, ◌⊎◌, ℕ, ◌<◌, List, refl, sym, subst, ◌∙◌, ⊎_elim}
 use Rattle.lake_basics.specs.declared.limits.TheConstants.{MAX_FILE_BYTES}
 use Rattle.lake_basics.specs.declared.outcome.ReadError.{ReadError}
 use Rattle.lake_basics.specs.declared.outcome.ReadError.TheVariants as read

@@ -1,5 +1,5 @@
 -- The rows of live entries fit the columns of their manifest.
-use Rattle.std.proofs.Common.{◌≡◌, ℕ, List, [], ◌∷◌, Bool, true, false, cond, Contains, refl, sym, subst}
+use Rattle.std.proofs.Common.{ℕ, List, [], ◌∷◌, Bool, true, false, cond, sym, subst}
 use Rattle.std.specs.List.{AllByRecursion, filter}
 use Rattle.avro_value.specs.declared.api.TheConstants.{MAX_VALUES}
 use Rattle.table_history.proofs.RowListLemmas.{all_at}

@@ -1,6 +1,6 @@
 -- The rows that are read are those that are live in the snapshot.
-use Rattle.std.proofs.Common.{◌≡◌, ◌≢◌, ◌⊎◌, ℕ, ℤ, ◌<◌, List, [], ◌∷◌, Bool, true, false, cond, Contains, Option, None, Some, map, Ok, Err, refl, sym, ap, subst, ◌∙◌, inl, inr, ⊎_elim, arith}
-use Rattle.std.specs.Prelude.{nat_lt, pos}
+use Rattle.std.proofs.Common.{◌≡◌, ◌≢◌, ◌⊎◌, ℕ, ◌<◌, List, [], ◌∷◌, Bool, true, false, cond, Contains, Ok, refl, sym, ap, subst, ◌∙◌, inl, inr, ⊎_elim, arith}
+use Rattle.std.specs.Prelude.{pos}
 use Rattle.std.specs.List.{filter}
 use Rattle.std.proofs.lemmas.Bool.Decides.{nat_tests}
 use Rattle.std.proofs.lemmas.List.{append_cancel_left}
@@ -17,16 +17,14 @@ use Rattle.iceberg_manifest.specs.declared.partition.PartColumn.{PartColumn}
 use Rattle.iceberg_columns.specs.SourceColumns.{columns_of}
 use Rattle.iceberg_metadata.specs.Schemas.{HeldSchema}
 use Rattle.iceberg_columns.specs.declared.columns.SourceColumn.{SourceColumn}
-use Rattle.iceberg_metadata.specs.declared.error.MetadataError.{MetadataError}
 use Rattle.iceberg_metadata.specs.declared.metadata.Metadata.{Metadata}
 use Rattle.iceberg_metadata.specs.declared.metadata.Snapshot.{Snapshot}
 use Rattle.lake_store.specs.Disk.{Files}
 use Rattle.iceberg_table.specs.Lists.{SaysList}
 use Rattle.iceberg_table.specs.Manifests.{HasEntries, IsManifestOf, SaysManifest}
 use Rattle.iceberg_table.specs.Plan.{IsPlanOf, part_columns, snapshot_schema}
-use Rattle.iceberg_table.specs.Snapshots.{IsLiveIn, IsReadAs, IsReadBy, IsTableOfSnapshot}
+use Rattle.iceberg_table.specs.Snapshots.{IsLiveIn, IsReadBy, IsTableOfSnapshot}
 use Rattle.iceberg_table.specs.Tables.{rows_in, rows_of}
-use Rattle.iceberg_table.specs.declared.error.Fault.{Fault}
 use Rattle.iceberg_table.specs.declared.list.ManifestFile.{ManifestFile}
 use Rattle.iceberg_table.specs.declared.manifest.Manifest.{Manifest}
 use Rattle.iceberg_table.specs.declared.plan.Plan.{Plan}

@@ -1,6 +1,6 @@
 -- The plan of a snapshot in a table's own metadata is sound.
-use Rattle.std.proofs.Common.{◌≡◌, ◌≢◌, ◌⊎◌, ◌≤◌, ◌<◌, ℕ, ℤ, List, [], ◌∷◌, Bool, true, false, cond, Contains, length, map, All, Option, None, Some, Result, Ok, Err, refl, sym, ap, subst, ◌∙◌, inl, inr, ⊎_elim, arith}
-use Rattle.std.specs.Prelude.{IfOk, flat_map, nat_lt, option_and_then, option_map}
+use Rattle.std.proofs.Common.{◌≡◌, ◌≢◌, ◌⊎◌, ◌≤◌, ◌<◌, ℕ, ℤ, List, [], ◌∷◌, Bool, true, false, cond, Contains, length, map, All, Option, None, Some, Result, Ok, refl, sym, ap, subst, ◌∙◌, inl, inr, ⊎_elim, arith}
+use Rattle.std.specs.Prelude.{flat_map, nat_lt, option_and_then, option_map}
 use Rattle.std.specs.List.{AllByRecursion, IsDistinct}
 use Rattle.std.specs.Ordering.{int_eq}
 use Rattle.std.specs.Str.{bytes_eq}
@@ -22,10 +22,9 @@ use Rattle.table_history.specs.TypeTree.{ColumnTrees}
 use Rattle.table_history.proofs.RowListLemmas.{Contains-cases, Contains-head, Contains-none, Contains-tail, all_at}
 use Rattle.iceberg_metadata.specs.Paths.{HasOtherPartition, IsRenamed, PathId, all_path_ids, current_kinds, default_fields, held_schema, held_unread, kinds_of, path_ids, path_of, sources}
 use Rattle.iceberg_metadata.specs.Schemas.{HeldSchema}
-use Rattle.iceberg_columns.specs.SourceColumns.{column_of, columns_of, top_column}
+use Rattle.iceberg_columns.specs.SourceColumns.{column_of, top_column}
 use Rattle.iceberg_metadata.specs.Writing.{CanBeHeld, IsWritable}
 use Rattle.iceberg_columns.specs.declared.columns.SourceColumn.{SourceColumn}
-use Rattle.iceberg_metadata.specs.declared.error.MetadataError.{MetadataError}
 use Rattle.iceberg_metadata.specs.declared.error.MetadataError.TheVariants.{PartitionType}
 use Rattle.iceberg_metadata.specs.declared.metadata.Metadata.{Metadata}
 use Rattle.iceberg_metadata.specs.declared.metadata.Snapshot.{Snapshot}
@@ -33,8 +32,7 @@ use Rattle.iceberg_metadata.specs.declared.metadata.SpecField.{SpecField}
 use Rattle.iceberg_metadata.proofs.StepLemmas.{bind_ok, ok_is, required_some}
 use Rattle.iceberg_metadata.proofs.ListLemmas.{distinct_Decides}
 use Rattle.iceberg_metadata.specs.Judging.{are_distinct}
-use Rattle.iceberg_table.specs.Plan.{IsPlanOf, IsSoundPlan, names_of, snapshot_schema}
-use Rattle.iceberg_table.specs.declared.error.Fault.{Fault}
+use Rattle.iceberg_table.specs.Plan.{IsPlanOf, IsSoundPlan, names_of}
 use Rattle.iceberg_table.specs.declared.plan.Plan.{Plan}
 
 -- ---- a column

@@ -1,4 +1,4 @@
-use Rattle.std.proofs.Common.{◌≡◌, ℕ, List, ap, sym, subst, ◌∙◌}
+use Rattle.std.proofs.Common.{ℕ, List, ap, subst, ◌∙◌}
 use Rattle.lake_store.specs.Disk.{Disk}
 use Rattle.lake_store.proofs.RunLaws as runs
 use Rattle.iceberg_manifest.specs.Lists.{AreEach}
