@@ -168,6 +168,6 @@ fn table_of(alloc: Global, rows: Vec<FileRow>) -> Result<Table, AllocError>
         removed: Items::new(alloc),
         added: Items::from_vec(rows),
     };
-    table.apply(alloc, &change)?;
+    table.apply_owned(alloc, change)?;
     Ok(table)
 }

@@ -7,8 +7,8 @@ use Rattle.table_history.proofs.RowListLemmas.{Contains-none}
 use Rattle.hudi_groups.proofs.GroupChangeLemmas.{distinct_none}
 use Rattle.hudi_timeline.proofs.change.between.table_of.Goals as goal
 
-pub apply-requires : goal.apply-requires
-apply-requires c =
+pub apply_owned-requires : goal.apply_owned-requires
+apply_owned-requires c =
     let none : c.in_ok-table.table.rows ≡ [] = ap (λ (t : Table). t.rows) c.in_ok-table.ensures in
     record {
       removed_distinct = subst (IsDistinct bytes_eq) (sym c.new.ensures) distinct_none;
@@ -25,6 +25,6 @@ returns c =
           ⊎_elim
           (λ added. subst (λ l. Contains l row) c.from_vec.ensures added)
           (λ kept. absurd (Contains-none row (subst (λ l. Contains l row) none kept.0)))
-          ((c.in_ok-apply.ensures.ok.rows row).0 h),
-      λ h. (c.in_ok-apply.ensures.ok.rows row).1 (inl (subst (λ l. Contains l row) (sym c.from_vec.ensures) h)),
+          ((c.in_ok-apply_owned.ensures.ok.rows row).0 h),
+      λ h. (c.in_ok-apply_owned.ensures.ok.rows row).1 (inl (subst (λ l. Contains l row) (sym c.from_vec.ensures) h)),
     )
