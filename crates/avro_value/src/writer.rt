@@ -48,9 +48,14 @@ pub fn put_long(out: &mut [u8; 10], n: i64) -> usize
     put_varint(out, zigzag(n))
 }
 
+/// Adds a number in as few groups as it needs, which is mostly one.
+#[tactic(auto, unfolding(crate::specs::Writing::varint_of, crate::specs::Writing::varint_in_groups))]
 fn push_varint(out: &mut Vec<u8>, z: u64) -> Result<(), AllocError>
     ensures { OnOk result (out.new.items ≡ out.old.items ++ varint_of z) }
 {
+    if z < 128 {
+        return push_byte(out, z as u8);
+    }
     let mut bytes = [0; 10];
     let len = put_varint(&mut bytes, z);
     out.extend_from_slice(&bytes[..len])
