@@ -17,8 +17,18 @@ fn next_byte(bytes: &[u8]) -> Option<(u8, &[u8])>
     }
 }
 
-/// The number in groups of seven bits.
+/// The number in groups of seven bits, which are mostly one.
+#[tactic(auto, unfolding(crate::specs::Reading::varint_at, crate::specs::Reading::varint_in))]
 pub fn number(bytes: &[u8]) -> Result<(u64, &[u8]), Fault>
+    ensures { GivesAlways (λ x. (x.0, x.1.now)) result (varint_at bytes.now) }
+{
+    match next_byte(bytes) {
+        Some((byte, rest)) if byte < 128 => Ok((u64::from(byte), rest)),
+        _ => number_in_groups(bytes),
+    }
+}
+
+fn number_in_groups(bytes: &[u8]) -> Result<(u64, &[u8]), Fault>
     ensures { GivesAlways (λ x. (x.0, x.1.now)) result (varint_at bytes.now) }
 {
     let mut low = 0u64;
@@ -147,7 +157,7 @@ pub fn text(input: &[u8]) -> Result<(&str, &[u8]), Fault>
     ensures { GivesAlways (λ x. (x.0.now, x.1.now)) result (text_at input.now) }
 {
     let (run, rest) = bytes(input)?;
-    match simdutf8::compat::from_utf8(run) {
+    match simdutf8::basic::from_utf8(run) {
         Ok(text) => Ok((text, rest)),
         Err(_) => Err(Fault::BadText),
     }

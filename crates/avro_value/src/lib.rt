@@ -19,5 +19,6 @@ pub use error::AvroError;
 pub use reader::value as read_value;
 pub use value::Value;
 pub use writer::{
-    push_blob, push_bytes, push_natural, push_text, push_value, push_values, put_long,
+    push_blob, push_boolean, push_bytes, push_int, push_long, push_natural, push_text, push_value,
+    push_values, put_long,
 };

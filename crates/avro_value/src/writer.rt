@@ -68,20 +68,23 @@ fn push_byte(out: &mut Vec<u8>, byte: u8) -> Result<(), AllocError>
     Ok(())
 }
 
-fn push_boolean(out: &mut Vec<u8>, b: bool) -> Result<(), AllocError>
+/// Adds a `boolean`.
+pub fn push_boolean(out: &mut Vec<u8>, b: bool) -> Result<(), AllocError>
     ensures { OnOk result (out.new.items ≡ out.old.items ++ (if b then 1 else 0) ∷ []) }
 {
     push_byte(out, if b { 1 } else { 0 })
 }
 
-fn push_int(out: &mut Vec<u8>, n: i32) -> Result<(), AllocError>
+/// Adds an `int`.
+pub fn push_int(out: &mut Vec<u8>, n: i32) -> Result<(), AllocError>
     ensures bytes { OnOk result (out.new.items ≡ out.old.items ++ varint_of (zigzag_of n)) }
     ensures sound { FitsSigned w32 n }
 {
     push_varint(out, zigzag(i64::from(n)))
 }
 
-fn push_long(out: &mut Vec<u8>, n: i64) -> Result<(), AllocError>
+/// Adds a `long`.
+pub fn push_long(out: &mut Vec<u8>, n: i64) -> Result<(), AllocError>
     ensures bytes { OnOk result (out.new.items ≡ out.old.items ++ varint_of (zigzag_of n)) }
     ensures sound { FitsSigned w64 n }
 {

@@ -1,8 +1,8 @@
 use Rattle.std.proofs.Common.{◌≡◌, ◌+◌, ◌*◌, ◌-◌, ◌<◌, ◌≤◌, ◌^◌, ℕ, ◌∷◌, arith, rules, inl, inr, subst, sym, ap, ◌∙◌}
 use Rattle.std.proofs.Math.Nat.{mul-le-mul_right}
 use Rattle.avro_value.proofs.Varint.{Goes, unit_small, Goes-none, Goes-last, Goes-more, Goes-end, Goes-past, low_fits, tenth_fits}
-use Rattle.avro_value.proofs.item.number.Goals as goal
-use Rattle.avro_value.proofs.item.number.Goals.{Then-group-lt128, Else-group-lt128, else-loop-i-test, then-loop-i-test+in-Some+then-i-eq9+then-group-ge2}
+use Rattle.avro_value.proofs.item.number_in_groups.Goals as goal
+use Rattle.avro_value.proofs.item.number_in_groups.Goals.{Then-group-lt128, Else-group-lt128, else-loop-i-test, then-loop-i-test+in-Some+then-i-eq9+then-group-ge2}
 
 fits : (c : Then-group-lt128) → c.loop-i.low + c.from-group.result * c.loop-i.unit < 2 ^ 64
 fits c =
