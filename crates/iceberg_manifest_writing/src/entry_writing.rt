@@ -3,54 +3,49 @@
 ghost use Rattle.std.specs.Prelude.{◌≡◌, ◌<◌, ◌^◌, ◌++◌, pos, map, FitsSigned, OnOk};
 ghost use Rattle.std.specs.Int.{w64};
 ghost use Rattle.avro_value.specs.Fitting.{AreSound, IsSound, IsText};
-ghost use Rattle.avro_value.specs.ValueTree.{value_tree, values_of, union_of, null, boolean, int, long, text as text_tree};
+ghost use Rattle.avro_value.specs.ValueTree.{values_of, union_of, null, boolean, int, long, text as text_tree};
 ghost use Rattle.avro_value.specs.Writing.{encoding, length_prefixed, values_encoding};
 ghost use Rattle.partition_map.specs.Avro.{avro_value_of};
 ghost use Rattle.iceberg_manifest.specs.ManifestWriting.{whole_tree, file_trees, entry_tree};
 
-use avro_value::{Value, push_bytes, push_natural, push_text, push_value};
+use avro_value::{push_boolean, push_bytes, push_int, push_long, push_natural, push_text};
 use iceberg_manifest::Entry;
 use lake_basics::Text;
 use std::alloc::AllocError;
 use table_history::PartValue;
 
-/// Adds a value of a union's branch.
-fn push_branch(out: &mut Vec<u8>, index: u32, value: Value) -> Result<(), AllocError>
-    ensures bytes { OnOk result (out.new.items
-        ≡ out.old.items ++ encoding (union_of index (value_tree value))) }
-    ensures sound { OnOk result (IsSound (union_of index (value_tree value))) }
-{
-    push_natural(out, u64::from(index))?;
-    push_value(out, &value)
-}
-
+/// Adds the null of a union of null and another type, in this order. The calls below add a value of
+/// the other type.
 fn push_null(out: &mut Vec<u8>) -> Result<(), AllocError>
     ensures bytes { OnOk result (out.new.items ≡ out.old.items ++ encoding (union_of 0 null)) }
     ensures sound { OnOk result (IsSound (union_of 0 null)) }
 {
-    push_branch(out, 0, Value::Null)
+    push_natural(out, 0)
 }
 
-fn push_boolean(out: &mut Vec<u8>, b: bool) -> Result<(), AllocError>
+fn push_boolean_branch(out: &mut Vec<u8>, b: bool) -> Result<(), AllocError>
     ensures bytes { OnOk
         result (out.new.items ≡ out.old.items ++ encoding (union_of 1 (boolean b))) }
     ensures sound { OnOk result (IsSound (union_of 1 (boolean b))) }
 {
-    push_branch(out, 1, Value::Boolean(b))
+    push_natural(out, 1)?;
+    push_boolean(out, b)
 }
 
-fn push_int(out: &mut Vec<u8>, n: i32) -> Result<(), AllocError>
+fn push_int_branch(out: &mut Vec<u8>, n: i32) -> Result<(), AllocError>
     ensures bytes { OnOk result (out.new.items ≡ out.old.items ++ encoding (union_of 1 (int n))) }
     ensures sound { OnOk result (IsSound (union_of 1 (int n))) }
 {
-    push_branch(out, 1, Value::Int(n))
+    push_natural(out, 1)?;
+    push_int(out, n)
 }
 
-fn push_long(out: &mut Vec<u8>, n: i64) -> Result<(), AllocError>
+fn push_long_branch(out: &mut Vec<u8>, n: i64) -> Result<(), AllocError>
     ensures bytes { OnOk result (out.new.items ≡ out.old.items ++ encoding (union_of 1 (long n))) }
     ensures sound { OnOk result (IsSound (union_of 1 (long n))) }
 {
-    push_branch(out, 1, Value::Long(n))
+    push_natural(out, 1)?;
+    push_long(out, n)
 }
 
 fn push_text_branch(out: &mut Vec<u8>, text: &Text) -> Result<(), AllocError>
@@ -69,7 +64,7 @@ fn push_whole(out: &mut Vec<u8>, number: Option<i64>) -> Result<(), AllocError>
 {
     match number {
         None => push_null(out),
-        Some(n) => push_long(out, n),
+        Some(n) => push_long_branch(out, n),
     }
 }
 
@@ -81,11 +76,11 @@ fn push_part(out: &mut Vec<u8>, value: &PartValue) -> Result<(), AllocError>
 {
     match value {
         PartValue::Null => push_null(out),
-        PartValue::Boolean(b) => push_boolean(out, *b),
-        PartValue::Int(n) => push_int(out, *n),
-        PartValue::Long(n) => push_long(out, *n),
+        PartValue::Boolean(b) => push_boolean_branch(out, *b),
+        PartValue::Int(n) => push_int_branch(out, *n),
+        PartValue::Long(n) => push_long_branch(out, *n),
         PartValue::Text(text) => push_text_branch(out, text),
-        PartValue::Date(days) => push_int(out, *days),
+        PartValue::Date(days) => push_int_branch(out, *days),
     }
 }
 
