@@ -13,8 +13,7 @@ use Rattle.std.proofs.lemmas.List.Sorted.{IsPermutation-reverse, IsPermutation-m
 use Rattle.std.proofs.lemmas.Map.Keys.{IsDistinct-cons, IsDistinct-head, IsDistinct-tail, IsDistinct-IsPermutation}
 use Rattle.std.proofs.lemmas.Map.Views.{Contains-from_any, list_any-from_Contains}
 use Rattle.std.proofs.lemmas.Slice.Eq.{bytes_eq-Decides}
-use Rattle.table_history.specs.Rows.{row_at, paths_of, HasPath, HasDistinctPaths, IsInByteOrder, IsInPathOrder}
-use Rattle.table_history.specs.Tables.{IsDiff}
+use Rattle.table_history.specs.Rows.{row_at, paths_of, HasPath, HasDistinctPaths}
 use Rattle.table_history.specs.declared.row.FileRow.{FileRow}
 use Rattle.table_history.proofs.RowListLemmas.{Contains-cases, Contains-filter, Contains-head, Contains-lacking, Contains-none, Contains-paths, Contains-tail, all_at, distinct_filter, filter_contains, lacks, row_at-found, row_at-itself}
 use Rattle.table_history.proofs.TableLemmas.{Contains-paths_cases, same_path, there_or_not}
@@ -22,6 +21,7 @@ use Rattle.delta_log.specs.declared.commit.FileAction.{FileAction}
 use Rattle.delta_log.specs.declared.commit.FileAction.TheVariants as file
 use Rattle.delta_log.specs.Commit.{file_path, file_paths}
 use Rattle.delta_log.specs.Judging.{acts_on}
+use Rattle.delta_live.specs.Differences.{IsUnorderedDiff}
 use Rattle.delta_live.specs.RowSteps.{has_path, removed_paths, added_paths, lost_paths, is_kept, rows_behind}
 use Rattle.lake_basics.proofs.Lists.{empty_of}
 
@@ -150,7 +150,7 @@ module _ (before rows : List FileRow) (files : List FileAction) (before_distinct
   -- ---- what differs
 
   module _ (new : List FileRow) (new_is : (row : FileRow) → Contains new row ↔ (Contains rows row × (Contains before row → ⊥))) (new_distinct : HasDistinctPaths new) where
-    pub lost_distinct : IsDistinct bytes_eq (lost_paths before files new)
+    lost_distinct : IsDistinct bytes_eq (lost_paths before files new)
     lost_distinct =
         distinct_some (has_path before) (removed_paths files ++ paths_of new)
         (distinct_both (removed_paths files) (paths_of new) (removed_distinct files distinct) new_distinct
@@ -197,26 +197,20 @@ module _ (before rows : List FileRow) (files : List FileAction) (before_distinct
         (either_path files row.path (on_path row.path files acted)) in
         filter_contains (has_path before) (removed_paths files ++ paths_of new) row.path listed (row_has before row before_distinct was)
 
-    -- the sorted lists of what is lost and what is new are the change
-    pub diff_behind : (removed : List (List ℕ)) (sorted : List FileRow)
-        → ((path : List ℕ) → Contains removed path ↔ Contains (lost_paths before files new) path) → IsInByteOrder removed
-        → ((row : FileRow) → Contains sorted row ↔ Contains new row) → IsInPathOrder sorted
-        → IsDiff before (rows_behind before files rows) removed sorted
-    diff_behind removed sorted removed_is removed_order sorted_is sorted_order = record {
-      removed_paths = λ path. (
-        λ h. lost_to path ((removed_is path).0 h),
-        λ h. (removed_is path).1 (subst (Contains (lost_paths before files new)) h.3 (lost_from h.0 h.1 h.2)),
-      );
+    -- what is lost and what is new are the change
+    pub diff_behind : IsUnorderedDiff before (rows_behind before files rows) (lost_paths before files new) new
+    diff_behind = record {
+      removed_paths = λ path. (lost_to path, λ h. subst (Contains (lost_paths before files new)) h.3 (lost_from h.0 h.1 h.2));
       added_rows = λ row. (
-        λ h. let fresh = (new_is row).0 ((sorted_is row).0 h) in (Contains-append_right (filter (is_kept files) before) rows row fresh.0, fresh.1),
+        λ h. let fresh = (new_is row).0 h in (Contains-append_right (filter (is_kept files) before) rows row fresh.0, fresh.1),
         λ h.
             ⊎_elim
             (λ kept. absurd (h.1 (Contains-filter (is_kept files) before row kept).0))
-            (λ there. (sorted_is row).1 ((new_is row).1 (there, h.1)))
+            (λ there. (new_is row).1 (there, h.1))
             (Contains-append_cases (filter (is_kept files) before) rows row h.0),
       );
-      removed_order = removed_order;
-      added_order = sorted_order;
+      removed_distinct = lost_distinct;
+      added_distinct = new_distinct;
     }
 
 -- ---- how many rows there are

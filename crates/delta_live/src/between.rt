@@ -1,12 +1,12 @@
 //! What differs between the rows before a commit and those behind it.
 
-ghost use Rattle.std.specs.Prelude.{◌≡◌, ◌↔◌, ◌++◌, ◌∷◌, [], ℕ, List, filter, Contains, IsTrue, IfOk};
+ghost use Rattle.std.specs.Prelude.{◌≡◌, ◌↔◌, ◌++◌, ◌∷◌, [], filter, Contains, IsTrue, IfOk};
 ghost use Rattle.std.specs.List.{count_by, IsDistinct};
 ghost use Rattle.std.specs.Str.{bytes_eq};
-ghost use Rattle.table_history.specs.Rows.{HasDistinctPaths, IsInByteOrder, IsInPathOrder, paths_of};
-ghost use Rattle.table_history.specs.Tables.{IsDiff};
+ghost use Rattle.table_history.specs.Rows.{HasDistinctPaths, paths_of};
 ghost use Rattle.table_history.specs.declared.row.FileRow.{FileRow};
 ghost use Rattle.delta_log.specs.Commit.{file_path, file_paths};
+ghost use Rattle.delta_live.specs.Differences.{IsUnorderedDiff};
 ghost use Rattle.delta_live.specs.RowSteps.{has_path, removed_path, removed_paths, lost_paths, added_paths, rows_behind};
 
 use delta_log::FileAction;
@@ -127,31 +127,8 @@ fn lost_paths(
     Ok(paths)
 }
 
-/// The rows in byte order of their paths.
-fn sorted_rows(rows: Vec<FileRow>) -> Result<Vec<FileRow>, AllocError>
-    requires { HasDistinctPaths rows.items }
-    ensures rows { IfOk result (λ sorted. (row : FileRow)
-        → Contains sorted.items row ↔ Contains rows.items row) }
-    ensures order { IfOk result (λ sorted. IsInPathOrder sorted.items) }
-{
-    let mut sorted = rows;
-    sorted.sort_by(|a, b| a.path.cmp(&b.path))?;
-    Ok(sorted)
-}
-
-/// The texts in byte order.
-fn sorted_texts(texts: Vec<Text>) -> Result<Vec<Text>, AllocError>
-    requires { IsDistinct bytes_eq texts.items }
-    ensures texts { IfOk result (λ sorted. (text : List ℕ)
-        → Contains sorted.items text ↔ Contains texts.items text) }
-    ensures order { IfOk result (λ sorted. IsInByteOrder sorted.items) }
-{
-    let mut sorted = texts;
-    sorted.sort_by(|a, b| a.cmp(b))?;
-    Ok(sorted)
-}
-
-/// The change that the actions make of the rows before, where these are the rows that they add.
+/// The change that the actions make of the rows before, in no order, where these are the rows that
+/// they add.
 pub(crate) fn change_between(
     alloc: Global,
     schema: Option<Schema>,
@@ -163,13 +140,11 @@ pub(crate) fn change_between(
     requires distinct { IsDistinct bytes_eq (file_paths files.now) }
     requires added { paths_of rows.items ≡ added_paths files.now }
     ensures schema { IfOk result (λ change. change.schema ≡ schema) }
-    ensures diff { IfOk result (λ change. IsDiff before.now
+    ensures diff { IfOk result (λ change. IsUnorderedDiff before.now
         (rows_behind before.now files.now rows.items) change.removed change.added) }
 {
     let added = new_rows(alloc, before, rows)?;
     let removed = lost_paths(alloc, before, files, added.as_slice())?;
-    let added = sorted_rows(added)?;
-    let removed = sorted_texts(removed)?;
     Ok(Change {
         schema,
         removed: Items::from_vec(removed),

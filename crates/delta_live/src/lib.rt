@@ -4,7 +4,9 @@
 
 mod between;
 mod change;
+mod order;
 mod rows;
 mod texts;
 
-pub use change::change_over;
+pub use change::{change_over, unordered_change_over};
+pub use order::in_order;

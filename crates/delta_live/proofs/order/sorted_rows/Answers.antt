@@ -1,7 +1,7 @@
 use Rattle.std.proofs.Common.{rules}
 use Rattle.std.proofs.lemmas.List.Sorted.{answers_always}
 use Rattle.delta_live.proofs.OrderedLemmas.{row_below, row_below-order, rows_rise}
-use Rattle.delta_live.proofs.between.sorted_rows.Goals as goal
+use Rattle.delta_live.proofs.order.sorted_rows.Goals as goal
 
 pub returns-clause-order : goal.returns-clause-order
 returns-clause-order c =

@@ -1,7 +1,7 @@
 use Rattle.std.proofs.Common.{rules}
 use Rattle.std.proofs.lemmas.List.Sorted.{answers_always}
 use Rattle.delta_live.proofs.OrderedLemmas.{text_below, text_below-order, texts_rise}
-use Rattle.delta_live.proofs.between.sorted_texts.Goals as goal
+use Rattle.delta_live.proofs.order.sorted_texts.Goals as goal
 
 pub returns-clause-order : goal.returns-clause-order
 returns-clause-order c =

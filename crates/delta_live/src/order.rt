@@ -1,0 +1,52 @@
+//! A change put in order.
+
+ghost use Rattle.std.specs.Prelude.{◌↔◌, ℕ, List, Contains, IfOk};
+ghost use Rattle.std.specs.List.{IsDistinct};
+ghost use Rattle.std.specs.Str.{bytes_eq};
+ghost use Rattle.table_history.specs.Rows.{HasDistinctPaths, IsInByteOrder, IsInPathOrder, SameRows};
+ghost use Rattle.delta_live.specs.Differences.{IsInOrderOf};
+
+use lake_basics::{Items, Text};
+use std::alloc::AllocError;
+use table_history::{Change, FileRow};
+
+/// The rows in byte order of their paths.
+fn sorted_rows(rows: Vec<FileRow>) -> Result<Vec<FileRow>, AllocError>
+    requires { HasDistinctPaths rows.items }
+    ensures rows { IfOk result (λ sorted. SameRows sorted.items rows.items) }
+    ensures order { IfOk result (λ sorted. IsInPathOrder sorted.items) }
+{
+    let mut sorted = rows;
+    sorted.sort_by(|a, b| a.path.cmp(&b.path))?;
+    Ok(sorted)
+}
+
+/// The texts in byte order.
+fn sorted_texts(texts: Vec<Text>) -> Result<Vec<Text>, AllocError>
+    requires { IsDistinct bytes_eq texts.items }
+    ensures texts { IfOk result (λ sorted. (text : List ℕ)
+        → Contains sorted.items text ↔ Contains texts.items text) }
+    ensures order { IfOk result (λ sorted. IsInByteOrder sorted.items) }
+{
+    let mut sorted = texts;
+    sorted.sort_by(|a, b| a.cmp(b))?;
+    Ok(sorted)
+}
+
+/// The same change, its removed paths and its added rows in byte order of paths.
+pub fn in_order(change: Change) -> Result<Change, AllocError>
+    requires removed { IsDistinct bytes_eq change.removed }
+    requires added { HasDistinctPaths change.added }
+    ensures { IfOk result (IsInOrderOf change) }
+{
+    let Change {
+        schema,
+        removed,
+        added,
+    } = change;
+    Ok(Change {
+        schema,
+        removed: Items::from_vec(sorted_texts(removed.into_vec())?),
+        added: Items::from_vec(sorted_rows(added.into_vec())?),
+    })
+}
