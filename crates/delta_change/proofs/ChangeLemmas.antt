@@ -1,10 +1,10 @@
 -- The change of a commit, put together from that of its columns and that of its rows.
-use Rattle.std.proofs.Common.{◌≡◌, ℕ, ◌<◌, ◌≤◌, List, length, filter, Option, Some, None, Result, Ok, Err, Contains, unwrap_or, IfOk, IfErr, OnOk, IfSome, refl, sym, subst, ◌∙◌, inl, inr, ⊎_elim, arith}
-use Rattle.std.proofs.lemmas.List.Elements.{Contains-append_cases, All-contains}
+use Rattle.std.proofs.Common.{◌≡◌, ◌↔◌, ℕ, ◌<◌, ◌≤◌, List, length, Option, Some, None, Result, Ok, Err, Contains, unwrap_or, IfOk, IfErr, OnOk, refl, sym, subst, ◌∙◌, inl, inr, ⊎_elim, arith}
+use Rattle.std.proofs.lemmas.List.Elements.{All-contains}
 use Rattle.lake_basics.specs.declared.limits.TheConstants.{MAX_LIVE_FILES, MAX_PARTITION_COLUMNS}
 use Rattle.table_history.specs.First.{IsFirst, NoneOf}
 use Rattle.table_history.specs.Rows.{HasDistinctPaths}
-use Rattle.table_history.specs.Tables.{CanApply, IsDiff}
+use Rattle.table_history.specs.Tables.{CanApply}
 use Rattle.table_history.specs.TypeTree.{ColumnTrees}
 use Rattle.table_history.specs.declared.feature.Feature.{Feature}
 use Rattle.table_history.specs.declared.feature.Feature.TheVariants.{PartitionValue}
@@ -13,8 +13,7 @@ use Rattle.table_history.specs.declared.limit.LimitKind.TheVariants as limit
 use Rattle.table_history.specs.declared.row.FileRow.{FileRow}
 use Rattle.table_history.specs.declared.table.Change.{Change}
 use Rattle.table_history.specs.declared.table.Table.{Table}
-use Rattle.table_history.proofs.Laws.{change_fits, change_leads, same_rows_length}
-use Rattle.table_history.proofs.RowListLemmas.{Contains-filter}
+use Rattle.table_history.proofs.Laws.{same_rows_length}
 use Rattle.partition_map.specs.declared.kind.PartKind.{PartKind}
 use Rattle.schema_map.specs.declared.fault.MapError.TheVariants as map_errors
 use Rattle.delta_log.specs.declared.commit.DeltaCommit.{DeltaCommit}
@@ -22,18 +21,20 @@ use Rattle.delta_log.specs.declared.commit.FileAction.{FileAction}
 use Rattle.delta_log.specs.declared.commit.MetaData.{MetaData}
 use Rattle.delta_log.specs.declared.error.DeltaError.{DeltaError}
 use Rattle.delta_log.specs.declared.error.DeltaError.TheVariants as errors
-use Rattle.delta_change.specs.Change.{IsOutsideGrammar, HasOtherValue, HasLargeSchema, HasManyFiles, Shows, Passes, commit_features, commit_limits, CanFollow, IsChangeOf, IsStatedBy, IsTableSchema, GoesOn, IsChangeRefusal}
+use Rattle.delta_change.specs.Change.{HasOtherValue, HasLargeSchema, HasManyFiles, Shows, Passes, commit_features, commit_limits, CanFollow, IsChangeBy, IsChangeOf, IsUnorderedChangeOf, GoesOn, IsChangeRefusal}
+use Rattle.delta_live.specs.Differences.{Difference, IsInOrderOf, IsUnorderedDiff}
 use Rattle.delta_live.specs.Live.{SpellsNoValue, AreRowsBehind, IsSoundRow, PartColumns, ArePartColumns}
-use Rattle.delta_live.specs.RowSteps.{is_kept, rows_behind, AreRowsOf, HaveValues, PassesOver, IsChangeOver, IsRefusalOver}
+use Rattle.delta_live.specs.RowSteps.{rows_behind, AreRowsOf, HaveValues, PassesOver, IsUnorderedChangeOver, IsRefusalOver}
 use Rattle.delta_change.specs.ChangeSteps.{AreColumnsBehind}
 use Rattle.delta_log.specs.Sound.{IsSound, IsSoundFile, HaveDistinctNames}
 use Rattle.delta_change.specs.TableBehind.{rows_before, schema_before, partition_behind, table_before, Spells, StatesSchema, IsSchemaBehind}
+use Rattle.delta_live.proofs.DifferenceLemmas.{unordered_leads, unordered_fits, ordered_diff, ordered_leads, ordered_fits, after_ordered}
 use Rattle.delta_live.proofs.RowLemmas.{are_behind}
 use Rattle.delta_change.proofs.KindLemmas.{KeepKinds, same_columns}
 use Rattle.delta_log.proofs.ReadableLemmas.{none_first}
-use Rattle.delta_change.proofs.TableLemmas.{before_rows, stated_sound, stated_spells, names_distinct, goes_on}
+use Rattle.delta_change.proofs.TableLemmas.{before_rows, names_distinct, goes_on}
 use Rattle.delta_live.proofs.TextLemmas.{columns_distinct}
-use Rattle.delta_live.proofs.ValueLemmas.{row_from, has_values, sound_row, columns_length}
+use Rattle.delta_live.proofs.ValueLemmas.{has_values, sound_row, columns_length}
 
 -- ---- the change
 
@@ -43,6 +44,17 @@ one_behind base (Some m) s t a b = cc (sym a ∙ b)
 
 one_kind : (schema : ColumnTrees) (names : List (List ℕ)) → KeepKinds schema schema names
 one_kind schema names name there o k was is = cc (sym was ∙ is)
+
+-- each added row is one that an action adds
+pub added_sound : {Diff : Difference} (c : DeltaCommit) (base : Option Table) (change : Change) → IsSound c → (is : IsChangeBy Diff c base change)
+    → ((row : FileRow) → Contains change.added row ↔ (Contains is.behind row × (Contains (rows_before base) row → ⊥))) → (row : FileRow) → Contains change.added row
+    → IsSoundRow (unwrap_or change.schema (schema_before base)) (partition_behind c.meta base) row
+added_sound c base change sound is added row there =
+    let fresh = (added row).0 there in
+    ⊎_elim
+    (λ new. sound_row (unwrap_or change.schema (schema_before base)) (partition_behind c.meta base) is.columns new.0 row is.kinds (All-contains IsSoundFile c.files new.0 sound.files new.1) new.2)
+    (λ kept. absurd (fresh.1 kept.0))
+    ((is.rows.rows row).0 fresh.0)
 
 module _ (c : DeltaCommit) (base : Option Table) (stated : Option ColumnTrees) (columns : PartColumns) (sound : IsSound c) (cols : AreColumnsBehind c base stated columns) where
   no_value : HaveValues columns c.files → HasOtherValue c base → ⊥
@@ -74,11 +86,11 @@ module _ (c : DeltaCommit) (base : Option Table) (stated : Option ColumnTrees) (
   abbrev behind_of : List FileRow → List FileRow
   behind_of rows = rows_behind (rows_before base) c.files rows
 
-  module _ (change : Change) (over : IsChangeOver columns (rows_before base) c.files stated change) where
+  module _ (change : Change) (over : IsUnorderedChangeOver columns (rows_before base) c.files stated change) where
     the_rows : AreRowsBehind columns (rows_before base) c (behind_of over.rows)
     the_rows = are_behind columns (rows_before base) c over.rows over.distinct sound over.added
 
-    pub change_is : IsChangeOf c base change
+    change_is : IsUnorderedChangeOf c base change
     change_is = record {
       stated = subst (StatesSchema c.meta) (sym over.stated) cols.stated;
       columns = columns;
@@ -86,29 +98,16 @@ module _ (c : DeltaCommit) (base : Option Table) (stated : Option ColumnTrees) (
       behind = behind_of over.rows;
       rows = the_rows;
       diff = over.diff;
-      leads = change_leads (rows_before base) (behind_of over.rows) change.removed change.added over.diff over.distinct the_rows.distinct;
+      leads = unordered_leads (rows_before base) (behind_of over.rows) change.removed change.added over.diff over.distinct;
       few = over.few_rows;
       few_columns = names_few MAX_PARTITION_COLUMNS over.few_columns;
     }
 
-    pub change_supported : NoneOf (Shows c base) commit_features
+    change_supported : NoneOf (Shows c base) commit_features
     change_supported = shows_none (rows_have over.rows over.added)
 
-    pub change_applies : CanApply (table_before c base) change
-    change_applies = change_fits (table_before c base) (behind_of over.rows) change (subst (λ l. IsDiff l (behind_of over.rows) change.removed change.added) (sym (before_rows c base)) over.diff)
-        (subst HasDistinctPaths (sym (before_rows c base)) over.distinct) the_rows.distinct
-
-    pub change_rows : (row : FileRow) → Contains change.added row → IsSoundRow (unwrap_or change.schema (schema_before base)) (partition_behind c.meta base) row
-    change_rows row there =
-        let fresh = (over.diff.added_rows row).0 there in
-        let new : Contains over.rows row =
-        ⊎_elim
-        (λ kept. absurd (fresh.1 (Contains-filter (is_kept c.files) (rows_before base) row kept).0))
-        (λ new. new)
-        (Contains-append_cases (filter (is_kept c.files) (rows_before base)) over.rows row fresh.0) in
-        let by = row_from columns c.files over.rows row over.added new in
-        subst (λ o. IsSoundRow (unwrap_or o (schema_before base)) (partition_behind c.meta base) row) (sym over.stated)
-        (sound_row (unwrap_or stated (schema_before base)) (partition_behind c.meta base) columns by.0 row cols.kinds (All-contains IsSoundFile c.files by.0 sound.files by.1) by.2)
+    change_applies : CanApply (table_before c base) change
+    change_applies = unordered_fits (table_before c base) (behind_of over.rows) change (subst (λ l. IsUnorderedDiff l (behind_of over.rows) change.removed change.added) (sym (before_rows c base)) over.diff) the_rows.distinct
 
     not_many : HasManyFiles c base → ⊥
     not_many h =
@@ -123,7 +122,7 @@ module _ (c : DeltaCommit) (base : Option Table) (stated : Option ColumnTrees) (
         let many : MAX_LIVE_FILES < length h.2 = h.6 in
         omega (arith, same, few, many)
 
-    pub change_follows : CanFollow c base
+    change_follows : CanFollow c base
     change_follows = record {
       grammar = cols.grammar;
       supported = change_supported;
@@ -170,15 +169,11 @@ no_refusal c base (errors.DoublePath line) can h = absurd h
 no_refusal c base (errors.Unsupported feature line) can h = absurd (none_first (Shows c base) commit_features feature can.supported h.2)
 no_refusal c base (errors.Limit which) can h = absurd (⊎_elim (λ large. can.schema which large) (λ more. none_first (Passes c base) commit_limits which can.within more.1) h.2)
 
-pub complete_by : (c : DeltaCommit) (base : Option Table) (r : Result Change DeltaError) → IfErr r (IsChangeRefusal c base) → CanFollow c base → IfErr r (λ e. e ≡ errors.Memory)
-complete_by c base (Ok change) refused can = tt
-complete_by c base (Err e) refused can = no_refusal c base e can refused
-
 -- ---- by the answer of the rows' part
 
 pub over_these : (r : Result Change DeltaError) (cs columns : PartColumns) (rows before : List FileRow) (fs files : List FileAction) (stated : Option ColumnTrees) → cs ≡ columns → rows ≡ before → fs ≡ files
-    → IfOk r (IsChangeOver cs rows fs stated) → IfOk r (IsChangeOver columns before files stated)
-over_these r cs columns rows before fs files stated ec er ef h = subst (λ (p : PartColumns × (List FileRow × List FileAction)). IfOk r (IsChangeOver p.0 p.1.0 p.1.1 stated)) (λ i. (ec i, (er i, ef i))) h
+    → IfOk r (IsUnorderedChangeOver cs rows fs stated) → IfOk r (IsUnorderedChangeOver columns before files stated)
+over_these r cs columns rows before fs files stated ec er ef h = subst (λ (p : PartColumns × (List FileRow × List FileAction)). IfOk r (IsUnorderedChangeOver p.0 p.1.0 p.1.1 stated)) (λ i. (ec i, (er i, ef i))) h
 
 pub told_these : (r : Result Change DeltaError) (cs columns : PartColumns) (rows before : List FileRow) (fs files : List FileAction) → cs ≡ columns → rows ≡ before → fs ≡ files
     → IfErr r (IsRefusalOver cs rows fs) → IfErr r (IsRefusalOver columns before files)
@@ -190,45 +185,42 @@ module _ (c : DeltaCommit) (base : Option Table) (stated : Option ColumnTrees) (
       let names = partition_behind c.meta base in
       columns_distinct (unwrap_or stated (schema_before base)) names columns cols.kinds (names_distinct c base stated cols.stated cols.supported.1.1.1.1.0)
 
-  pub found_by : (r : Result Change DeltaError) → IfOk r (IsChangeOver columns (rows_before base) c.files stated) → IfOk r (IsChangeOf c base)
+  pub found_by : (r : Result Change DeltaError) → IfOk r (IsUnorderedChangeOver columns (rows_before base) c.files stated) → IfOk r (IsUnorderedChangeOf c base)
   found_by (Ok change) over = change_is c base stated columns sound cols change over
   found_by (Err e) over = tt
 
-  pub supported_by : (r : Result Change DeltaError) → IfOk r (IsChangeOver columns (rows_before base) c.files stated) → OnOk r (NoneOf (Shows c base) commit_features)
-  supported_by (Ok change) over = change_supported c base stated columns sound cols change over
-  supported_by (Err e) over = tt
-
-  pub grammar_by : (r : Result Change DeltaError) → OnOk r (IsOutsideGrammar c base → ⊥)
-  grammar_by (Ok change) = cols.grammar
-  grammar_by (Err e) = tt
-
-  pub fits_by : (r : Result Change DeltaError) → IfOk r (IsChangeOver columns (rows_before base) c.files stated) → IfOk r (CanApply (table_before c base))
-  fits_by (Ok change) over = change_applies c base stated columns sound cols change over
-  fits_by (Err e) over = tt
-
-  pub rows_by : (r : Result Change DeltaError) → IfOk r (IsChangeOver columns (rows_before base) c.files stated)
-      → IfOk r (λ change. (row : FileRow) → Contains change.added row → IsSoundRow (unwrap_or change.schema (schema_before base)) (partition_behind c.meta base) row)
-  rows_by (Ok change) over = change_rows c base stated columns sound cols change over
-  rows_by (Err e) over = tt
-
-  pub schema_by : (r : Result Change DeltaError) → IfOk r (IsChangeOver columns (rows_before base) c.files stated) → IfOk r (λ change. IfSome change.schema IsTableSchema)
-  schema_by (Ok change) over = stated_sound c.meta change.schema (change_is c base stated columns sound cols change over).stated
-  schema_by (Err e) over = tt
-
-  pub spells_by : (r : Result Change DeltaError) → IfOk r (IsChangeOver columns (rows_before base) c.files stated) → IfOk r (λ change. IfSome change.schema (IsStatedBy c))
-  spells_by (Ok change) over = stated_spells c c.meta change.schema refl (change_is c base stated columns sound cols change over).stated
-  spells_by (Err e) over = tt
-
-  pub goes_on_by : (r : Result Change DeltaError) → IfOk r (IsChangeOver columns (rows_before base) c.files stated) → IfOk r (GoesOn c base)
-  goes_on_by (Ok change) over =
-      goes_on c base change (change_is c base stated columns sound cols change over) (change_supported c base stated columns sound cols change over)
-      (change_rows c base stated columns sound cols change over) (change_applies c base stated columns sound cols change over)
-  goes_on_by (Err e) over = tt
-
-  pub follows_by : (r : Result Change DeltaError) → IfOk r (IsChangeOver columns (rows_before base) c.files stated) → OnOk r (CanFollow c base)
+  pub follows_by : (r : Result Change DeltaError) → IfOk r (IsUnorderedChangeOver columns (rows_before base) c.files stated) → OnOk r (CanFollow c base)
   follows_by (Ok change) over = change_follows c base stated columns sound cols change over
   follows_by (Err e) over = tt
+
+  pub goes_on_by : (r : Result Change DeltaError) → IfOk r (IsUnorderedChangeOver columns (rows_before base) c.files stated) → IfOk r (GoesOn c base)
+  goes_on_by (Ok change) over =
+      let is = change_is c base stated columns sound cols change over in
+      goes_on c base change is (change_supported c base stated columns sound cols change over) (added_sound c base change sound is is.diff.added_rows) (change_applies c base stated columns sound cols change over)
+  goes_on_by (Err e) over = tt
 
   pub refused_by : (r : Result Change DeltaError) → IfErr r (IsRefusalOver columns (rows_before base) c.files) → IfErr r (IsChangeRefusal c base)
   refused_by (Ok change) told = tt
   refused_by (Err e) told = over_refusal c base stated columns sound cols e told
+
+-- ---- put in order
+
+module _ (c : DeltaCommit) (base : Option Table) (change ordered : Change) (same : IsInOrderOf change ordered) where
+  pub ordered_is : IsUnorderedChangeOf c base change → IsChangeOf c base ordered
+  ordered_is is = record {
+    stated = subst (StatesSchema c.meta) (sym same.schema) is.stated;
+    columns = is.columns;
+    kinds = subst (λ o. ArePartColumns (unwrap_or o (schema_before base)) (partition_behind c.meta base) is.columns) (sym same.schema) is.kinds;
+    behind = is.behind;
+    rows = is.rows;
+    diff = ordered_diff change ordered same (rows_before base) is.behind is.diff;
+    leads = ordered_leads change ordered same (rows_before base) is.behind is.leads;
+    few = is.few;
+    few_columns = is.few_columns;
+  }
+
+  pub ordered_goes_on : GoesOn c base change → GoesOn c base ordered
+  ordered_goes_on on = record {
+    fits = ordered_fits change ordered same (table_before c base) on.fits;
+    leaves = λ ok after step. on.leaves ok after (after_ordered change ordered same (table_before c base) after step);
+  }

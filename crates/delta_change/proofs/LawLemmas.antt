@@ -1,5 +1,5 @@
 -- The rows behind commits one after another are the live rows of all.
-use Rattle.std.proofs.Common.{◌≡◌, ◌↔◌, ℕ, List, [], ◌∷◌, ◌++◌, Option, Some, None, Result, Ok, Err, Contains, unwrap_or, IfOk, refl, sym, subst, ◌∙◌, inl, inr, ⊎_elim, append_assoc}
+use Rattle.std.proofs.Common.{◌≡◌, ◌↔◌, ℕ, List, [], ◌∷◌, ◌++◌, Option, Some, None, Contains, unwrap_or, refl, sym, subst, ◌∙◌, inl, inr, ⊎_elim, append_assoc}
 use Rattle.std.proofs.lemmas.List.{append-nil}
 use Rattle.std.proofs.lemmas.List.Elements.{All-nil}
 use Rattle.table_history.specs.First.{NoneOf}
@@ -10,7 +10,6 @@ use Rattle.table_history.specs.declared.table.Change.{Change}
 use Rattle.table_history.specs.declared.table.Table.{Table}
 use Rattle.table_history.proofs.RowListLemmas.{Contains-none}
 use Rattle.delta_log.specs.declared.commit.DeltaCommit.{DeltaCommit}
-use Rattle.delta_log.specs.declared.error.DeltaError.{DeltaError}
 use Rattle.delta_change.specs.Change.{Shows, commit_features, IsChangeOf, LeadsLive, LeadTo, LeadsThrough}
 use Rattle.delta_live.specs.Live.{PartColumns, ActsOn, IsLive, IsLiveOver, IsRowBehind, ArePartColumns}
 use Rattle.delta_change.specs.TableBehind.{rows_before, schema_before, partition_behind, table_before}
@@ -33,10 +32,6 @@ leads_live c base change is columns origin commits are same row =
       λ after. live.0 (subst (λ cs. IsRowBehind cs (rows_before base) c row) one ((is.rows.rows row).0 ((is.leads row).0 after))),
       λ over. (is.leads row).1 ((is.rows.rows row).1 (subst (λ cs. IsRowBehind cs (rows_before base) c row) (sym one) (live.1 over))),
     )
-
-pub leads_live_by : (c : DeltaCommit) (base : Option Table) (r : Result Change DeltaError) → IfOk r (IsChangeOf c base) → IfOk r (LeadsLive c base)
-leads_live_by c base (Ok change) is = leads_live c base change is
-leads_live_by c base (Err e) is = tt
 
 -- ---- commits one after another
 

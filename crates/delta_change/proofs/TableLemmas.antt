@@ -22,7 +22,8 @@ use Rattle.partition_map.proofs.ColumnLemmas.{distinct_exactly}
 use Rattle.schema_delta.proofs.DeltaSchema.{given_found}
 use Rattle.delta_log.specs.declared.commit.DeltaCommit.{DeltaCommit}
 use Rattle.delta_log.specs.declared.commit.MetaData.{MetaData}
-use Rattle.delta_change.specs.Change.{HasOtherPartition, ChangesPartition, Shows, commit_features, IsChangeOf, IsStatedBy, IsTableSchema, IsTableOfLog, GoesOn}
+use Rattle.delta_change.specs.Change.{HasOtherPartition, ChangesPartition, Shows, commit_features, IsChangeBy, IsChangeOf, IsStatedBy, IsTableSchema, IsTableOfLog, GoesOn}
+use Rattle.delta_live.specs.Differences.{Difference}
 use Rattle.delta_live.specs.Live.{IsSoundRow, PartColumns, ArePartColumns}
 use Rattle.delta_change.specs.TableBehind.{rows_before, schema_before, partition_behind, table_before, StatesSchema, IsSchemaBehind}
 use Rattle.delta_change.proofs.ColumnLemmas.{names_same, has_kind}
@@ -114,7 +115,7 @@ old_path (Some t) ok row there = (ok t refl).paths row there
 
 -- ---- the table after
 
-module _ (c : DeltaCommit) (base : Option Table) (change : Change) (is : IsChangeOf c base change) (supported : NoneOf (Shows c base) commit_features) where
+module _ {Diff : Difference} (c : DeltaCommit) (base : Option Table) (change : Change) (is : IsChangeBy Diff c base change) (supported : NoneOf (Shows c base) commit_features) where
   abbrev schema : ColumnTrees
   schema = unwrap_or change.schema (schema_before base)
 

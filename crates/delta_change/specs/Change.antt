@@ -28,11 +28,11 @@ use Rattle.schema_map.specs.Places.{field_names}
 use Rattle.schema_map.specs.declared.fault.MapError.TheVariants as map_errors
 use Rattle.delta_log.specs.declared.commit.DeltaCommit.{DeltaCommit}
 use Rattle.delta_log.specs.declared.commit.FileAction.{FileAction}
-use Rattle.delta_log.specs.declared.commit.FileAction.TheVariants as file
 use Rattle.delta_log.specs.declared.commit.MetaData.{MetaData}
 use Rattle.delta_log.specs.declared.commit.Protocol.{Protocol}
 use Rattle.delta_log.specs.declared.error.DeltaError.{DeltaError}
 use Rattle.delta_log.specs.declared.error.DeltaError.TheVariants as errors
+use Rattle.delta_live.specs.Differences.{Difference, IsUnorderedDiff}
 use Rattle.delta_live.specs.Live.{PartColumns, IsLiveOver, AreRowsBehind, SpellsNoValue, ArePartColumns}
 use Rattle.delta_change.specs.TableBehind.{rows_before, schema_before, partition_behind, table_before, Spells, StatesSchema, IsSchemaBehind}
 
@@ -139,17 +139,25 @@ pub record CanFollow (c : DeltaCommit) (base : Option Table) : Type 0 where
   pub schema : (which : LimitKind) → ¬ HasLargeSchema c which
   pub within : NoneOf (Passes c base) commit_limits
 
--- The change is what differs between the rows before the commit and those behind it, with the schema that the commit states.
-pub record IsChangeOf (c : DeltaCommit) (base : Option Table) (change : Change) : Type 0 where
+-- A change of the table before, with the schema that the commit states, which differs so from the rows behind the commit.
+pub record IsChangeBy (Diff : Difference) (c : DeltaCommit) (base : Option Table) (change : Change) : Type 0 where
   pub stated : StatesSchema c.meta change.schema
   pub columns : PartColumns
   pub kinds : ArePartColumns (unwrap_or change.schema (schema_before base)) (partition_behind c.meta base) columns
   pub behind : List Row
   pub rows : AreRowsBehind columns (rows_before base) c behind
-  pub diff : IsDiff (rows_before base) behind change.removed change.added
+  pub diff : Diff (rows_before base) behind change.removed change.added
   pub leads : LeadsTo (rows_before base) change.removed change.added behind
   pub few : length behind ≤ MAX_LIVE_FILES
   pub few_columns : length (partition_behind c.meta base) ≤ MAX_PARTITION_COLUMNS
+
+-- The change is what differs between the rows before the commit and those behind it, with the schema that the commit states.
+abbrev pub IsChangeOf : DeltaCommit → Option Table → Change → Type 0
+IsChangeOf c base change = IsChangeBy IsDiff c base change
+
+-- the same in whatever order
+abbrev pub IsUnorderedChangeOf : DeltaCommit → Option Table → Change → Type 0
+IsUnorderedChangeOf c base change = IsChangeBy IsUnorderedDiff c base change
 
 -- The change leads live rows on: where those before are the rows that are live by some commits over an origin, those after it are the rows that are live by the same commits and this one behind them.
 abbrev pub LeadsLive : DeltaCommit → Option Table → Change → Type 0

@@ -23,8 +23,6 @@ use Rattle.delta_outline.specs.declared.fault.OutlineFault.{OutlineFault}
 use Rattle.delta_outline.specs.declared.outline.Outline.{Outline}
 use Rattle.delta_change.specs.declared.columns.Columns.{Columns}
 use Rattle.delta_log.specs.declared.commit.DeltaCommit.{DeltaCommit}
-use Rattle.delta_log.specs.declared.commit.FileAction.{FileAction}
-use Rattle.delta_log.specs.declared.commit.FileAction.TheVariants as file
 use Rattle.delta_log.specs.declared.commit.MetaData.{MetaData}
 use Rattle.delta_log.specs.declared.commit.Protocol.{Protocol}
 use Rattle.delta_log.specs.declared.error.DeltaError.{DeltaError}

@@ -7,15 +7,41 @@ ghost use Rattle.table_history.specs.Row.{Row};
 ghost use Rattle.table_history.specs.Tables.{CanApply};
 ghost use Rattle.delta_log.specs.Sound.{IsSound};
 ghost use Rattle.delta_change.specs.TableBehind.{rows_before, schema_before, partition_behind, table_before};
-ghost use Rattle.delta_change.specs.Change.{IsOutsideGrammar, Shows, commit_features, CanFollow, IsChangeOf, LeadsLive, IsStatedBy, IsTableSchema, GoesOn, IsChangeRefusal};
+ghost use Rattle.delta_change.specs.Change.{IsOutsideGrammar, Shows, commit_features, CanFollow, IsChangeOf, IsUnorderedChangeOf, LeadsLive, IsStatedBy, IsTableSchema, GoesOn, IsChangeRefusal};
 ghost use Rattle.delta_live.specs.Live.{IsSoundRow};
 ghost use Rattle.delta_log.specs.declared.error.DeltaError.TheVariants as errors;
 
 use crate::columns::columns_of;
-use delta_live::change_over;
+use delta_live::{in_order, unordered_change_over};
 use delta_log::{DeltaCommit, DeltaError};
 use std::alloc::Global;
 use table_history::{Change, FileRows, Table};
+
+/// The change that a commit makes of the table `base`, as `change_of` gives it, but in no order: for
+/// what is made of it at once, as a table.
+pub fn unordered_change_of(
+    alloc: Global,
+    commit: &DeltaCommit,
+    base: Option<&Table>,
+) -> Result<Change, DeltaError>
+    requires { IsSound commit.now }
+    ensures found { IfOk result (IsUnorderedChangeOf commit.now (option_copied base.entry)) }
+    // A commit is taken only where it is in the grammar, shows no feature and passes no number.
+    ensures follows { OnOk result (CanFollow commit.now (option_copied base.entry)) }
+    // The change may be applied to the table before, and the table after it may be followed on.
+    ensures goes_on { IfOk result (GoesOn commit.now (option_copied base.entry)) }
+    ensures refused { IfErr result (IsChangeRefusal commit.now (option_copied base.entry)) }
+{
+    let columns = columns_of(alloc, commit, base)?;
+    let none = FileRows::new(alloc);
+    unordered_change_over(
+        alloc,
+        columns.stated,
+        columns.columns.as_slice(),
+        rows_before(base, &none),
+        commit.files.as_slice(),
+    )
+}
 
 /// The change that a commit makes of the table `base` (Delta protocol, "Action Reconciliation"). None
 /// is the state before the first commit. The line in a refusal is 0. What the grammar asks of a commit
@@ -55,15 +81,8 @@ pub fn change_of(
     ensures complete { CanFollow commit.now (option_copied base.entry)
         → IfErr result (λ e. e ≡ errors.Memory) }
 {
-    let columns = columns_of(alloc, commit, base)?;
-    let none = FileRows::new(alloc);
-    change_over(
-        alloc,
-        columns.stated,
-        columns.columns.as_slice(),
-        rows_before(base, &none),
-        commit.files.as_slice(),
-    )
+    let change = unordered_change_of(alloc, commit, base)?;
+    Ok(in_order(change)?)
 }
 
 /// The rows before the commit, which are none before the first.
