@@ -3,7 +3,7 @@ use Rattle.std.proofs.Common.{◌≡◌, ◌↔◌, ℕ, suc, ◌+◌, Bool, tru
 use Rattle.std.specs.Prelude.{is_some}
 use Rattle.std.specs.List.{count_by, IsDistinct, AllByRecursion}
 use Rattle.std.specs.Str.{bytes_eq}
-use Rattle.std.proofs.lemmas.Bool.{cases_Bool, false≢true}
+use Rattle.std.proofs.lemmas.Bool.{cases_Bool, false≢true, false_from_ne_true}
 use Rattle.std.proofs.lemmas.Cmp.{nat_list_eq_equiv}
 use Rattle.std.proofs.lemmas.List.{length-append, map-append, reverse-append}
 use Rattle.std.proofs.lemmas.List.Elements.{Contains-append_left, Contains-append_right, Contains-append_cases}
@@ -15,7 +15,7 @@ use Rattle.std.proofs.lemmas.Map.Views.{Contains-from_any, list_any-from_Contain
 use Rattle.std.proofs.lemmas.Slice.Eq.{bytes_eq-Decides}
 use Rattle.table_history.specs.Rows.{row_at, paths_of, HasPath, HasDistinctPaths}
 use Rattle.table_history.specs.declared.row.FileRow.{FileRow}
-use Rattle.table_history.proofs.RowListLemmas.{Contains-cases, Contains-filter, Contains-head, Contains-lacking, Contains-none, Contains-paths, Contains-tail, all_at, distinct_filter, filter_contains, lacks, row_at-found, row_at-itself}
+use Rattle.table_history.proofs.RowListLemmas.{Contains-cases, Contains-filter, Contains-head, Contains-lacking, Contains-none, Contains-paths, Contains-tail, all_at, distinct_filter, filter_contains, lacks, row_at-found, row_at-itself, is_in-Decides}
 use Rattle.table_history.proofs.TableLemmas.{Contains-paths_cases, same_path, there_or_not}
 use Rattle.delta_log.specs.declared.commit.FileAction.{FileAction}
 use Rattle.delta_log.specs.declared.commit.FileAction.TheVariants as file
@@ -268,13 +268,22 @@ behind_count before rows files before_distinct distinct =
 
 -- ---- the rows that weren't there before
 
-pub fresh_step : (before rest new new' : List FileRow) (row : FileRow) (b : Bool) → lacks before row ≡ b → new ≡ reverse (filter (lacks before) rest) → new' ≡ cond b (new ++ row ∷ []) new → new' ≡ reverse (filter (lacks before) (row ∷ rest))
+fresh_step : (before rest new new' : List FileRow) (row : FileRow) (b : Bool) → lacks before row ≡ b → new ≡ reverse (filter (lacks before) rest) → new' ≡ cond b (new ++ row ∷ []) new → new' ≡ reverse (filter (lacks before) (row ∷ rest))
 fresh_step before rest new new' row b is so_far more =
     more ∙ (λ i. cond b (so_far i ++ row ∷ []) (so_far i)) ∙ by b ∙ ap (λ c. reverse (cond c (row ∷ filter (lacks before) rest) (filter (lacks before) rest))) (sym is)
   where
     by : (c : Bool) → cond c (reverse (filter (lacks before) rest) ++ row ∷ []) (reverse (filter (lacks before) rest)) ≡ reverse (cond c (row ∷ filter (lacks before) rest) (filter (lacks before) rest))
     by true = sym (reverse-append (row ∷ []) (filter (lacks before) rest))
     by false = refl
+
+-- the same by whether the row is there before
+pub fresh_one : (before rest new new' : List FileRow) (row : FileRow) → (Contains before row × (new' ≡ new)) ⊎ ((Contains before row → ⊥) × (new' ≡ new ++ row ∷ [])) → new ≡ reverse (filter (lacks before) rest)
+    → new' ≡ reverse (filter (lacks before) (row ∷ rest))
+fresh_one before rest new new' row one so_far =
+    ⊎_elim
+    (λ there. fresh_step before rest new new' row false (ap not ((is_in-Decides before row).1 there.0)) so_far there.1)
+    (λ other. fresh_step before rest new new' row true (ap not (false_from_ne_true _ (λ t. other.0 ((is_in-Decides before row).0 t)))) so_far other.1)
+    one
 
 pub all_looked : (left rest rows : List FileRow) → length left ≡ 0 → left ++ rest ≡ rows → rest ≡ rows
 all_looked left rest rows none all = ap (λ l. l ++ rest) (sym (empty_of left none)) ∙ all

@@ -1,13 +1,14 @@
 //! What differs between the rows before a commit and those behind it.
 
-ghost use Rattle.std.specs.Prelude.{◌≡◌, ◌↔◌, ◌++◌, ◌∷◌, [], filter, Contains, IsTrue, IfOk};
+ghost use Rattle.std.specs.Prelude.{◌≡◌, ◌↔◌, ◌++◌, ◌∷◌, [], filter, cond, Some, Contains, IsTrue, IfOk, ◌⊎◌};
+ghost use Rattle.std.specs.Option.{option_copied};
 ghost use Rattle.std.specs.List.{count_by, IsDistinct};
 ghost use Rattle.std.specs.Str.{bytes_eq};
 ghost use Rattle.table_history.specs.Rows.{HasDistinctPaths, paths_of};
 ghost use Rattle.table_history.specs.declared.row.FileRow.{FileRow};
 ghost use Rattle.delta_log.specs.Commit.{file_path, file_paths};
 ghost use Rattle.delta_live.specs.Differences.{IsUnorderedDiff};
-ghost use Rattle.delta_live.specs.RowSteps.{has_path, removed_path, removed_paths, lost_paths, added_paths, rows_behind};
+ghost use Rattle.delta_live.specs.RowSteps.{has_path, removed_path, removed_paths, added_paths, rows_behind};
 
 use delta_log::FileAction;
 use lake_basics::{Items, Text};
@@ -34,47 +35,78 @@ pub(crate) fn held_count(rows: &FileRows, files: &[FileAction]) -> u64
     count
 }
 
-/// Whether this very row is there.
-fn holds(rows: &FileRows, row: &FileRow) -> bool
-    ensures { IsTrue result ↔ Contains rows.now row.now }
+/// Whether the row that is held, if there is one, is this very row.
+fn is_same(held: Option<&FileRow>, row: &FileRow) -> bool
+    ensures { IsTrue result ↔ (option_copied held.entry ≡ Some row.now) }
 {
-    match rows.get(row.path.as_bytes()) {
+    match held {
         Some(held) => *held == *row,
         None => false,
     }
 }
 
-/// Those of the rows that aren't there before.
-fn new_rows(
+/// Rows that aren't there before, and the paths of those of them that have another row there.
+#[derive(Drop)]
+struct NewRows {
+    rows: Vec<FileRow>,
+    replaced: Vec<Text>,
+}
+
+/// With this row more, unless it is there before.
+fn with_new(
     alloc: Global,
     before: &FileRows,
-    mut rows: Vec<FileRow>,
-) -> Result<Vec<FileRow>, AllocError>
+    new: NewRows,
+    row: FileRow,
+) -> Result<NewRows, AllocError>
+    ensures rows { IfOk result (λ all.
+        (Contains before.now row × (all.rows.items ≡ new.rows.items))
+        ⊎ (¬ Contains before.now row × (all.rows.items ≡ new.rows.items ++ row ∷ []))) }
+    ensures replaced { IfOk result (λ all.
+        new.replaced.items ≡ filter (has_path before.now) (paths_of new.rows.items)
+        → all.replaced.items ≡ filter (has_path before.now) (paths_of all.rows.items)) }
+{
+    let held = before.get(row.path.as_bytes());
+    if is_same(held, &row) {
+        return Ok(new);
+    }
+    let NewRows { mut rows, replaced } = new;
+    let replaced = with_held_path(alloc, replaced, held.is_some(), &row.path)?;
+    rows.push(row)?;
+    Ok(NewRows { rows, replaced })
+}
+
+/// Those of the rows that aren't there before.
+fn new_rows(alloc: Global, before: &FileRows, mut rows: Vec<FileRow>) -> Result<NewRows, AllocError>
     requires { HasDistinctPaths rows.items }
     ensures rows { IfOk result (λ new. (row : FileRow)
-        → Contains new.items row ↔ (Contains rows.items row × ¬ Contains before.now row)) }
-    ensures distinct { IfOk result (λ new. HasDistinctPaths new.items) }
+        → Contains new.rows.items row ↔ (Contains rows.items row × ¬ Contains before.now row)) }
+    ensures distinct { IfOk result (λ new. HasDistinctPaths new.rows.items) }
+    ensures replaced { IfOk result (λ new. new.replaced.items
+        ≡ filter (has_path before.now) (paths_of new.rows.items)) }
 {
-    let mut new = Vec::new(alloc);
+    let mut new = NewRows {
+        rows: Vec::new(alloc),
+        replaced: Vec::new(alloc),
+    };
     while let Some(row) = rows.pop() {
-        if !holds(before, &row) {
-            new.push(row)?;
-        }
+        new = with_new(alloc, before, new, row)?;
     }
     Ok(new)
 }
 
+/// The paths with this one more, where a row is held there.
 fn with_held_path(
     alloc: Global,
     paths: Vec<Text>,
-    rows: &FileRows,
+    is_held: bool,
     path: &Text,
 ) -> Result<Vec<Text>, AllocError>
     ensures { IfOk result (λ all. all.items
-        ≡ paths.items ++ filter (has_path rows.now) (path.now ∷ [])) }
+        ≡ paths.items ++ cond is_held (path.now ∷ []) []) }
 {
     let mut all = paths;
-    if has_path(rows, path) {
+    if is_held {
         all.push(path.copy(alloc)?)?;
     }
     Ok(all)
@@ -91,7 +123,7 @@ fn with_removed(
 {
     match file {
         FileAction::Add { .. } => Ok(paths),
-        FileAction::Remove { path } => with_held_path(alloc, paths, rows, path),
+        FileAction::Remove { path } => with_held_path(alloc, paths, has_path(rows, path), path),
     }
 }
 
@@ -107,22 +139,6 @@ fn removed_paths(
     let mut paths = Vec::new(alloc);
     for file in files {
         paths = with_removed(alloc, paths, rows, file)?;
-    }
-    Ok(paths)
-}
-
-/// The paths that have a row before, and no row or another one behind.
-fn lost_paths(
-    alloc: Global,
-    before: &FileRows,
-    files: &[FileAction],
-    added: &[FileRow],
-) -> Result<Vec<Text>, AllocError>
-    ensures { IfOk result (λ all. all.items ≡ lost_paths before.now files.now added.now) }
-{
-    let mut paths = removed_paths(alloc, before, files)?;
-    for row in added {
-        paths = with_held_path(alloc, paths, before, &row.path)?;
     }
     Ok(paths)
 }
@@ -143,8 +159,12 @@ pub(crate) fn change_between(
     ensures diff { IfOk result (λ change. IsUnorderedDiff before.now
         (rows_behind before.now files.now rows.items) change.removed change.added) }
 {
-    let added = new_rows(alloc, before, rows)?;
-    let removed = lost_paths(alloc, before, files, added.as_slice())?;
+    let NewRows {
+        rows: added,
+        mut replaced,
+    } = new_rows(alloc, before, rows)?;
+    let mut removed = removed_paths(alloc, before, files)?;
+    removed.append(&mut replaced)?;
     Ok(Change {
         schema,
         removed: Items::from_vec(removed),
