@@ -5,9 +5,8 @@ use Rattle.table_history.specs.Tables.{CanApply, IsAfter, IsDiff, IsRowAfter, Le
 use Rattle.table_history.specs.declared.row.FileRow.{FileRow}
 use Rattle.table_history.specs.declared.table.Change.{Change}
 use Rattle.table_history.specs.declared.table.Table.{Table}
-use Rattle.table_history.proofs.TableLemmas.{distinct_order, there_or_not}
+use Rattle.table_history.proofs.TableLemmas.{distinct_order, same_path, there_or_not}
 use Rattle.delta_live.specs.Differences.{IsInOrderOf, IsUnorderedDiff}
-use Rattle.delta_live.proofs.BehindLemmas.{one_row}
 
 -- ---- in whatever order
 
@@ -24,7 +23,7 @@ unordered_leads before after removed added d distinct row = (
         was,
         λ gone.
             let lost = (d.removed_paths row.path).0 gone in
-            lost.2 (subst (Contains after) (sym (one_row before distinct lost.0 row lost.1 was lost.3)) there),
+            lost.2 (subst (Contains after) (sym (same_path before distinct lost.0 row lost.1 was lost.3)) there),
       ))
       (λ fresh. inl ((d.added_rows row).1 (there, fresh)))
       (there_or_not before row),
@@ -37,7 +36,7 @@ unordered_fits table after change d distinct = record {
   added_distinct = d.added_distinct;
   added_new = λ row h held.
       let new = (d.added_rows row).0 h in
-      (d.removed_paths row.path).1 (held.0, held.1, (λ stays. new.1 (subst (Contains table.rows) (one_row after distinct held.0 row stays new.0 held.2) held.1)), held.2);
+      (d.removed_paths row.path).1 (held.0, held.1, (λ stays. new.1 (subst (Contains table.rows) (same_path after distinct held.0 row stays new.0 held.2) held.1)), held.2);
 }
 
 -- ---- put in order

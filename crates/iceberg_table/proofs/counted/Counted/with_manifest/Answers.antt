@@ -1,5 +1,5 @@
 use Rattle.std.proofs.Common.{◌≡◌, ◌+◌, true, false, arith, refl, sym, ◌∙◌}
-use Rattle.iceberg_table.proofs.CountLaws.{counts_more, key_put}
+use Rattle.iceberg_table.proofs.CountLaws.{counts_more}
 use Rattle.iceberg_table.proofs.counted.Counted.with_manifest.Goals as goal
 use Rattle.lake_basics.proofs.Texts.{key_put}
 
