@@ -152,6 +152,11 @@ fn drop_front(bytes: &mut Vec<u8>, count: usize)
         return;
     }
     let left = bytes.len() - count;
+    // `truncate` takes a step for each byte that it drops, `clear` takes none.
+    if left == 0 {
+        bytes.clear();
+        return;
+    }
     if left <= count {
         let (front, back) = bytes.as_mut_slice().split_at_mut(count);
         front[..left].copy_from_slice(back);
