@@ -1,5 +1,5 @@
 -- A snapshot's own table behind the one before it.
-use Rattle.std.proofs.Common.{◌≡◌, ◌≤◌, ◌-◌, List, [], Option, Some, Result, Ok, Err, length, refl, sym, ap, subst, ◌∙◌, arith}
+use Rattle.std.proofs.Common.{◌≡◌, ◌≤◌, List, [], Option, Some, Result, Ok, Err, length, refl, sym, ap, subst, ◌∙◌, arith}
 use Rattle.std.specs.Prelude.{IfOk, unwrap_or}
 use Rattle.lake_basics.specs.declared.limits.TheConstants.{MAX_LIVE_FILES}
 use Rattle.lake_store.specs.Disk.{Files}

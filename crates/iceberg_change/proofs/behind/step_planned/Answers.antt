@@ -1,4 +1,3 @@
-use Rattle.std.proofs.Common.{◌∙◌}
 use Rattle.iceberg_change.proofs.BehindLaws.{step_made}
 use Rattle.iceberg_change.proofs.behind.step_planned.Goals as goal
 
