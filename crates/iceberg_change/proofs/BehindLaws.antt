@@ -1,6 +1,7 @@
 -- A snapshot behind the one before it.
-use Rattle.std.proofs.Common.{◌≡◌, ◌≤◌, ◌-◌, ◌+◌, ℕ, List, [], ◌++◌, Contains, Option, None, Some, Result, Ok, Err, length, map, sym, ap, subst, ◌∙◌, append-nil, arith}
+use Rattle.std.proofs.Common.{◌≡◌, ◌≤◌, ◌-◌, ◌+◌, ℕ, List, [], ◌++◌, Contains, Option, None, Some, Result, Ok, Err, length, map, true, false, sym, ap, subst, ◌∙◌, ⊎_elim, append-nil, arith}
 use Rattle.std.specs.Prelude.{IfOk}
+use Rattle.std.proofs.lemmas.List.Elements.{Contains-append_cases, Contains-append_left, Contains-append_right}
 use Rattle.lake_basics.specs.declared.limits.TheConstants.{MAX_ACTIONS, MAX_LIVE_FILES}
 use Rattle.lake_store.specs.Disk.{Files}
 use Rattle.table_history.specs.Rows.{HasDistinctPaths, HasPath, SameRows}
@@ -16,13 +17,13 @@ use Rattle.iceberg_table.specs.Plan.{part_columns}
 use Rattle.iceberg_table.specs.Tables.{IsTableOfRows, rows_of}
 use Rattle.iceberg_table.specs.declared.manifest.Manifest.{Manifest}
 use Rattle.iceberg_table.specs.declared.plan.Plan.{Plan}
-use Rattle.iceberg_change.specs.Behind.{AreApart, AreFit, AreParts, AreRead, GoesOn, HoldsRead, GoesOnFrom, AreReadFor, IsChangeTo, IsJoined, IsListRead, IsListed, IsStart, IsStepBy, held_rows, slots_rows}
+use Rattle.iceberg_change.specs.Behind.{AreFit, AreParts, AreRead, GoesOn, HoldsRead, GoesOnFrom, AreReadFor, IsChangeTo, IsJoined, IsListRead, IsListed, IsStart, IsStepBy, held_rows, others_of, slots_rows}
 use Rattle.iceberg_change.specs.declared.behind.Listed.{Listed}
 use Rattle.iceberg_change.specs.declared.behind.Start.{Start}
 use Rattle.iceberg_change.specs.declared.behind.Step.{Step}
 use Rattle.iceberg_change.specs.declared.joining.Joining.{Joining}
 use Rattle.iceberg_change.specs.declared.joining.Stop.{Stop}
-use Rattle.iceberg_change.proofs.BesideLaws.{all_diff, all_distinct, all_length, left_apart, left_distinct}
+use Rattle.iceberg_change.proofs.BesideLaws.{all_diff, all_distinct, all_length, left_distinct, same_moved}
 use Rattle.iceberg_change.proofs.HeldLaws.{filled_rows, filled_with}
 
 -- ---- what is held at the beginning
@@ -30,11 +31,11 @@ use Rattle.iceberg_change.proofs.HeldLaws.{filled_rows, filled_with}
 itself : (rows : List FileRow) → SameRows rows rows
 itself rows row = (λ h. h, λ h. h)
 
-pub starts_held : (columns : List PartColumn) (before : Table) (manifests : List Manifest) (s : Start) → s.held.slots.items ≡ map Some manifests → s.others.rows ≡ [] → HasDistinctPaths before.rows
+pub starts_held : (columns : List PartColumn) (before : Table) (manifests : List Manifest) (s : Start) → s.held.slots.items ≡ map Some manifests → s.is_held ≡ true → HasDistinctPaths before.rows
     → IsTableOfRows before.schema before.partition (rows_of manifests) before → AreFit columns manifests → IsStart columns before s
-starts_held columns before manifests s slots none own is fit =
-    let rows : rows_of manifests ≡ held_rows s.held ++ s.others.rows =
-    sym (ap (λ l. held_rows s.held ++ l) none ∙ append-nil (held_rows s.held) ∙ ap slots_rows slots ∙ filled_rows manifests) in
+starts_held columns before manifests s slots held own is fit =
+    let rows : rows_of manifests ≡ held_rows s.held ++ others_of s.is_held before.rows =
+    sym (ap (λ b. held_rows s.held ++ others_of b before.rows) held ∙ append-nil (held_rows s.held) ∙ ap slots_rows slots ∙ filled_rows manifests) in
     record {
       same = subst (SameRows before.rows) rows is.same;
       distinct = subst HasDistinctPaths rows is.distinct;
@@ -44,9 +45,10 @@ starts_held columns before manifests s slots none own is fit =
 pub holds_read : (files : Files) (location : List ℕ) (columns : List PartColumn) (manifests : List Manifest) (s : Start) → s.held.slots.items ≡ map Some manifests → AreRead files location columns manifests → HoldsRead files location columns s.held
 holds_read files location columns manifests s slots are = λ m there. are m (filled_with manifests m (subst (λ (l : List (Option Manifest)). Contains l (Some m)) slots there))
 
-pub starts_new : (columns : List PartColumn) (before : Table) (s : Start) → s.held.slots.items ≡ [] → s.others ≡ before → HasDistinctPaths before.rows → IsStart columns before s
+pub starts_new : (columns : List PartColumn) (before : Table) (s : Start) → s.held.slots.items ≡ [] → s.is_held ≡ false → HasDistinctPaths before.rows → IsStart columns before s
 starts_new columns before s slots is own =
-    let rows : before.rows ≡ held_rows s.held ++ s.others.rows = ap (λ (t : Table). t.rows) (sym is) ∙ sym (ap (λ l. slots_rows l ++ s.others.rows) slots) in
+    let rows : before.rows ≡ held_rows s.held ++ others_of s.is_held before.rows =
+    sym (ap (λ b. others_of b before.rows) is) ∙ sym (ap (λ l. slots_rows l ++ others_of s.is_held before.rows) slots) in
     record {
       same = subst (SameRows before.rows) rows (itself before.rows);
       distinct = subst HasDistinctPaths rows own;
@@ -56,7 +58,7 @@ starts_new columns before s slots is own =
     nothing : (m : Manifest) → Contains [] (Some m) → ⊥
     nothing m h = absurd (omega (arith, h.1))
 
-pub parts_of : (columns : List PartColumn) (before : Table) (s : Start) (j : Joining) → IsStart columns before s → IsJoined columns (held_rows s.held) None j → AreParts before.rows s.others.rows (held_rows j.held) j.came.items (rows_of j.manifests)
+pub parts_of : (columns : List PartColumn) (before : Table) (s : Start) (j : Joining) → IsStart columns before s → IsJoined columns (held_rows s.held) None j → AreParts before.rows (others_of s.is_held before.rows) (held_rows j.held) j.came.items (rows_of j.manifests)
 parts_of columns before s j start joined = record { held = held_rows s.held; kept = joined.kept; same = start.same; distinct = start.distinct; split = joined.split; whole = joined.whole }
 
 -- ---- the change
@@ -66,8 +68,15 @@ module _ (before : List FileRow) (start left came all : List FileRow) (parts : A
   pub goes_distinct : HasDistinctPaths left
   goes_distinct = left_distinct before parts.held start parts.kept left came all parts.same parts.distinct parts.split parts.whole
 
-  pub goes_apart : AreApart left start
-  goes_apart = left_apart before parts.held start parts.kept left came all parts.same parts.distinct parts.split parts.whole
+  -- where all rows before are those that weren't held, no row more goes
+  pub goes_before : start ≡ before → SameRows before (start ++ left)
+  goes_before is row = (
+    λ h. Contains-append_left start left row (subst (λ (l : List FileRow). Contains l row) (sym is) h),
+    λ h.
+        ⊎_elim (λ there. subst (λ (l : List FileRow). Contains l row) is there)
+        (λ went. (parts.same row).1 (Contains-append_left parts.held start row ((same_moved parts.held (parts.kept ++ left) parts.split row).1 (Contains-append_right parts.kept left row went))))
+        (Contains-append_cases start left row h),
+  )
 
 module _ (before : List FileRow) (start left came all : List FileRow) (parts : AreParts before start left came all) (own : HasDistinctPaths before)
     (went after : Table) (gone : SameRows went.rows (start ++ left)) (went_own : HasDistinctPaths went.rows) (new : SameRows after.rows came) (after_own : HasDistinctPaths after.rows) (came_own : HasDistinctPaths came)

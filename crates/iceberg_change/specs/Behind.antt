@@ -1,5 +1,5 @@
 -- A snapshot behind the one before it (Iceberg specification, "Manifests", "Manifest Lists" and "Scan Planning").
-use Rattle.std.specs.Prelude.{◌≡◌, ◌≤◌, ◌+◌, ◌++◌, ◌∷◌, [], ℕ, List, flat_map, length, Contains, Option, None, Some}
+use Rattle.std.specs.Prelude.{◌≡◌, ◌≤◌, ◌++◌, ◌∷◌, [], ℕ, Bool, true, false, List, flat_map, length, Contains, Option, None, Some}
 use Rattle.std.specs.List.Sorted.{IsPermutation}
 use Rattle.lake_basics.specs.declared.limits.TheConstants.{MAX_ACTIONS, MAX_LIVE_FILES}
 use Rattle.lake_store.specs.Disk.{Files}
@@ -99,10 +99,15 @@ IsListed files location l = AreReadFor files location l.manifests l.columns
 abbrev pub AreApart : List FileRow → List FileRow → Type 0
 AreApart xs ys = (x y : FileRow) → Contains xs x → Contains ys y → x.path ≡ y.path → ⊥
 
+-- The rows before that aren't those of manifests which are held: none, or all of them.
+abbrev pub others_of : Bool → List FileRow → List FileRow
+others_of true before = []
+others_of false before = before
+
 -- The rows before are those of the manifests that are held, and the others.
 pub record IsStart (columns : List PartColumn) (before : Table) (s : Start) : Type 0 where
-  pub same : SameRows before.rows (held_rows s.held ++ s.others.rows)
-  pub distinct : HasDistinctPaths (held_rows s.held ++ s.others.rows)
+  pub same : SameRows before.rows (held_rows s.held ++ others_of s.is_held before.rows)
+  pub distinct : HasDistinctPaths (held_rows s.held ++ others_of s.is_held before.rows)
   pub fit : HoldsFit columns s.held
 
 -- Of the rows that were held some are those of a manifest that was taken out, and some those of manifests that the list names already. The list's other rows came.

@@ -10,7 +10,7 @@ ghost use Rattle.table_history.specs.declared.row.FileRow.{FileRow};
 ghost use Rattle.iceberg_table.specs.Once.{entries_once};
 ghost use Rattle.iceberg_table.specs.Plan.{part_columns};
 ghost use Rattle.iceberg_table.specs.Tables.{rows_of};
-ghost use Rattle.iceberg_change.specs.Behind.{AreApart, AreFit, AreParts, GoesOn, HoldsRead, IsChangeTo, IsListRead, IsListed, IsStart, IsStep, IsStepBy, held_rows};
+ghost use Rattle.iceberg_change.specs.Behind.{AreApart, AreFit, AreParts, GoesOn, HoldsRead, IsChangeTo, IsListRead, IsListed, IsStart, IsStep, IsStepBy, held_rows, others_of};
 ghost use Rattle.iceberg_change.specs.declared.joining.Stop.TheVariants.{StoreFault};
 
 use crate::held::Held;
@@ -33,20 +33,20 @@ pub struct Listed {
     pub columns: Option<Items<PartColumn>>,
 }
 
-/// What is known of the table before a snapshot: the manifests that are held, and the table of the
-/// rows that aren't theirs.
+/// What is known of the table before a snapshot: the manifests that are held, and whether they are all
+/// that its rows are of. If not, no manifest is held.
 #[derive(Drop)]
 struct Start {
     held: Held,
-    others: Table,
+    is_held: bool,
 }
 
-/// What was read of a snapshot's list for these columns, and the table of the rows before that aren't
-/// those of a manifest.
+/// What was read of a snapshot's list for these columns, and whether the manifests of all rows before
+/// were held.
 #[derive(Drop)]
 struct ListRead {
     columns: Items<PartColumn>,
-    others: Table,
+    is_held: bool,
     joining: Joining,
 }
 
@@ -141,15 +141,15 @@ fn is_within(before: usize, went: usize, came: usize) -> bool
     before.saturating_sub(went).saturating_add(came) as u64 <= MAX_LIVE_FILES
 }
 
-/// The table of the rows that went: those of the start, and those of the manifests that are left.
-fn went_of(alloc: Global, start: Table, left: &Held) -> Result<Table, AllocError>
-    requires distinct { HasDistinctPaths (held_rows left.now) }
-    requires apart { AreApart (held_rows left.now) start.rows }
-    ensures rows { IfOk result (λ t. SameRows t.rows (start.rows ++ held_rows left.now)) }
+/// The table of the rows that went: those of the manifests that are left.
+fn went_of(alloc: Global, left: &Held) -> Result<Table, AllocError>
+    requires { HasDistinctPaths (held_rows left.now) }
+    ensures rows { IfOk result (λ t. SameRows t.rows (held_rows left.now)) }
     ensures own { IfOk result (λ t. HasDistinctPaths t.rows) }
 {
+    let none = Table::empty(alloc, &[])?;
     let left = left.rows(alloc)?;
-    with_rows(alloc, start, left)
+    with_rows(alloc, none, left)
 }
 
 /// The change from the rows that went to those that came, if so many may be live then.
@@ -166,13 +166,40 @@ fn change_within(alloc: Global, count: usize, went: &Table, came: &Table) -> Res
     Ok(went.change_to(alloc, came)?)
 }
 
+/// The change from the rows before to those of the manifests of a list, where these rows went and
+/// these came.
+fn change_over(
+    alloc: Global,
+    before: &Table,
+    count: usize,
+    went: &Table,
+    came: Vec<FileRow>,
+    schema: Schema,
+) -> Result<Change, Stop>
+    requires count { count ≡ length before.now.rows }
+    requires own { HasDistinctPaths before.now.rows }
+    requires went { HasDistinctPaths went.now.rows }
+    ensures change { (others left all : List FileRow)
+        → AreParts before.now.rows others left came.items all
+        → SameRows went.now.rows (others ++ left)
+        → IfOk result (IsChangeTo before.now.rows all) }
+    ensures schema { IfOk result (λ c. c.schema ≡ Some schema) }
+    ensures no_fault { IsErrOf result StoreFault → ⊥ }
+{
+    if !are_free(before, went, came.as_slice()) {
+        return Err(Stop::Scratch);
+    }
+    let came = table_of(alloc, schema, came)?;
+    change_within(alloc, count, went, &came)
+}
+
 /// The change from the rows before to those of the manifests of a list: of these manifests some were
-/// held, and the rows of the others came.
+/// held, and the rows of the others came. If no manifest was held, all rows before went.
 fn change_of(
     alloc: Global,
     before: &Table,
     count: usize,
-    start: Table,
+    is_held: bool,
     left: &Held,
     came: Vec<FileRow>,
     schema: Schema,
@@ -180,19 +207,20 @@ fn change_of(
     requires count { count ≡ length before.now.rows }
     requires own { HasDistinctPaths before.now.rows }
     requires parts { (all : List FileRow)
-        × AreParts before.now.rows start.rows (held_rows left.now) came.items all }
+        × AreParts before.now.rows (others_of is_held before.now.rows) (held_rows left.now)
+        came.items all }
     ensures change { (all : List FileRow)
-        → AreParts before.now.rows start.rows (held_rows left.now) came.items all
+        → AreParts before.now.rows (others_of is_held before.now.rows) (held_rows left.now)
+        came.items all
         → IfOk result (IsChangeTo before.now.rows all) }
     ensures schema { IfOk result (λ c. c.schema ≡ Some schema) }
     ensures no_fault { IsErrOf result StoreFault → ⊥ }
 {
-    let went = went_of(alloc, start, left)?;
-    if !are_free(before, &went, came.as_slice()) {
-        return Err(Stop::Scratch);
+    if !is_held {
+        return change_over(alloc, before, count, before, came, schema);
     }
-    let came = table_of(alloc, schema, came)?;
-    change_within(alloc, count, &went, &came)
+    let went = went_of(alloc, left)?;
+    change_over(alloc, before, count, &went, came, schema)
 }
 
 // ---- a snapshot
@@ -207,34 +235,32 @@ fn is_for(known: &Option<Items<PartColumn>>, columns: &Items<PartColumn>) -> boo
     }
 }
 
-/// These manifests held, beside the table of the rows that aren't theirs.
-fn start_of(alloc: Global, manifests: Items<Manifest>, others: Table) -> Result<Start, AllocError>
+/// These manifests held.
+fn start_of(alloc: Global, manifests: Items<Manifest>, is_held: bool) -> Result<Start, AllocError>
     ensures held { IfOk result (λ s. s.held.slots.items ≡ map Some manifests) }
-    ensures others { IfOk result (λ s. s.others ≡ others) }
+    ensures is_held { IfOk result (λ s. s.is_held ≡ is_held) }
 {
     let held = Held::new(alloc, manifests)?;
-    Ok(Start { held, others })
+    Ok(Start { held, is_held })
 }
 
 /// What is held of the list before, if it was read for these columns.
 fn begin(
     alloc: Global,
-    before: &Table,
+    _before: &Table,
     listed: Listed,
     columns: &Items<PartColumn>,
 ) -> Result<Start, AllocError>
-    requires own { HasDistinctPaths before.now.rows }
-    requires on { GoesOn before.now listed }
-    ensures start { IfOk result (IsStart columns.now before.now) }
+    requires own { HasDistinctPaths _before.now.rows }
+    requires on { GoesOn _before.now listed }
+    ensures start { IfOk result (IsStart columns.now _before.now) }
     ensures read { (files : Files) (location : List ℕ) → IsListed files location listed
         → IfOk result (λ s. HoldsRead files location columns.now s.held) }
 {
     if is_for(&listed.columns, columns) {
-        let none = Table::empty(alloc, before.partition.as_slice())?;
-        return start_of(alloc, listed.manifests, none);
+        return start_of(alloc, listed.manifests, true);
     }
-    let others = before.copy(alloc)?;
-    start_of(alloc, Items::new(alloc), others)
+    start_of(alloc, Items::new(alloc), false)
 }
 
 /// What is read of the list that the plan names, behind what was read of the list before.
@@ -249,7 +275,7 @@ fn read_list<S: Store>(
     requires own { HasDistinctPaths before.now.rows }
     requires on { GoesOn before.now listed }
     ensures columns { IfOk result (λ r. r.columns ≡ part_columns plan.now.columns) }
-    ensures parts { IfOk result (λ r. AreParts before.now.rows r.others.rows
+    ensures parts { IfOk result (λ r. AreParts before.now.rows (others_of r.is_held before.now.rows)
         (held_rows r.joining.held) r.joining.came.items (rows_of r.joining.manifests)) }
     ensures fit { IfOk result (λ r. AreFit r.columns r.joining.manifests) }
     ensures within { IfOk result (λ r. entries_once r.joining.manifests ≤ MAX_ACTIONS) }
@@ -265,12 +291,12 @@ fn read_list<S: Store>(
         Ok(list) => list,
         Err(error) => return Err(stop_for(error)),
     };
-    let Start { held, others } = begin(alloc, before, listed, &columns)?;
+    let Start { held, is_held } = begin(alloc, before, listed, &columns)?;
     let location = metadata.location.as_str();
     let joining = join_list(alloc, store, location, columns.as_slice(), list, held)?;
     Ok(ListRead {
         columns,
-        others,
+        is_held,
         joining,
     })
 }
@@ -285,8 +311,8 @@ fn step_by(
 ) -> Result<Step, Stop>
     requires count { count ≡ length before.now.rows }
     requires own { HasDistinctPaths before.now.rows }
-    requires parts { AreParts before.now.rows read.others.rows (held_rows read.joining.held)
-        read.joining.came.items (rows_of read.joining.manifests) }
+    requires parts { AreParts before.now.rows (others_of read.is_held before.now.rows)
+        (held_rows read.joining.held) read.joining.came.items (rows_of read.joining.manifests) }
     ensures change { IfOk result
         (λ s. IsChangeTo before.now.rows (rows_of read.joining.manifests) s.change) }
     ensures schema { IfOk result (λ s. s.change.schema ≡ Some schema) }
@@ -296,7 +322,7 @@ fn step_by(
 {
     let ListRead {
         columns,
-        others,
+        is_held,
         joining,
     } = read;
     let Joining {
@@ -305,7 +331,7 @@ fn step_by(
         came,
         ..
     } = joining;
-    let change = change_of(alloc, before, count, others, &left, came, schema)?;
+    let change = change_of(alloc, before, count, is_held, &left, came, schema)?;
     Ok(Step {
         change,
         listed: Listed {
