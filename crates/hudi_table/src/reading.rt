@@ -174,7 +174,7 @@ fn first_table(
         Table::empty(alloc, table.partition.as_slice())?,
     )?;
     Ok(Latest {
-        table: none.with_change(alloc, &made.change)?,
+        table: none.with_owned_change(alloc, made.change)?,
         mark: made.mark,
     })
 }
@@ -186,7 +186,7 @@ fn further_table(alloc: Global, latest: Latest, made: InstantChange) -> Result<L
     ensures mark { IfOk result (λ next. next.mark ≡ made.mark) }
 {
     Ok(Latest {
-        table: latest.table.with_change(alloc, &made.change)?,
+        table: latest.table.with_owned_change(alloc, made.change)?,
         mark: made.mark,
     })
 }
