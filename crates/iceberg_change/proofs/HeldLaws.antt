@@ -1,8 +1,8 @@
 -- The manifests that are held, when one of them is taken out.
-use Rattle.std.proofs.Common.{◌≡◌, ◌<◌, ◌+◌, ℕ, zero, suc, List, [], ◌∷◌, ◌++◌, Contains, Option, None, Some, drop, get_or, length, map, slice_get, take, refl, sym, ap, subst, ◌∙◌, ⊎_elim, append_assoc}
+use Rattle.std.proofs.Common.{◌≡◌, ◌<◌, ◌+◌, ℕ, zero, suc, List, [], ◌∷◌, ◌++◌, Contains, Option, None, Some, get_or, length, map, slice_get, take, refl, sym, ap, subst, ◌∙◌, ⊎_elim, append_assoc}
 use Rattle.std.specs.Prelude.{IfSome, slice_set}
 use Rattle.std.specs.List.Sorted.{IsPermutation}
-use Rattle.std.proofs.lemmas.List.{drop_more, map-append, take_more}
+use Rattle.std.proofs.lemmas.List.{map-append, take_more}
 use Rattle.std.proofs.lemmas.List.Sorted.{IsPermutation-append, IsPermutation-append_comm, IsPermutation-refl, IsPermutation-trans}
 use Rattle.std.proofs.lemmas.Option.{same_Some}
 use Rattle.table_history.specs.declared.row.FileRow.{FileRow}
@@ -82,9 +82,11 @@ pushed_more {A} {B} f front rows new items i row item within at put same so_far 
     ∙ append_assoc front (map f (take i items)) (f item ∷ [])
     ∙ ap (λ l. front ++ l) (sym (map-append f (take i items) (item ∷ [])) ∙ ap (λ (x : A). map f (take i items ++ x ∷ [])) at ∙ ap (map f) (sym (take_more items i item within)))
 
+-- one row more behind those that were moved
+pub moved_more : {A B : Type 0} (f : A → B) (rows new all : List B) (rest more : List A) (item : A) → rest ≡ item ∷ more → new ≡ rows ++ f item ∷ [] → rows ++ map f rest ≡ all → new ++ map f more ≡ all
+moved_more {A} {B} f rows new all rest more item next put so_far = ap (λ l. l ++ map f more) put ∙ append_assoc rows (f item ∷ []) (map f more) ∙ sym (ap (λ (l : List A). rows ++ map f l) next) ∙ so_far
+
 -- the rows of one slot more
-pub slots_more : (slots : List (Option Manifest)) (i : ℕ) (slot : Option Manifest) (rows new all : List FileRow) → i < length slots → slot ≡ get_or slots i slot → new ≡ rows ++ slot_rows slot → rows ++ slots_rows (drop i slots) ≡ all → new ++ slots_rows (drop (i + 1) slots) ≡ all
-slots_more slots i slot rows new all within at put so_far =
-    let rest = slots_rows (drop (i + 1) slots) in
-    let here : drop i slots ≡ slot ∷ drop (i + 1) slots = drop_more slots i slot within ∙ ap (λ (s : Option Manifest). s ∷ drop (i + 1) slots) (sym at) in
-    ap (λ l. l ++ rest) put ∙ append_assoc rows (slot_rows slot) rest ∙ sym (ap (λ (l : List (Option Manifest)). rows ++ slots_rows l) here) ∙ so_far
+pub slots_more : (rest more : List (Option Manifest)) (slot : Option Manifest) (rows new all : List FileRow) → rest ≡ slot ∷ more → new ≡ rows ++ slot_rows slot → rows ++ slots_rows rest ≡ all → new ++ slots_rows more ≡ all
+slots_more rest more slot rows new all next put so_far =
+    ap (λ l. l ++ slots_rows more) put ∙ append_assoc rows (slot_rows slot) (slots_rows more) ∙ sym (ap (λ (l : List (Option Manifest)). rows ++ slots_rows l) next) ∙ so_far

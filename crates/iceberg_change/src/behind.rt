@@ -142,13 +142,13 @@ fn is_within(before: usize, went: usize, came: usize) -> bool
 }
 
 /// The table of the rows that went: those of the manifests that are left.
-fn went_of(alloc: Global, left: &Held) -> Result<Table, AllocError>
-    requires { HasDistinctPaths (held_rows left.now) }
-    ensures rows { IfOk result (λ t. SameRows t.rows (held_rows left.now)) }
+fn went_of(alloc: Global, left: Held) -> Result<Table, AllocError>
+    requires { HasDistinctPaths (held_rows left) }
+    ensures rows { IfOk result (λ t. SameRows t.rows (held_rows left)) }
     ensures own { IfOk result (λ t. HasDistinctPaths t.rows) }
 {
     let none = Table::empty(alloc, &[])?;
-    let left = left.rows(alloc)?;
+    let left = left.into_rows(alloc)?;
     with_rows(alloc, none, left)
 }
 
@@ -200,17 +200,17 @@ fn change_of(
     before: &Table,
     count: usize,
     is_held: bool,
-    left: &Held,
+    left: Held,
     came: Vec<FileRow>,
     schema: Schema,
 ) -> Result<Change, Stop>
     requires count { count ≡ length before.now.rows }
     requires own { HasDistinctPaths before.now.rows }
     requires parts { (all : List FileRow)
-        × AreParts before.now.rows (others_of is_held before.now.rows) (held_rows left.now)
+        × AreParts before.now.rows (others_of is_held before.now.rows) (held_rows left)
         came.items all }
     ensures change { (all : List FileRow)
-        → AreParts before.now.rows (others_of is_held before.now.rows) (held_rows left.now)
+        → AreParts before.now.rows (others_of is_held before.now.rows) (held_rows left)
         came.items all
         → IfOk result (IsChangeTo before.now.rows all) }
     ensures schema { IfOk result (λ c. c.schema ≡ Some schema) }
@@ -331,7 +331,7 @@ fn step_by(
         came,
         ..
     } = joining;
-    let change = change_of(alloc, before, count, is_held, &left, came, schema)?;
+    let change = change_of(alloc, before, count, is_held, left, came, schema)?;
     Ok(Step {
         change,
         listed: Listed {

@@ -6,7 +6,7 @@ ghost use Rattle.iceberg_table.specs.Tables.{rows_in};
 ghost use Rattle.iceberg_table.specs.declared.manifest.Manifest.{Manifest};
 ghost use Rattle.iceberg_change.specs.Behind.{IsHeld, NamesSame, held_rows, slot_rows, slots_rows};
 
-use iceberg_live::LiveRow;
+use iceberg_live::{LiveRow, Rows};
 use iceberg_table::{Manifest, ManifestFile};
 use indexmap::IndexMap;
 use lake_basics::{Items, Text};
@@ -44,27 +44,33 @@ pub(crate) fn push_rows(
     Ok(())
 }
 
-/// Puts the rows of the manifest in a slot behind these.
-fn push_slot(
-    alloc: Global,
-    rows: &mut Vec<FileRow>,
-    slot: &Option<Manifest>,
-) -> Result<(), AllocError>
-    ensures { OnOk result (rows.new.items ≡ rows.old.items ++ slot_rows slot.now) }
+/// Moves the rows of live entries behind these.
+fn move_rows(rows: &mut Vec<FileRow>, live: Rows) -> Result<(), AllocError>
+    ensures { OnOk result (rows.new.items ≡ rows.old.items ++ rows_in live) }
+{
+    for found in live.into_vec() {
+        rows.push(found.row)?;
+    }
+    Ok(())
+}
+
+/// Moves the rows of the manifest in a slot behind these.
+fn move_slot(rows: &mut Vec<FileRow>, slot: Option<Manifest>) -> Result<(), AllocError>
+    ensures { OnOk result (rows.new.items ≡ rows.old.items ++ slot_rows slot) }
 {
     match slot {
-        Some(manifest) => push_rows(alloc, rows, manifest.rows.as_slice()),
+        Some(manifest) => move_rows(rows, manifest.rows),
         None => Ok(()),
     }
 }
 
 /// The rows of the manifests in these slots, one slot after another.
-fn slots_rows(alloc: Global, slots: &[Option<Manifest>]) -> Result<Vec<FileRow>, AllocError>
-    ensures { IfOk result (λ rows. rows.items ≡ slots_rows slots.now) }
+fn slots_rows(alloc: Global, slots: Vec<Option<Manifest>>) -> Result<Vec<FileRow>, AllocError>
+    ensures { IfOk result (λ rows. rows.items ≡ slots_rows slots.items) }
 {
     let mut rows = Vec::new(alloc);
     for slot in slots {
-        push_slot(alloc, &mut rows, slot)?;
+        move_slot(&mut rows, slot)?;
     }
     Ok(rows)
 }
@@ -117,9 +123,9 @@ impl Held {
     }
 
     /// The rows of the manifests that are still held.
-    pub fn rows(&self, alloc: Global) -> Result<Vec<FileRow>, AllocError>
-        ensures { IfOk result (λ rows. rows.items ≡ held_rows self.now) }
+    pub fn into_rows(self, alloc: Global) -> Result<Vec<FileRow>, AllocError>
+        ensures { IfOk result (λ rows. rows.items ≡ held_rows self) }
     {
-        slots_rows(alloc, self.slots.as_slice())
+        slots_rows(alloc, self.slots)
     }
 }

@@ -8,19 +8,19 @@ use Rattle.iceberg_change.proofs.behind.change_of.Goals as goal
 pub returns-then-not-is_held-clause-change : goal.returns-then-not-is_held-clause-change
 returns-then-not-is_held-clause-change c = λ all parts.
     let before = c.args.before.now.rows in
-    let left = held_rows c.args.left.now in
+    let left = held_rows c.args.left in
     let none = ap (λ b. others_of b before) c.if-not-is_held.true in
     c.change_over.ensures.change (others_of c.args.is_held before) left all parts (goes_before before (others_of c.args.is_held before) left c.args.came.items all parts none)
 
 pub went_of-requires : goal.went_of-requires
 went_of-requires c =
     let before = c.args.before.now.rows in
-    goes_distinct before (others_of c.args.is_held before) (held_rows c.args.left.now) c.args.came.items c.requires.parts.0 c.requires.parts.1
+    goes_distinct before (others_of c.args.is_held before) (held_rows c.args.left) c.args.came.items c.requires.parts.0 c.requires.parts.1
 
 pub returns-clause-change : goal.returns-clause-change
 returns-clause-change c = λ all parts.
     let before = c.args.before.now.rows in
-    let left = held_rows c.args.left.now in
+    let left = held_rows c.args.left in
     let went : SameRows c.in_ok-went.went.rows (others_of c.args.is_held before ++ left) =
     subst (λ (l : List FileRow). SameRows c.in_ok-went.went.rows (l ++ left)) (sym (ap (λ b. others_of b before) c.if-not-is_held.false)) c.in_ok-went.ensures.rows in
     c.change_over-2.ensures.change (others_of c.args.is_held before) left all parts went

@@ -4,4 +4,4 @@ use Rattle.iceberg_change.proofs.held.slots_rows.Goals as goal
 
 pub loop-slot-preserved : goal.loop-slot-preserved
 loop-slot-preserved c =
-    slots_more c.args.slots.now c.loop-slot.slot-index c.slot-item.result c.loop-slot.rows.items c.push_slot.new.rows.items (slots_rows c.args.slots.now) c.loop-slot-test.true c.slot-item.is c.in_ok-push_slot.ensures c.loop-slot.invariant
+    slots_more c.loop-slot.slot-iterator.rest.items c.next.new.self.rest.items c.in-Some.slot c.loop-slot.rows.items c.move_slot.new.rows.items (slots_rows c.args.slots.items) c.in-Some.ensures.steps.0 c.in_ok-move_slot.ensures c.loop-slot.invariant
