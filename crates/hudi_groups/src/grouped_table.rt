@@ -97,7 +97,7 @@ impl GroupedTable {
     {
         let GroupedTable { mut table, index } = self;
         let next = next_index(alloc, index, &change)?;
-        table.apply_owned(alloc, change)?;
+        table.apply_owned(change)?;
         Ok(GroupedTable { table, index: next })
     }
 

@@ -86,7 +86,7 @@ fn with_rows(alloc: Global, table: Table, rows: Vec<FileRow>) -> Result<Table, A
         added: Items::from_vec(rows),
     };
     let mut table = table;
-    table.apply_owned(alloc, change)?;
+    table.apply_owned(change)?;
     Ok(table)
 }
 

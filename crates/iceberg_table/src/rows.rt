@@ -23,7 +23,7 @@ pub(crate) struct JoinedRows {
 }
 
 /// The table with a row more, of whose path it has none.
-fn with_row(alloc: Global, table: Table, row: FileRow) -> Result<Table, ReadError<Fault>>
+fn with_row(table: Table, row: FileRow) -> Result<Table, ReadError<Fault>>
     ensures found { (schema : ColumnTrees) (partition : List (List ℕ)) (rows : List FileRow)
         → IsTableOfRows schema partition rows table
         → IfOk result (IsTableOfRows schema partition (rows ++ row ∷ [])) }
@@ -34,7 +34,7 @@ fn with_row(alloc: Global, table: Table, row: FileRow) -> Result<Table, ReadErro
         return Err(unsupported(Feature::SharedFile));
     }
     let mut table = table;
-    table.rows.insert(alloc, row)?;
+    table.rows.insert(row)?;
     Ok(table)
 }
 
@@ -52,7 +52,7 @@ fn with_rows(alloc: Global, before: Table, live: Rows) -> Result<JoinedRows, Rea
     let mut rows = Vec::with_capacity(alloc, live.len())?;
     for found in live.into_vec() {
         let row = found.row.copy(alloc)?;
-        let longer = with_row(alloc, table, row)?;
+        let longer = with_row(table, row)?;
         table = longer;
         rows.push(found)?;
     }

@@ -145,7 +145,7 @@ impl FileRows {
 
     /// Puts a row in behind the others, of whose path there is none. For want of memory the rows stay as
     /// they are.
-    pub fn insert(&mut self, _alloc: Global, row: FileRow) -> Result<(), AllocError>
+    pub fn insert(&mut self, row: FileRow) -> Result<(), AllocError>
         requires { ¬ HasPath self.old row.path }
         ensures ok { OnOk result (self.new ≡ self.old ++ row ∷ []) }
         ensures err { OnErr result (self.new ≡ self.old) }

@@ -70,7 +70,7 @@ impl Table {
     }
 
     /// Makes the change as `apply` does. The rows and the schema move into the table, without a copy.
-    pub fn apply_owned(&mut self, _alloc: Global, change: Change) -> Result<(), AllocError>
+    pub fn apply_owned(&mut self, change: Change) -> Result<(), AllocError>
         requires { CanApply self.old change }
         ensures ok { OnOk result (IsAfter self.old change self.new) }
         ensures err { OnErr result (self.new ≡ self.old) }

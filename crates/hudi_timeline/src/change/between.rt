@@ -168,6 +168,6 @@ fn table_of(alloc: Global, rows: Vec<FileRow>) -> Result<Table, AllocError>
         removed: Items::new(alloc),
         added: Items::from_vec(rows),
     };
-    table.apply_owned(alloc, change)?;
+    table.apply_owned(change)?;
     Ok(table)
 }
