@@ -24,7 +24,7 @@ use Rattle.delta_log.specs.declared.error.DeltaError.TheVariants as errors
 use Rattle.delta_change.specs.Change.{HasOtherValue, HasLargeSchema, HasManyFiles, Shows, Passes, commit_features, commit_limits, CanFollow, IsChangeBy, IsChangeOf, IsUnorderedChangeOf, GoesOn, IsChangeRefusal}
 use Rattle.delta_live.specs.Differences.{Difference, IsInOrderOf, IsUnorderedDiff}
 use Rattle.delta_live.specs.Live.{SpellsNoValue, AreRowsBehind, IsSoundRow, PartColumns, ArePartColumns}
-use Rattle.delta_live.specs.RowSteps.{rows_behind, AreRowsOf, HaveValues, PassesOver, IsUnorderedChangeOver, IsRefusalOver}
+use Rattle.delta_live.specs.RowSteps.{rows_behind, AreRowsOf, HaveValues, PassesOver, IsChangeOver, IsRefusalOver}
 use Rattle.delta_change.specs.ChangeSteps.{AreColumnsBehind}
 use Rattle.delta_log.specs.Sound.{IsSound, IsSoundFile, HaveDistinctNames}
 use Rattle.delta_change.specs.TableBehind.{rows_before, schema_before, partition_behind, table_before, Spells, StatesSchema, IsSchemaBehind}
@@ -86,7 +86,7 @@ module _ (c : DeltaCommit) (base : Option Table) (stated : Option ColumnTrees) (
   abbrev behind_of : List FileRow → List FileRow
   behind_of rows = rows_behind (rows_before base) c.files rows
 
-  module _ (change : Change) (over : IsUnorderedChangeOver columns (rows_before base) c.files stated change) where
+  module _ (change : Change) (over : IsChangeOver columns (rows_before base) c.files stated change) where
     the_rows : AreRowsBehind columns (rows_before base) c (behind_of over.rows)
     the_rows = are_behind columns (rows_before base) c over.rows over.distinct sound over.added
 
@@ -172,8 +172,8 @@ no_refusal c base (errors.Limit which) can h = absurd (⊎_elim (λ large. can.s
 -- ---- by the answer of the rows' part
 
 pub over_these : (r : Result Change DeltaError) (cs columns : PartColumns) (rows before : List FileRow) (fs files : List FileAction) (stated : Option ColumnTrees) → cs ≡ columns → rows ≡ before → fs ≡ files
-    → IfOk r (IsUnorderedChangeOver cs rows fs stated) → IfOk r (IsUnorderedChangeOver columns before files stated)
-over_these r cs columns rows before fs files stated ec er ef h = subst (λ (p : PartColumns × (List FileRow × List FileAction)). IfOk r (IsUnorderedChangeOver p.0 p.1.0 p.1.1 stated)) (λ i. (ec i, (er i, ef i))) h
+    → IfOk r (IsChangeOver cs rows fs stated) → IfOk r (IsChangeOver columns before files stated)
+over_these r cs columns rows before fs files stated ec er ef h = subst (λ (p : PartColumns × (List FileRow × List FileAction)). IfOk r (IsChangeOver p.0 p.1.0 p.1.1 stated)) (λ i. (ec i, (er i, ef i))) h
 
 pub told_these : (r : Result Change DeltaError) (cs columns : PartColumns) (rows before : List FileRow) (fs files : List FileAction) → cs ≡ columns → rows ≡ before → fs ≡ files
     → IfErr r (IsRefusalOver cs rows fs) → IfErr r (IsRefusalOver columns before files)
@@ -185,15 +185,15 @@ module _ (c : DeltaCommit) (base : Option Table) (stated : Option ColumnTrees) (
       let names = partition_behind c.meta base in
       columns_distinct (unwrap_or stated (schema_before base)) names columns cols.kinds (names_distinct c base stated cols.stated cols.supported.1.1.1.1.0)
 
-  pub found_by : (r : Result Change DeltaError) → IfOk r (IsUnorderedChangeOver columns (rows_before base) c.files stated) → IfOk r (IsUnorderedChangeOf c base)
+  pub found_by : (r : Result Change DeltaError) → IfOk r (IsChangeOver columns (rows_before base) c.files stated) → IfOk r (IsUnorderedChangeOf c base)
   found_by (Ok change) over = change_is c base stated columns sound cols change over
   found_by (Err e) over = tt
 
-  pub follows_by : (r : Result Change DeltaError) → IfOk r (IsUnorderedChangeOver columns (rows_before base) c.files stated) → OnOk r (CanFollow c base)
+  pub follows_by : (r : Result Change DeltaError) → IfOk r (IsChangeOver columns (rows_before base) c.files stated) → OnOk r (CanFollow c base)
   follows_by (Ok change) over = change_follows c base stated columns sound cols change over
   follows_by (Err e) over = tt
 
-  pub goes_on_by : (r : Result Change DeltaError) → IfOk r (IsUnorderedChangeOver columns (rows_before base) c.files stated) → IfOk r (GoesOn c base)
+  pub goes_on_by : (r : Result Change DeltaError) → IfOk r (IsChangeOver columns (rows_before base) c.files stated) → IfOk r (GoesOn c base)
   goes_on_by (Ok change) over =
       let is = change_is c base stated columns sound cols change over in
       goes_on c base change is (change_supported c base stated columns sound cols change over) (added_sound c base change sound is is.diff.added_rows) (change_applies c base stated columns sound cols change over)

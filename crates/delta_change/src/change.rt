@@ -12,7 +12,7 @@ ghost use Rattle.delta_live.specs.Live.{IsSoundRow};
 ghost use Rattle.delta_log.specs.declared.error.DeltaError.TheVariants as errors;
 
 use crate::columns::columns_of;
-use delta_live::{in_order, unordered_change_over};
+use delta_live::{change_over, in_order};
 use delta_log::{DeltaCommit, DeltaError};
 use std::alloc::Global;
 use table_history::{Change, FileRows, Table};
@@ -34,7 +34,7 @@ pub fn unordered_change_of(
 {
     let columns = columns_of(alloc, commit, base)?;
     let none = FileRows::new(alloc);
-    unordered_change_over(
+    change_over(
         alloc,
         columns.stated,
         columns.columns.as_slice(),

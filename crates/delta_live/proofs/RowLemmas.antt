@@ -16,11 +16,10 @@ use Rattle.delta_log.specs.declared.error.DeltaError.{DeltaError}
 use Rattle.delta_log.specs.declared.error.DeltaError.TheVariants as errors
 use Rattle.delta_log.specs.Judging.{acts_on}
 use Rattle.delta_log.specs.Sound.{IsSound}
-use Rattle.delta_live.specs.Differences.{IsInOrderOf, IsUnorderedDiff}
+use Rattle.delta_live.specs.Differences.{IsUnorderedDiff}
 use Rattle.delta_live.specs.Live.{PartColumns, IsRowBehind, AreRowsBehind, SpellsNoValue}
-use Rattle.delta_live.specs.RowSteps.{Tells, is_kept, rows_behind, AreRowsOf, IsChangeOver, IsUnorderedChangeOver, IsRefusalOver}
+use Rattle.delta_live.specs.RowSteps.{Tells, is_kept, rows_behind, AreRowsOf, IsChangeOver, IsRefusalOver}
 use Rattle.delta_live.proofs.BehindLemmas.{on_path, path_on, behind_distinct}
-use Rattle.delta_live.proofs.DifferenceLemmas.{ordered_diff}
 use Rattle.delta_live.proofs.ValueLemmas.{row_from, row_to, rows_paths}
 
 -- ---- the rows behind
@@ -57,7 +56,7 @@ over_value columns before files (errors.Unsupported feature line) h = (h.0, h.1,
 over_value columns before files (errors.Limit which) h = absurd h
 
 pub over_few : (columns : PartColumns) (before rows : List FileRow) (files : List FileAction) (stated : Option ColumnTrees) (change : Change) → AreRowsOf columns files rows → HasDistinctPaths before → length columns ≤ MAX_PARTITION_COLUMNS
-    → length (rows_behind before files rows) ≤ MAX_LIVE_FILES → change.schema ≡ stated → IsUnorderedDiff before (rows_behind before files rows) change.removed change.added → IsUnorderedChangeOver columns before files stated change
+    → length (rows_behind before files rows) ≤ MAX_LIVE_FILES → change.schema ≡ stated → IsUnorderedDiff before (rows_behind before files rows) change.removed change.added → IsChangeOver columns before files stated change
 over_few columns before rows files stated change added distinct few live schema diff = record {
   stated = schema;
   rows = rows;
@@ -66,16 +65,4 @@ over_few columns before rows files stated change added distinct few live schema 
   diff = diff;
   few_columns = few;
   few_rows = live;
-}
-
-pub ordered_over : (columns : PartColumns) (before : List FileRow) (files : List FileAction) (stated : Option ColumnTrees) (change ordered : Change) → IsUnorderedChangeOver columns before files stated change → IsInOrderOf change ordered
-    → IsChangeOver columns before files stated ordered
-ordered_over columns before files stated change ordered over same = record {
-  stated = same.schema ∙ over.stated;
-  rows = over.rows;
-  added = over.added;
-  distinct = over.distinct;
-  diff = ordered_diff change ordered same before (rows_behind before files over.rows) over.diff;
-  few_columns = over.few_columns;
-  few_rows = over.few_rows;
 }

@@ -7,7 +7,6 @@ use Rattle.indexmap.specs.IndexMap.{IndexMap, get_by}
 use Rattle.lake_basics.specs.declared.limits.TheConstants.{MAX_LIVE_FILES, MAX_PARTITION_COLUMNS}
 use Rattle.table_history.specs.Row.{Row}
 use Rattle.table_history.specs.Rows.{row_at, paths_of, HasDistinctPaths}
-use Rattle.table_history.specs.Tables.{IsDiff}
 use Rattle.table_history.specs.TypeTree.{ColumnTrees}
 use Rattle.table_history.specs.declared.feature.Feature.{Feature}
 use Rattle.table_history.specs.declared.feature.Feature.TheVariants.{PartitionValue}
@@ -22,7 +21,7 @@ use Rattle.delta_log.specs.declared.commit.FileAction.TheVariants as file
 use Rattle.delta_log.specs.declared.error.DeltaError.{DeltaError}
 use Rattle.delta_log.specs.declared.error.DeltaError.TheVariants as errors
 use Rattle.delta_log.specs.Judging.{acts_on}
-use Rattle.delta_live.specs.Differences.{Difference, IsUnorderedDiff}
+use Rattle.delta_live.specs.Differences.{IsUnorderedDiff}
 use Rattle.delta_live.specs.Live.{PartColumns, AddsRow, SpellsNoValue}
 
 -- A refusal that names the feature, and tells of the fact.
@@ -126,23 +125,15 @@ HaveValues columns files = (f : FileAction) (column : List ℕ × PartKind) → 
 
 -- ---- the change
 
--- a change of the rows before, which differs so from those that the actions leave
-pub record IsChangeBy (Diff : Difference) (columns : PartColumns) (before : List Row) (files : List FileAction) (schema : Option ColumnTrees) (change : Change) : Type 0 where
+-- the change that the actions make of these rows, in whatever order
+pub record IsChangeOver (columns : PartColumns) (before : List Row) (files : List FileAction) (schema : Option ColumnTrees) (change : Change) : Type 0 where
   pub stated : change.schema ≡ schema
   pub rows : List Row
   pub added : AreRowsOf columns files rows
   pub distinct : HasDistinctPaths before
-  pub diff : Diff before (rows_behind before files rows) change.removed change.added
+  pub diff : IsUnorderedDiff before (rows_behind before files rows) change.removed change.added
   pub few_columns : length columns ≤ MAX_PARTITION_COLUMNS
   pub few_rows : length (rows_behind before files rows) ≤ MAX_LIVE_FILES
-
--- the change that the actions make of these rows
-abbrev pub IsChangeOver : PartColumns → List Row → List FileAction → Option ColumnTrees → Change → Type 0
-IsChangeOver columns before files schema change = IsChangeBy IsDiff columns before files schema change
-
--- the same in whatever order
-abbrev pub IsUnorderedChangeOver : PartColumns → List Row → List FileAction → Option ColumnTrees → Change → Type 0
-IsUnorderedChangeOver columns before files schema change = IsChangeBy IsUnorderedDiff columns before files schema change
 
 -- The actions pass this number, and none that is told before it.
 abbrev pub PassesOver : PartColumns → List Row → List FileAction → LimitKind → Type 0

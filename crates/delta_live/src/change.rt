@@ -6,10 +6,9 @@ ghost use Rattle.std.specs.Str.{bytes_eq};
 ghost use Rattle.table_history.specs.Rows.{HasDistinctPaths};
 ghost use Rattle.delta_log.specs.Commit.{file_paths};
 ghost use Rattle.delta_log.specs.Sound.{IsSoundFile, HaveDistinctNames};
-ghost use Rattle.delta_live.specs.RowSteps.{rows_behind, IsChangeOver, IsUnorderedChangeOver, IsRefusalOver};
+ghost use Rattle.delta_live.specs.RowSteps.{rows_behind, IsChangeOver, IsRefusalOver};
 
 use crate::between::{change_between, held_count};
-use crate::order::in_order;
 use crate::rows::rows_of;
 use crate::texts::judged_values;
 use delta_log::{DeltaError, FileAction};
@@ -40,35 +39,10 @@ fn has_many_files(before: &FileRows, files: &[FileAction], rows: &[FileRow]) -> 
     all > most && all - u128::from(held_count(before, files)) > most
 }
 
-/// The change that file actions make of the rows before, as `change_over` gives it, but in no order.
-pub fn unordered_change_over(
-    alloc: Global,
-    stated: Option<Schema>,
-    columns: &[(Text, PartKind)],
-    before: &FileRows,
-    files: &[FileAction],
-) -> Result<Change, DeltaError>
-    requires names { HaveDistinctNames columns.now }
-    requires sound { All IsSoundFile files.now }
-    requires distinct { IsDistinct bytes_eq (file_paths files.now) }
-    ensures ok { IfOk result (IsUnorderedChangeOver columns.now before.now files.now stated) }
-    ensures refused { IfErr result (IsRefusalOver columns.now before.now files.now) }
-{
-    if columns.len() as u64 > MAX_PARTITION_COLUMNS {
-        judged_values(alloc, columns, files)?;
-        return Err(MANY_COLUMNS);
-    }
-    let rows = rows_of(alloc, columns, files)?;
-    if has_many_files(before, files, rows.as_slice()) {
-        return Err(MANY_FILES);
-    }
-    Ok(change_between(alloc, stated, before, files, rows)?)
-}
-
 /// The change that file actions make of the rows before (Delta protocol, "Action Reconciliation"), with
-/// the kinds of the partition columns and the schema that it states. Refused are a text that stands
-/// for no value of its column, and then too many columns and too many live files. With too many
-/// columns no row is made.
+/// the kinds of the partition columns and the schema that it states. Its parts are in no order. Refused
+/// are a text that stands for no value of its column, and then too many columns and too many live
+/// files. With too many columns no row is made.
 pub fn change_over(
     alloc: Global,
     stated: Option<Schema>,
@@ -82,6 +56,13 @@ pub fn change_over(
     ensures ok { IfOk result (IsChangeOver columns.now before.now files.now stated) }
     ensures refused { IfErr result (IsRefusalOver columns.now before.now files.now) }
 {
-    let change = unordered_change_over(alloc, stated, columns, before, files)?;
-    Ok(in_order(change)?)
+    if columns.len() as u64 > MAX_PARTITION_COLUMNS {
+        judged_values(alloc, columns, files)?;
+        return Err(MANY_COLUMNS);
+    }
+    let rows = rows_of(alloc, columns, files)?;
+    if has_many_files(before, files, rows.as_slice()) {
+        return Err(MANY_FILES);
+    }
+    Ok(change_between(alloc, stated, before, files, rows)?)
 }

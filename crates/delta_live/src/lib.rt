@@ -8,5 +8,5 @@ mod order;
 mod rows;
 mod texts;
 
-pub use change::{change_over, unordered_change_over};
+pub use change::change_over;
 pub use order::in_order;

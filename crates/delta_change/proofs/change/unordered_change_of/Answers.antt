@@ -8,8 +8,8 @@ use Rattle.delta_change.proofs.ColumnLemmas.{columns_given, columns_told}
 use Rattle.delta_change.proofs.ChangeLemmas.{over_these, told_these, distinct_columns, found_by, follows_by, goes_on_by, refused_by}
 use Rattle.delta_change.proofs.change.unordered_change_of.Goals as goal
 
-pub unordered_change_over-requires-clause-names : goal.unordered_change_over-requires-clause-names
-unordered_change_over-requires-clause-names c =
+pub change_over-requires-clause-names : goal.change_over-requires-clause-names
+change_over-requires-clause-names c =
     let commit = c.args.commit.now in
     let base = option_copied c.args.base in
     let stated = c.in_ok-columns.columns.stated in
@@ -22,10 +22,10 @@ returns c =
     let base = option_copied c.args.base in
     let stated = c.in_ok-columns.columns.stated in
     let columns = c.in_ok-columns.columns.columns in
-    let r = c.unordered_change_over.result in
+    let r = c.change_over.result in
     let cols = columns_given commit base stated columns c.in_ok-columns.ensures in
-    let over = over_these r c.as_slice.result.now columns c.rows_before.result.now (rows_before base) c.as_slice-2.result.now commit.files stated c.as_slice.ensures c.rows_before.ensures c.as_slice-2.ensures c.unordered_change_over.ensures.ok in
-    let told = told_these r c.as_slice.result.now columns c.rows_before.result.now (rows_before base) c.as_slice-2.result.now commit.files c.as_slice.ensures c.rows_before.ensures c.as_slice-2.ensures c.unordered_change_over.ensures.refused in
+    let over = over_these r c.as_slice.result.now columns c.rows_before.result.now (rows_before base) c.as_slice-2.result.now commit.files stated c.as_slice.ensures c.rows_before.ensures c.as_slice-2.ensures c.change_over.ensures.ok in
+    let told = told_these r c.as_slice.result.now columns c.rows_before.result.now (rows_before base) c.as_slice-2.result.now commit.files c.as_slice.ensures c.rows_before.ensures c.as_slice-2.ensures c.change_over.ensures.refused in
     record {
       found = found_by commit base stated columns c.requires cols r over;
       follows = follows_by commit base stated columns c.requires cols r over;
