@@ -50,6 +50,7 @@ value_step (Value-F.Enum i) = enum_of i
 value_step (Value-F.Array vs) = array_of (values_of vs.items)
 value_step (Value-F.Map es) = map_of (entries_of es.items)
 value_step (Value-F.Union i v) = union_of i v.value
+value_step (Value-F.NullBranch i) = union_of i null
 value_step (Value-F.Fields vs) = record_of (values_of vs.items)
 
 abbrev pub value_tree : Value → ValueTree

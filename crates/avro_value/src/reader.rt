@@ -1,6 +1,6 @@
 //! Reading values with parts.
 
-ghost use Rattle.std.specs.Prelude.{◌≡◌, map, length};
+ghost use Rattle.std.specs.Prelude.{◌≡◌, map, length, IfOk};
 ghost use Rattle.avro_value.specs.Layout.{layout, field_layout, layouts_of};
 ghost use Rattle.avro_value.specs.ValueTree.{value_tree, entry_tree, ValueTree, values_of, entries_of};
 ghost use Rattle.lake_basics.specs.Outcome.{Gives};
@@ -13,7 +13,7 @@ use crate::leaf;
 use crate::value::Value;
 use avro_schema::{Field, Schema, Shape};
 use lake_basics::{ReadError, Text};
-use std::alloc::Global;
+use std::alloc::{AllocError, Global};
 
 /// A value, which counts as soon as it begins.
 #[cycle(decode)]
@@ -204,6 +204,16 @@ fn one_entry(
     Ok((key, value))
 }
 
+/// The value of a union's branch. Null takes no memory.
+fn branch(alloc: Global, index: u32, value: Value) -> Result<Value, AllocError>
+    ensures { IfOk result (λ v. value_tree v ≡ ValueTree.union_of index (value_tree value)) }
+{
+    match value {
+        Value::Null => Ok(Value::NullBranch(index)),
+        value => Ok(Value::Union(index, Box::new(alloc, value)?)),
+    }
+}
+
 #[cycle(decode)]
 fn union(
     alloc: Global,
@@ -216,7 +226,7 @@ fn union(
 {
     let index = leaf::index(branches.len(), input)?;
     let inner = value(alloc, &branches[index as usize], input)?;
-    Ok(Value::Union(index, Box::new(alloc, inner)?))
+    Ok(branch(alloc, index, inner)?)
 }
 
 /// The values of a record's fields.

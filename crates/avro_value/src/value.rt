@@ -20,6 +20,8 @@ pub enum Value {
     Map(Vec<(Text, Value)>),
     /// The index of a branch, and the value of that branch.
     Union(u32, Box<Value>),
+    /// The index of a branch that is null. It stands for the same as `Union` with `Null`.
+    NullBranch(u32),
     /// A record's values, in the order of its fields.
     Fields(Vec<Value>),
 }

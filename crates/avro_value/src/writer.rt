@@ -167,6 +167,7 @@ pub fn push_value(out: &mut Vec<u8>, value: &Value) -> Result<(), AllocError>
             push_index(out, *index)?;
             push_value(out, inner)
         }
+        Value::NullBranch(index) => push_index(out, *index),
         Value::Fields(values) => push_values(out, values),
     }
 }

@@ -87,8 +87,11 @@ fn value_if_any(values: &[Value], place: Option<usize>) -> Option<&Value>
 fn part(alloc: Global, values: &[Value], column: ColumnPlace) -> Reading<PartValue>
     ensures { Gives (λ v. v) result (part_at (values_of (map value_tree values.now)) column) }
 {
-    match value_if_any(values, column.place) {
-        Some(value) => part_value(alloc, column.kind, branch(value)),
+    let Some(value) = value_if_any(values, column.place) else {
+        return Ok(PartValue::Null);
+    };
+    match branch(value) {
+        Some(branch) => part_value(alloc, column.kind, branch),
         None => Ok(PartValue::Null),
     }
 }

@@ -1,8 +1,8 @@
 //! Values of the fields of an Avro record.
 
-ghost use Rattle.std.specs.Prelude.{◌≡◌, ◌<◌, ◌^◌, map, option_map, IfOk};
+ghost use Rattle.std.specs.Prelude.{◌≡◌, ◌<◌, ◌^◌, map, option_map, IfOk, MatchOption};
 ghost use Rattle.lake_basics.specs.Outcome.{Gives};
-ghost use Rattle.avro_value.specs.ValueTree.{value_tree, values_of};
+ghost use Rattle.avro_value.specs.ValueTree.{null, value_tree, values_of};
 ghost use Rattle.partition_map.specs.Avro.{branch_of};
 ghost use Rattle.iceberg_manifest.specs.Values.{value_at as value_in, whole_value as whole_of, whole_at as whole_in, whole_if_any as whole_if_any_in, required_whole as required_whole_in, whole_or_zero as whole_or_zero_in, sequence_at, int_of, natural_of, required_int as required_int_in, required_natural as required_natural_in, text_value, required_text as required_text_in, record_value, required_record as required_record_in};
 
@@ -11,13 +11,15 @@ use iceberg_manifest::{FLAW, Reading};
 use lake_basics::Text;
 use std::alloc::Global;
 
-/// The value of a union's branch, or of a field that is no union.
-pub(crate) fn branch(value: &Value) -> &Value
-    ensures { value_tree result.now ≡ branch_of (value_tree value.now) }
+/// The value of a union's branch, or of a field that is no union. `None` stands for null.
+pub(crate) fn branch(value: &Value) -> Option<&Value>
+    ensures { MatchOption result (branch_of (value_tree value.now) ≡ null)
+        (λ branch. value_tree branch.now ≡ branch_of (value_tree value.now)) }
 {
     match value {
-        Value::Union(_, branch) => branch,
-        _ => value,
+        Value::Union(_, branch) => Some(branch),
+        Value::NullBranch(_) => None,
+        _ => Some(value),
     }
 }
 
@@ -48,8 +50,11 @@ fn whole(value: &Value) -> Reading<Option<i64>>
 fn whole_at(values: &[Value], place: usize) -> Reading<Option<i64>>
     ensures { Gives (λ n. n) result (whole_in (values_of (map value_tree values.now)) place) }
 {
-    match value_at(values, place) {
-        Some(value) => whole(branch(value)),
+    let Some(value) = value_at(values, place) else {
+        return Ok(None);
+    };
+    match branch(value) {
+        Some(branch) => whole(branch),
         None => Ok(None),
     }
 }
@@ -150,8 +155,11 @@ pub(crate) fn required_text(values: &[Value], place: usize) -> Reading<&Text>
     ensures { Gives (λ t. t.now) result
         (required_text_in (values_of (map value_tree values.now)) place) }
 {
-    match value_at(values, place) {
-        Some(value) => text(branch(value)),
+    let Some(value) = value_at(values, place) else {
+        return Err(FLAW);
+    };
+    match branch(value) {
+        Some(branch) => text(branch),
         None => Err(FLAW),
     }
 }
@@ -172,8 +180,11 @@ pub(crate) fn required_record(values: &[Value], place: usize) -> Reading<&Vec<Va
     ensures { Gives (λ vs. values_of (map value_tree vs.now.items)) result
         (required_record_in (values_of (map value_tree values.now)) place) }
 {
-    match value_at(values, place) {
-        Some(value) => record(branch(value)),
+    let Some(value) = value_at(values, place) else {
+        return Err(FLAW);
+    };
+    match branch(value) {
+        Some(branch) => record(branch),
         None => Err(FLAW),
     }
 }

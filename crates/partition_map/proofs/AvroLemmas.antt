@@ -26,7 +26,7 @@ text_tree t = search (rules, the_lemmas)
 stands_at : (k l : kind.the_data) (w : Value) (t : ValueTree) (v : PartValue) → k ≡ l → value_tree w ≡ t → BranchStands l t v → BranchStands k (value_tree w) v
 stands_at k l w t v same tree h = subst (λ k'. BranchStands k' (value_tree w) v) (sym same) (subst (λ t'. BranchStands l t' v) (sym tree) h)
 
-null_branch : (k : kind.the_data) → BranchStands k ValueTree.null value.Null
+pub null_branch : (k : kind.the_data) → BranchStands k ValueTree.null value.Null
 null_branch kind.Boolean = refl
 null_branch kind.Int = refl
 null_branch kind.Long = refl

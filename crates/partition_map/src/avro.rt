@@ -1,6 +1,6 @@
 //! Partition values as Avro values.
-ghost use Rattle.std.specs.Prelude.{◌≡◌, ◌↔◌, IfOk, IfErr, IsErrOf};
-ghost use Rattle.avro_value.specs.ValueTree.{value_tree};
+ghost use Rattle.std.specs.Prelude.{◌≡◌, ◌↔◌, IfOk, IfErr, IsErrOf, MatchOption};
+ghost use Rattle.avro_value.specs.ValueTree.{null, value_tree};
 ghost use Rattle.table_history.specs.declared.row.PartValue.{PartValue};
 ghost use Rattle.partition_map.specs.Avro.{branch_of, BranchStands, AvroStands, avro_value_of};
 ghost use Rattle.partition_map.specs.Errors.{IsReadingError};
@@ -23,16 +23,21 @@ pub fn from_avro_value(alloc: Global, kind: PartKind, value: &Value) -> Result<P
         ↔ ((v : PartValue) → ¬ AvroStands kind (value_tree value.now) v) }
     ensures refused { IfErr result IsReadingError }
 {
-    branch_value(alloc, kind, branch_of(value))
+    match branch_of(value) {
+        Some(branch) => branch_value(alloc, kind, branch),
+        None => Ok(PartValue::Null),
+    }
 }
 
-// The value of a union's branch, or of a field that is no union.
-fn branch_of(value: &Value) -> &Value
-    ensures { value_tree result.now ≡ branch_of (value_tree value.now) }
+// The value of a union's branch, or of a field that is no union. `None` stands for null.
+fn branch_of(value: &Value) -> Option<&Value>
+    ensures { MatchOption result (branch_of (value_tree value.now) ≡ null)
+        (λ branch. value_tree branch.now ≡ branch_of (value_tree value.now)) }
 {
     match value {
-        Value::Union(_, branch) => branch,
-        _ => value,
+        Value::Union(_, branch) => Some(branch),
+        Value::NullBranch(_) => None,
+        _ => Some(value),
     }
 }
 

@@ -7,7 +7,7 @@ use Rattle.avro_value.specs.Reading.{content_at, union_at, branch_at, value_at, 
 use Rattle.avro_value.proofs.Layouts.{lay, field_layout_is, shape-Null, shape-Boolean, shape-Int, shape-Long, shape-Float, shape-Double, shape-Bytes, shape-Text, shape-Fixed, shape-Enum, shape-Array, shape-Map, shape-Union, shape-Fields, count_of_branches, branch_there, fields_from, fields_end}
 use Rattle.avro_schema.specs.declared.schema.Schema.{Schema}
 use Rattle.avro_value.proofs.Loops.{read_behind-nil, fails_mapped, fails_bind, many_goes, many_fails, many_done, blocks_begin, blocks_goes, blocks_done, blocks_fails, blocks_past, parts_goes, parts_fails, parts_done}
-use Rattle.avro_value.proofs.Values.{value_tree-Null, value_tree-Array, value_tree-Map, value_tree-Union, value_tree-Fields}
+use Rattle.avro_value.proofs.Values.{value_tree-Null, value_tree-Array, value_tree-Map, value_tree-Fields}
 use Rattle.avro_value.proofs.BareValues.{idle_value, idle_behind}
 use Rattle.avro_value.proofs.reader.+decode.Goals as goal
 
@@ -192,4 +192,4 @@ union-returns t c =
     let budget = c.index.new.input.budget in
     let b : branch_at (layouts_of (map layout bs.items)) c.in_ok-index.index rest budget ≡ value_at (layout c.index-2.result.now) rest budget =
     branch_there bs.items c.in_ok-index.index c.index-2.result.now rest budget lt ∙ ap (λ (s : Schema). value_at (layout s) rest budget) (sym c.index-2.ensures) in
-    rw (n, c.in_ok-index.ensures.read, b, c.in_ok-inner.ensures, value_tree-Union, c.in_ok-new.ensures.ok) refl
+    rw (n, c.in_ok-index.ensures.read, b, c.in_ok-inner.ensures, c.in_ok-branch.ensures) refl
