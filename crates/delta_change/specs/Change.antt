@@ -139,7 +139,7 @@ pub record CanFollow (c : DeltaCommit) (base : Option Table) : Type 0 where
   pub schema : (which : LimitKind) → ¬ HasLargeSchema c which
   pub within : NoneOf (Passes c base) commit_limits
 
--- A change of the table before, with the schema that the commit states, which differs so from the rows behind the commit.
+-- A change of the table before, with the schema that the commit states, where `Diff` says what its parts have to do with the rows before the commit and those behind it.
 pub record IsChangeBy (Diff : Difference) (c : DeltaCommit) (base : Option Table) (change : Change) : Type 0 where
   pub stated : StatesSchema c.meta change.schema
   pub columns : PartColumns
