@@ -1,13 +1,11 @@
 //! Bytes that a contract sees as a list.
-ghost use Rattle.std.specs.Prelude.{◌≡◌, ◌<◌, ◌^◌, ◌↔◌, [], length, replicate, IfOk, IsTrue, Some, refl};
+ghost use Rattle.std.specs.Prelude.{◌≡◌, ◌<◌, ◌^◌, ◌↔◌, [], ◌∷◌, length, replicate, IfOk, IsTrue, Some, refl};
 ghost use Rattle.std.specs.Str.{bytes_eq};
 ghost use Rattle.std.specs.Ordering.{nat_cmp};
-ghost use Rattle.std.specs.Cmp.Lexicographic.{slice_cmp, texts_po, texts_ties};
+ghost use Rattle.std.specs.Cmp.Lexicographic.{bytes_decides, slice_cmp, texts_po, texts_ties};
 ghost use Rattle.std.proofs.lemmas.Cmp.{nat_list_eq_equiv, nat_list_cmp_total};
-ghost use Rattle.std.specs.Hash as fed;
 ghost use Rattle.std.specs.Cmp as cmp;
-ghost use Rattle.std.specs.Cmp.Rules.{hashing};
-ghost use Rattle.std.proofs.Common.{rules};
+ghost use Rattle.std.proofs.Common.{ap};
 
 use std::alloc::{AllocError, Global};
 use std::cmp::Ordering;
@@ -138,12 +136,13 @@ impl Ord for Blob {
     }
 }
 
+/// The bytes are hashed in one write. A slice's own hash takes them one by one.
 impl Hash for Blob {
-    ghost hash_input = { fed.slice fed.u8 };
+    ghost hash_input = { λ b. b ∷ [] };
 
-    ghost respects_eq = { Prim.search (hashing, rules) };
+    ghost respects_eq = { λ x y same. ap (λ b. b ∷ []) ((bytes_decides x y).0 same) };
 
     fn hash<H: Hasher>(&self, state: &mut H) {
-        self.as_slice().hash(state);
+        state.write(self.as_slice());
     }
 }
