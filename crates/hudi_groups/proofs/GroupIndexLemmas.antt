@@ -13,7 +13,6 @@ use Rattle.std.proofs.lemmas.Cmp.{nat_list_eq_equiv}
 use Rattle.std.proofs.lemmas.List.Elements.{Contains-append_left, Contains-append_right, Contains-append_cases}
 use Rattle.std.proofs.lemmas.Map.Keys.{IsDistinct-head, IsDistinct-tail}
 use Rattle.std.proofs.lemmas.Slice.Eq.{bytes_eq-Decides}
-use Rattle.hudi_groups.specs.PathKeys.{Key, key_eq}
 use Rattle.table_history.specs.Rows.{HasDistinctPaths, SameRows}
 use Rattle.table_history.specs.Tables.{IsAfter}
 use Rattle.table_history.specs.declared.row.FileRow.{FileRow}
@@ -53,28 +52,28 @@ and_step false false a = refl
 
 -- ---- the paths of one group
 
-other_keys : (test : Key → Bool) (old new : List Key) → set.KeepsOthers key_eq test old new → (other : Key → Bool) → IsKeyTest key_eq other → AreApart test other → list_any other new ≡ list_any other old
+other_keys : (test : List ℕ → Bool) (old new : List (List ℕ)) → set.KeepsOthers bytes_eq test old new → (other : List ℕ → Bool) → IsKeyTest bytes_eq other → AreApart test other → list_any other new ≡ list_any other old
 unfolding set.KeepsOthers
 other_keys test old new h = h
 
-pub has_group-remove : (path : List ℕ) (old new : Groups) → UpdatesBy key_eq (λ k. bytes_eq path k.items) old new false
+pub has_group-remove : (path : List ℕ) (old new : Groups) → UpdatesBy bytes_eq (bytes_eq path) old new false
     → (p : List ℕ) → has_group new p ≡ (not (bytes_eq p path) && has_group old p)
 has_group-remove path old new h p =
     ⊎_elim
     (λ y. subst (λ l. has_group new l ≡ false) ((bytes_eq-Decides path p).0 y) h.1 ∙ ap (λ b. not b && has_group old p) (sym (nat_list_eq_equiv.symm p path ∙ y)))
-    (λ n. other_keys (λ k. bytes_eq path k.items) old.keys new.keys h.3 (λ k. bytes_eq p k.items) (λ x y. nat_list_eq_equiv.congr p x.items y.items) (λ k. apart_from_same path p k.items n)
+    (λ n. other_keys (bytes_eq path) old.keys new.keys h.3 (bytes_eq p) (nat_list_eq_equiv.congr p) (λ k. apart_from_same path p k n)
     ∙ ap (λ b. not b && has_group old p) (sym (nat_list_eq_equiv.symm p path ∙ n)))
     (cases_Bool (bytes_eq path p))
 
 -- ---- a change at one group
 abbrev pub at : Index → List ℕ → Option Paths
-at index q = get_by (λ k. bytes_eq q k.items) index
+at index q = get_by (bytes_eq q) index
 
-others : (g : List ℕ) (old new : Index) → KeepsOthers key_eq (λ k. bytes_eq g k.items) old.entries new.entries → (q : List ℕ) → bytes_eq g q ≡ false → at new q ≡ at old q
+others : (g : List ℕ) (old new : Index) → KeepsOthers bytes_eq (bytes_eq g) old.entries new.entries → (q : List ℕ) → bytes_eq g q ≡ false → at new q ≡ at old q
 unfolding KeepsOthers
-others g old new h q n = h (λ k. bytes_eq q k.items) (λ x y. nat_list_eq_equiv.congr q x.items y.items) (λ k. apart_from_same g q k.items n)
+others g old new h q n = h (bytes_eq q) (nat_list_eq_equiv.congr q) (λ k. apart_from_same g q k n)
 
-pub at_update : (g : List ℕ) (old new : Index) (w : Option Paths) → at new g ≡ w → KeepsOthers key_eq (λ k. bytes_eq g k.items) old.entries new.entries
+pub at_update : (g : List ℕ) (old new : Index) (w : Option Paths) → at new g ≡ w → KeepsOthers bytes_eq (bytes_eq g) old.entries new.entries
     → (q : List ℕ) → at new q ≡ cond (bytes_eq g q) w (at old q)
 at_update g old new w here rest q =
     ⊎_elim
@@ -83,7 +82,7 @@ at_update g old new w here rest q =
     (cases_Bool (bytes_eq g q))
 
 -- the group is put where there is none
-pub group_put : (g : List ℕ) (old new : Index) (paths : Paths) → at new g ≡ Some paths → KeepsOthers key_eq (λ k. bytes_eq g k.items) old.entries new.entries
+pub group_put : (g : List ℕ) (old new : Index) (paths : Paths) → at new g ≡ Some paths → KeepsOthers bytes_eq (bytes_eq g) old.entries new.entries
     → (q p : List ℕ) → has_path new q p ≡ cond (bytes_eq g q) (is_among p (Some paths)) (has_path old q p)
 group_put g old new paths puts rest q p =
     ⊎_elim
@@ -91,7 +90,7 @@ group_put g old new paths puts rest q p =
     (λ n. ap (is_among p) (at_update g old new (Some paths) puts rest q ∙ cond-false (bytes_eq g q) (Some paths) (at old q) n) ∙ sym (cond-false (bytes_eq g q) (is_among p (Some paths)) (has_path old q p) n))
     (cases_Bool (bytes_eq g q))
 
-module _ (g path : List ℕ) (old mid new : Index) (paths : Option Paths) (named : g ≡ group_name Base path) (gone : at mid g ≡ None) (rest : KeepsOthers key_eq (λ k. bytes_eq g k.items) old.entries mid.entries)
+module _ (g path : List ℕ) (old mid new : Index) (paths : Option Paths) (named : g ≡ group_name Base path) (gone : at mid g ≡ None) (rest : KeepsOthers bytes_eq (bytes_eq g) old.entries mid.entries)
     (puts : (q p : List ℕ) → has_path new q p ≡ cond (bytes_eq g q) (is_among p paths) (has_path mid q p)) where
   here : (q p : List ℕ) → bytes_eq g q ≡ true → has_path new q p ≡ is_among p paths
   here q p y = puts q p ∙ cond-true (bytes_eq g q) (is_among p paths) (has_path mid q p) y
@@ -162,74 +161,74 @@ module _ (old : Table) (change : Change) (new : Table) (after : IsAfter old chan
 
 -- ---- what is found
 module _ (rows : List FileRow) where
-  among-is : (q : List ℕ) (paths : List Key) (row : FileRow) → Contains (rows_among rows q paths) row → Contains rows row × (group_name Base row.path ≡ q) × ((k : Key) × Contains paths k × (row.path ≡ k.items))
+  among-is : (q : List ℕ) (paths : List (List ℕ)) (row : FileRow) → Contains (rows_among rows q paths) row → Contains rows row × (group_name Base row.path ≡ q) × ((k : List ℕ) × Contains paths k × (row.path ≡ k))
   among-is q [] row h = absurd (Contains-none row h)
   among-is q (k ∷ ks) row h =
       ⊎_elim
-      (λ a. let is = row_in_group-is Base rows q k.items row a in (is.0, is.2, (k, Contains-head k ks, is.1)))
+      (λ a. let is = row_in_group-is Base rows q k row a in (is.0, is.2, (k, Contains-head k ks, is.1)))
       (λ b. let is = among-is q ks row b in (is.0, is.1, (is.2.0, Contains-tail k ks is.2.0 is.2.1, is.2.2)))
-      (Contains-append_cases (row_in_group Base rows q k.items) (rows_among rows q ks) row h)
+      (Contains-append_cases (row_in_group Base rows q k) (rows_among rows q ks) row h)
 
-  among-distinct : (q : List ℕ) (paths : List Key) → IsDistinct key_eq paths → HasDistinctPaths (rows_among rows q paths)
+  among-distinct : (q : List ℕ) (paths : List (List ℕ)) → IsDistinct bytes_eq paths → HasDistinctPaths (rows_among rows q paths)
   among-distinct q [] unique = distinct_none
   among-distinct q (k ∷ ks) unique =
-      distinct_append (row_in_group Base rows q k.items) (rows_among rows q ks) (row_in_group-distinct Base rows q k.items) (among-distinct q ks (IsDistinct-tail key_eq k ks unique))
+      distinct_append (row_in_group Base rows q k) (rows_among rows q ks) (row_in_group-distinct Base rows q k) (among-distinct q ks (IsDistinct-tail bytes_eq k ks unique))
       (λ x y in_x in_y same.
-      let first = row_in_group-is Base rows q k.items x in_x in
+      let first = row_in_group-is Base rows q k x in_x in
       let later = (among-is q ks y in_y).2 in
-      let differ : bytes_eq k.items later.0.items ≡ false = all_at (λ l. key_eq k l ≡ false) ks later.0 (IsDistinct-head key_eq k ks unique) later.1 in
-      false≢true (sym differ ∙ (bytes_eq-Decides k.items later.0.items).1 (sym first.1 ∙ same ∙ later.2)))
+      let differ : bytes_eq k later.0 ≡ false = all_at (λ l. bytes_eq k l ≡ false) ks later.0 (IsDistinct-head bytes_eq k ks unique) later.1 in
+      false≢true (sym differ ∙ (bytes_eq-Decides k later.0).1 (sym first.1 ∙ same ∙ later.2)))
 
-  among-has : (q : List ℕ) (paths : List Key) (k : Key) (row : FileRow) → HasDistinctPaths rows → Contains rows row → group_name Base row.path ≡ q → Contains paths k → row.path ≡ k.items
+  among-has : (q : List ℕ) (paths : List (List ℕ)) (k : List ℕ) (row : FileRow) → HasDistinctPaths rows → Contains rows row → group_name Base row.path ≡ q → Contains paths k → row.path ≡ k
       → Contains (rows_among rows q paths) row
   among-has q [] k row distinct there group in_paths is = absurd (Contains-none k in_paths)
   among-has q (l ∷ ls) k row distinct there group in_paths is =
       ⊎_elim
-      (λ same. Contains-append_left (row_in_group Base rows q l.items) (rows_among rows q ls) row
-      (row_in_group-has Base rows q l.items row distinct (there, is ∙ sym (ap (λ (v : Key). v.items) same), group)))
-      (λ later. Contains-append_right (row_in_group Base rows q l.items) (rows_among rows q ls) row (among-has q ls k row distinct there group later is))
+      (λ same. Contains-append_left (row_in_group Base rows q l) (rows_among rows q ls) row
+      (row_in_group-has Base rows q l row distinct (there, is ∙ sym same, group)))
+      (λ later. Contains-append_right (row_in_group Base rows q l) (rows_among rows q ls) row (among-has q ls k row distinct there group later is))
       (Contains-cases l ls k in_paths)
 
   module _ (index : Index) where
-    found-is : (keys : List Key) (row : FileRow) → Contains (rows_by_index rows index keys) row → Contains rows row × ((k : Key) × Contains keys k × (group_name Base row.path ≡ k.items))
+    found-is : (keys : List (List ℕ)) (row : FileRow) → Contains (rows_by_index rows index keys) row → Contains rows row × ((k : List ℕ) × Contains keys k × (group_name Base row.path ≡ k))
     found-is [] row h = absurd (Contains-none row h)
     found-is (k ∷ ks) row h =
         ⊎_elim
-        (λ a. let is = among-is k.items (paths_at index k.items) row a in (is.0, (k, Contains-head k ks, is.1)))
+        (λ a. let is = among-is k (paths_at index k) row a in (is.0, (k, Contains-head k ks, is.1)))
         (λ b. let is = found-is ks row b in (is.0, (is.1.0, Contains-tail k ks is.1.0 is.1.1, is.1.2)))
-        (Contains-append_cases (rows_among rows k.items (paths_at index k.items)) (rows_by_index rows index ks) row h)
+        (Contains-append_cases (rows_among rows k (paths_at index k)) (rows_by_index rows index ks) row h)
 
-    pub found-distinct : (keys : List Key) → IsDistinct key_eq keys → ((k : Key) → Contains keys k → IsDistinct key_eq (paths_at index k.items)) → HasDistinctPaths (rows_by_index rows index keys)
+    pub found-distinct : (keys : List (List ℕ)) → IsDistinct bytes_eq keys → ((k : List ℕ) → Contains keys k → IsDistinct bytes_eq (paths_at index k)) → HasDistinctPaths (rows_by_index rows index keys)
     found-distinct [] unique each = distinct_none
     found-distinct (k ∷ ks) unique each =
-        distinct_append (rows_among rows k.items (paths_at index k.items)) (rows_by_index rows index ks)
-        (among-distinct k.items (paths_at index k.items) (each k (Contains-head k ks)))
-        (found-distinct ks (IsDistinct-tail key_eq k ks unique) (λ l there. each l (Contains-tail k ks l there)))
+        distinct_append (rows_among rows k (paths_at index k)) (rows_by_index rows index ks)
+        (among-distinct k (paths_at index k) (each k (Contains-head k ks)))
+        (found-distinct ks (IsDistinct-tail bytes_eq k ks unique) (λ l there. each l (Contains-tail k ks l there)))
         (λ x y in_x in_y same.
-        let first = (among-is k.items (paths_at index k.items) x in_x).1 in
+        let first = (among-is k (paths_at index k) x in_x).1 in
         let later = (found-is ks y in_y).1 in
-        let differ : bytes_eq k.items later.0.items ≡ false = all_at (λ l. key_eq k l ≡ false) ks later.0 (IsDistinct-head key_eq k ks unique) later.1 in
-        false≢true (sym differ ∙ (bytes_eq-Decides k.items later.0.items).1 (sym first ∙ ap (group_name Base) same ∙ later.2)))
+        let differ : bytes_eq k later.0 ≡ false = all_at (λ l. bytes_eq k l ≡ false) ks later.0 (IsDistinct-head bytes_eq k ks unique) later.1 in
+        false≢true (sym differ ∙ (bytes_eq-Decides k later.0).1 (sym first ∙ ap (group_name Base) same ∙ later.2)))
 
     module _ (distinct : HasDistinctPaths rows) (exact : IsIndexOf index rows) where
-      in_index : (row : FileRow) → Contains rows row → (k : Key) × Contains (paths_at index (group_name Base row.path)) k × (row.path ≡ k.items)
+      in_index : (row : FileRow) → Contains rows row → (k : List ℕ) × Contains (paths_at index (group_name Base row.path)) k × (row.path ≡ k)
       in_index row there =
           let q = group_name Base row.path in
           let t : is_row_of q row.path row ≡ true = and_from _ _ ((bytes_eq-Decides q q).1 refl) ((bytes_eq-Decides row.path row.path).1 refl) in
           let has : has_path index q row.path ≡ true = exact q row.path ∙ any_from (is_row_of q row.path) rows row there t in
-          let some = any_to (λ k. bytes_eq row.path k.items) (paths_at index q) has in
-          (some.0, some.1, (bytes_eq-Decides row.path some.0.items).0 some.2)
+          let some = any_to (bytes_eq row.path) (paths_at index q) has in
+          (some.0, some.1, (bytes_eq-Decides row.path some.0).0 some.2)
 
-      found-has : (keys : List Key) (k : Key) (row : FileRow) → Contains rows row → Contains keys k → group_name Base row.path ≡ k.items → Contains (rows_by_index rows index keys) row
+      found-has : (keys : List (List ℕ)) (k : List ℕ) (row : FileRow) → Contains rows row → Contains keys k → group_name Base row.path ≡ k → Contains (rows_by_index rows index keys) row
       found-has [] k row there in_keys is = absurd (Contains-none k in_keys)
       found-has (l ∷ ls) k row there in_keys is =
           ⊎_elim
           (λ same.
-          let group : group_name Base row.path ≡ l.items = is ∙ sym (ap (λ (v : Key). v.items) same) in
+          let group : group_name Base row.path ≡ l = is ∙ sym same in
           let some = in_index row there in
-          Contains-append_left (rows_among rows l.items (paths_at index l.items)) (rows_by_index rows index ls) row
-          (among-has l.items (paths_at index l.items) some.0 row distinct there group (subst (λ q. Contains (paths_at index q) some.0) group some.1) some.2))
-          (λ later. Contains-append_right (rows_among rows l.items (paths_at index l.items)) (rows_by_index rows index ls) row (found-has ls k row there later is))
+          Contains-append_left (rows_among rows l (paths_at index l)) (rows_by_index rows index ls) row
+          (among-has l (paths_at index l) some.0 row distinct there group (subst (λ q. Contains (paths_at index q) some.0) group some.1) some.2))
+          (λ later. Contains-append_right (rows_among rows l (paths_at index l)) (rows_by_index rows index ls) row (found-has ls k row there later is))
           (Contains-cases l ls k in_keys)
 
       pub found-same : (groups : Groups) → SameRows (rows_by_index rows index groups.keys) (filter (λ r. has_group groups (group_name Base r.path)) rows)
@@ -237,11 +236,11 @@ module _ (rows : List FileRow) where
         λ h.
             let is = found-is groups.keys row h in
             filter_contains (λ r. has_group groups (group_name Base r.path)) rows row is.0
-            (any_from (λ k. bytes_eq (group_name Base row.path) k.items) groups.keys is.1.0 is.1.1 ((bytes_eq-Decides (group_name Base row.path) is.1.0.items).1 is.1.2)),
+            (any_from (bytes_eq (group_name Base row.path)) groups.keys is.1.0 is.1.1 ((bytes_eq-Decides (group_name Base row.path) is.1.0).1 is.1.2)),
         λ h.
             let two = Contains-filter (λ r. has_group groups (group_name Base r.path)) rows row h in
-            let some = any_to (λ k. bytes_eq (group_name Base row.path) k.items) groups.keys two.1 in
-            found-has groups.keys some.0 row two.0 some.1 ((bytes_eq-Decides (group_name Base row.path) some.0.items).0 some.2),
+            let some = any_to (bytes_eq (group_name Base row.path)) groups.keys two.1 in
+            found-has groups.keys some.0 row two.0 some.1 ((bytes_eq-Decides (group_name Base row.path) some.0).0 some.2),
       )
 
 -- ---- the answer of a search by the index
@@ -251,7 +250,7 @@ module _ {E : Type 0} (rows : List FileRow) (index : Index) (groups : Groups) wh
   index_found (Ok v) is exact distinct = subst (λ l. SameRows l (filter (λ w. has_group groups (group_name Base w.path)) rows)) (sym is) (found-same rows index distinct exact groups)
   index_found (Err e) is exact distinct = tt
 
-  pub index_apart : (r : Result (Vec FileRow Global) E) → IfOk r (λ v. v.items ≡ rows_by_index rows index groups.keys) → IfOk r (λ _. IsDistinct key_eq groups.keys)
-      → IfOk r (λ _. (k : Key) → Contains groups.keys k → IsDistinct key_eq (paths_at index k.items)) → IfOk r (λ v. HasDistinctPaths v.items)
+  pub index_apart : (r : Result (Vec FileRow Global) E) → IfOk r (λ v. v.items ≡ rows_by_index rows index groups.keys) → IfOk r (λ _. IsDistinct bytes_eq groups.keys)
+      → IfOk r (λ _. (k : List ℕ) → Contains groups.keys k → IsDistinct bytes_eq (paths_at index k)) → IfOk r (λ v. HasDistinctPaths v.items)
   index_apart (Ok v) is unique each = subst HasDistinctPaths (sym is) (found-distinct rows index groups.keys unique each)
   index_apart (Err e) is unique each = tt

@@ -10,7 +10,6 @@ use Rattle.std.proofs.lemmas.List.Sums.{prefix_len_stops, suffix_len-le-length}
 use Rattle.std.proofs.lemmas.Map.Keys.{IsDistinct-head, IsDistinct-tail}
 use Rattle.std.proofs.lemmas.Slice.Eq.{bytes_eq-Decides}
 use Rattle.std.specs.declared.alloc.Global.{Global}
-use Rattle.hudi_groups.specs.PathKeys.{Key, key_eq}
 use Rattle.table_history.specs.Rows.{HasDistinctPaths, SameRows, row_at}
 use Rattle.table_history.specs.declared.row.FileRow.{FileRow}
 use Rattle.table_history.proofs.RowListLemmas.{Contains-none, Contains-head, Contains-one, Contains-tail, Contains-cases, Contains-filter, filter_contains, row_at-found, row_at-itself, all_at}
@@ -102,23 +101,23 @@ module _ (form : Form) (rows : List FileRow) where
       absurd (omega (arith, ap length longer)))
 
   -- ---- the rows of some groups
-  at_paths-is : (keys : List Key) (row : FileRow) → Contains (rows_at_paths form rows keys) row → Contains rows row × ((k : Key) × Contains keys k × (group_name form row.path ≡ k.items))
+  at_paths-is : (keys : List (List ℕ)) (row : FileRow) → Contains (rows_at_paths form rows keys) row → Contains rows row × ((k : List ℕ) × Contains keys k × (group_name form row.path ≡ k))
   at_paths-is [] row h = absurd (Contains-none row h)
   at_paths-is (key ∷ keys) row h =
       ⊎_elim
-      (λ a. let is = at_group-is key.items row a in (is.0, (key, Contains-head key keys, is.1)))
+      (λ a. let is = at_group-is key row a in (is.0, (key, Contains-head key keys, is.1)))
       (λ b. let is = at_paths-is keys row b in (is.0, (is.1.0, Contains-tail key keys is.1.0 is.1.1, is.1.2)))
-      (Contains-append_cases (rows_at_group form rows key.items) (rows_at_paths form rows keys) row h)
+      (Contains-append_cases (rows_at_group form rows key) (rows_at_paths form rows keys) row h)
 
-  pub at_paths-distinct : (keys : List Key) → IsDistinct key_eq keys → HasDistinctPaths (rows_at_paths form rows keys)
+  pub at_paths-distinct : (keys : List (List ℕ)) → IsDistinct bytes_eq keys → HasDistinctPaths (rows_at_paths form rows keys)
   at_paths-distinct [] unique = distinct_none
   at_paths-distinct (key ∷ keys) unique =
-      distinct_append (rows_at_group form rows key.items) (rows_at_paths form rows keys) (at_group-distinct key.items) (at_paths-distinct keys (IsDistinct-tail key_eq key keys unique))
+      distinct_append (rows_at_group form rows key) (rows_at_paths form rows keys) (at_group-distinct key) (at_paths-distinct keys (IsDistinct-tail bytes_eq key keys unique))
       (λ x y in_x in_y same.
-      let first = at_group-is key.items x in_x in
+      let first = at_group-is key x in_x in
       let later = at_paths-is keys y in_y in
-      let apart : bytes_eq key.items later.1.0.items ≡ false = all_at (λ k. key_eq key k ≡ false) keys later.1.0 (IsDistinct-head key_eq key keys unique) later.1.1 in
-      false≢true (sym apart ∙ (bytes_eq-Decides key.items later.1.0.items).1 (sym first.1 ∙ ap (group_name form) same ∙ later.1.2)))
+      let apart : bytes_eq key later.1.0 ≡ false = all_at (λ k. bytes_eq key k ≡ false) keys later.1.0 (IsDistinct-head bytes_eq key keys unique) later.1.1 in
+      false≢true (sym apart ∙ (bytes_eq-Decides key later.1.0).1 (sym first.1 ∙ ap (group_name form) same ∙ later.1.2)))
 
 module _ (time : List ℕ) (rows : List FileRow) (distinct : HasDistinctPaths rows) where
   at_group-has : (row : FileRow) → Contains rows row → Contains (rows_at_group (External time) rows (group_name (External time) row.path)) row
@@ -129,13 +128,13 @@ module _ (time : List ℕ) (rows : List FileRow) (distinct : HasDistinctPaths ro
       (λ is. Contains-append_right (row_in_group (External time) rows q q) (row_in_group (External time) rows q (47 ∷ q)) row (row_in_group-has (External time) rows q (47 ∷ q) row distinct (there, is, refl)))
       (group_or_rooted time row.path)
 
-  at_paths-has : (keys : List Key) (row : FileRow) (k : Key) → Contains rows row → Contains keys k → group_name (External time) row.path ≡ k.items → Contains (rows_at_paths (External time) rows keys) row
+  at_paths-has : (keys : List (List ℕ)) (row : FileRow) (k : List ℕ) → Contains rows row → Contains keys k → group_name (External time) row.path ≡ k → Contains (rows_at_paths (External time) rows keys) row
   at_paths-has [] row k there in_keys is = absurd (Contains-none k in_keys)
   at_paths-has (key ∷ keys) row k there in_keys is =
       ⊎_elim
-      (λ same. Contains-append_left (rows_at_group (External time) rows key.items) (rows_at_paths (External time) rows keys) row
-      (subst (λ q. Contains (rows_at_group (External time) rows q) row) (is ∙ sym (ap (λ (v : Key). v.items) same)) (at_group-has row there)))
-      (λ later. Contains-append_right (rows_at_group (External time) rows key.items) (rows_at_paths (External time) rows keys) row (at_paths-has keys row k there later is))
+      (λ same. Contains-append_left (rows_at_group (External time) rows key) (rows_at_paths (External time) rows keys) row
+      (subst (λ q. Contains (rows_at_group (External time) rows q) row) (is ∙ sym same) (at_group-has row there)))
+      (λ later. Contains-append_right (rows_at_group (External time) rows key) (rows_at_paths (External time) rows keys) row (at_paths-has keys row k there later is))
       (Contains-cases key keys k in_keys)
 
   pub at_paths-same : (groups : Groups) → SameRows (rows_at_paths (External time) rows groups.keys) (filter (λ r. has_group groups (group_name (External time) r.path)) rows)
@@ -143,11 +142,11 @@ module _ (time : List ℕ) (rows : List FileRow) (distinct : HasDistinctPaths ro
     λ h.
         let is = at_paths-is (External time) rows groups.keys row h in
         filter_contains (λ r. has_group groups (group_name (External time) r.path)) rows row is.0
-        (any_from (λ k. bytes_eq (group_name (External time) row.path) k.items) groups.keys is.1.0 is.1.1 ((bytes_eq-Decides (group_name (External time) row.path) is.1.0.items).1 is.1.2)),
+        (any_from (bytes_eq (group_name (External time) row.path)) groups.keys is.1.0 is.1.1 ((bytes_eq-Decides (group_name (External time) row.path) is.1.0).1 is.1.2)),
     λ h.
         let both = Contains-filter (λ r. has_group groups (group_name (External time) r.path)) rows row h in
-        let some = any_to (λ k. bytes_eq (group_name (External time) row.path) k.items) groups.keys both.1 in
-        at_paths-has groups.keys row some.0 both.0 some.1 ((bytes_eq-Decides (group_name (External time) row.path) some.0.items).0 some.2),
+        let some = any_to (bytes_eq (group_name (External time) row.path)) groups.keys both.1 in
+        at_paths-has groups.keys row some.0 both.0 some.1 ((bytes_eq-Decides (group_name (External time) row.path) some.0).0 some.2),
   )
 
 -- ---- the answer of a search by paths
@@ -160,6 +159,6 @@ module _ (time : List ℕ) (form : Form) (named : form ≡ External time) (rows 
   at_paths_found (Err e) is distinct = tt
 
   pub at_paths_apart : {E : Type 0} (r : Result (Vec FileRow Global) E) → IfOk r (λ v. v.items ≡ rows_at_paths form rows groups.keys)
-      → IfOk r (λ _. IsDistinct key_eq groups.keys) → IfOk r (λ v. HasDistinctPaths v.items)
+      → IfOk r (λ _. IsDistinct bytes_eq groups.keys) → IfOk r (λ v. HasDistinctPaths v.items)
   at_paths_apart (Ok v) is unique = subst HasDistinctPaths (sym is) (at_paths-distinct form rows groups.keys unique)
   at_paths_apart (Err e) is unique = tt

@@ -9,7 +9,6 @@ use Rattle.std.proofs.lemmas.Bool.{cases_Bool}
 use Rattle.std.proofs.lemmas.Cmp.{nat_list_eq_equiv}
 use Rattle.std.proofs.lemmas.List.{reverse-append}
 use Rattle.std.proofs.lemmas.Slice.Eq.{bytes_eq-Decides}
-use Rattle.hudi_groups.specs.PathKeys.{Key, key_eq}
 use Rattle.table_history.specs.declared.row.FileRow.{FileRow}
 use Rattle.hudi_groups.specs.declared.form.Form.{Form}
 use Rattle.hudi_groups.specs.Files.{group_name}
@@ -18,20 +17,20 @@ use Rattle.lake_basics.proofs.Texts.{apart_from_same}
 
 -- ---- a set with one more group
 
-other_keys : (test : Key → Bool) (old new : List Key) → KeepsOthers key_eq test old new → (other : Key → Bool) → IsKeyTest key_eq other → AreApart test other → list_any other new ≡ list_any other old
+other_keys : (test : List ℕ → Bool) (old new : List (List ℕ)) → KeepsOthers bytes_eq test old new → (other : List ℕ → Bool) → IsKeyTest bytes_eq other → AreApart test other → list_any other new ≡ list_any other old
 unfolding KeepsOthers
 other_keys test old new h = h
 
 or_of : (b f : Bool) → b ≡ false → f ≡ (b || f)
 or_of b f n = sym (ap (λ c. c || f) n)
 
-pub has_group-insert : (key : Key) (old new : Groups) → Updates key_eq old new key true → (q : List ℕ) → has_group new q ≡ (bytes_eq q key.items || has_group old q)
+pub has_group-insert : (key : List ℕ) (old new : Groups) → Updates bytes_eq old new key true → (q : List ℕ) → has_group new q ≡ (bytes_eq q key || has_group old q)
 has_group-insert key old new h q =
     ⊎_elim
-    (λ y. subst (λ l. has_group new l ≡ true) ((bytes_eq-Decides key.items q).0 y) h.1 ∙ sym (ap (λ b. b || has_group old q) (nat_list_eq_equiv.symm q key.items ∙ y)))
-    (λ n. other_keys (key_eq key) old.keys new.keys h.3 (λ k. bytes_eq q k.items) (λ x y. nat_list_eq_equiv.congr q x.items y.items) (λ k. apart_from_same key.items q k.items n)
-    ∙ or_of (bytes_eq q key.items) (has_group old q) (nat_list_eq_equiv.symm q key.items ∙ n))
-    (cases_Bool (bytes_eq key.items q))
+    (λ y. subst (λ l. has_group new l ≡ true) ((bytes_eq-Decides key q).0 y) h.1 ∙ sym (ap (λ b. b || has_group old q) (nat_list_eq_equiv.symm q key ∙ y)))
+    (λ n. other_keys (bytes_eq key) old.keys new.keys h.3 (bytes_eq q) (nat_list_eq_equiv.congr q) (λ k. apart_from_same key q k n)
+    ∙ or_of (bytes_eq q key) (has_group old q) (nat_list_eq_equiv.symm q key ∙ n))
+    (cases_Bool (bytes_eq key q))
 
 -- ---- one more row, before those that were looked at
 pub newest_step : (form : Form) (row : FileRow) (rest newest newest' : List FileRow) (added : Bool)

@@ -1,25 +1,23 @@
 -- The file groups of rows and of replaced file ids.
-use Rattle.std.specs.Prelude.{◌≡◌, ℕ, Bool, ◌&&◌, ◌||◌, not, List, [], ◌∷◌, ◌++◌, filter, reverse, Contains, Option, Some, None, if◌then◌else◌, Vec}
+use Rattle.std.specs.Prelude.{◌≡◌, ℕ, Bool, ◌&&◌, ◌||◌, not, List, [], ◌∷◌, ◌++◌, filter, reverse, Contains, Option, Some, None, if◌then◌else◌}
 use Rattle.std.specs.List.{list_any}
 use Rattle.std.specs.Str.{bytes_eq}
 use Rattle.std.specs.HashSet.{HashSet}
-use Rattle.std.specs.declared.alloc.Global.{Global}
 use Rattle.std.specs.declared.hash.FoldHasher.{FoldHasher}
 use Rattle.std.specs.declared.hash.BuildHasherDefault.{BuildHasherDefault}
 use Rattle.table_history.specs.Path.{is_slash}
 use Rattle.table_history.specs.Row.{Row}
-use Rattle.hudi_groups.specs.PathKeys.{Key}
 use Rattle.table_history.specs.Rows.{row_at}
 use Rattle.hudi_groups.specs.declared.form.Form.{Form}
 use Rattle.hudi_groups.specs.Group.{joined}
 use Rattle.hudi_groups.specs.Files.{group_name}
 
 abbrev pub Groups : Type 0
-Groups = HashSet (Vec ℕ Global) (BuildHasherDefault FoldHasher)
+Groups = HashSet (List ℕ) (BuildHasherDefault FoldHasher)
 
 -- the set has the group of this name
 abbrev pub has_group : Groups → List ℕ → Bool
-has_group groups q = list_any (λ k. bytes_eq q k.items) groups.keys
+has_group groups q = list_any (bytes_eq q) groups.keys
 
 abbrev pub is_row_of_group : Form → List ℕ → Row → Bool
 is_row_of_group form q row = bytes_eq q (group_name form row.path)
@@ -47,9 +45,9 @@ row_in_group form rows q path = if bytes_eq (group_name form path) q then one_or
 abbrev pub rows_at_group : Form → List Row → List ℕ → List Row
 rows_at_group form rows q = row_in_group form rows q q ++ row_in_group form rows q (47 ∷ q)
 
-abbrev pub rows_at_paths : Form → List Row → List Key → List Row
+abbrev pub rows_at_paths : Form → List Row → List (List ℕ) → List Row
 rows_at_paths form rows [] = []
-rows_at_paths form rows (key ∷ keys) = rows_at_group form rows key.items ++ rows_at_paths form rows keys
+rows_at_paths form rows (key ∷ keys) = rows_at_group form rows key ++ rows_at_paths form rows keys
 
 -- ---- the same as a relation
 

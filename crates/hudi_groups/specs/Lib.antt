@@ -2,4 +2,3 @@ pub mod Files
 pub mod Group
 pub mod GroupIndex
 pub mod GroupSets
-pub mod PathKeys

@@ -2,20 +2,20 @@
 
 ghost use Rattle.std.specs.Prelude.{◌≡◌, ◌||◌, ◌++◌, ℕ, List, reverse, IfOk};
 ghost use Rattle.std.specs.List.{list_any, IsDistinct};
+ghost use Rattle.std.specs.Str.{bytes_eq};
 ghost use Rattle.table_history.specs.Path.{is_slash};
-ghost use Rattle.hudi_groups.specs.PathKeys.{key_eq};
 ghost use Rattle.hudi_groups.specs.Group.{joined};
 ghost use Rattle.hudi_groups.specs.Files.{group_name};
 ghost use Rattle.hudi_groups.specs.GroupSets.{has_group, is_row_of_group, names_group, newest_rows, row_in_group, rows_at_group, rows_at_paths, is_touched};
 
 use crate::form::{Form, group_name};
-use lake_basics::{Items, Text};
+use lake_basics::{Blob, Items, Text};
 use std::alloc::{AllocError, Global};
 use std::collections::HashSet;
 use table_history::{FileRow, FileRows};
 
 /// File groups, by their names.
-pub type Groups = HashSet<Vec<u8>>;
+pub type Groups = HashSet<Blob>;
 
 /// The newest row of each group that an instant writes, and the groups that it touches.
 #[derive(Drop)]
@@ -34,7 +34,7 @@ fn newest_rows(alloc: Global, form: &Form, rows: Items<FileRow>) -> Result<Newes
     let mut newest = Vec::new(alloc);
     let mut groups = HashSet::new(alloc);
     while let Some(row) = left.pop() {
-        let group = Vec::from_slice(alloc, group_name(form, row.path.as_bytes()))?;
+        let group = Blob::from_slice(alloc, group_name(form, row.path.as_bytes()))?;
         if groups.insert(group)? {
             newest.push(row)?;
         }
@@ -68,7 +68,7 @@ fn with_group(alloc: Global, groups: Groups, pair: &(Text, Text)) -> Result<Grou
     }
     let mut all = groups;
     let group = joined(alloc, pair.0.as_bytes(), pair.1.as_bytes())?;
-    drop(all.insert(group)?);
+    drop(all.insert(Blob::from_vec(group))?);
     Ok(all)
 }
 
@@ -123,11 +123,11 @@ pub(crate) fn rows_at_paths(
     rows: &FileRows,
 ) -> Result<Vec<FileRow>, AllocError>
     ensures rows { IfOk result (λ v. v.items ≡ rows_at_paths form.now rows.now groups.now.keys) }
-    ensures unique { IfOk result (λ _. IsDistinct key_eq groups.now.keys) }
+    ensures unique { IfOk result (λ _. IsDistinct bytes_eq groups.now.keys) }
 {
     let mut found = Vec::new(alloc);
     for group in groups {
-        found = with_rows_at(alloc, form, group, rows, found)?;
+        found = with_rows_at(alloc, form, group.as_slice(), rows, found)?;
     }
     Ok(found)
 }

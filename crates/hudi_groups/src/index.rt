@@ -4,7 +4,6 @@ ghost use Rattle.std.specs.Prelude.{◌≡◌, ◌&&◌, ◌||◌, ◌++◌, ℕ
 ghost use Rattle.std.specs.HashMap.{get_by};
 ghost use Rattle.std.specs.List.{list_any, IsDistinct};
 ghost use Rattle.std.specs.Str.{bytes_eq};
-ghost use Rattle.hudi_groups.specs.PathKeys.{Key, key_eq};
 ghost use Rattle.hudi_groups.specs.declared.form.Form.TheVariants.{Base};
 ghost use Rattle.hudi_groups.specs.declared.index.Paths.TheVariants.{One, Many};
 ghost use Rattle.hudi_groups.specs.GroupIndex.{IsIndexOf, has_path, is_among, is_path_of, is_row_of, paths_at, rows_among, rows_by_index};
@@ -12,7 +11,7 @@ ghost use Rattle.hudi_groups.specs.GroupIndex.{IsIndexOf, has_path, is_among, is
 use crate::form::Form;
 use crate::group::path_to_file_id;
 use crate::groups::{Groups, with_row_at};
-use lake_basics::Text;
+use lake_basics::{Blob, Text};
 use std::alloc::{AllocError, Global};
 use std::collections::{HashMap, HashSet};
 use table_history::{FileRow, FileRows};
@@ -20,19 +19,19 @@ use table_history::{FileRow, FileRows};
 /// The paths of a group, as a set. Most groups have a lone path, which needs no table.
 #[derive(Drop)]
 pub(crate) enum Paths {
-    One(Vec<u8>),
-    Many(Box<HashSet<Vec<u8>>>),
+    One(Blob),
+    Many(Box<HashSet<Blob>>),
 }
 
 /// The paths of each group, by the group's name.
-pub(crate) type Index = HashMap<Vec<u8>, Paths>;
+pub(crate) type Index = HashMap<Blob, Paths>;
 
 // ---- the paths of one group
 
 /// The two paths, as a set.
-fn two_paths(alloc: Global, path: Vec<u8>, other: Vec<u8>) -> Result<Paths, AllocError>
+fn two_paths(alloc: Global, path: Blob, other: Blob) -> Result<Paths, AllocError>
     ensures { IfOk result (λ both. (p : List ℕ) → is_among p (Some both)
-        ≡ (bytes_eq p other.items || is_among p (Some (One path)))) }
+        ≡ (bytes_eq p other || is_among p (Some (One path)))) }
 {
     let mut paths = HashSet::new(alloc);
     drop(paths.insert(path)?);
@@ -41,9 +40,9 @@ fn two_paths(alloc: Global, path: Vec<u8>, other: Vec<u8>) -> Result<Paths, Allo
 }
 
 /// The set, and this path.
-fn one_more(held: Box<HashSet<Vec<u8>>>, path: Vec<u8>) -> Result<Paths, AllocError>
+fn one_more(held: Box<HashSet<Blob>>, path: Blob) -> Result<Paths, AllocError>
     ensures { IfOk result (λ all. (p : List ℕ) → is_among p (Some all)
-        ≡ (bytes_eq p path.items || is_among p (Some (Many held)))) }
+        ≡ (bytes_eq p path || is_among p (Some (Many held)))) }
 {
     let mut paths = held;
     drop(paths.insert(path)?);
@@ -51,9 +50,9 @@ fn one_more(held: Box<HashSet<Vec<u8>>>, path: Vec<u8>) -> Result<Paths, AllocEr
 }
 
 /// The paths of a group, and this one.
-fn paths_with(alloc: Global, paths: Option<Paths>, path: Vec<u8>) -> Result<Paths, AllocError>
+fn paths_with(alloc: Global, paths: Option<Paths>, path: Blob) -> Result<Paths, AllocError>
     ensures { IfOk result (λ all. (p : List ℕ) → is_among p (Some all)
-        ≡ (bytes_eq p path.items || is_among p paths)) }
+        ≡ (bytes_eq p path || is_among p paths)) }
 {
     match paths {
         None => Ok(Paths::One(path)),
@@ -63,7 +62,7 @@ fn paths_with(alloc: Global, paths: Option<Paths>, path: Vec<u8>) -> Result<Path
 }
 
 /// The path that is held, where it is another than this one.
-fn other_path(held: Vec<u8>, path: &[u8]) -> Option<Paths>
+fn other_path(held: Blob, path: &[u8]) -> Option<Paths>
     ensures { (p : List ℕ) → is_among p result
         ≡ (not (bytes_eq p path.now) && is_among p (Some (One held))) }
 {
@@ -74,37 +73,46 @@ fn other_path(held: Vec<u8>, path: &[u8]) -> Option<Paths>
 }
 
 /// The set without this path, or `None` where none is left.
-fn one_less(held: Box<HashSet<Vec<u8>>>, path: &[u8]) -> Option<Paths>
-    ensures { (p : List ℕ) → is_among p result
-        ≡ (not (bytes_eq p path.now) && is_among p (Some (Many held))) }
+fn one_less(
+    alloc: Global,
+    held: Box<HashSet<Blob>>,
+    path: &[u8],
+) -> Result<Option<Paths>, AllocError>
+    ensures { IfOk result (λ rest. (p : List ℕ) → is_among p rest
+        ≡ (not (bytes_eq p path.now) && is_among p (Some (Many held)))) }
 {
+    let key = Blob::from_slice(alloc, path)?;
     let mut paths = held;
-    paths.remove(path);
+    paths.remove(&key);
     if paths.is_empty() {
-        return None;
+        return Ok(None);
     }
-    Some(Paths::Many(paths))
+    Ok(Some(Paths::Many(paths)))
 }
 
 /// The paths of a group without this one, or `None` where none is left.
-fn paths_without(paths: Option<Paths>, path: &[u8]) -> Option<Paths>
-    ensures { (p : List ℕ) → is_among p result
-        ≡ (not (bytes_eq p path.now) && is_among p paths) }
+fn paths_without(
+    alloc: Global,
+    paths: Option<Paths>,
+    path: &[u8],
+) -> Result<Option<Paths>, AllocError>
+    ensures { IfOk result (λ rest. (p : List ℕ) → is_among p rest
+        ≡ (not (bytes_eq p path.now) && is_among p paths)) }
 {
     match paths {
-        None => None,
-        Some(Paths::One(held)) => other_path(held, path),
-        Some(Paths::Many(held)) => one_less(held, path),
+        None => Ok(None),
+        Some(Paths::One(held)) => Ok(other_path(held, path)),
+        Some(Paths::Many(held)) => one_less(alloc, held, path),
     }
 }
 
 // ---- one path
 
 /// The index with these paths of a group that isn't there. A group without a path is left out.
-fn put_group(index: Index, group: Vec<u8>, paths: Option<Paths>) -> Result<Index, AllocError>
-    requires { get_by (λ k. bytes_eq group.items k.items) index ≡ None }
+fn put_group(index: Index, group: Blob, paths: Option<Paths>) -> Result<Index, AllocError>
+    requires { get_by (bytes_eq group) index ≡ None }
     ensures { IfOk result (λ all. (q p : List ℕ) → has_path all q p
-        ≡ cond (bytes_eq group.items q) (is_among p paths) (has_path index q p)) }
+        ≡ cond (bytes_eq group q) (is_among p paths) (has_path index q p)) }
 {
     let Some(paths) = paths else {
         return Ok(index);
@@ -119,10 +127,10 @@ fn with_path(alloc: Global, index: Index, path: &[u8]) -> Result<Index, AllocErr
     ensures { IfOk result (λ all. (q p : List ℕ) → has_path all q p
         ≡ (is_path_of q p path.now || has_path index q p)) }
 {
-    let group = Vec::from_slice(alloc, path_to_file_id(path))?;
-    let key = Vec::from_slice(alloc, path)?;
+    let group = Blob::from_slice(alloc, path_to_file_id(path))?;
+    let key = Blob::from_slice(alloc, path)?;
     let mut rest = index;
-    let paths = paths_with(alloc, rest.remove(group.as_slice()), key)?;
+    let paths = paths_with(alloc, rest.remove(&group), key)?;
     put_group(rest, group, Some(paths))
 }
 
@@ -131,9 +139,9 @@ fn without_path(alloc: Global, index: Index, path: &[u8]) -> Result<Index, Alloc
     ensures { IfOk result (λ rest. (q p : List ℕ) → has_path rest q p
         ≡ (not (is_path_of q p path.now) && has_path index q p)) }
 {
-    let group = Vec::from_slice(alloc, path_to_file_id(path))?;
+    let group = Blob::from_slice(alloc, path_to_file_id(path))?;
     let mut rest = index;
-    let paths = paths_without(rest.remove(group.as_slice()), path);
+    let paths = paths_without(alloc, rest.remove(&group), path)?;
     put_group(rest, group, paths)
 }
 
@@ -196,17 +204,17 @@ pub(crate) fn index_of(alloc: Global, rows: &FileRows) -> Result<Index, AllocErr
 fn with_rows_at(
     alloc: Global,
     group: &[u8],
-    paths: &HashSet<Vec<u8>>,
+    paths: &HashSet<Blob>,
     rows: &FileRows,
     found: Vec<FileRow>,
 ) -> Result<Vec<FileRow>, AllocError>
     ensures rows { IfOk result (λ v. v.items
         ≡ found.items ++ rows_among rows.now group.now paths.now.keys) }
-    ensures unique { IfOk result (λ _. IsDistinct key_eq paths.now.keys) }
+    ensures unique { IfOk result (λ _. IsDistinct bytes_eq paths.now.keys) }
 {
     let mut all = found;
     for path in paths {
-        all = with_row_at(alloc, &Form::Base, group, path, rows, all)?;
+        all = with_row_at(alloc, &Form::Base, group, path.as_slice(), rows, all)?;
     }
     Ok(all)
 }
@@ -215,18 +223,21 @@ fn with_rows_at(
 fn with_group_of(
     alloc: Global,
     index: &Index,
-    group: &[u8],
+    group: &Blob,
     rows: &FileRows,
     found: Vec<FileRow>,
 ) -> Result<Vec<FileRow>, AllocError>
     ensures rows { IfOk result (λ v. v.items
         ≡ found.items ++ rows_among rows.now group.now (paths_at index.now group.now)) }
-    ensures unique { IfOk result (λ _. IsDistinct key_eq (paths_at index.now group.now)) }
+    ensures unique { IfOk result (λ _. IsDistinct bytes_eq (paths_at index.now group.now)) }
 {
+    let name = group.as_slice();
     match index.get(group) {
         None => Ok(found),
-        Some(Paths::One(path)) => with_row_at(alloc, &Form::Base, group, path, rows, found),
-        Some(Paths::Many(paths)) => with_rows_at(alloc, group, paths, rows, found),
+        Some(Paths::One(path)) => {
+            with_row_at(alloc, &Form::Base, name, path.as_slice(), rows, found)
+        }
+        Some(Paths::Many(paths)) => with_rows_at(alloc, name, paths, rows, found),
     }
 }
 
@@ -238,9 +249,9 @@ pub(crate) fn rows_by_index(
     rows: &FileRows,
 ) -> Result<Vec<FileRow>, AllocError>
     ensures rows { IfOk result (λ v. v.items ≡ rows_by_index rows.now index.now groups.now.keys) }
-    ensures unique { IfOk result (λ _. IsDistinct key_eq groups.now.keys) }
-    ensures each { IfOk result (λ _. (k : Key) → Contains groups.now.keys k
-        → IsDistinct key_eq (paths_at index.now k.items)) }
+    ensures unique { IfOk result (λ _. IsDistinct bytes_eq groups.now.keys) }
+    ensures each { IfOk result (λ _. (k : List ℕ) → Contains groups.now.keys k
+        → IsDistinct bytes_eq (paths_at index.now k)) }
 {
     let mut found = Vec::new(alloc);
     for group in groups {

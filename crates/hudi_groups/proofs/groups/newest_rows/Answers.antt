@@ -17,9 +17,9 @@ loop-row-preserved c =
     let inv = c.loop-row.invariant in
     let rest = inv.0 in
     let key = c.in_ok-group.group in
-    let key_is : key.items ≡ group_name form row.path = c.in_ok-group.ensures.items ∙ c.group_name.ensures ∙ ap (group_name form) (c.as_bytes.ensures.value ∙ ap (λ (r : FileRow). r.path) c.row.view_is) in
+    let key_is : key ≡ group_name form row.path = c.in_ok-group.ensures ∙ c.group_name.ensures ∙ ap (group_name form) (c.as_bytes.ensures.value ∙ ap (λ (r : FileRow). r.path) c.row.view_is) in
     let added_is : c.in_ok-insert.field-0 ≡ not (list_any (is_row_of_group form (group_name form row.path)) rest) =
-    c.in_ok-insert.ensures.added ∙ ap not (inv.3 key.items ∙ ap (λ q. list_any (is_row_of_group form q) rest) key_is) in (
+    c.in_ok-insert.ensures.added ∙ ap not (inv.3 key ∙ ap (λ q. list_any (is_row_of_group form q) rest) key_is) in (
       row ∷ rest,
       sym (append_assoc c.pop.new.self.items (row ∷ []) rest) ∙ ap (λ l. l ++ rest) (sym c.in-Some.ensures.items) ∙ inv.1,
       newest_step form row rest c.loop-row.newest.items c.loop-row.newest.items c.in_ok-insert.field-0 added_is inv.2 (sym (cond-false c.in_ok-insert.field-0 _ _ c.if-branch.false)),
@@ -33,9 +33,9 @@ loop-row-preserved-in-Continue-branch-3 c =
     let inv = c.loop-row.invariant in
     let rest = inv.0 in
     let key = c.in_ok-group.group in
-    let key_is : key.items ≡ group_name form row.path = c.in_ok-group.ensures.items ∙ c.group_name.ensures ∙ ap (group_name form) (c.as_bytes.ensures.value ∙ ap (λ (r : FileRow). r.path) c.row.view_is) in
+    let key_is : key ≡ group_name form row.path = c.in_ok-group.ensures ∙ c.group_name.ensures ∙ ap (group_name form) (c.as_bytes.ensures.value ∙ ap (λ (r : FileRow). r.path) c.row.view_is) in
     let added_is : c.in_ok-insert.field-0 ≡ not (list_any (is_row_of_group form (group_name form row.path)) rest) =
-    c.in_ok-insert.ensures.added ∙ ap not (inv.3 key.items ∙ ap (λ q. list_any (is_row_of_group form q) rest) key_is) in (
+    c.in_ok-insert.ensures.added ∙ ap not (inv.3 key ∙ ap (λ q. list_any (is_row_of_group form q) rest) key_is) in (
       row ∷ rest,
       sym (append_assoc c.pop.new.self.items (row ∷ []) rest) ∙ ap (λ l. l ++ rest) (sym c.in-Some.ensures.items) ∙ inv.1,
       newest_step form row rest c.loop-row.newest.items c.push.new.self.items c.in_ok-insert.field-0 added_is inv.2 (c.in_ok-push.ensures.items ∙ sym (cond-true c.in_ok-insert.field-0 _ _ c.if-branch.true)),

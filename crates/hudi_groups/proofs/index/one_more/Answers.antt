@@ -7,4 +7,4 @@ use Rattle.hudi_groups.proofs.index.one_more.Goals as goal
 pub returns : goal.returns
 returns c = λ p.
     has_group-insert c.args.path c.deref_mut.result.now c.insert.new.self c.in_ok-insert.ensures.updates p
-    ∙ ap (λ (s : Groups). bytes_eq p c.args.path.items || has_group s p) c.deref_mut.ensures.value
+    ∙ ap (λ (s : Groups). bytes_eq p c.args.path || has_group s p) c.deref_mut.ensures.value

@@ -7,7 +7,7 @@ use Rattle.hudi_groups.proofs.index.put_group.Goals as goal
 
 pub returns : goal.returns
 returns c =
-    let g = c.args.group.items in
+    let g = c.args.group in
     let all = c.insert.new.self in
     subst (λ (o : Option Paths). (q p : List ℕ) → has_path all q p ≡ cond (bytes_eq g q) (is_among p o) (has_path c.args.index q p)) (sym c.in-Some.is)
     (group_put g c.args.index all c.in-Some.paths c.in_ok-insert.ensures.updates.1 c.in_ok-insert.ensures.updates.3)

@@ -1,6 +1,6 @@
-use Rattle.std.proofs.Common.{◌≡◌, ◌++◌, ◌⊎◌, Contains}
+use Rattle.std.proofs.Common.{◌≡◌, ℕ, List, ◌++◌, ◌⊎◌, Contains}
 use Rattle.std.specs.List.{IsDistinct}
-use Rattle.hudi_groups.specs.PathKeys.{Key, key_eq}
+use Rattle.std.specs.Str.{bytes_eq}
 use Rattle.hudi_groups.specs.GroupIndex.{paths_at, rows_by_index}
 use Rattle.hudi_groups.proofs.index.rows_by_index.Given as goal
 
@@ -8,4 +8,4 @@ use Rattle.hudi_groups.proofs.index.rows_by_index.Given as goal
 abbrev pub invariant-loop-group : goal.invariant-loop-group
 invariant-loop-group l =
     (l.found.items ++ rows_by_index l.rows l.index l.group-iterator ≡ rows_by_index l.rows l.index l.initial.group-iterator)
-    × ((k : Key) → Contains l.initial.group-iterator k → Contains l.group-iterator k ⊎ IsDistinct key_eq (paths_at l.index k.items))
+    × ((k : List ℕ) → Contains l.initial.group-iterator k → Contains l.group-iterator k ⊎ IsDistinct bytes_eq (paths_at l.index k))

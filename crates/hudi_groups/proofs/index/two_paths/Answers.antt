@@ -11,5 +11,5 @@ returns c = λ p.
     let other = c.args.other in
     ap (λ (s : Groups). has_group s p) c.in_ok-new.ensures.ok
     ∙ has_group-insert other c.insert.new.self c.insert-2.new.self c.in_ok-insert-2.ensures.updates p
-    ∙ ap (λ b. bytes_eq p other.items || b) (has_group-insert path c.new-paths.result c.insert.new.self c.in_ok-insert.ensures.updates p)
-    ∙ ap (λ l. bytes_eq p other.items || (bytes_eq p path.items || list_any (λ k. bytes_eq p k.items) l)) c.new-paths.ensures.empty
+    ∙ ap (λ b. bytes_eq p other || b) (has_group-insert path c.new-paths.result c.insert.new.self c.in_ok-insert.ensures.updates p)
+    ∙ ap (λ l. bytes_eq p other || (bytes_eq p path || list_any (bytes_eq p) l)) c.new-paths.ensures.empty

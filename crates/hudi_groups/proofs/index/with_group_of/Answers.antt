@@ -1,23 +1,23 @@
-use Rattle.std.proofs.Common.{◌≡◌, Option, Some, [], ◌∷◌, sym, ap, subst, ◌∙◌}
+use Rattle.std.proofs.Common.{◌≡◌, ℕ, List, Option, Some, [], ◌∷◌, sym, ap, subst, ◌∙◌}
 use Rattle.std.specs.List.{IsDistinct}
 use Rattle.std.specs.Option.{option_copied}
+use Rattle.std.specs.Str.{bytes_eq}
 use Rattle.std.proofs.lemmas.Result.{IfOk-weaker}
-use Rattle.hudi_groups.specs.PathKeys.{Key, key_eq}
 use Rattle.hudi_groups.specs.declared.index.Paths.{Paths}
 use Rattle.hudi_groups.specs.declared.index.Paths.TheVariants.{One}
 use Rattle.hudi_groups.specs.GroupIndex.{keys_in}
 use Rattle.hudi_groups.proofs.index.with_group_of.Goals as goal
 
-none_distinct : IsDistinct key_eq []
+none_distinct : IsDistinct bytes_eq []
 unfolding IsDistinct
 none_distinct = tt
 
-one_distinct : (key : Key) → IsDistinct key_eq (key ∷ [])
+one_distinct : (key : List ℕ) → IsDistinct bytes_eq (key ∷ [])
 unfolding IsDistinct
 one_distinct key = (tt, tt)
 
-distinct_at : (found stands : Option Paths) → found ≡ stands → IsDistinct key_eq (keys_in found) → IsDistinct key_eq (keys_in stands)
-distinct_at found stands is = subst (λ o. IsDistinct key_eq (keys_in o)) is
+distinct_at : (found stands : Option Paths) → found ≡ stands → IsDistinct bytes_eq (keys_in found) → IsDistinct bytes_eq (keys_in stands)
+distinct_at found stands is = subst (λ o. IsDistinct bytes_eq (keys_in o)) is
 
 pub returns-in-None-clause-unique : goal.returns-in-None-clause-unique
 returns-in-None-clause-unique c = distinct_at _ _ (ap option_copied (sym c.in-None.is) ∙ c.get.ensures.value) none_distinct
