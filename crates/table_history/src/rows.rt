@@ -47,7 +47,6 @@ impl FileRows {
     }
 
     /// The number of rows.
-    #[tactic(auto, using(crate::proofs::RowSetLemmas::distinct_paths))]
     pub fn len(&self) -> usize
         ensures len { result ≡ length self.now }
         ensures distinct { HasDistinctPaths self.now }
@@ -71,7 +70,6 @@ impl FileRows {
     }
 
     /// The row of a path.
-    #[tactic(auto, using(crate::proofs::RowSetLemmas::distinct_paths))]
     pub fn get(&self, path: &[u8]) -> Option<&FileRow>
         ensures value { option_copied result ≡ row_at self.now path.now }
         ensures cases { MatchOption result (¬ HasPath self.now path.now)

@@ -1,8 +1,8 @@
-use Rattle.std.proofs.Common.{◌≡◌, None, Some, sym, ap, ◌∙◌}
+use Rattle.std.proofs.Common.{◌≡◌, None, Some, sym, ap, ◌∙◌, subst}
 use Rattle.std.specs.Option.{option_copied}
-use Rattle.table_history.specs.Rows.{row_at}
+use Rattle.table_history.specs.Rows.{row_at, HasDistinctPaths}
 use Rattle.table_history.proofs.RowListLemmas.{row_at-none, row_at-found}
-use Rattle.table_history.proofs.RowSetLemmas.{row_at-find}
+use Rattle.table_history.proofs.RowSetLemmas.{row_at-find, distinct_paths}
 use Rattle.table_history.proofs.rows.FileRows.get.Goals as goal
 
 missing : (c : goal.After-from_residual) → None ≡ row_at c.args.self.now c.args.path.now
@@ -22,3 +22,9 @@ returns-clause-value c = found c
 
 pub returns-clause-cases : goal.returns-clause-cases
 returns-clause-cases c = row_at-found c.args.self.now c.args.path.now c.held.inside.row (sym (found c))
+
+pub returns-in_err-held-clause-distinct : goal.returns-in_err-held-clause-distinct
+returns-in_err-held-clause-distinct c = subst HasDistinctPaths c.self.view_is (distinct_paths c.self.inside.rows.keys c.self.invariant)
+
+pub returns-clause-distinct : goal.returns-clause-distinct
+returns-clause-distinct c = subst HasDistinctPaths c.self.view_is (distinct_paths c.self.inside.rows.keys c.self.invariant)
