@@ -23,12 +23,12 @@ use Rattle.iceberg_change.specs.declared.behind.Start.{Start}
 use Rattle.iceberg_change.specs.declared.behind.Step.{Step}
 use Rattle.iceberg_change.specs.declared.joining.Joining.{Joining}
 use Rattle.iceberg_change.specs.declared.joining.Stop.{Stop}
-use Rattle.iceberg_change.proofs.BesideLaws.{all_diff, all_distinct, all_length, left_distinct, same_moved}
+use Rattle.iceberg_change.proofs.BesideLaws.{all_diff, all_distinct, all_length, same_moved}
 use Rattle.iceberg_change.proofs.HeldLaws.{filled_rows, filled_with}
 
 -- ---- what is held at the beginning
 
-itself : (rows : List FileRow) → SameRows rows rows
+pub itself : (rows : List FileRow) → SameRows rows rows
 itself rows row = (λ h. h, λ h. h)
 
 pub starts_held : (columns : List PartColumn) (before : Table) (manifests : List Manifest) (s : Start) → s.held.slots.items ≡ map Some manifests → s.is_held ≡ true → HasDistinctPaths before.rows
@@ -64,10 +64,6 @@ parts_of columns before s j start joined = record { held = held_rows s.held; kep
 -- ---- the change
 
 module _ (before : List FileRow) (start left came all : List FileRow) (parts : AreParts before start left came all) where
-  -- the rows that go may be put to those that weren't held
-  pub goes_distinct : HasDistinctPaths left
-  goes_distinct = left_distinct before parts.held start parts.kept left came all parts.same parts.distinct parts.split parts.whole
-
   -- where all rows before are those that weren't held, no row more goes
   pub goes_before : start ≡ before → SameRows before (start ++ left)
   goes_before is row = (

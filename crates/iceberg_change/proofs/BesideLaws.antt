@@ -107,10 +107,6 @@ module _ (before held start kept left came all : List FileRow)
   pub before_parts : SameRows before (kept ++ (left ++ start))
   before_parts = same_further before (held ++ start) (kept ++ (left ++ start)) same (same_moved (held ++ start) (kept ++ (left ++ start)) moved)
 
-  -- the rows that go may be put to those that weren't held
-  pub left_distinct : HasDistinctPaths left
-  left_distinct = distinct_front left start (distinct_back kept (left ++ start) parts_distinct)
-
   module _ (went : List FileRow) (gone : SameRows went (start ++ left)) (own : HasDistinctPaths went) (new : HasDistinctPaths came) (free : (row : FileRow) → Contains came row → HasPath before row.path → HasPath went row.path) where
     went_is : SameRows went (left ++ start)
     went_is = same_further went (start ++ left) (left ++ start) gone (same_moved (start ++ left) (left ++ start) (IsPermutation-append_comm start left))

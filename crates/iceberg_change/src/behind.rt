@@ -10,7 +10,7 @@ ghost use Rattle.table_history.specs.declared.row.FileRow.{FileRow};
 ghost use Rattle.iceberg_table.specs.Once.{entries_once};
 ghost use Rattle.iceberg_table.specs.Plan.{part_columns};
 ghost use Rattle.iceberg_table.specs.Tables.{rows_of};
-ghost use Rattle.iceberg_change.specs.Behind.{AreApart, AreFit, AreParts, GoesOn, HoldsRead, IsChangeTo, IsListRead, IsListed, IsStart, IsStep, IsStepBy, held_rows, others_of};
+ghost use Rattle.iceberg_change.specs.Behind.{AreFit, AreParts, GoesOn, HoldsRead, IsChangeTo, IsListRead, IsListed, IsStart, IsStep, IsStepBy, held_rows, others_of};
 ghost use Rattle.iceberg_change.specs.declared.joining.Stop.TheVariants.{StoreFault};
 
 use crate::held::Held;
@@ -18,7 +18,6 @@ use crate::joining::{Joining, Stop, join_list, stop_for};
 use iceberg_manifest::PartColumn;
 use iceberg_metadata::{Metadata, Snapshot};
 use iceberg_table::{Manifest, Plan, part_columns, plan_snapshot, read_list_file};
-use indexmap::IndexSet;
 use lake_basics::Items;
 use lake_basics::limits::MAX_LIVE_FILES;
 use lake_store::Store;
@@ -59,54 +58,35 @@ pub(crate) struct Step {
 
 // ---- rows
 
-/// Whether no two rows have one path.
-fn have_own_paths(alloc: Global, rows: &[FileRow]) -> Result<bool, AllocError>
-    ensures { IfOk result (λ own. IsTrue own → HasDistinctPaths rows.now) }
+/// The rows of a table, which are these. Rows that share a path aren't taken.
+fn file_rows(alloc: Global, rows: Vec<FileRow>) -> Result<FileRows, Stop>
+    ensures rows { IfOk result (λ r. r ≡ rows.items) }
+    ensures distinct { IfOk result (λ _. HasDistinctPaths rows.items) }
+    ensures no_fault { IsErrOf result StoreFault → ⊥ }
 {
-    let mut seen = IndexSet::new(alloc);
+    let mut found = FileRows::new(alloc);
     for row in rows {
-        if !seen.insert(row.path.as_bytes())? {
-            return Ok(false);
+        if found.get(row.path.as_bytes()).is_some() {
+            return Err(Stop::Scratch);
         }
+        found.insert(row)?;
     }
-    Ok(true)
-}
-
-/// The table with these rows more.
-fn with_rows(alloc: Global, table: Table, rows: Vec<FileRow>) -> Result<Table, AllocError>
-    requires distinct { HasDistinctPaths rows.items }
-    requires apart { AreApart rows.items table.rows }
-    ensures rows { IfOk result (λ t. SameRows t.rows (table.rows ++ rows.items)) }
-    ensures own { IfOk result (λ t. HasDistinctPaths t.rows) }
-    ensures schema { IfOk result (λ t. t.schema ≡ table.schema) }
-{
-    let change = Change {
-        schema: None,
-        removed: Items::new(alloc),
-        added: Items::from_vec(rows),
-    };
-    let mut table = table;
-    table.apply_owned(change)?;
-    Ok(table)
+    Ok(found)
 }
 
 /// A table of this schema and these rows. Rows that share a path aren't taken.
 fn table_of(alloc: Global, schema: Schema, rows: Vec<FileRow>) -> Result<Table, Stop>
-    ensures rows { IfOk result (λ t. SameRows t.rows rows.items) }
+    ensures rows { IfOk result (λ t. t.rows ≡ rows.items) }
     ensures distinct { IfOk result (λ _. HasDistinctPaths rows.items) }
-    ensures own { IfOk result (λ t. HasDistinctPaths t.rows) }
     ensures schema { IfOk result (λ t. t.schema ≡ schema) }
     ensures no_fault { IsErrOf result StoreFault → ⊥ }
 {
-    if !have_own_paths(alloc, rows.as_slice())? {
-        return Err(Stop::Scratch);
-    }
-    let empty = Table {
+    let rows = file_rows(alloc, rows)?;
+    Ok(Table {
         schema,
         partition: Items::new(alloc),
-        rows: FileRows::new(alloc),
-    };
-    Ok(with_rows(alloc, empty, rows)?)
+        rows,
+    })
 }
 
 /// Whether the row's path is free in the table before, once the rows that went are out of it. If not,
@@ -142,14 +122,15 @@ fn is_within(before: usize, went: usize, came: usize) -> bool
 }
 
 /// The table of the rows that went: those of the manifests that are left.
-fn went_of(alloc: Global, left: Held) -> Result<Table, AllocError>
-    requires { HasDistinctPaths (held_rows left) }
-    ensures rows { IfOk result (λ t. SameRows t.rows (held_rows left)) }
-    ensures own { IfOk result (λ t. HasDistinctPaths t.rows) }
+fn went_of(alloc: Global, left: Held) -> Result<Table, Stop>
+    ensures rows { IfOk result (λ t. t.rows ≡ held_rows left) }
+    ensures distinct { IfOk result (λ _. HasDistinctPaths (held_rows left)) }
+    ensures no_fault { IsErrOf result StoreFault → ⊥ }
 {
-    let none = Table::empty(alloc, &[])?;
+    let mut went = Table::empty(alloc, &[])?;
     let left = left.into_rows(alloc)?;
-    with_rows(alloc, none, left)
+    went.rows = file_rows(alloc, left)?;
+    Ok(went)
 }
 
 /// The change from the rows that went to those that came, if so many may be live then.
