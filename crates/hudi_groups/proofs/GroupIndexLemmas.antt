@@ -81,7 +81,7 @@ at_update g old new w here rest q =
     (λ n. others g old new rest q n ∙ sym (cond-false (bytes_eq g q) w (at old q) n))
     (cases_Bool (bytes_eq g q))
 
--- the group is put where there is none
+-- the group is put in with these paths, whether it was there or not
 pub group_put : (g : List ℕ) (old new : Index) (paths : Paths) → at new g ≡ Some paths → KeepsOthers bytes_eq (bytes_eq g) old.entries new.entries
     → (q p : List ℕ) → has_path new q p ≡ cond (bytes_eq g q) (is_among p (Some paths)) (has_path old q p)
 group_put g old new paths puts rest q p =
@@ -90,15 +90,24 @@ group_put g old new paths puts rest q p =
     (λ n. ap (is_among p) (at_update g old new (Some paths) puts rest q ∙ cond-false (bytes_eq g q) (Some paths) (at old q) n) ∙ sym (cond-false (bytes_eq g q) (is_among p (Some paths)) (has_path old q p) n))
     (cases_Bool (bytes_eq g q))
 
-module _ (g path : List ℕ) (old mid new : Index) (paths : Option Paths) (named : g ≡ group_name Base path) (gone : at mid g ≡ None) (rest : KeepsOthers bytes_eq (bytes_eq g) old.entries mid.entries)
-    (puts : (q p : List ℕ) → has_path new q p ≡ cond (bytes_eq g q) (is_among p paths) (has_path mid q p)) where
+-- a group that was taken out is put back with other paths
+pub put_back : (g : List ℕ) (old mid new : Index) (paths : Option Paths) → at mid g ≡ None → KeepsOthers bytes_eq (bytes_eq g) old.entries mid.entries
+    → ((q p : List ℕ) → has_path new q p ≡ cond (bytes_eq g q) (is_among p paths) (has_path mid q p))
+    → (q p : List ℕ) → has_path new q p ≡ cond (bytes_eq g q) (is_among p paths) (has_path old q p)
+put_back g old mid new paths gone rest puts q p =
+    puts q p
+    ∙ ⊎_elim
+    (λ y. cond-true (bytes_eq g q) (is_among p paths) (has_path mid q p) y ∙ sym (cond-true (bytes_eq g q) (is_among p paths) (has_path old q p) y))
+    (λ n. ap (λ o. cond (bytes_eq g q) (is_among p paths) (is_among p o)) (at_update g old mid None gone rest q ∙ cond-false (bytes_eq g q) None (at old q) n))
+    (cases_Bool (bytes_eq g q))
+
+module _ (g path : List ℕ) (old new : Index) (paths : Option Paths) (named : g ≡ group_name Base path)
+    (puts : (q p : List ℕ) → has_path new q p ≡ cond (bytes_eq g q) (is_among p paths) (has_path old q p)) where
   here : (q p : List ℕ) → bytes_eq g q ≡ true → has_path new q p ≡ is_among p paths
-  here q p y = puts q p ∙ cond-true (bytes_eq g q) (is_among p paths) (has_path mid q p) y
+  here q p y = puts q p ∙ cond-true (bytes_eq g q) (is_among p paths) (has_path old q p) y
 
   elsewhere : (q p : List ℕ) → bytes_eq g q ≡ false → has_path new q p ≡ has_path old q p
-  elsewhere q p n =
-      puts q p ∙ cond-false (bytes_eq g q) (is_among p paths) (has_path mid q p) n
-      ∙ ap (is_among p) (at_update g old mid None gone rest q ∙ cond-false (bytes_eq g q) None (at old q) n)
+  elsewhere q p n = puts q p ∙ cond-false (bytes_eq g q) (is_among p paths) (has_path old q p) n
 
   in_group : (q : List ℕ) (b : Bool) → bytes_eq g q ≡ b → bytes_eq q (group_name Base path) ≡ b
   in_group q b is = ap (bytes_eq q) (sym named) ∙ nat_list_eq_equiv.symm q g ∙ is

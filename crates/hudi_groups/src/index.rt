@@ -13,6 +13,7 @@ use crate::group::path_to_file_id;
 use crate::groups::{Groups, with_row_at};
 use lake_basics::{Blob, Text};
 use std::alloc::{AllocError, Global};
+use std::collections::hash_map::Entry;
 use std::collections::{HashMap, HashSet};
 use table_history::{FileRow, FileRows};
 
@@ -50,14 +51,13 @@ fn one_more(held: Box<HashSet<Blob>>, path: Blob) -> Result<Paths, AllocError>
 }
 
 /// The paths of a group, and this one.
-fn paths_with(alloc: Global, paths: Option<Paths>, path: Blob) -> Result<Paths, AllocError>
+fn paths_with(alloc: Global, paths: Paths, path: Blob) -> Result<Paths, AllocError>
     ensures { IfOk result (λ all. (p : List ℕ) → is_among p (Some all)
-        ≡ (bytes_eq p path || is_among p paths)) }
+        ≡ (bytes_eq p path || is_among p (Some paths))) }
 {
     match paths {
-        None => Ok(Paths::One(path)),
-        Some(Paths::One(held)) => two_paths(alloc, held, path),
-        Some(Paths::Many(held)) => one_more(held, path),
+        Paths::One(held) => two_paths(alloc, held, path),
+        Paths::Many(held) => one_more(held, path),
     }
 }
 
@@ -129,9 +129,19 @@ fn with_path(alloc: Global, index: Index, path: &[u8]) -> Result<Index, AllocErr
 {
     let group = Blob::from_slice(alloc, path_to_file_id(path))?;
     let key = Blob::from_slice(alloc, path)?;
-    let mut rest = index;
-    let paths = paths_with(alloc, rest.remove(&group), key)?;
-    put_group(rest, group, Some(paths))
+    let mut all = index;
+    match all.entry(group)? {
+        Entry::Vacant(place) => {
+            place.insert(Paths::One(key));
+        }
+        Entry::Occupied(mut place) => {
+            // An empty path stands there while the group's own are taken out.
+            let held = place.insert(Paths::One(Blob::new(alloc)));
+            let paths = paths_with(alloc, held, key)?;
+            drop(place.insert(paths));
+        }
+    }
+    Ok(all)
 }
 
 /// The index without this path.
