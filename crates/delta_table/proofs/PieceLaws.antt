@@ -1,5 +1,5 @@
 -- A version's file, piece by piece.
-use Rattle.std.proofs.Common.{◌≡◌, ℕ, ◌+◌, ◌*◌, ◌-◌, ◌^◌, ◌<◌, ◌≤◌, min, List, [], ◌∷◌, ◌++◌, length, take, drop, Option, Some, None, option_map, Bool, true, false, Result, Ok, Err, refl, sym, ap, subst, ◌∙◌, arith}
+use Rattle.std.proofs.Common.{◌≡◌, ℕ, ◌+◌, ◌*◌, ◌-◌, ◌^◌, ◌<◌, ◌≤◌, min, List, ◌++◌, length, take, drop, Option, Some, None, option_map, Bool, true, false, Result, Ok, Err, refl, sym, ap, subst, ◌∙◌, arith}
 use Rattle.std.proofs.lemmas.Result.{IfErr-at_err}
 use Rattle.std.specs.Prelude.{IfErr, IfSome, IsErrOf}
 use Rattle.std.proofs.lemmas.List.{length-drop, length-take, take_all, take_min, take-append-drop}
@@ -13,7 +13,7 @@ use Rattle.delta_log.specs.declared.error.DeltaError.{DeltaError}
 use Rattle.delta_log.specs.declared.error.DeltaError.TheVariants as delta
 use Rattle.delta_log.specs.Judging.{Answers, is_memory}
 use Rattle.delta_log.specs.Readable.{IsFirstFault, IsReadableCommit, IsRefusal}
-use Rattle.delta_feeding.specs.Feeding.{SoFar, State, fed, nothing_read, told}
+use Rattle.delta_feeding.specs.Feeding.{State, fed, nothing_read, told}
 use Rattle.delta_feeding.specs.Laws.{IsFaultWithin}
 use Rattle.delta_feeding.proofs.EarlyLemmas.{fault_for_good, taken_sound, told_early, within_more}
 use Rattle.delta_feeding.proofs.PieceLemmas.{pieces_join}

@@ -1,5 +1,5 @@
 -- What a log says depends on its versions alone.
-use Rattle.std.proofs.Common.{◌≡◌, ◌⊎◌, inl, inr, ℕ, zero, suc, ◌≤◌, List, Option, sym, ◌∙◌, ⊎_elim}
+use Rattle.std.proofs.Common.{◌≡◌, inl, inr, ℕ, zero, suc, List, Option, sym, ◌∙◌, ⊎_elim}
 use Rattle.std.specs.FinMap as map
 use Rattle.lake_store.specs.Disk.{Files}
 use Rattle.lake_store.specs.Runs.{IsIn}
@@ -8,7 +8,7 @@ use Rattle.table_history.specs.declared.table.Table.{Table}
 use Rattle.delta_live.specs.Live.{PartColumns}
 use Rattle.delta_log.specs.declared.commit.DeltaCommit.{DeltaCommit}
 use Rattle.delta_log.specs.declared.error.DeltaError.{DeltaError}
-use Rattle.delta_table.specs.Log.{HasLiveRows, IsLiveBefore, IsLogBy, IsReadLog, IsTaken, SaysCommit}
+use Rattle.delta_table.specs.Log.{HasLiveRows, IsLiveBefore, IsLogBy, IsTaken, SaysCommit}
 use Rattle.delta_table.specs.Refusals.{IsLarge, IsLogRefusal, IsStepRefusal, IsUnfit, IsUnreadable, StopsAt}
 use Rattle.delta_table.specs.Versions.{HasVersion, HoldsVersion, IsVersionPath, log_folder}
 use Rattle.delta_table.specs.declared.error.LogError.{LogError}
