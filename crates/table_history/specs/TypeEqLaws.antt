@@ -1,5 +1,5 @@
 -- The tests of column types and of columns decide whether two are one.
-use Rattle.std.specs.Prelude.{◌≡◌, true, false, refl}
+use Rattle.std.specs.Prelude.{◌≡◌, true, refl}
 use Rattle.std.proofs.Common.{ap, subst}
 use Rattle.std.specs.Bool.{Decides}
 use Rattle.std.specs.Cmp.{IsEquivalence, booleans_Decides, decided}
