@@ -17,9 +17,8 @@ use delta_log::{DeltaCommit, DeltaError};
 use std::alloc::Global;
 use table_history::{Change, FileRows, Table};
 
-/// The change that a commit makes of the table `base`, as `change_of` gives it, but in no order: for
-/// what is made of it at once, as a table.
-pub fn unordered_change_of(
+/// The change that a commit makes of the table `base`, as `change_of` gives it, but in no order.
+fn unordered_change_of(
     alloc: Global,
     commit: &DeltaCommit,
     base: Option<&Table>,

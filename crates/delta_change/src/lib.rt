@@ -6,4 +6,4 @@ mod change;
 mod columns;
 mod features;
 
-pub use change::{change_of, unordered_change_of};
+pub use change::change_of;

@@ -12,8 +12,7 @@ use Rattle.table_history.specs.TypeTree.{ColumnTrees}
 use Rattle.table_history.specs.declared.table.Change.{Change}
 use Rattle.table_history.specs.declared.table.Table.{Table}
 use Rattle.table_history.proofs.RowListLemmas.{Contains-none}
-use Rattle.delta_change.specs.Change.{IsChangeBy, IsOutsideGrammar, Shows, commit_features}
-use Rattle.delta_live.specs.Differences.{Difference}
+use Rattle.delta_change.specs.Change.{IsChangeOf, IsOutsideGrammar, Shows, commit_features}
 use Rattle.delta_live.specs.Live.{PartColumns, ActsOn, AddsRow, ArePartColumns}
 use Rattle.delta_change.specs.TableBehind.{IsSchemaBehind, StatesSchema, partition_behind, schema_before, table_before}
 use Rattle.delta_log.specs.declared.commit.MetaData.{MetaData}
@@ -109,7 +108,7 @@ stops_at files newest version base (error.Refused v e) few within log refused = 
 -- ---- one commit
 
 -- the table that a commit's change leaves is the table behind it
-pub step_made : {Diff : Difference} (c : DeltaCommit) (base : Option Table) (change : Change) (next : Table) → (IsOutsideGrammar c base → ⊥) → NoneOf (Shows c base) commit_features → IsChangeBy Diff c base change → IsAfter (table_before c base) change next → IsStep c base next
+pub step_made : (c : DeltaCommit) (base : Option Table) (change : Change) (next : Table) → (IsOutsideGrammar c base → ⊥) → NoneOf (Shows c base) commit_features → IsChangeOf c base change → IsAfter (table_before c base) change next → IsStep c base next
 step_made c base change next grammar supported is after =
     let schema : unwrap_or change.schema (schema_before base) ≡ next.schema = ap (unwrap_or change.schema) (sym (before_schema c base)) ∙ sym after.schema in
     let partition : partition_behind c.meta base ≡ next.partition = sym (partition_before c base change.schema is.stated supported.1.1.1.1.1.0) ∙ sym after.partition in

@@ -12,7 +12,7 @@ ghost use Rattle.delta_table.specs.declared.error.LogError.TheVariants.{ManyComm
 use crate::error::{LogError, error_at};
 use crate::pieces::read_whole;
 use crate::versions::version_path;
-use delta_change::unordered_change_of;
+use delta_change::change_of;
 use delta_log::{DeltaCommit, DeltaError, MetaData, Protocol};
 use lake_basics::limits::MAX_COMMITS;
 use lake_store::Store;
@@ -64,7 +64,7 @@ fn first_log(alloc: Global, commit: DeltaCommit) -> Result<Log, DeltaError>
     ensures protocol { IfOk result (λ log. commit.protocol ≡ Some log.protocol) }
     ensures refused { IfErr result (IsChangeRefusal commit None) }
 {
-    let change = unordered_change_of(alloc, &commit, None)?;
+    let change = change_of(alloc, &commit, None)?;
     let DeltaCommit { protocol, meta, .. } = commit;
     let Some(meta) = meta else {
         unreachable!();
@@ -95,7 +95,7 @@ fn next_log(alloc: Global, log: Log, version: u64, commit: DeltaCommit) -> Resul
         (λ next. next.protocol ≡ unwrap_or commit.protocol log.protocol) }
     ensures refused { IfErr result (IsChangeRefusal commit (Some log.table)) }
 {
-    let change = unordered_change_of(alloc, &commit, Some(&log.table))?;
+    let change = change_of(alloc, &commit, Some(&log.table))?;
     let DeltaCommit { protocol, meta, .. } = commit;
     let mut table = log.table;
     table.apply_owned(change)?;
