@@ -73,7 +73,7 @@ fn first_log(alloc: Global, commit: DeltaCommit) -> Result<Log, DeltaError>
         unreachable!();
     };
     let mut table = Table::empty(alloc, meta.partition.as_slice())?;
-    table.apply_owned(change)?;
+    table.apply(alloc, &change)?;
     Ok(Log {
         table,
         meta,
@@ -98,7 +98,7 @@ fn next_log(alloc: Global, log: Log, version: u64, commit: DeltaCommit) -> Resul
     let change = change_of(alloc, &commit, Some(&log.table))?;
     let DeltaCommit { protocol, meta, .. } = commit;
     let mut table = log.table;
-    table.apply_owned(change)?;
+    table.apply(alloc, &change)?;
     let meta_version = if meta.is_some() {
         version
     } else {

@@ -12,8 +12,8 @@ returns-clause-taken c =
     let change = c.in_ok-change.change in
     let before : c.in_ok-table.table ≡ table_before c.args.commit None =
     c.in_ok-table.ensures ∙ ap (λ (p : List (List ℕ)). empty_table p) c.as_slice.ensures ∙ ap (λ (m : Option MetaData). empty_table (partition_behind m None)) (sym c.in-Some.is) in (
-      step_made c.args.commit None change c.apply_owned.new.self c.in_ok-change.ensures.grammar c.in_ok-change.ensures.supported c.in_ok-change.ensures.found
-          (subst (λ (t : Table). IsAfter t change c.apply_owned.new.self) before c.in_ok-apply_owned.ensures.ok),
+      step_made c.args.commit None change c.apply.new.self c.in_ok-change.ensures.grammar c.in_ok-change.ensures.supported c.in_ok-change.ensures.found
+          (subst (λ (t : Table). IsAfter t change c.apply.new.self) before c.in_ok-apply.ensures.ok),
       c.in_ok-change.ensures.follows,
     )
 
@@ -22,4 +22,4 @@ returns-clause-sound c =
     let change = c.in_ok-change.change in
     let before : c.in_ok-table.table ≡ table_before c.args.commit None =
     c.in_ok-table.ensures ∙ ap (λ (p : List (List ℕ)). empty_table p) c.as_slice.ensures ∙ ap (λ (m : Option MetaData). empty_table (partition_behind m None)) (sym c.in-Some.is) in
-    c.in_ok-change.ensures.goes_on.leaves (λ t is. absurd (none-some t is)) _ (subst (λ (t : Table). IsAfter t change c.apply_owned.new.self) before c.in_ok-apply_owned.ensures.ok)
+    c.in_ok-change.ensures.goes_on.leaves (λ t is. absurd (none-some t is)) _ (subst (λ (t : Table). IsAfter t change c.apply.new.self) before c.in_ok-apply.ensures.ok)
