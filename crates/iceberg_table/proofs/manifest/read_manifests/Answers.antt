@@ -155,3 +155,9 @@ returns-clause-found g c told =
     let rest = c.loop-file.file-iterator.rest.items in
     let none : length rest ≡ 0 = search rules in
     subst (λ (l : List ManifestFile). AreEach (IsManifestOf files c.args.location.now c.args.columns.now) l c.loop-file.manifests) (sym (left_none c.args.list was.0 rest was.1 none)) (was.2 told)
+
+pub returns-in_err-push-clause-refused : goal.returns-in_err-push-clause-refused
+returns-in_err-push-clause-refused g c told =
+    let exit = err_from_is_err_and c.from_residual-in_err-push.result c.from_residual-in_err-push.ensures.1 in
+    let P : IcebergError → Type 0 = AreManifestsRefused (g.S.Store.disk c.args.store.now).files c.args.location.now c.args.columns.now c.args.path.now c.args.list in
+    subst (λ r. IfErr r (IsRefusal P)) (sym exit.1) (subst (IsRefusal P) (sym exit.2) tt)
