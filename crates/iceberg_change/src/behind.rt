@@ -66,10 +66,9 @@ fn file_rows(alloc: Global, rows: Vec<FileRow>) -> Result<FileRows, Stop>
 {
     let mut found = FileRows::new(alloc);
     for row in rows {
-        if found.get(row.path.as_bytes()).is_some() {
+        if !found.insert_new(row)? {
             return Err(Stop::Scratch);
         }
-        found.insert(row)?;
     }
     Ok(found)
 }

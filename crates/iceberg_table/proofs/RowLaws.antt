@@ -28,10 +28,6 @@ pub path_there : (rows : List FileRow) (path : List ℕ) (r : Option (Bor FileRo
 path_there rows path None is cases = absurd (cc)
 path_there rows path (Some w) is cases = (w.now, cases.0, cases.1)
 
-pub path_lacks : (rows : List FileRow) (path : List ℕ) (r : Option (Bor FileRow)) → is_some r ≡ false → MatchOption r (HasPath rows path → ⊥) (λ w. Contains rows w.now × (w.now.path ≡ path)) → HasPath rows path → ⊥
-path_lacks rows path None is cases = cases
-path_lacks rows path (Some w) is cases = absurd (cc)
-
 pub no_paths : HasDistinctPaths []
 no_paths = IsDistinct-from_apart bytes_eq [] (λ i j d _ within. absurd (omega arith))
 

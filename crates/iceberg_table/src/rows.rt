@@ -30,11 +30,10 @@ fn with_row(table: Table, row: FileRow) -> Result<Table, ReadError<Fault>>
     ensures refused { IfErr result (IsFault
         (λ f. IsShared f × HasPath table.rows row.path)) }
 {
-    if table.rows.get(row.path.as_bytes()).is_some() {
+    let mut table = table;
+    if !table.rows.insert_new(row)? {
         return Err(unsupported(Feature::SharedFile));
     }
-    let mut table = table;
-    table.rows.insert(row)?;
     Ok(table)
 }
 

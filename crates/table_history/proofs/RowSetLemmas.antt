@@ -50,9 +50,14 @@ distinct_paths [] h = h
 distinct_paths (r ∷ rows) h = (all_paths r.path rows h.0, distinct_paths rows h.1)
 
 -- ---- a row that is put in
-pub insert_key-new : (rows : List FileRow) (row : FileRow) → (HasPath rows row.path → ⊥) → insert_key same_path rows row ≡ rows ++ row ∷ []
-insert_key-new rows row lacks =
-    ap (λ b. if b then rows else rows ++ row ∷ []) (row_at-any rows row.path ∙ ap is_some (row_at-lacks rows row.path lacks))
+pub insert_key-held : (rows : List FileRow) (row : FileRow) → list_any (same_path row) rows ≡ true → HasPath rows row.path × (insert_key same_path rows row ≡ rows)
+insert_key-held rows row held = (there (row_at rows row.path) refl, ap (λ b. if b then rows else rows ++ row ∷ []) held)
+  where
+    there : (found : Option FileRow) → row_at rows row.path ≡ found → HasPath rows row.path
+    there None e = absurd (false≢true (sym (ap is_some e) ∙ sym (row_at-any rows row.path) ∙ held))
+    there (Some r) e =
+        let at = row_at-found rows row.path r e in
+        (r, at.0, at.1)
 
 replace_step : (a b : Bool) (k r : FileRow) (rs swapped pushed : List FileRow)
     → (if (a || b) then cond a (k ∷ rs) (r ∷ swapped) else r ∷ pushed) ≡ cond a (k ∷ rs) (r ∷ (if b then swapped else pushed))

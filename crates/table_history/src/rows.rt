@@ -1,5 +1,5 @@
 //! The live files of a table, by their paths.
-ghost use Rattle.std.specs.Prelude.{◌≡◌, ◌↔◌, ◌<◌, ◌≤◌, ◌++◌, ℕ, List, [], ◌∷◌, length, map, if◌then◌else◌, Some, None, IsTrue, IfOk, OnOk, OnErr, IfSome, MatchOption, slice_get, vec_len, Contains, All};
+ghost use Rattle.std.specs.Prelude.{◌≡◌, ◌↔◌, ◌<◌, ◌≤◌, ◌++◌, ℕ, List, [], ◌∷◌, length, map, if◌then◌else◌, Some, None, false, IsTrue, IfOk, OnOk, OnErr, IfSome, MatchOption, slice_get, vec_len, Contains, All};
 ghost use Rattle.std.specs.List.{list_any, IsDistinct};
 ghost use Rattle.std.specs.Option.{option_copied, option_or};
 ghost use Rattle.std.specs.Str.{bytes_eq};
@@ -141,15 +141,17 @@ impl FileRows {
         Ok(FileRows { rows })
     }
 
-    /// Puts a row in behind the others, of whose path there is none. For want of memory the rows stay as
-    /// they are.
-    pub fn insert(&mut self, row: FileRow) -> Result<(), AllocError>
-        requires { ¬ HasPath self.old row.path }
-        ensures ok { OnOk result (self.new ≡ self.old ++ row ∷ []) }
+    /// Puts a row in behind the others where there is none of its path, and says whether that is so. If
+    /// there is one, and for want of memory, the rows stay as they are.
+    pub fn insert_new(&mut self, row: FileRow) -> Result<bool, AllocError>
+        ensures new { IfOk result (λ is_new. IsTrue is_new
+            → (¬ HasPath self.old row.path) × (self.new ≡ self.old ++ row ∷ [])) }
+        ensures held { IfOk result (λ is_new. is_new ≡ false
+            → HasPath self.old row.path × (self.new ≡ self.old)) }
         ensures err { OnErr result (self.new ≡ self.old) }
     {
-        self.rows.insert(RowByPath { row })?;
-        Ok(())
+        let (_, is_new) = self.rows.insert_full(RowByPath { row })?;
+        Ok(is_new)
     }
 
     // Takes out the rows of these paths, and then puts the added rows in. A row of `added` replaces

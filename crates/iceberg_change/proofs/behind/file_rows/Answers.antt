@@ -1,16 +1,9 @@
 use Rattle.std.proofs.Common.{◌≡◌, ◌++◌, ◌∷◌, ℕ, List, length, sym, ap, subst, ◌∙◌, rules}
-use Rattle.table_history.specs.Row.{Row}
-use Rattle.table_history.specs.Rows.{HasDistinctPaths, HasPath}
+use Rattle.table_history.specs.Rows.{HasDistinctPaths}
 use Rattle.table_history.specs.declared.row.FileRow.{FileRow}
 use Rattle.iceberg_table.proofs.EachLaws.{left_moved, left_next, left_none}
-use Rattle.iceberg_table.proofs.RowLaws.{no_paths, path_lacks, paths_push}
+use Rattle.iceberg_table.proofs.RowLaws.{no_paths, paths_push}
 use Rattle.iceberg_change.proofs.behind.file_rows.Goals as goal
-use Rattle.iceberg_change.proofs.behind.file_rows.Goals.{Else-is_some}
-
-lacks : (c : Else-is_some) → HasPath c.loop-row.found c.in-Some.row.path → ⊥
-lacks c =
-    subst (λ (p : List ℕ). HasPath c.loop-row.found p → ⊥) (c.as_bytes.ensures.value ∙ ap (λ (r : Row). r.path) c.row.view_is)
-    (path_lacks c.loop-row.found c.as_bytes.result.now c.get.result (sym c.is_some.ensures ∙ c.if-is_some.false) c.get.ensures.cases)
 
 pub loop-row-init : goal.loop-row-init
 loop-row-init c = record {
@@ -18,19 +11,17 @@ loop-row-init c = record {
   distinct = subst HasDistinctPaths (sym c.new-found.ensures) no_paths;
 }
 
-pub insert-requires : goal.insert-requires
-insert-requires c = lacks (goal.at.insert-requires c).Else-is_some
-
 pub loop-row-preserved : goal.loop-row-preserved
 loop-row-preserved c =
     let rows = c.args.rows.items in
     let front = c.loop-row.found in
     let row = c.in-Some.row in
     let more = c.next.new.self.rest.items in
+    let put = c.in_ok-insert_new.ensures.new c.if-not-branch.false in
     let split : rows ≡ front ++ row ∷ more = left_next rows front c.loop-row.row-iterator.rest.items more row c.loop-row.invariant.parts c.in-Some.ensures.steps.0 in
     record {
-      parts = subst (λ (l : List FileRow). rows ≡ l ++ more) (sym c.in_ok-insert.ensures.ok) (left_moved rows front more row split);
-      distinct = subst HasDistinctPaths (sym c.in_ok-insert.ensures.ok) (paths_push front row c.loop-row.invariant.distinct (lacks (goal.at.loop-row-preserved c).Else-is_some));
+      parts = subst (λ (l : List FileRow). rows ≡ l ++ more) (sym put.1) (left_moved rows front more row split);
+      distinct = subst HasDistinctPaths (sym put.1) (paths_push front row c.loop-row.invariant.distinct put.0);
     }
 
 whole : (rows found rest : List FileRow) → rows ≡ found ++ rest → length rest ≡ 0 → found ≡ rows
