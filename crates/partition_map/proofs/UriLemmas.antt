@@ -1,7 +1,7 @@
 -- Relative URIs: what the tests say is what the relations say, and what is escaped is read again.
 use Rattle.std.specs.Char.{is_digit, is_ascii_alphabetic}
 use Rattle.std.specs.Fmt.{digit_glyph}
-use Rattle.std.specs.List.{slice_split, prefix_len, take_while}
+use Rattle.std.specs.List.{list_all, slice_split, prefix_len, take_while}
 use Rattle.std.proofs.lemmas.List.{get_or_past, get_or-drop, get_or-take, take-append-drop}
 use Rattle.std.proofs.lemmas.List.Splits.{slice_split-cons_yes}
 use Rattle.std.proofs.lemmas.List.Prefix.{front_fits, front_rest, front_reads}
@@ -281,6 +281,12 @@ escaped_plain b t = cond-true (is_plain b) (b ∷ []) (percent_encode_byte b) t
 
 escaped_other : (b : ℕ) → is_plain b ≡ false → escaped_byte b ≡ percent_encode_byte b
 escaped_other b f = cond-false (is_plain b) (b ∷ []) (percent_encode_byte b) f
+
+pub escaped_path-plain : (bs : List ℕ) → list_all is_plain bs ≡ true → escaped_path bs ≡ bs
+escaped_path-plain [] all = refl
+escaped_path-plain (b ∷ bs) all =
+    let parts = and_parts (is_plain b) (list_all is_plain bs) all in
+    ap (λ front. front ++ escaped_path bs) (escaped_plain b parts.0) ∙ ap (λ l. b ∷ l) (escaped_path-plain bs parts.1)
 
 pub percent_decode-escaped_path : (bs : List ℕ) → All IsByte bs → percent_decode (escaped_path bs) ≡ bs
 percent_decode-escaped_path [] h = percent_decode-nil

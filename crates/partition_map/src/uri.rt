@@ -1,5 +1,6 @@
 //! Paths as relative URIs, as Delta commits have them.
 ghost use Rattle.std.specs.Prelude.{◌≡◌, ◌++◌, ◌==◌, true, IsTrue, IfOk, IfErr, OnOk, length, slice_index, string_bytes, take_while};
+ghost use Rattle.std.specs.List.{list_all};
 ghost use Rattle.percent_encoding.specs.Percent.{percent_decode};
 ghost use Rattle.table_history.specs.Path.{IsPath};
 ghost use Rattle.partition_map.specs.Uri.{is_plain, escaped_byte, escaped_path, is_scheme_byte, colon, NamesPath, ExplainsRefusal};
@@ -22,11 +23,27 @@ pub fn encode_uri_path(alloc: Global, path: &str) -> Result<Text, PartError>
     ensures reads_back { IfOk result (λ t. IsPath path.now → uri_path t ≡ inside_table path.now) }
     ensures refused { IfErr result (λ e. e ≡ PartError.Memory) }
 {
+    Ok(escaped(alloc, path)?)
+}
+
+// The text with its escapes. Most paths have none, and are copied in one go.
+fn escaped(alloc: Global, path: &str) -> Result<Text, AllocError>
+    ensures { IfOk result (λ t. t ≡ escaped_path path.now) }
+{
+    if are_plain(path.as_bytes()) {
+        return Text::from_str(alloc, path);
+    }
     let mut uri = String::with_capacity(alloc, path.len())?;
     for byte in path.as_bytes() {
         push_escaped(&mut uri, *byte)?;
     }
     Ok(Text::from_string(uri))
+}
+
+fn are_plain(bytes: &[u8]) -> bool
+    ensures { result ≡ list_all is_plain bytes.now }
+{
+    bytes.iter().all(|byte| is_plain(*byte))
 }
 
 fn push_escaped(uri: &mut String, byte: u8) -> Result<(), AllocError>
