@@ -1,38 +1,52 @@
 -- The actions of a change, in the order of their paths.
-use Rattle.std.proofs.Common.{◌≡◌, ⊎_elim, ℕ, ◌+◌, ◌<◌, Bool, true, false, not, cond, List, [], ◌∷◌, ◌++◌, length, get_or, take, filter, map, All, Contains, Some, refl, sym, ap, subst, ◌∙◌}
+use Rattle.std.proofs.Common.{◌≡◌, ⊎_elim, ℕ, ◌+◌, ◌<◌, Bool, Bor, true, false, not, cond, List, [], ◌∷◌, ◌++◌, length, get_or, take, filter, map, All, Contains, Some, refl, sym, ap, subst, ◌∙◌}
 use Rattle.std.specs.Prelude.{◌↔◌, IfOk, is_some, Result, Ok, Err}
 use Rattle.std.proofs.lemmas.List.Elements.{All-cons, All-nil}
+use Rattle.std.proofs.lemmas.List.{get_or-map, length-map, map-append}
 use Rattle.std.proofs.lemmas.Bool.{cases_Bool, false≢true, not-true}
 use Rattle.std.proofs.lemmas.Slice.Eq.{bytes_eq-Decides}
-use Rattle.table_history.proofs.RowListLemmas.{Contains-cases, Contains-filter, Contains-head, Contains-none, Contains-paths, Contains-tail, filter_contains}
+use Rattle.table_history.proofs.RowListLemmas.{Contains-cases, Contains-filter, Contains-head, Contains-none, Contains-tail, filter_contains}
 use Rattle.delta_live.proofs.BehindLemmas.{has_row}
 use Rattle.std.specs.Str.{bytes_eq}
 use Rattle.table_history.specs.Path.{IsPath}
 use Rattle.table_history.specs.Row.{Row}
-use Rattle.table_history.specs.Rows.{HasDistinctPaths, HasPath, IsInByteOrder, paths_of, row_at}
+use Rattle.table_history.specs.Rows.{HasPath, IsInByteOrder, IsInPathOrder, SameRows, paths_of, row_at}
 use Rattle.table_history.specs.declared.table.Change.{Change}
-use Rattle.table_history.proofs.TableLemmas.{Contains-paths_cases, same_path}
 use Rattle.delta_log.specs.Commit.{file_path, file_paths}
 use Rattle.delta_log.specs.Sound.{IsSoundFile}
 use Rattle.delta_log.specs.declared.commit.FileAction.TheVariants as file
 use Rattle.delta_log.specs.declared.commit.FileAction.{FileAction}
-use Rattle.target_delta.specs.Writing.{AreActions, AreAddsAt, CanAdd, IsAddOf, LeavesAdded, LosesRemoved}
+use Rattle.target_delta.specs.Writing.{AreActions, AreAdds, IsAddOf, LeavesAdded, LosesRemoved}
 use Rattle.lake_basics.proofs.Lists.{last_of}
+
+-- what references to rows hold
+abbrev pub rows_now : List (Bor Row) → List Row
+rows_now rows = map (λ r. r.now) rows
 
 -- no row has the path
 abbrev pub is_lost : List Row → List ℕ → Bool
 is_lost rows path = not (is_some (row_at rows path))
 
-pub adds_push : (partition : List (List ℕ)) (rows : List Row) (paths : List (List ℕ)) (files : List FileAction) (path : List ℕ) (row : Row) (f : FileAction) → AreAddsAt partition rows paths files → Contains rows row → row.path ≡ path → IsAddOf partition row f → AreAddsAt partition rows (paths ++ path ∷ []) (files ++ f ∷ [])
-adds_push partition rows [] [] path row f h there is add = ((row, there, is, add), tt)
-adds_push partition rows [] (g ∷ files) path row f h there is add = absurd h
-adds_push partition rows (p ∷ paths) [] path row f h there is add = absurd h
-adds_push partition rows (p ∷ paths) (g ∷ files) path row f h there is add = (h.0, adds_push partition rows paths files path row f h.1 there is add)
+row_there : (rows : List (Bor Row)) (i : ℕ) (row : Bor Row) → i < length rows → row ≡ get_or rows i row → Contains (rows_now rows) row.now
+row_there rows i row within at =
+    let now : Bor Row → Row = λ r. r.now in
+    (i, subst (λ (n : ℕ). i < n) (sym (length-map rows now)) within, get_or-map now rows i row row.now within ∙ ap now (sym at))
 
-pub adds_more : (partition : List (List ℕ)) (rows : List Row) (paths : List (List ℕ)) (files : List FileAction) (i : ℕ) (path : List ℕ) (row : Row) (f : FileAction) → i < length paths → path ≡ get_or paths i path
-    → AreAddsAt partition rows (take i paths) files → Contains rows row → row.path ≡ path → IsAddOf partition row f → AreAddsAt partition rows (take (i + 1) paths) (files ++ f ∷ [])
-adds_more partition rows paths files i path row f within at h there is add =
-    subst (λ (l : List (List ℕ)). AreAddsAt partition rows l (files ++ f ∷ [])) (sym (last_of paths i path within at)) (adds_push partition rows (take i paths) files path row f h there is add)
+-- What is said of each row is said of the one at this place.
+pub of_row : (P : Row → Type 0) (rows : List (Bor Row)) (i : ℕ) (row : Bor Row) → ((r : Row) → Contains (rows_now rows) r → P r) → i < length rows → row ≡ get_or rows i row → P row.now
+of_row P rows i row all within at = all row.now (row_there rows i row within at)
+
+adds_push : (partition : List (List ℕ)) (rows : List Row) (files : List FileAction) (row : Row) (f : FileAction) → AreAdds partition rows files → IsAddOf partition row f → AreAdds partition (rows ++ row ∷ []) (files ++ f ∷ [])
+adds_push partition [] [] row f h add = (add, tt)
+adds_push partition [] (g ∷ files) row f h add = absurd h
+adds_push partition (r ∷ rows) [] row f h add = absurd h
+adds_push partition (r ∷ rows) (g ∷ files) row f h add = (h.0, adds_push partition rows files row f h.1 add)
+
+pub adds_more : (partition : List (List ℕ)) (rows : List (Bor Row)) (files : List FileAction) (i : ℕ) (row : Bor Row) (f : FileAction) → i < length rows → row ≡ get_or rows i row
+    → AreAdds partition (rows_now (take i rows)) files → IsAddOf partition row.now f → AreAdds partition (rows_now (take (i + 1) rows)) (files ++ f ∷ [])
+adds_more partition rows files i row f within at h add =
+    let grown : rows_now (take (i + 1) rows) ≡ rows_now (take i rows) ++ row.now ∷ [] = ap rows_now (last_of rows i row within at) ∙ map-append (λ (r : Bor Row). r.now) (take i rows) (row ∷ []) in
+    subst (λ (l : List Row). AreAdds partition l (files ++ f ∷ [])) (sym grown) (adds_push partition (rows_now (take i rows)) files row.now f h add)
 
 -- ---- the paths that are lost
 
@@ -91,52 +105,39 @@ remove_from (p ∷ paths) f there =
     (λ later. let found = remove_from paths f later in (found.0, Contains-tail p paths found.0 found.1, found.2))
     (Contains-cases (file.Remove p) (map file.Remove paths) f there)
 
-module _ (partition : List (List ℕ)) (rows : List Row) where
-  add_paths : (paths : List (List ℕ)) (files : List FileAction) → AreAddsAt partition rows paths files → file_paths files ≡ paths
+module _ (partition : List (List ℕ)) where
+  add_paths : (rows : List Row) (files : List FileAction) → AreAdds partition rows files → file_paths files ≡ paths_of rows
   add_paths [] [] h = refl
   add_paths [] (f ∷ files) h = absurd h
-  add_paths (p ∷ paths) [] h = absurd h
-  add_paths (p ∷ paths) (f ∷ files) h =
-      let first : file_path f ≡ p = ap file_path h.0.3.is ∙ h.0.2 in
-      λ i. first i ∷ add_paths paths files h.1 i
+  add_paths (r ∷ rows) [] h = absurd h
+  add_paths (r ∷ rows) (f ∷ files) h =
+      let first : file_path f ≡ r.path = ap file_path h.0.is in
+      λ i. first i ∷ add_paths rows files h.1 i
 
-  add_from : (paths : List (List ℕ)) (files : List FileAction) (f : FileAction) → AreAddsAt partition rows paths files → Contains files f → (row : Row) × Contains rows row × Contains paths row.path × IsAddOf partition row f
+  add_from : (rows : List Row) (files : List FileAction) (f : FileAction) → AreAdds partition rows files → Contains files f → (row : Row) × Contains rows row × IsAddOf partition row f
   add_from [] [] f h there = absurd (Contains-none f there)
   add_from [] (g ∷ files) f h there = absurd h
-  add_from (p ∷ paths) [] f h there = absurd h
-  add_from (p ∷ paths) (g ∷ files) f h there =
+  add_from (r ∷ rows) [] f h there = absurd h
+  add_from (r ∷ rows) (g ∷ files) f h there =
       ⊎_elim
-      (λ (here : g ≡ f). (h.0.0, h.0.1, subst (λ (q : List ℕ). Contains (p ∷ paths) q) (sym h.0.2) (Contains-head p paths), subst (λ (z : FileAction). IsAddOf partition h.0.0 z) here h.0.3))
-      (λ later. let found = add_from paths files f h.1 later in (found.0, found.1, Contains-tail p paths found.0.path found.2, found.3))
+      (λ (here : g ≡ f). (r, Contains-head r rows, subst (λ (z : FileAction). IsAddOf partition r z) here h.0))
+      (λ later. let found = add_from rows files f h.1 later in (found.0, Contains-tail r rows found.0 found.1, found.2))
       (Contains-cases g files f there)
 
-  add_at : (paths : List (List ℕ)) (files : List FileAction) (path : List ℕ) → AreAddsAt partition rows paths files → Contains paths path → (f : FileAction) × Contains files f × ((row : Row) × Contains rows row × (row.path ≡ path) × IsAddOf partition row f)
-  add_at [] [] path h there = absurd (Contains-none path there)
-  add_at [] (f ∷ files) path h there = absurd h
-  add_at (p ∷ paths) [] path h there = absurd h
-  add_at (p ∷ paths) (f ∷ files) path h there =
+  add_at : (rows : List Row) (files : List FileAction) (row : Row) → AreAdds partition rows files → Contains rows row → (f : FileAction) × Contains files f × IsAddOf partition row f
+  add_at [] [] row h there = absurd (Contains-none row there)
+  add_at [] (f ∷ files) row h there = absurd h
+  add_at (r ∷ rows) [] row h there = absurd h
+  add_at (r ∷ rows) (f ∷ files) row h there =
       ⊎_elim
-      (λ (here : p ≡ path). (f, Contains-head f files, (h.0.0, h.0.1, h.0.2 ∙ here, h.0.3)))
-      (λ later. let found = add_at paths files path h.1 later in (found.0, Contains-tail f files found.0 found.1, found.2))
-      (Contains-cases p paths path there)
+      (λ (here : r ≡ row). (f, Contains-head f files, subst (λ (x : Row). IsAddOf partition x f) here h.0))
+      (λ later. let found = add_at rows files row h.1 later in (found.0, Contains-tail f files found.0 found.1, found.2))
+      (Contains-cases r rows row there)
 
--- an added row is the row of its path behind the change
-added_row : (added rows : List Row) → LeavesAdded added rows → HasDistinctPaths rows → (row : Row) → Contains rows row → Contains (paths_of added) row.path → Contains added row
-added_row added rows leaves distinct row there path =
-    let from = Contains-paths_cases added row.path path in
-    subst (λ (r : Row). Contains added r) (same_path rows distinct from.0 row (leaves from.0 from.1) there from.2) from.1
-
-pub can_add : (partition : List (List ℕ)) (added rows : List Row) → LeavesAdded added rows → HasDistinctPaths rows → (paths : List (List ℕ)) → ((path : List ℕ) → Contains paths path ↔ Contains (paths_of added) path)
-    → ((row : Row) → Contains added row → CanAdd partition row) → (row : Row) → Contains rows row → Contains paths row.path → CanAdd partition row
-can_add partition added rows leaves distinct paths are fit row there path = fit row (added_row added rows leaves distinct row there ((are row.path).0 path))
-
-pub has_added : (added rows : List Row) → LeavesAdded added rows → (paths : List (List ℕ)) → ((path : List ℕ) → Contains paths path ↔ Contains (paths_of added) path) → (path : List ℕ) → Contains paths path → HasPath rows path
-has_added added rows leaves paths are path there = let from = Contains-paths_cases added path ((are path).0 there) in (from.0, leaves from.0 from.1, from.2)
-
-pub actions_are : (partition : List (List ℕ)) (change : Change) (rows : List Row) (lost paths : List (List ℕ)) (adds files : List FileAction) → LeavesAdded change.added rows → LosesRemoved change rows → HasDistinctPaths rows
-    → ((path : List ℕ) → Contains lost path ↔ (Contains change.removed path × (HasPath rows path → ⊥))) → IsInByteOrder lost
-    → ((path : List ℕ) → Contains paths path ↔ Contains (paths_of change.added) path) → IsInByteOrder paths → AreAddsAt partition rows paths adds → files ≡ map file.Remove lost ++ adds → AreActions partition change files
-actions_are partition change rows lost paths adds files leaves loses distinct lost_is lost_order paths_is paths_order added split = record {
+pub actions_are : (partition : List (List ℕ)) (change : Change) (after rows : List Row) (lost : List (List ℕ)) (adds files : List FileAction) → LeavesAdded change.added after → LosesRemoved change after
+    → ((path : List ℕ) → Contains lost path ↔ (Contains change.removed path × (HasPath after path → ⊥))) → IsInByteOrder lost
+    → SameRows change.added rows → IsInPathOrder rows → AreAdds partition rows adds → files ≡ map file.Remove lost ++ adds → AreActions partition change files
+actions_are partition change after rows lost adds files leaves loses lost_is lost_order same order added split = record {
   removes = map file.Remove lost;
   adds = adds;
   split = split;
@@ -147,12 +148,10 @@ actions_are partition change rows lost paths adds files leaves loses distinct lo
         (from.0, (is.0, λ again. is.1 (again.0, leaves again.0 again.1, again.2)), from.2),
     λ gone. subst (λ (g : FileAction). Contains (map file.Remove lost) g) (sym gone.2) (remove_there lost gone.0 ((lost_is gone.0).1 (gone.1.0, λ kept. gone.1.1 (loses gone.0 gone.1.0 kept)))),
   );
-  from_row = λ f there. let from = add_from partition rows paths adds f added there in (from.0, added_row change.added rows leaves distinct from.0 from.1 ((paths_is from.0.path).0 from.2), from.3);
-  of_row = λ row there.
-      let at = add_at partition rows paths adds row.path added ((paths_is row.path).1 (Contains-paths change.added row there)) in
-      (at.0, at.1, subst (λ (r : Row). IsAddOf partition r at.0) (same_path rows distinct at.2.0 row at.2.1 (leaves row there) at.2.2) at.2.3);
+  from_row = λ f there. let from = add_from partition rows adds f added there in (from.0, (same from.0).1 from.1, from.2);
+  of_row = λ row there. add_at partition rows adds row added ((same row).0 there);
   removes_order = subst (λ (l : List (List ℕ)). IsInByteOrder l) (sym (remove_paths lost)) lost_order;
-  adds_order = subst (λ (l : List (List ℕ)). IsInByteOrder l) (sym (add_paths partition rows paths adds added)) paths_order;
+  adds_order = subst (λ (l : List (List ℕ)). IsInByteOrder l) (sym (add_paths partition rows adds added)) order;
 }
 
 pub removes_sound : (paths : List (List ℕ)) → ((path : List ℕ) → Contains paths path → IsPath path) → All IsSoundFile (map file.Remove paths)

@@ -91,11 +91,11 @@ pub record CanAdd (partition : List (List ℕ)) (row : Row) : Type 0 where
   pub len : length row.values ≡ length partition
   pub texts : (value : PartValue) → Contains row.values value → HasNoDeltaText value → ⊥
 
--- the actions that add the rows of these paths
-abbrev pub AreAddsAt : List (List ℕ) → List Row → List (List ℕ) → List FileAction → Type 0
-AreAddsAt partition rows [] [] = Unit {0}
-AreAddsAt partition rows (path ∷ paths) (f ∷ fs) = ((row : Row) × Contains rows row × (row.path ≡ path) × IsAddOf partition row f) × AreAddsAt partition rows paths fs
-AreAddsAt partition rows _ _ = ⊥
+-- the actions that add the rows, in their order
+abbrev pub AreAdds : List (List ℕ) → List Row → List FileAction → Type 0
+AreAdds partition [] [] = Unit {0}
+AreAdds partition (row ∷ rows) (f ∷ fs) = IsAddOf partition row f × AreAdds partition rows fs
+AreAdds partition _ _ = ⊥
 
 -- Behind a change the added rows are there.
 abbrev pub LeavesAdded : List Row → List Row → Type 0

@@ -1,16 +1,16 @@
 //! The file actions that a change is written as.
 
-ghost use Rattle.std.specs.Prelude.{◌≡◌, ◌↔◌, ◌<◌, ◌^◌, ℕ, List, All, Contains, IfOk, length, map, ◌++◌};
+ghost use Rattle.std.specs.Prelude.{◌≡◌, ◌↔◌, ◌<◌, ◌^◌, ℕ, List, All, Contains, IfOk, length, map};
 ghost use Rattle.std.specs.List.{IsDistinct};
 ghost use Rattle.std.specs.Str.{bytes_eq};
 ghost use Rattle.table_history.specs.Path.{IsPath};
 ghost use Rattle.table_history.specs.Row.{Row};
-ghost use Rattle.table_history.specs.Rows.{HasDistinctPaths, HasPath, IsInByteOrder, paths_of};
+ghost use Rattle.table_history.specs.Rows.{HasDistinctPaths, HasPath, IsInByteOrder, IsInPathOrder, SameRows};
 ghost use Rattle.table_history.specs.declared.row.PartValue.{PartValue};
 ghost use Rattle.partition_map.specs.DeltaText.{HasNoDeltaText, IsDeltaText};
 ghost use Rattle.delta_log.specs.Sound.{IsSoundFile};
 ghost use Rattle.delta_log.specs.declared.commit.FileAction.{FileAction};
-ghost use Rattle.target_delta.specs.Writing.{AreActions, AreAddsAt, AreTexts, CanAdd, IsAddOf, LeavesAdded, LosesRemoved};
+ghost use Rattle.target_delta.specs.Writing.{AreActions, AreAdds, AreTexts, CanAdd, IsAddOf, LeavesAdded, LosesRemoved};
 
 use delta_log::FileAction;
 use lake_basics::{Items, Text};
@@ -109,58 +109,45 @@ fn removes_of(alloc: Global, paths: Vec<Text>) -> Result<Vec<FileAction>, AllocE
     Ok(files)
 }
 
-/// The paths of the rows, in byte order.
-fn added_paths(alloc: Global, added: &[FileRow]) -> Result<Vec<Text>, AllocError>
-    requires { HasDistinctPaths added.now }
-    ensures paths { IfOk result (λ paths. (path : List ℕ)
-        → Contains paths.items path ↔ Contains (paths_of added.now) path) }
-    ensures order { IfOk result (λ paths. IsInByteOrder paths.items) }
+fn all_rows<'a>(alloc: Global, added: &'a [FileRow]) -> Result<Vec<&'a FileRow>, AllocError>
+    ensures { IfOk result (λ rows. map (λ r. r.now) rows.items ≡ added.now) }
 {
-    let mut paths = Vec::with_capacity(alloc, added.len())?;
+    let mut rows = Vec::with_capacity(alloc, added.len())?;
     for row in added {
-        paths.push(row.path.copy(alloc)?)?;
+        rows.push(row)?;
     }
-    sorted_texts(paths)
+    Ok(rows)
 }
 
-/// The actions that add the rows of these paths, in the order of the paths.
+/// The rows in byte order of their paths.
+fn sorted_rows<'a>(alloc: Global, added: &'a [FileRow]) -> Result<Vec<&'a FileRow>, AllocError>
+    requires { HasDistinctPaths added.now }
+    ensures rows { IfOk result (λ rows. SameRows added.now (map (λ r. r.now) rows.items)) }
+    ensures order { IfOk result (λ rows. IsInPathOrder (map (λ r. r.now) rows.items)) }
+{
+    let mut rows = all_rows(alloc, added)?;
+    rows.sort_by(|a, b| a.path.cmp(&b.path))?;
+    Ok(rows)
+}
+
+/// The actions that add the rows, in their order.
 fn adds_of(
     alloc: Global,
     partition: &[Text],
-    paths: &[Text],
-    rows: &FileRows,
+    rows: &[&FileRow],
 ) -> Result<Vec<FileAction>, AllocError>
-    requires there { (path : List ℕ) → Contains paths.now path → HasPath rows.now path }
-    requires fit { (row : Row) → Contains rows.now row → Contains paths.now row.path
-        → CanAdd partition.now row }
+    requires { (row : Row) → Contains (map (λ r. r.now) rows.now) row → CanAdd partition.now row }
     ensures adds { IfOk result
-        (λ files. AreAddsAt partition.now rows.now paths.now files.items) }
-    ensures sound { IfOk result (λ files. ((row : Row) → Contains rows.now row → IsPath row.path)
+        (λ files. AreAdds partition.now (map (λ r. r.now) rows.now) files.items) }
+    ensures sound { IfOk result (λ files. ((row : Row)
+        → Contains (map (λ r. r.now) rows.now) row → IsPath row.path)
         → IsDistinct bytes_eq partition.now → All IsSoundFile files.items) }
 {
-    let mut files = Vec::with_capacity(alloc, paths.len())?;
-    for path in paths {
-        match rows.get(path.as_bytes()) {
-            Some(row) => files.push(add_of(alloc, partition, row)?)?,
-            None => unreachable!(),
-        }
+    let mut files = Vec::with_capacity(alloc, rows.len())?;
+    for row in rows {
+        files.push(add_of(alloc, partition, row)?)?;
     }
     Ok(files)
-}
-
-/// These and the others behind them.
-fn joined(
-    alloc: Global,
-    files: Vec<FileAction>,
-    others: Vec<FileAction>,
-) -> Result<Vec<FileAction>, AllocError>
-    ensures { IfOk result (λ all. all.items ≡ files.items ++ others.items) }
-{
-    let mut all = files;
-    for other in others {
-        all.push(other)?;
-    }
-    Ok(all)
 }
 
 /// The file actions that a change is written as, where these are the rows behind it: the removes of
@@ -173,7 +160,6 @@ pub(crate) fn actions_of(
 ) -> Result<Items<FileAction>, AllocError>
     requires leaves { LeavesAdded change.now.added after.now }
     requires loses { LosesRemoved change.now after.now }
-    requires distinct { HasDistinctPaths after.now }
     requires removed { IsDistinct bytes_eq change.now.removed }
     requires added { HasDistinctPaths change.now.added }
     requires fit { (row : Row) → Contains change.now.added row → CanAdd partition.now row }
@@ -183,8 +169,9 @@ pub(crate) fn actions_of(
         → IsDistinct bytes_eq partition.now → All IsSoundFile files) }
 {
     let lost = lost_paths(alloc, change.removed.as_slice(), after)?;
-    let removes = removes_of(alloc, lost)?;
-    let paths = added_paths(alloc, change.added.as_slice())?;
-    let adds = adds_of(alloc, partition, paths.as_slice(), after)?;
-    Ok(Items::from_vec(joined(alloc, removes, adds)?))
+    let mut files = removes_of(alloc, lost)?;
+    let rows = sorted_rows(alloc, change.added.as_slice())?;
+    let mut adds = adds_of(alloc, partition, rows.as_slice())?;
+    files.append(&mut adds)?;
+    Ok(Items::from_vec(files))
 }

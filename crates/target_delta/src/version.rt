@@ -69,7 +69,6 @@ fn whole_text(
 ) -> Result<Blob, AllocError>
     requires leaves { LeavesAdded change.now.added behind.now.table.rows }
     requires loses { LosesRemoved change.now behind.now.table.rows }
-    requires distinct { HasDistinctPaths behind.now.table.rows }
     requires removed { IsDistinct bytes_eq change.now.removed }
     requires added { HasDistinctPaths change.now.added }
     requires fit { (row : Row) → Contains change.now.added row
@@ -93,7 +92,6 @@ fn text_of(
 ) -> Result<Blob, TargetError>
     requires leaves { LeavesAdded change.now.added behind.now.table.rows }
     requires loses { LosesRemoved change.now behind.now.table.rows }
-    requires distinct { HasDistinctPaths behind.now.table.rows }
     requires removed { IsDistinct bytes_eq change.now.removed }
     requires added { HasDistinctPaths change.now.added }
     requires fit { (row : Row) → Contains change.now.added row

@@ -35,7 +35,6 @@ pub(crate) fn written_of(
 ) -> Result<DeltaCommit, AllocError>
     requires leaves { LeavesAdded change.now.added behind.now.table.rows }
     requires loses { LosesRemoved change.now behind.now.table.rows }
-    requires distinct { HasDistinctPaths behind.now.table.rows }
     requires removed { IsDistinct bytes_eq change.now.removed }
     requires added { HasDistinctPaths change.now.added }
     requires fit { (row : Row) → Contains change.now.added row
