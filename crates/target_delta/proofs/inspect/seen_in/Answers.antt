@@ -1,4 +1,4 @@
-use Rattle.std.proofs.Common.{◌≤◌, arith}
+use Rattle.std.proofs.Common.{arith}
 use Rattle.target_delta.proofs.PastLemmas.{refused_behind}
 use Rattle.target_delta.proofs.inspect.seen_in.Goals as goal
 
