@@ -387,11 +387,11 @@ names_of limit cs names es r = record { named = all_named cs names r.writable.na
 manifest_fits : (limit : ℕ) (cs : List PartColumn) (names : List (List ℕ)) (es : List EntryData) (t : SchemaTree) (vs : List ValueTree) → IsReady limit cs names es → t ≡ manifest_type cs names → vs ≡ map entry_tree es → AllByRecursion (Fits (layout_of t)) vs
 manifest_fits limit cs names es t vs r same values = rw (same, values) (all_fit cs (part_names cs names) es (names_of limit cs names es r).named r.writable.values)
 
-pub manifest_encoded : (limit : ℕ) (cs : List PartColumn) (names : List (List ℕ)) (es : List EntryData) (t : SchemaTree) (objects : List ℕ) → IsReady limit cs names es → t ≡ manifest_type cs names → AreSound (values_of (map entry_tree es)) → objects ≡ values_encoding (values_of (map entry_tree es)) → AreEncoded (layout_of t) (map entry_tree es) (length es) objects
-manifest_encoded limit cs names es t objects r same sound exact = record {
+pub manifest_encoded : (limit : ℕ) (cs : List PartColumn) (names : List (List ℕ)) (es : List EntryData) (t : SchemaTree) (objects : List ℕ) (count : ℕ) → IsReady limit cs names es → t ≡ manifest_type cs names → count ≡ length es → AreSound (values_of (map entry_tree es)) → objects ≡ values_encoding (values_of (map entry_tree es)) → AreEncoded (layout_of t) (map entry_tree es) count objects
+manifest_encoded limit cs names es t objects count r same number sound exact = record {
   fit = manifest_fits limit cs names es t (map entry_tree es) r same refl;
   sound = sound;
-  number = sym (length-map es entry_tree);
+  number = number ∙ sym (length-map es entry_tree);
   exact = exact;
 }
 

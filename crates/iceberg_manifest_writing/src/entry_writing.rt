@@ -7,9 +7,10 @@ ghost use Rattle.avro_value.specs.ValueTree.{values_of, union_of, null, boolean,
 ghost use Rattle.avro_value.specs.Writing.{encoding, length_prefixed, values_encoding};
 ghost use Rattle.partition_map.specs.Avro.{avro_value_of};
 ghost use Rattle.iceberg_manifest.specs.ManifestWriting.{whole_tree, file_trees, entry_tree};
+ghost use Rattle.iceberg_manifest_writing.specs.RowEntries.{entry_in};
 
+use crate::row_entry::RowEntry;
 use avro_value::{push_boolean, push_bytes, push_int, push_long, push_natural, push_text};
-use iceberg_manifest::Entry;
 use lake_basics::Text;
 use std::alloc::AllocError;
 use table_history::PartValue;
@@ -114,30 +115,53 @@ fn push_count(out: &mut Vec<u8>, n: u64) -> Result<(), AllocError>
     push_natural(out, n)
 }
 
-/// Adds the values of `data_file`.
-fn push_file(out: &mut Vec<u8>, entry: &Entry) -> Result<(), AllocError>
+/// Adds a path with that front, as a `string`.
+#[tactic(auto, using(crate::proofs::EntryLemmas::joined_text))]
+fn push_path(out: &mut Vec<u8>, front: &Text, path: &Text) -> Result<(), AllocError>
     ensures bytes { OnOk
-        result (out.new.items ≡ out.old.items ++ values_encoding (values_of (file_trees entry.now))) }
-    ensures sound { OnOk result (AreSound (values_of (file_trees entry.now))) }
+        result (out.new.items ≡ out.old.items ++ length_prefixed (front.now ++ path.now)) }
+    ensures sound { OnOk result (IsText (front.now ++ path.now)) }
 {
-    push_natural(out, 0)?;
-    push_text(out, &entry.path)?;
-    push_str(out, "PARQUET")?;
-    push_parts(out, entry.values.as_slice())?;
-    push_count(out, entry.count)?;
-    push_count(out, entry.size)
+    let front = front.as_bytes();
+    let path = path.as_bytes();
+    let length = front.len() + path.len();
+    out.reserve(length)?;
+    push_natural(out, length as u64)?;
+    push_bytes(out, front)?;
+    push_bytes(out, path)
 }
 
-/// Adds an entry.
-pub(crate) fn push_entry(out: &mut Vec<u8>, entry: &Entry) -> Result<(), AllocError>
+/// Adds the values of `data_file`.
+fn push_file(out: &mut Vec<u8>, front: &Text, entry: &RowEntry<'_>) -> Result<(), AllocError>
     ensures bytes { OnOk
-        result (out.new.items ≡ out.old.items ++ encoding (entry_tree entry.now)) }
-    ensures sound { OnOk result (IsSound (entry_tree entry.now)) }
-    ensures status { entry.now.status < 3 }
+        result (out.new.items
+        ≡ out.old.items ++ values_encoding (values_of (file_trees (entry_in front.now entry.now)))) }
+    ensures sound { OnOk
+        result (AreSound (values_of (file_trees (entry_in front.now entry.now)))) }
 {
-    push_natural(out, u64::from(entry.status))?;
+    let row = entry.row;
+    push_natural(out, 0)?;
+    push_path(out, front, &row.path)?;
+    push_str(out, "PARQUET")?;
+    push_parts(out, row.values.as_slice())?;
+    push_count(out, row.count)?;
+    push_count(out, row.size)
+}
+
+/// Adds an entry, whose path is written with that front.
+pub(crate) fn push_entry(
+    out: &mut Vec<u8>,
+    front: &Text,
+    entry: &RowEntry<'_>,
+) -> Result<(), AllocError>
+    ensures bytes { OnOk
+        result (out.new.items
+        ≡ out.old.items ++ encoding (entry_tree (entry_in front.now entry.now))) }
+    ensures sound { OnOk result (IsSound (entry_tree (entry_in front.now entry.now))) }
+{
+    push_natural(out, entry.status.number())?;
     push_whole(out, entry.snapshot)?;
     push_whole(out, entry.sequence)?;
-    push_whole(out, entry.file_sequence)?;
-    push_file(out, entry)
+    push_whole(out, entry.sequence)?;
+    push_file(out, front, entry)
 }
