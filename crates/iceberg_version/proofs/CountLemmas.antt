@@ -1,21 +1,26 @@
 -- Counts of entries by status, and the least of their sequence numbers.
-use Rattle.std.proofs.Common.{◌≡◌, ◌+◌, ◌<◌, ◌≤◌, ◌≤ℤ◌, ◌<ℤ◌, ◌==◌, ℕ, ℤ, Bool, true, false, cond, Contains, List, [], ◌∷◌, ◌++◌, length, map, take, get_or, refl, sym, ap, ◌∙◌, arith, subst, pos, Option, Some, None, ⊎_elim}
+use Rattle.std.proofs.Common.{◌≡◌, ◌+◌, ◌<◌, ◌≤◌, ◌≤ℤ◌, ◌<ℤ◌, ℕ, ℤ, Bool, true, false, cond, Contains, List, [], ◌∷◌, ◌++◌, length, map, take, get_or, refl, sym, ap, ◌∙◌, arith, subst, pos, Option, Some, None, ⊎_elim}
 use Rattle.std.specs.List.{filter}
 use Rattle.std.proofs.lemmas.Int.{ints}
-use Rattle.std.proofs.lemmas.List.{append-nil, length-take, map-append}
+use Rattle.std.proofs.lemmas.List.{append-nil, get_or-map, length-map, map-append, take_all}
 use Rattle.std.proofs.lemmas.List.Elements.{Contains-append_cases, Contains-append_left, Contains-push, filter_more}
-use Rattle.std.proofs.lemmas.List.Sums.{count_by-le-length, length-filter}
 use Rattle.table_history.proofs.RowListLemmas.{Contains-none, Contains-one}
 use Rattle.iceberg_manifest.specs.Entry.{EntryData}
 use Rattle.iceberg_manifest.specs.Entry.{is_live}
-use Rattle.iceberg_version.specs.Manifests.{IsLeast, IsLeastOf, if_any, live_sequences, of_status, sequence_in}
+use Rattle.iceberg_manifest_writing.specs.RowEntries.{entry_in}
+use Rattle.iceberg_manifest_writing.specs.declared.row_entry.RowEntry.{RowEntry}
+use Rattle.iceberg_version.specs.Manifests.{IsLeast, IsLeastOf, if_any, live_sequences, sequence_in}
 
-pub few_of_status : (status i : ℕ) (entries : List EntryData) → length (of_status status (take i entries)) ≤ length entries
-few_of_status status i entries =
-    let e = length-filter (λ (x : EntryData). x.status == status) (take i entries) in
-    let h = count_by-le-length (λ (x : EntryData). x.status == status) (take i entries) in
-    let l = length-take i entries in
-    omega arith
+-- ---- entries of rows
+
+pub entry_within : (front : List ℕ) (rows : List RowEntry) (i : ℕ) → i < length rows → i < length (map (entry_in front) rows)
+entry_within front rows i within = subst (λ (n : ℕ). i < n) (sym (length-map rows (entry_in front))) within
+
+pub entry_at : (front : List ℕ) (rows : List RowEntry) (i : ℕ) (row : RowEntry) → i < length rows → row ≡ get_or rows i row → entry_in front row ≡ get_or (map (entry_in front) rows) i (entry_in front row)
+entry_at front rows i row within at = ap (entry_in front) at ∙ sym (get_or-map (entry_in front) rows i row (entry_in front row) within)
+
+pub all_taken : (front : List ℕ) (rows : List RowEntry) (i : ℕ) → length rows ≤ i → take i (map (entry_in front) rows) ≡ map (entry_in front) rows
+all_taken front rows i past = take_all i (map (entry_in front) rows) (subst (λ (n : ℕ). n ≤ i) (sym (length-map rows (entry_in front))) past)
 
 -- ---- the least
 

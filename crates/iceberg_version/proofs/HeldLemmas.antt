@@ -22,7 +22,7 @@ use Rattle.table_history.specs.TypeTree.{ColumnTrees}
 use Rattle.table_history.specs.declared.kind.Kind.TheVariants.{Iceberg}
 use Rattle.table_history.proofs.RowListLemmas.{Contains-cases, Contains-head, Contains-none, Contains-tail}
 use Rattle.iceberg_metadata.specs.Judging.{are_distinct, is_among}
-use Rattle.iceberg_metadata.specs.Paths.{IsRenamed, PathId, current_schema, held_schema, path_ids}
+use Rattle.iceberg_metadata.specs.Paths.{IsRenamed, PathId, held_schema, path_ids}
 use Rattle.iceberg_metadata.specs.Schemas.{HeldSchema}
 use Rattle.iceberg_metadata.specs.Writing.{CanBeHeld, schema_data}
 use Rattle.iceberg_metadata.specs.declared.metadata.Metadata.{Metadata}

@@ -1,5 +1,5 @@
 -- The columns that the fields of a spec are made of.
-use Rattle.std.proofs.Common.{◌≡◌, ◌≢◌, inl, ⊎_elim, ℕ, suc, ℤ, ◌+◌, List, [], ◌∷◌, length, Bool, true, false, cond, Contains, Some, refl, sym, ap, subst, ◌∙◌}
+use Rattle.std.proofs.Common.{◌≡◌, inl, ⊎_elim, ℕ, suc, ℤ, ◌+◌, List, [], ◌∷◌, length, Bool, true, false, cond, Contains, Some, refl, sym, ap, subst, ◌∙◌}
 use Rattle.std.specs.Prelude.{option_and_then}
 use Rattle.std.specs.Cmp.Lexicographic.{pointwise}
 use Rattle.std.specs.List.{AllByRecursion, IsDistinct}

@@ -1,23 +1,24 @@
 //! The rows of new manifests in their list.
 
-ghost use Rattle.std.specs.Prelude.{◌≡◌, ◌≤◌, ◌∷◌, ◌++◌, [], ℤ, IfOk, List, Some, length};
+ghost use Rattle.std.specs.Prelude.{◌≡◌, ◌≤◌, ◌∷◌, ◌++◌, [], ℕ, ℤ, IfOk, List, Some, length, map};
 ghost use Rattle.iceberg_manifest.specs.Entry.{is_live};
+ghost use Rattle.iceberg_manifest_writing.specs.RowEntries.{entry_in, status_number};
 ghost use Rattle.lake_basics.specs.declared.limits.TheConstants.{MAX_LIVE_FILES};
 ghost use Rattle.iceberg_version.specs.Manifests.{IsInfoOf, IsLeast, IsLeastOf, files_of as count_of_files, if_any, live_sequences, records_of as count_of_records, sequence_in as sequence_of};
 
-use crate::entries::{ADDED, DELETED, EXISTING};
 use crate::names::{file_at, manifest_path};
-use iceberg_manifest::{Entry, ManifestInfo};
+use iceberg_manifest::ManifestInfo;
+use iceberg_manifest_writing::{EntryStatus, RowEntry};
 use lake_basics::{Blob, Text};
 use std::alloc::{AllocError, Global};
 
 const MAX_LONG: u64 = i64::MAX as u64;
 
 /// How many entries are of this status.
-#[tactic(auto, using(crate::proofs::CountLemmas::few_of_status))]
-fn files_of(entries: &[Entry], status: u8) -> i32
+fn files_of(entries: &[RowEntry<'_>], status: EntryStatus) -> i32
     requires { length entries.now ≤ MAX_LIVE_FILES }
-    ensures { result ≡ count_of_files status entries.now }
+    ensures { (front : List ℕ) → result
+        ≡ count_of_files (status_number status) (map (entry_in front) entries.now) }
 {
     let mut count: u32 = 0;
     for entry in entries {
@@ -30,21 +31,23 @@ fn files_of(entries: &[Entry], status: u8) -> i32
 
 /// How many records the files of this status have, or the greatest whole number where there are
 /// more.
-fn records_of(entries: &[Entry], status: u8) -> i64
-    ensures { result ≡ count_of_records status entries.now }
+fn records_of(entries: &[RowEntry<'_>], status: EntryStatus) -> i64
+    ensures { (front : List ℕ) → result
+        ≡ count_of_records (status_number status) (map (entry_in front) entries.now) }
 {
     let mut total: u64 = 0;
     for entry in entries {
         if entry.status == status {
-            total = (total + entry.count).min(MAX_LONG);
+            let row = entry.row;
+            total = (total + row.count).min(MAX_LONG);
         }
     }
     total as i64
 }
 
 /// The sequence number of an entry in a manifest of this version.
-fn sequence_in(entry: &Entry, version: u32) -> i64
-    ensures { result ≡ sequence_of version entry.now }
+fn sequence_in(entry: &RowEntry<'_>, version: u32) -> i64
+    ensures { (front : List ℕ) → result ≡ sequence_of version (entry_in front entry.now) }
 {
     entry.sequence.unwrap_or(i64::from(version))
 }
@@ -61,15 +64,18 @@ fn least_with(any: bool, least: i64, number: i64) -> i64
 }
 
 /// Whether the entry is live.
-fn is_live(entry: &Entry) -> bool
-    ensures { result ≡ is_live entry.now }
+fn is_live(entry: &RowEntry<'_>) -> bool
+    ensures { (front : List ℕ) → result ≡ is_live (entry_in front entry.now) }
 {
-    entry.status < DELETED
+    entry.status != EntryStatus::Deleted
 }
 
 /// The least sequence number of the live entries, and the version where none is live.
-fn least_sequence(entries: &[Entry], version: u32) -> i64
-    ensures { IsLeast version (live_sequences version entries.now) result }
+fn least_sequence(entries: &[RowEntry<'_>], version: u32) -> i64
+    ensures { (front : List ℕ) → IsLeast
+        version
+        (live_sequences version (map (entry_in front) entries.now))
+        result }
 {
     let mut any = false;
     let mut least = i64::from(version);
@@ -89,13 +95,13 @@ pub fn info_of(
     front: &Text,
     version: u32,
     number: u32,
-    entries: &[Entry],
+    entries: &[RowEntry<'_>],
     bytes: &Blob,
     place: u32,
 ) -> Result<ManifestInfo, AllocError>
     requires { length entries.now ≤ MAX_LIVE_FILES }
     ensures { IfOk result
-        (IsInfoOf front.now version number entries.now bytes.now place) }
+        (IsInfoOf front.now version number (map (entry_in front.now) entries.now) bytes.now place) }
 {
     let path = manifest_path(alloc, version, number)?;
     Ok(ManifestInfo {
@@ -106,12 +112,12 @@ pub fn info_of(
         sequence_number: i64::from(version),
         min_sequence_number: least_sequence(entries, version),
         added_snapshot_id: i64::from(version),
-        added_files_count: files_of(entries, ADDED),
-        existing_files_count: files_of(entries, EXISTING),
-        deleted_files_count: files_of(entries, DELETED),
-        added_rows_count: records_of(entries, ADDED),
-        existing_rows_count: records_of(entries, EXISTING),
-        deleted_rows_count: records_of(entries, DELETED),
+        added_files_count: files_of(entries, EntryStatus::Added),
+        existing_files_count: files_of(entries, EntryStatus::Existing),
+        deleted_files_count: files_of(entries, EntryStatus::Deleted),
+        added_rows_count: records_of(entries, EntryStatus::Added),
+        existing_rows_count: records_of(entries, EntryStatus::Existing),
+        deleted_rows_count: records_of(entries, EntryStatus::Deleted),
         place,
     })
 }

@@ -1,4 +1,4 @@
-use Rattle.std.proofs.Common.{◌≡◌, ◌++◌, ◌-◌, map}
+use Rattle.std.proofs.Common.{◌≡◌, ◌++◌, map}
 use Rattle.std.specs.List.{range_with_len}
 use Rattle.iceberg_version.specs.declared.carrying.Next.TheVariants.{Added}
 use Rattle.iceberg_version.proofs.carrying.next_manifests.Given as goal
