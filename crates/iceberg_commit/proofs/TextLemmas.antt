@@ -1,5 +1,5 @@
 -- The rows of a new list and the texts of its new manifests, one manifest more.
-use Rattle.std.proofs.Common.{◌≡◌, ℕ, Bor, zero, suc, ◌+◌, ◌<◌, List, [], ◌∷◌, ◌++◌, map, length, take, get_or, Contains, refl, sym, ap, subst, ◌∙◌, arith}
+use Rattle.std.proofs.Common.{◌≡◌, ℕ, Bor, Vec, Global, zero, suc, ◌+◌, ◌<◌, List, [], ◌∷◌, ◌++◌, map, length, take, get_or, Contains, refl, sym, ap, subst, ◌∙◌, arith}
 use Rattle.std.specs.List.{All}
 use Rattle.std.proofs.lemmas.List.Elements.{All-push}
 use Rattle.std.proofs.lemmas.List.{length-append, length-map, map-append, take_more}
@@ -27,6 +27,8 @@ use Rattle.iceberg_manifest.specs.ListWriting.{info_tree, list_meta, marker}
 use Rattle.iceberg_manifest.specs.ManifestWriting.{entry_tree, manifest_meta}
 use Rattle.iceberg_manifest.specs.Scans.{entries_of as entries_by, infos_of as rows_by}
 use Rattle.iceberg_manifest.specs.WrittenTypes.{list_type, manifest_type}
+use Rattle.iceberg_manifest_writing.specs.RowEntries.{entry_in}
+use Rattle.iceberg_manifest_writing.specs.declared.row_entry.RowEntry.{RowEntry}
 use Rattle.lake_basics.specs.declared.limits.TheConstants.{MAX_AVRO_VALUES, MAX_FILE_BYTES}
 use Rattle.table_history.specs.declared.limit.LimitKind.TheVariants.{File}
 use Rattle.iceberg_table.proofs.EachLaws.{each_push}
@@ -202,18 +204,23 @@ born_in before place m owners within at row there = owners.born m row (kept_ther
 pub kept_at : {A : Type 0} (xs : List A) (place : ℕ) (x y : A) → x ≡ get_or xs place x → slice_get xs place ≡ Some y → x ≡ y
 kept_at xs place x y at is = at ∙ get_or_from_slice_get xs place y x is
 
-pub anew_is : {E : Type 0} (r : Result (List EntryData) E) (layout : Layout) (before : Before) (place : ℕ) (m : KeptManifest) → m ≡ get_or before.manifests.now place m → IfOk r (λ entries. entries ≡ anew layout.front layout.version before.removed.now (held_rows before.links.now m.owner)) → IfOk r (λ entries. (k : KeptManifest) → slice_get before.manifests.now place ≡ Some k → entries ≡ anew layout.front layout.version before.removed.now (held_rows before.links.now k.owner))
+pub anew_is : {E : Type 0} (r : Result (Vec RowEntry Global) E) (layout : Layout) (before : Before) (place : ℕ) (m : KeptManifest) → m ≡ get_or before.manifests.now place m → IfOk r (λ entries. (front : List ℕ) → map (entry_in front) entries.items ≡ anew front layout.version before.removed.now (held_rows before.links.now m.owner)) → IfOk r (λ entries. (k : KeptManifest) → slice_get before.manifests.now place ≡ Some k → map (entry_in layout.front) entries.items ≡ anew layout.front layout.version before.removed.now (held_rows before.links.now k.owner))
 anew_is (Err e) layout before place m at told = tt
 anew_is (Ok entries) layout before place m at told = λ k is.
-    told ∙ ap (λ (x : KeptManifest). anew layout.front layout.version before.removed.now (held_rows before.links.now x.owner)) (kept_at before.manifests.now place m k at is)
+    told layout.front ∙ ap (λ (x : KeptManifest). anew layout.front layout.version before.removed.now (held_rows before.links.now x.owner)) (kept_at before.manifests.now place m k at is)
 
-pub added_is : {E : Type 0} (r : Result (List EntryData) E) (layout : Layout) (before : Before) (place : ℕ) (part : Bor (List (Bor Row))) → part ≡ get_or before.parts.now place part → IfOk r (λ entries. entries ≡ map (added_entry layout.front layout.version) (map (λ r. r.now) part.now)) → IfOk r (λ entries. (rows : List Row) → slice_get (parts_at before.parts.now) place ≡ Some rows → entries ≡ map (added_entry layout.front layout.version) rows)
+pub added_is : {E : Type 0} (r : Result (Vec RowEntry Global) E) (layout : Layout) (before : Before) (place : ℕ) (part : Bor (List (Bor Row))) → part ≡ get_or before.parts.now place part → IfOk r (λ entries. (front : List ℕ) → map (entry_in front) entries.items ≡ map (added_entry front layout.version) (map (λ r. r.now) part.now)) → IfOk r (λ entries. (rows : List Row) → slice_get (parts_at before.parts.now) place ≡ Some rows → map (entry_in layout.front) entries.items ≡ map (added_entry layout.front layout.version) rows)
 added_is (Err e) layout before place part at told = tt
 added_is (Ok entries) layout before place part at told = λ rows is.
     let k = mapped_at rows_at before.parts.now place rows is in
-    told ∙ ap (map (added_entry layout.front layout.version)) (ap rows_at (kept_at before.parts.now place part k.0 at k.1) ∙ k.2)
+    told layout.front ∙ ap (map (added_entry layout.front layout.version)) (ap rows_at (kept_at before.parts.now place part k.0 at k.1) ∙ k.2)
 
 -- ---- one manifest
+
+-- the row of a new manifest behind the others
+pub info_behind : (layout : Layout) (entries : List EntryData) (bytes : List ℕ) (list : NewList) (number place : ℕ) (info : ManifestInfo) → number ≡ length list.manifests.items → place ≡ length list.infos.items → IsInfoOf layout.front layout.version number entries bytes place info → IsInfoOf layout.front layout.version (length list.manifests.items) entries bytes (length list.infos.items) info
+info_behind layout entries bytes list number place info counted at told =
+    subst (λ (n : ℕ). IsInfoOf layout.front layout.version n entries bytes (length list.infos.items) info) counted (subst (λ (p : ℕ). IsInfoOf layout.front layout.version number entries bytes p info) at told)
 
 -- a place has one element
 one_at : {A : Type 0} (xs : List A) (place : ℕ) (x y : A) → slice_get xs place ≡ Some x → slice_get xs place ≡ Some y → x ≡ y

@@ -6,6 +6,7 @@ ghost use Rattle.iceberg_version.specs.Manifests.{added_entry as added_entry_of}
 ghost use Rattle.table_history.specs.Row.{Row};
 ghost use Rattle.iceberg_manifest.specs.Lists.{AreEach};
 ghost use Rattle.iceberg_manifest.specs.ListWriting.{IsWritableList};
+ghost use Rattle.iceberg_manifest_writing.specs.RowEntries.{entry_in};
 ghost use Rattle.iceberg_metadata.specs.Writing.{IsWritable};
 ghost use Rattle.iceberg_version.specs.KeptEnd.{held_rows};
 ghost use Rattle.iceberg_version.specs.Manifests.{NextManifest, rewritten_entries as anew, with_place};
@@ -18,8 +19,8 @@ ghost use Rattle.target_core.specs.declared.target.TargetError.TheVariants.{Limi
 ghost use Rattle.table_history.specs.declared.limit.LimitKind.TheVariants.{File};
 
 use crate::new_list::NewList;
-use iceberg_manifest::{Entries, Entry, ManifestInfo};
-use iceberg_manifest_writing::{list_bytes, manifest_bytes};
+use iceberg_manifest::ManifestInfo;
+use iceberg_manifest_writing::{RowEntry, list_bytes, manifest_bytes};
 use iceberg_metadata::Metadata;
 use iceberg_metadata_writing::metadata_text;
 use iceberg_version::{Before, Layout, Next, added_entries, info_of, rewritten_entries};
@@ -45,14 +46,21 @@ fn within(bytes: Blob) -> Result<Blob, TargetError>
 }
 
 /// The bytes of a manifest of these entries. `Limit` where they are more than a file may have.
-fn manifest_text(alloc: Global, layout: &Layout<'_>, entries: &[Entry]) -> Result<Blob, TargetError>
-    requires { IsWritableIn layout.now entries.now }
-    ensures text { IfOk result (IsTextIn layout.now entries.now) }
+fn manifest_text(
+    alloc: Global,
+    layout: &Layout<'_>,
+    entries: &[RowEntry<'_>],
+) -> Result<Blob, TargetError>
+    requires { IsWritableIn layout.now (map (entry_in layout.now.front) entries.now) }
+    ensures text { IfOk
+        result (IsTextIn layout.now (map (entry_in layout.now.front) entries.now)) }
     ensures short { IfOk result IsShort }
-    ensures refusal { IfErr result (IsTextRefusal (IsTextIn layout.now entries.now)) }
+    ensures refusal { IfErr
+        result (IsTextRefusal (IsTextIn layout.now (map (entry_in layout.now.front) entries.now))) }
 {
     match manifest_bytes(
         alloc,
+        &layout.front,
         entries,
         layout.columns.as_slice(),
         layout.partition,
@@ -121,36 +129,38 @@ fn info_at(alloc: Global, info: &ManifestInfo, place: u32) -> Result<ManifestInf
 }
 
 /// The entries of the manifest at this place of the list before, as it is written anew.
-fn entries_anew(
+fn entries_anew<'a>(
     alloc: Global,
     layout: &Layout<'_>,
-    before: &Before<'_>,
+    before: &Before<'a>,
     place: usize,
-) -> Result<Entries, AllocError>
+) -> Result<Vec<RowEntry<'a>>, AllocError>
     requires owners { HasOwners before.now }
     requires place { place < length before.now.manifests.now }
     ensures { IfOk result (λ entries. (m : KeptManifest)
         → slice_get before.now.manifests.now place ≡ Some m
-        → entries ≡ anew layout.now.front layout.now.version before.now.removed.now
+        → map (entry_in layout.now.front) entries.items
+        ≡ anew layout.now.front layout.now.version before.now.removed.now
         (held_rows before.now.links.now m.owner)) }
 {
     let owner = before.manifests[place].owner;
-    rewritten_entries(alloc, &layout.front, layout.version, before, owner)
+    rewritten_entries(alloc, layout.version, before, owner)
 }
 
 /// The entries of the part of the added rows at this place.
-fn entries_added(
+fn entries_added<'a>(
     alloc: Global,
     layout: &Layout<'_>,
-    before: &Before<'_>,
+    before: &Before<'a>,
     place: usize,
-) -> Result<Entries, AllocError>
+) -> Result<Vec<RowEntry<'a>>, AllocError>
     requires { place < length before.now.parts.now }
     ensures { IfOk result (λ entries. (rows : List Row)
         → slice_get (parts_at before.now.parts.now) place ≡ Some rows
-        → entries ≡ map (added_entry_of layout.now.front layout.now.version) rows) }
+        → map (entry_in layout.now.front) entries.items
+        ≡ map (added_entry_of layout.now.front layout.now.version) rows) }
 {
-    added_entries(alloc, &layout.front, layout.version, before.parts[place])
+    added_entries(alloc, layout.version, before.parts[place])
 }
 
 /// Puts a manifest that stays behind the others.
@@ -167,13 +177,15 @@ fn push_kept(alloc: Global, info: &ManifestInfo, list: &mut NewList) -> Result<(
 fn push_new(
     alloc: Global,
     layout: &Layout<'_>,
-    entries: &[Entry],
+    entries: &[RowEntry<'_>],
     list: &mut NewList,
 ) -> Result<(), TargetError>
-    requires entries { IsWritableIn layout.now entries.now }
+    requires entries { IsWritableIn layout.now (map (entry_in layout.now.front) entries.now) }
     requires room { length list.old.infos.items < 2 ^ 32 }
-    ensures adds { OnOk result (AddsNew layout.now entries.now list.old list.new) }
-    ensures refusal { IfErr result (IsTextRefusal (IsTextIn layout.now entries.now)) }
+    ensures adds { OnOk
+        result (AddsNew layout.now (map (entry_in layout.now.front) entries.now) list.old list.new) }
+    ensures refusal { IfErr
+        result (IsTextRefusal (IsTextIn layout.now (map (entry_in layout.now.front) entries.now))) }
 {
     let bytes = manifest_text(alloc, layout, entries)?;
     let place = list.infos.len() as u32;

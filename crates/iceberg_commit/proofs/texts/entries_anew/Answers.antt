@@ -1,7 +1,7 @@
-use Rattle.std.proofs.Common.{◌≡◌, ◌<◌, ◌^◌, Contains, IfOk, IsSome, List, subst, sym}
+use Rattle.std.proofs.Common.{◌≡◌, ◌<◌, ◌^◌, ℕ, Contains, IfOk, IsSome, List, map, subst, sym}
 use Rattle.file_links.specs.Rows.{rows_of as owned_rows}
 use Rattle.file_links.specs.declared.slots.Held.{Held}
-use Rattle.iceberg_manifest.specs.Entry.{EntryData}
+use Rattle.iceberg_manifest_writing.specs.RowEntries.{entry_in}
 use Rattle.iceberg_version.specs.KeptEnd.{held_rows}
 use Rattle.iceberg_version.specs.Manifests.{rewritten_entries as anew}
 use Rattle.iceberg_version.specs.declared.kept.KeptManifest.{KeptManifest}
@@ -21,4 +21,4 @@ rewritten_entries-requires-clause-born c =
 pub returns : goal.returns
 returns c =
     anew_is c.rewritten_entries.result c.args.layout.now c.args.before.now c.args.place c.index-before-place.result c.index-before-place.is
-    (subst (λ (m : KeptManifest). IfOk c.rewritten_entries.result (λ (entries : List EntryData). entries ≡ anew c.args.layout.now.front c.args.layout.now.version c.args.before.now.removed.now (held_rows c.args.before.now.links.now m.owner))) (sym c.index-before-place.is) c.rewritten_entries.ensures)
+    (subst (λ (m : KeptManifest). IfOk c.rewritten_entries.result (λ entries. (front : List ℕ) → map (entry_in front) entries.items ≡ anew front c.args.layout.now.version c.args.before.now.removed.now (held_rows c.args.before.now.links.now m.owner))) (sym c.index-before-place.is) c.rewritten_entries.ensures)
