@@ -1,5 +1,5 @@
 -- The metadata of a new version can be written, and a version behind it goes on from it.
-use Rattle.std.proofs.Common.{◌≡◌, ◌≢◌, ◌⊎◌, inl, inr, ⊎_elim, ℕ, zero, suc, ℤ, pos, ◌+◌, ◌-◌, ◌<◌, ◌≤◌, ◌^◌, List, [], ◌∷◌, ◌++◌, map, length, drop, true, false, All, Contains, Option, None, Some, refl, sym, ap, subst, ◌∙◌, arith}
+use Rattle.std.proofs.Common.{◌≡◌, ◌≢◌, ◌⊎◌, inl, inr, ⊎_elim, ℕ, zero, suc, ℤ, pos, ◌+◌, ◌-◌, ◌<◌, ◌≤◌, ◌^◌, List, [], ◌∷◌, ◌++◌, map, length, drop, true, All, Contains, Option, None, Some, refl, sym, ap, subst, ◌∙◌, arith}
 use Rattle.std.specs.Prelude.{◌≤ℤ◌, is_some, IfSome}
 use Rattle.std.specs.List.{IsDistinct, list_all}
 use Rattle.std.specs.Ordering.{int_eq}
@@ -22,7 +22,7 @@ use Rattle.table_history.proofs.RowListLemmas.{Contains-cases, Contains-head, Co
 use Rattle.iceberg_metadata.specs.Grammar.{IsConsistent, snapshot_ids}
 use Rattle.iceberg_metadata.specs.Judging.{are_distinct}
 use Rattle.iceberg_metadata.specs.Location.{NamesPath, front_of}
-use Rattle.iceberg_metadata.specs.Paths.{HasOtherPartition, HasOtherTransform, IsRenamed, current_kinds, current_schema, default_fields, kinds_of, path_ids, source_kind, sources}
+use Rattle.iceberg_metadata.specs.Paths.{HasOtherPartition, HasOtherTransform, IsRenamed, current_kinds, default_fields, kinds_of, path_ids, source_kind, sources}
 use Rattle.iceberg_metadata.specs.Schemas.{HeldSchema}
 use Rattle.iceberg_metadata.specs.Writing.{CanBeHeld, HaveOwnNames, IsWritable}
 use Rattle.iceberg_metadata.specs.declared.metadata.Metadata.{Metadata}
