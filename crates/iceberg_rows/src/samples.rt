@@ -1,13 +1,17 @@
 //! A manifest and a manifest list that are written.
-ghost use Rattle.std.specs.Prelude.{◌≡◌, ◌∷◌, [], IfOk, pos};
+ghost use Rattle.std.specs.Prelude.{◌≡◌, ◌≤◌, ◌∷◌, [], ℕ, IfOk, List, length, map, pos};
+ghost use Rattle.std.specs.List.{AllByRecursion};
+ghost use Rattle.iceberg_manifest.specs.ManifestWriting.{HasValues};
+ghost use Rattle.iceberg_manifest_writing.specs.RowEntries.{entry_in};
+ghost use Rattle.iceberg_rows.specs.declared.samples.TheConstants.{COLUMNS as columns};
 
 use crate::showing::show_bytes;
-use iceberg_manifest::{Entry, ManifestError, ManifestInfo, PartColumn};
-use iceberg_manifest_writing::{list_bytes, manifest_bytes};
+use iceberg_manifest::{ManifestError, ManifestInfo, PartColumn};
+use iceberg_manifest_writing::{EntryStatus, RowEntry, list_bytes, manifest_bytes};
 use lake_basics::{Blob, Items, Text};
 use partition_map::PartKind;
 use std::alloc::{AllocError, Global};
-use table_history::{PartValue, Values};
+use table_history::{FileRow, PartValue};
 
 const COLUMNS: [PartColumn; 2] = [
     PartColumn {
@@ -20,80 +24,92 @@ const COLUMNS: [PartColumn; 2] = [
     },
 ];
 
-/// The values of a day and a country.
-fn values(alloc: Global, day: PartValue, country: PartValue) -> Result<Values, AllocError>
-    ensures { IfOk result (λ values. values ≡ day ∷ country ∷ []) }
+/// A file of the table, of a day and a country.
+fn row(
+    alloc: Global,
+    path: &str,
+    day: PartValue,
+    country: PartValue,
+    count: u32,
+    size: u32,
+) -> Result<FileRow, AllocError>
+    ensures { IfOk result (λ row. row.values ≡ day ∷ country ∷ []) }
 {
-    Ok(Items::from_vec(vec![in alloc; day, country]?))
-}
-
-/// An entry that snapshot 30 deleted.
-fn deleted(alloc: Global, path: &str, values: Values) -> Result<Entry, AllocError>
-    ensures { IfOk result (λ entry. entry.values ≡ values) }
-{
-    Ok(Entry {
-        status: 2,
-        snapshot: Some(30),
-        sequence: Some(2),
-        file_sequence: Some(2),
+    Ok(FileRow {
         path: Text::from_str(alloc, path)?,
-        values,
-        count: 1,
-        size: 10,
+        values: Items::from_vec(vec![in alloc; day, country]?),
+        count: u64::from(count),
+        size: u64::from(size),
     })
 }
 
-/// An entry that snapshot 20 added.
-fn existing(alloc: Global, path: &str, values: Values) -> Result<Entry, AllocError>
-    ensures { IfOk result (λ entry. entry.values ≡ values) }
+/// The entry of a file that snapshot 30 deleted.
+fn deleted(row: &FileRow) -> RowEntry<'_>
+    ensures { result.row.now ≡ row.now }
 {
-    Ok(Entry {
-        status: 0,
+    RowEntry {
+        status: EntryStatus::Deleted,
+        snapshot: Some(30),
+        sequence: Some(2),
+        row,
+    }
+}
+
+/// The entry of a file that snapshot 20 added.
+fn existing(row: &FileRow) -> RowEntry<'_>
+    ensures { result.row.now ≡ row.now }
+{
+    RowEntry {
+        status: EntryStatus::Existing,
         snapshot: Some(20),
         sequence: Some(2),
-        file_sequence: Some(2),
-        path: Text::from_str(alloc, path)?,
-        values,
-        count: 5,
-        size: 200,
-    })
+        row,
+    }
 }
 
-/// An entry that snapshot 30 added.
-fn added(alloc: Global, path: &str, values: Values) -> Result<Entry, AllocError>
-    ensures { IfOk result (λ entry. entry.values ≡ values) }
+/// The entry of a file that snapshot 30 added.
+fn added(row: &FileRow) -> RowEntry<'_>
+    ensures { result.row.now ≡ row.now }
 {
-    Ok(Entry {
-        status: 1,
+    RowEntry {
+        status: EntryStatus::Added,
         snapshot: Some(30),
         sequence: None,
-        file_sequence: None,
-        path: Text::from_str(alloc, path)?,
-        values,
-        count: 4,
-        size: 100,
-    })
+        row,
+    }
 }
 
-/// A manifest of a deleted, an existing and an added file, of the partition columns `day` and `country`.
-fn manifest(alloc: Global) -> Result<Blob, ManifestError> {
-    let empty = PartValue::Text(Text::from_str(alloc, "")?);
-    let germany = PartValue::Text(Text::from_str(alloc, "DE")?);
-    let first = values(alloc, PartValue::Date(1), empty)?;
-    let second = values(alloc, PartValue::Null, germany)?;
-    let third = values(alloc, PartValue::Date(-1), PartValue::Null)?;
-    let entries = [
-        deleted(alloc, "/w/c.parquet", first)?,
-        existing(alloc, "/w/b.parquet", second)?,
-        added(alloc, "/w/a.parquet", third)?,
-    ];
+/// A manifest of these entries, of the partition columns `day` and `country`.
+fn manifest_of(alloc: Global, entries: &[RowEntry<'_>]) -> Result<Blob, ManifestError>
+    requires few { length entries.now ≤ 3 }
+    requires values { (front : List ℕ)
+        → AllByRecursion (HasValues columns) (map (entry_in front) entries.now) }
+{
     let names = [
         Text::from_str(alloc, "day")?,
         Text::from_str(alloc, "country")?,
     ];
+    let front = Text::from_str(alloc, "/w/")?;
     let schema = Text::from_str(alloc, "{\"type\":\"struct\"}")?;
     let spec = Text::from_str(alloc, "[{\"field-id\":1000}]")?;
-    manifest_bytes(alloc, &entries, &COLUMNS, &names, &schema, 7, &spec)
+    manifest_bytes(alloc, &front, entries, &COLUMNS, &names, &schema, 7, &spec)
+}
+
+/// A manifest of a deleted, an existing and an added file.
+fn manifest(alloc: Global) -> Result<Blob, ManifestError> {
+    let empty = PartValue::Text(Text::from_str(alloc, "")?);
+    let germany = PartValue::Text(Text::from_str(alloc, "DE")?);
+    let first = row(alloc, "c.parquet", PartValue::Date(1), empty, 1, 10)?;
+    let second = row(alloc, "b.parquet", PartValue::Null, germany, 5, 200)?;
+    let third = row(
+        alloc,
+        "a.parquet",
+        PartValue::Date(-1),
+        PartValue::Null,
+        4,
+        100,
+    )?;
+    manifest_of(alloc, &[deleted(&first), existing(&second), added(&third)])
 }
 
 /// The row of a manifest that snapshot 30 added with sequence number 3.
