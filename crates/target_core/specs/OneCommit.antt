@@ -15,7 +15,7 @@ use Rattle.target_core.specs.Outcome.{HasCome, Uncontested}
 use Rattle.target_core.specs.Publishing.{Publishes}
 use Rattle.target_core.specs.Refusals.{IsCommitRefusal, IsOfCommit}
 use Rattle.target_core.specs.Views.{IsAdvanced, Origin, View}
-use Rattle.target_core.specs.Written.{IsAsLeft}
+use Rattle.target_core.specs.Written.{HasReached, IsAsLeft}
 use Rattle.target_core.specs.declared.target.TargetError.{TargetError}
 use Rattle.target_core.specs.declared.target.TargetError.TheVariants.{StoreFault, Contested, Limit}
 
@@ -51,6 +51,8 @@ pub record PublishesOne {S A : Type 0} (store : Ghosts S) (target : Meaning) (St
   pub contested : IsErrOf result Contested → target.commits_in (store.disk new).files ≤ start.commits + 1
   -- And what a crash since entry would have shown as published stays.
   pub kept : IsErrOf result Contested → IsEachMoment store old new (λ shown. CarriesAll target shown (store.disk new).files)
+  -- That writer's commit stays byte for byte, as does each other: no file goes or changes that a crash since entry would have shown as reached.
+  pub theirs : IsErrOf result Contested → IsEachMoment store old new (HasReached target (store.disk new).files)
   -- Where a number is passed, the files read as before.
   pub limited : (which : LimitKind) (number : ℕ) → IsErrOf result (Limit which number) → target.reads (store.disk new).files start
 

@@ -10,14 +10,14 @@ use Rattle.target_core.specs.Gained.{Carries, CarriesAt, Gained}
 use Rattle.target_core.specs.Meaning.{Meaning}
 use Rattle.target_core.specs.Refusals.{IsCommitRefusal}
 use Rattle.target_core.specs.Views.{Origin, View}
-use Rattle.target_core.specs.Written.{IsAsLeft, StayAfter}
+use Rattle.target_core.specs.Written.{IsAsLeft, KeepsTheirs, StayAfter}
 use Rattle.target_core.specs.declared.target.TargetError.{TargetError}
 use Rattle.target_core.specs.declared.target.TargetError.TheVariants.{Contested, Limit}
 
 -- A commit is refused with a cause of its own, behind those before it. Where the target was settled, all of these are published, and it perhaps,
 -- but not where a number is passed. Those before it left just what they write, and that stays byte for byte; where it is published too, what commits
--- reach is just what it leaves. Where another writer was in the way, nothing is published behind that writer's commit. Where another number than that
--- of names is passed, nothing of it is written.
+-- reach is just what it leaves. Where another writer was in the way, nothing is published behind that writer's commit, and that one stays byte for byte.
+-- Where another number than that of names is passed, nothing of it is written.
 pub record IsRefusedAt {S : Type 0} (store : Ghosts S) (target : Meaning) (passes : List Commit → LimitKind → ℕ → Type 0) (left : List Commit → Files → Type 0) (Settled : Type 0) (origin : Origin) (start : View) (commits : List Commit) (old new : S) (e : TargetError) : Type 0 where
   pub place : ℕ
   pub within : place < length commits
@@ -27,6 +27,7 @@ pub record IsRefusedAt {S : Type 0} (store : Ghosts S) (target : Meaning) (passe
   pub gained : Settled → (e ≡ Contested → ⊥) → (n : ℕ) × (place ≤ n) × (n ≤ place + 1) × Gained target origin start (store.disk old).files commits n (store.disk new).files
       × IsAsLeft target.reached (left (take n commits)) (store.disk new).files
   pub contested : Settled → e ≡ Contested → target.commits_in (store.disk new).files ≤ start.commits + place + 1
+  pub theirs : (settled : Settled) → e ≡ Contested → KeepsTheirs store target (stay settled).middle new
   pub limited : Settled → (which : LimitKind) (number : ℕ) → e ≡ Limit which number → Gained target origin start (store.disk old).files commits place (store.disk new).files
   pub untouched : Settled → (which : LimitKind) (number : ℕ) → e ≡ Limit which number → which ≢ Names → left (take place commits) (store.disk new).files
   pub unmoved : (which : LimitKind) (number : ℕ) → e ≡ Limit which number → which ≢ Names → place ≡ 0 → OnlyReads store old new

@@ -1,8 +1,9 @@
 -- What publishing a list of commits writes.
 use Rattle.std.specs.Prelude.{◌≡◌, ℕ, List, [], ◌∷◌}
 use Rattle.std.specs.FinMap as map
+use Rattle.lake_store.specs.Cause.{Rose}
 use Rattle.lake_store.specs.Disk.{Files}
-use Rattle.lake_store.specs.Runs.{LeavesAlone}
+use Rattle.lake_store.specs.Runs.{IsEachMoment, LeavesAlone}
 use Rattle.lake_store.specs.declared.store.Store.{Ghosts}
 use Rattle.table_history.specs.declared.table.Commit.{Commit}
 use Rattle.target_core.specs.Meaning.{Meaning}
@@ -27,3 +28,13 @@ pub record StayAfter {S : Type 0} (store : Ghosts S) (target : Meaning) (Left : 
   pub middle : S
   pub left : Left (store.disk middle).files
   pub stay : LeavesAlone store (target.reached (store.disk middle).files) middle new
+
+-- Each file that a commit reaches in an image, whoever published the commit, is there with just these bytes.
+abbrev pub HasReached : Meaning → Files → Files → Type 0
+HasReached target files image = (path : List ℕ) → target.reached image path → map.get files path ≡ map.get image path
+
+-- Another writer published a commit after this moment. It stays byte for byte: no file goes or changes that a crash from then on would have shown as
+-- reached by a commit, whoever published that.
+pub record KeepsTheirs {S : Type 0} (store : Ghosts S) (target : Meaning) (middle new : S) : Type 0 where
+  pub came : Rose (store.contests middle) (store.contests new)
+  pub stay : IsEachMoment store middle new (HasReached target (store.disk new).files)

@@ -29,7 +29,7 @@ use Rattle.target_core.specs.Outcome.{Uncontested, answer_of}
 use Rattle.target_core.specs.Publishing.{Publishes}
 use Rattle.target_core.specs.Step.{IsBefore, IsBeforeOrBehind}
 use Rattle.target_core.specs.Views.{Origin}
-use Rattle.target_core.specs.Written.{IsAsLeft}
+use Rattle.target_core.specs.Written.{HasReached, IsAsLeft}
 use Rattle.target_core.specs.declared.target.TargetError.{TargetError}
 use Rattle.target_core.specs.declared.target.TargetError.TheVariants.{Contested, Limit}
 use Rattle.target_core.proofs.OneStep.{publishes_none, publishes_one}
@@ -330,3 +330,22 @@ module _ {S : Type 0} (store : Ghosts S) (old new : S) (told : store.tells) (sta
           let Q : Files → Type 0 = λ image. IsClean (store.disk old) name → (map.get image name ≡ None) ⊎ (map.get image name ≡ Some theirs) in
           weaker store old new (λ image. P image × Q image) (λ image. CarriesAll (delta_meaning id) image (store.disk new).files)
           (λ image is. all_at image is.0 (is.1 (version_clean (store.disk old) name version settled named))) (both store old new P Q moments (λ t. at_name)) told
+
+      has_at : (image : Files) → IsStagedImage staged name bytes IsTaken (store.disk old) image → (map.get image name ≡ None) ⊎ (map.get image name ≡ Some theirs) → HasReached (delta_meaning id) (store.disk new).files image
+      has_at image is one path reached =
+          let beside = image_beside staged name bytes version named leftover IsTaken (store.disk old) image settled is in
+          ⊎_elim
+          (λ (same : path ≡ name). ⊎_elim
+          (λ (none : map.get image name ≡ None). absurd (none_there (map.get image path) (ap (λ (p : List ℕ). map.get image p) same ∙ none) reached.there))
+          (λ (here : map.get image name ≡ Some theirs). ap (λ (p : List ℕ). map.get (store.disk new).files p) same ∙ there ∙ sym here ∙ ap (λ (p : List ℕ). map.get image p) (sym same))
+          one)
+          (λ (apart : path ≢ name). (beside_now versions_kept).versions path reached.version apart reached.named ∙ sym (beside.versions path reached.version apart reached.named))
+          (path_cases path name)
+
+      -- No file goes or changes that a crash would have shown as reached.
+      pub theirs_taken : IsEachMoment store old new (HasReached (delta_meaning id) (store.disk new).files)
+      theirs_taken =
+          let P : Files → Type 0 = IsStagedImage staged name bytes IsTaken (store.disk old) in
+          let Q : Files → Type 0 = λ image. IsClean (store.disk old) name → (map.get image name ≡ None) ⊎ (map.get image name ≡ Some theirs) in
+          weaker store old new (λ image. P image × Q image) (HasReached (delta_meaning id) (store.disk new).files)
+          (λ image is. has_at image is.0 (is.1 (version_clean (store.disk old) name version settled named))) (both store old new P Q moments (λ t. at_name)) told

@@ -1,5 +1,5 @@
 -- What the files of a timeline have when a commit's instant may be there or not, and all other completed instants are as they were.
-use Rattle.std.proofs.Common.{◌≡◌, ℕ, ◌+◌, ◌≤◌, length, append_assoc, List, [], ◌∷◌, ◌++◌, Contains, Option, Some, None, refl, sym, ap, subst, ◌∙◌, arith}
+use Rattle.std.proofs.Common.{◌≡◌, ◌⊎◌, inl, inr, ℕ, ◌+◌, ◌≤◌, length, append_assoc, List, [], ◌∷◌, ◌++◌, Contains, Option, Some, None, refl, sym, ap, subst, ◌∙◌, arith}
 use Rattle.std.specs.Prelude.{is_some}
 use Rattle.std.specs.FinMap as map
 use Rattle.std.proofs.lemmas.List.{length-append}
@@ -13,6 +13,7 @@ use Rattle.hudi_timeline.specs.Live.{Timeline}
 use Rattle.hudi_instant.specs.declared.instant.Instant.{Instant}
 use Rattle.hudi_properties.specs.declared.table.HudiTable.{HudiTable}
 use Rattle.hudi_table.specs.Files.{SaysInstant, SaysProperties}
+use Rattle.hudi_table.specs.Instants.{path_of}
 use Rattle.hudi_table.specs.Reading.{IsReadingOf, SayTimeline}
 use Rattle.hudi_table.specs.declared.instants.CompletedInstant.{CompletedInstant}
 use Rattle.hudi_table.specs.declared.properties.Properties.{Properties}
@@ -22,7 +23,7 @@ use Rattle.hudi_table.specs.declared.reading.Naming.TheVariants.{External}
 use Rattle.hudi_commit.specs.Names.{IsInstantIn, completed_name, completed_path, properties_path, timeline_path}
 use Rattle.target_core.specs.Views.{Standing}
 use Rattle.target_hudi.specs.InstantLemmas.{named}
-use Rattle.target_hudi.specs.Reading.{IsCarried, IsMarkAt, completed_in}
+use Rattle.target_hudi.specs.Reading.{IsCarried, IsMarkAt, IsReached, completed_in}
 use Rattle.target_hudi.proofs.TimelineLemmas.{AreEarlier, apart_old, completed_alike, completed_more, new_one}
 
 -- Each completed instant but this one is as it was, and where some are, so are the properties.
@@ -58,6 +59,20 @@ module _ (instant : List ℕ) (real : IsSomeTime instant) (old : Files) (earlier
       still_by None is = subst (λ (l : List CompletedInstant). Contains l c) (sym (completed_before is)) within
       still_by (Some bytes) is = subst (λ (l : List CompletedInstant). Contains l c) (sym (completed_behind bytes is)) (Contains-append_left (completed_in old) (new_one instant real ∷ []) c within)
 
+  some_there : (c : CompletedInstant) → Contains (completed_in old) c → completed_in old ≡ [] → ⊥
+  some_there c within none = Contains-none c (subst (λ (l : List CompletedInstant). Contains l c) none within)
+
+  -- what they reached is as it was
+  pub reached_still : (path : List ℕ) → IsReached old path → map.get new path ≡ map.get old path
+  reached_still path reached = by reached.2
+    where
+      by : (path ≡ path_of reached.0.name) ⊎ (path ≡ properties_path) → map.get new path ≡ map.get old path
+      by (inl same) =
+          let h = named old reached.0 reached.1 in
+          let apart = apart_old instant real old earlier reached.0 reached.1 in
+          ap (λ (p : List ℕ). map.get new p) same ∙ is_beside.completed reached.0.name h.proper (h.digits, h.action, h.says) apart ∙ ap (λ (p : List ℕ). map.get old p) (sym same)
+      by (inr same) = ap (λ (p : List ℕ). map.get new p) same ∙ is_beside.properties (some_there reached.0 reached.1) ∙ ap (λ (p : List ℕ). map.get old p) (sym same)
+
   -- ---- what they say
 
   says_still : (c : CompletedInstant) (i : Instant) → Contains (completed_in old) c → SaysInstant old c i → SaysInstant new c i
@@ -69,9 +84,6 @@ module _ (instant : List ℕ) (real : IsSomeTime instant) (old : Files) (earlier
 
   pub marked_still : (c : CompletedInstant) (s : Standing) → Contains (completed_in old) c → IsMarkAt old c s → IsMarkAt new c s
   marked_still c s within h = record { instant = h.instant; says = says_still c h.instant within h.says; text = h.text; stated = h.stated; mark = h.mark; reads = h.reads; at = h.at; is = h.is }
-
-  some_there : (c : CompletedInstant) → Contains (completed_in old) c → completed_in old ≡ [] → ⊥
-  some_there c within none = Contains-none c (subst (λ (l : List CompletedInstant). Contains l c) none within)
 
   pub properties_still : (p : Properties) → (completed_in old ≡ [] → ⊥) → SaysProperties old p → SaysProperties new p
   properties_still p some h = record { bytes = h.bytes; holds = is_beside.properties some ∙ h.holds; read = h.read }

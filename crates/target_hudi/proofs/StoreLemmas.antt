@@ -44,7 +44,7 @@ use Rattle.target_core.specs.Publishing.{Publishes}
 use Rattle.target_core.specs.Refusals.{IsCommitRefusal}
 use Rattle.target_core.specs.Step as step
 use Rattle.target_core.specs.Views.{Origin}
-use Rattle.target_core.specs.Written.{IsAsLeft}
+use Rattle.target_core.specs.Written.{HasReached, IsAsLeft}
 use Rattle.target_core.specs.declared.target.TargetError.{TargetError}
 use Rattle.target_core.specs.declared.target.TargetError.TheVariants.{Contested, Limit}
 use Rattle.target_core.proofs.OneStep.{publishes_none, publishes_one}
@@ -59,7 +59,7 @@ use Rattle.target_hudi.specs.Writes.{Writes}
 use Rattle.target_hudi.specs.Writing.{Passes, TimelineEnd}
 use Rattle.target_hudi.specs.TableName.{new_pairs}
 use Rattle.target_hudi.specs.declared.kept.HudiKept.{HudiKept}
-use Rattle.target_hudi.proofs.BesideLemmas.{IsBeside, carried_still, completed_before, completed_behind, few}
+use Rattle.target_hudi.proofs.BesideLemmas.{IsBeside, carried_still, completed_before, completed_behind, few, reached_still}
 use Rattle.target_hudi.proofs.TimelineLemmas.{AreEarlier, found_completed, new_one}
 use Rattle.target_hudi.proofs.KeepsLemmas.{advanced, newest_is, passes_behind}
 use Rattle.target_hudi.proofs.MomentLemmas.{AreDue, AreGivenNow, IsGrown, beside_kept, beside_stays, grown_after, grown_alike, reached_kept, still_before}
@@ -271,12 +271,23 @@ module _ {S : Type 0} (store : Ghosts S) (old new : S) (told : store.tells) (nam
           (λ same. carries_own image exit c change standing (λ path within. sym (same path)) h)
           one
 
+      has_at : (map.get image (completed_path instant) ≡ None) ⊎ ((path : List ℕ) → map.get image path ≡ map.get exit path) → HasReached hudi_meaning exit image
+      has_at one path reached = ⊎_elim (λ none. reached_still instant v.real image (earlier_image none) exit (beside_exit none) path reached) (λ same. sym (same path)) one
+
     pub kept_taken : IsEachMoment store old new (LacksOrIs instant (store.disk old) exit) → IsEachMoment store old new (λ image. CarriesAll hudi_meaning image exit)
     kept_taken theirs =
         let P : Files → Type 0 = KeepsImage (IsKept properties instant entry) (store.disk old) in
         let Q : Files → Type 0 = LacksOrIs instant (store.disk old) exit in
         let clean : IsClean (store.disk old) (completed_path instant) = stays_clean (completed_path instant) (in_timeline _) (completed_stays instant v.real.1.digits) in
         weaker store old new (λ image. P image × Q image) (λ image. CarriesAll hudi_meaning image exit) (λ image is. all_at image is.0 (is.1 clean)) (both store old new P Q (λ _. alone.moments) (λ _. theirs)) told
+
+    -- No file goes or changes that a crash would have shown as reached.
+    pub theirs_taken : IsEachMoment store old new (LacksOrIs instant (store.disk old) exit) → IsEachMoment store old new (HasReached hudi_meaning exit)
+    theirs_taken theirs =
+        let P : Files → Type 0 = KeepsImage (IsKept properties instant entry) (store.disk old) in
+        let Q : Files → Type 0 = LacksOrIs instant (store.disk old) exit in
+        let clean : IsClean (store.disk old) (completed_path instant) = stays_clean (completed_path instant) (in_timeline _) (completed_stays instant v.real.1.digits) in
+        weaker store old new (λ image. P image × Q image) (HasReached hudi_meaning exit) (λ image is. has_at image is.0 (is.1 clean)) (both store old new P Q (λ _. alone.moments) (λ _. theirs)) told
 
   -- another writer was first
   pub taken_now : IsTakenBy properties instant exit → IsTaken exit (end_of name kept) now

@@ -1,5 +1,5 @@
 -- What a commit leaves of the store, where it is refused before it writes, and where its version is published.
-use Rattle.std.proofs.Common.{◌≡◌, ◌≢◌, ◌⊎◌, inl, inr, ⊎_elim, ℕ, ◌+◌, ◌<◌, ◌≤◌, Bool, true, false, List, [], ◌∷◌, ◌++◌, refl, sym, arith}
+use Rattle.std.proofs.Common.{◌≡◌, ◌≢◌, ◌⊎◌, inl, inr, ⊎_elim, ℕ, ◌+◌, ◌<◌, ◌≤◌, Bool, true, false, List, [], ◌∷◌, ◌++◌, refl, sym, ◌∙◌, arith}
 use Rattle.std.specs.Prelude.{Err, IfErr, IsErrOf, Ok, OnOk, Result, is_ok}
 use Rattle.std.specs.FinMap as map
 use Rattle.lake_store.specs.Cause.{HasContest, HasFault}
@@ -23,7 +23,7 @@ use Rattle.target_core.specs.Publishing.{Publishes}
 use Rattle.target_core.specs.Refusals.{IsCommitRefusal}
 use Rattle.target_core.specs.Step.{IsBefore}
 use Rattle.target_core.specs.Views.{Origin}
-use Rattle.target_core.specs.Written.{IsAsLeft}
+use Rattle.target_core.specs.Written.{HasReached, IsAsLeft}
 use Rattle.target_core.specs.declared.target.TargetError.{TargetError}
 use Rattle.target_core.specs.declared.target.TargetError.TheVariants.{Contested, Limit, Memory, StoreFault, Unsupported}
 use Rattle.target_core.proofs.OneStep.{publishes_none, publishes_one}
@@ -35,6 +35,7 @@ use Rattle.target_iceberg.specs.KeptLemmas.{kept_counted}
 use Rattle.target_iceberg.specs.Publishing.{IsNotAside, IsOther, IsPublished, PublishesVersion}
 use Rattle.target_iceberg.specs.Reached.{IsReached, IsSettled}
 use Rattle.target_iceberg.specs.Reading.{commits_in}
+use Rattle.target_iceberg.specs.SameLemmas.{reached_back}
 use Rattle.target_iceberg.specs.SettledLemmas.{crash_carries, crash_reads, crash_settled}
 use Rattle.target_iceberg.specs.Writes.{Writes}
 use Rattle.target_iceberg.proofs.CommitFiles as files
@@ -206,3 +207,17 @@ module _ {S : Type 0} (store : Ghosts S) (old new : S) (told : store.tells) (ver
             let alike = image_before (store.disk old) kept.version version (files.short_names kept next origin now commit version v) settled (files.free kept next origin now commit version v id location plain can fits (store.disk old) stands settled) (files.new_later kept next origin now commit version v) image keeps in
             carried_on c change standing (carries_back (store.disk old).files image alike id c change standing h)
         all_at image (inr same) c change standing h = carried_too image (store.disk new).files (λ path reached. sym (same path)) id c change standing h
+
+    -- No file goes or changes that a crash would have shown as reached.
+    pub theirs_contested : C → IsEachMoment store old new (HasReached (iceberg_meaning id) (store.disk new).files)
+    theirs_contested contested =
+        let theirs = p.forestalled contested in
+        weaker store old new (λ image. KeepsImage (IsNotAside version) (store.disk old) image ⊎ ((path : List ℕ) → map.get image path ≡ map.get (store.disk new).files path))
+        (HasReached (iceberg_meaning id) (store.disk new).files) has_at (λ _. theirs.moments) told
+      where
+        has_at : (image : Files) → KeepsImage (IsNotAside version) (store.disk old) image ⊎ ((path : List ℕ) → map.get image path ≡ map.get (store.disk new).files path) → HasReached (iceberg_meaning id) (store.disk new).files image
+        has_at image (inl keeps) path reached =
+            let alike = image_before (store.disk old) kept.version version (files.short_names kept next origin now commit version v) settled (files.free kept next origin now commit version v id location plain can fits (store.disk old) stands settled) (files.new_later kept next origin now commit version v) image keeps in
+            let was = reached_back (store.disk old).files image alike.reached path reached in
+            p.others.disk.files path (files.other_reached kept next origin now commit version v id location plain can fits (store.disk old) stands settled path was) ∙ sym (alike.reached.files path was)
+        has_at image (inr same) path reached = sym (same path)

@@ -181,6 +181,7 @@ module _ {S : Type 0} (store : Ghosts S) (target : Meaning) (origin : Origin) (s
               newest = at.contested stands (err_same e Contested is_contest);
               stay = weaker store old new (KeepsShown target origin start commits (store.disk new).files e) (StayShown target origin start.commits commits (store.disk new).files)
                   (λ image kept_at. kept_at.contested (err_same e Contested is_contest)) (λ t. kept t stands) told;
+              theirs = at.theirs stands (err_same e Contested is_contest);
             };
         limited = λ told stands which number is_limit.
             let at = refused told in

@@ -14,7 +14,7 @@ use Rattle.target_core.specs.Folders.{MayLeaveIn, SameIn, after_crash, folder_of
 use Rattle.target_core.specs.Gained.{Gained}
 use Rattle.target_core.specs.Meaning.{Meaning}
 use Rattle.target_core.specs.Views.{Origin, View, standing_at}
-use Rattle.target_core.specs.Written.{IsAsLeft, StayAfter}
+use Rattle.target_core.specs.Written.{HasReached, IsAsLeft, KeepsTheirs, StayAfter}
 use Rattle.target_core.proofs.Apart.{folders_apart}
 use Rattle.target_core.proofs.Same.{same_refl}
 use Rattle.target_core.proofs.Steps.{count_taken}
@@ -227,8 +227,28 @@ module _ {S : Type 0} (store : Ghosts S) (only_now : NowOnly store) (now_counts 
           on whole left i (shown.0, shown.1, own.carries image whole (count + i + 1) shown.0.change (standing_at origin shown.0.position) alike shown.2))
           (λ t. (run t).moments)) told
 
+      -- What a crash shows of what is reached while the other is changed, it might have shown at once.
+      theirs_on : (middle : S) → KeepsTheirs store target.files middle mid → KeepsTheirs store target.files middle new
+      theirs_on middle theirs =
+          let came = theirs.came in
+          let later : store.contests mid ≤ store.contests new = contest.later in
+          let on : (image : Files) → HasReached target.files (store.disk mid).files image → HasReached target.files (store.disk new).files image
+          = λ image has path reached. same mid new (run told) path (own.reached_in image path reached) ∙ has path reached in
+          record {
+            came = omega (arith, later, came);
+            stay = goes_further store middle mid new (HasReached target.files (store.disk new).files)
+                (weaker store middle mid (HasReached target.files (store.disk mid).files) (HasReached target.files (store.disk new).files) on (λ t. theirs.stay))
+                (weaker store mid new (KeepsImage (IsOutside beside) (store.disk mid)) (HasReached target.files (store.disk new).files)
+                (λ image kept path reached.
+                let whole : Files = whole_image (store.disk mid) image in
+                let alike : SameIn folder image whole = whole_same (store.disk mid) image folder (left_in mid new (run told) image kept) in
+                let has : HasReached target.files (store.disk mid).files whole = theirs.stay.each whole (now_counts mid (store.time middle) whole told theirs.stay.later (whole_may_leave (store.disk mid) image)) in
+                on whole has path (own.reached_stays image whole (λ q held. alike q (own.reached_in image q held)) path reached) ∙ alike path (own.reached_in image path reached))
+                (λ t. (run t).moments)) told;
+          }
+
       -- what was left stays while the other is changed
-      stay_on : (partition : List (List ℕ)) (origin : Origin) (commits : List Commit) → StayAfter store target.files (Leaves target None now before partition origin commits) mid → StayAfter store target.files (Leaves target (Some other) now before partition origin commits) new
+      abbrev stay_on : (partition : List (List ℕ)) (origin : Origin) (commits : List Commit) → StayAfter store target.files (Leaves target None now before partition origin commits) mid → StayAfter store target.files (Leaves target (Some other) now before partition origin commits) new
       stay_on partition origin commits is =
           let reached : List ℕ → Type 0 = target.files.reached (store.disk is.middle).files in
           record {
@@ -253,6 +273,7 @@ module _ {S : Type 0} (store : Ghosts S) (only_now : NowOnly store) (now_counts 
         left = stay_on is.due.partition (origin_of is.due) (take is.place is.due.commits) is.left;
         newest = subst (λ (n : ℕ). n ≤ start.commits + is.place + 1) (sym (own.commits (store.disk mid).files (store.disk new).files (same mid new (run told)))) is.newest;
         stay = shown_on (origin_of is.due) start.commits is.due.commits is.stay;
+        theirs = theirs_on is.left.middle is.theirs;
       }
 
       limited_on : (which : LimitKind) (number : ℕ) → (OnlyReads store old mid × IsOverAtFirst source target mode now before which number) ⊎ IsLimited store source target.files passes_now (Leaves target None now) mode start before mid which number
@@ -427,7 +448,7 @@ module _ {S : Type 0} (store : Ghosts S) (only_now : NowOnly store) (now_counts 
       left_since : (partition : List (List ℕ)) (origin : Origin) (commits : List Commit) (files : Files) → Leaves target None now middle partition origin commits files → Leaves target (Some other) now first partition origin commits files
       left_since partition origin commits files is = (middle, files, here told, (λ path mine. refl), is)
 
-      stay_since : (partition : List (List ℕ)) (origin : Origin) (commits : List Commit) → StayAfter store target.files (Leaves target None now middle partition origin commits) new → StayAfter store target.files (Leaves target (Some other) now first partition origin commits) new
+      abbrev stay_since : (partition : List (List ℕ)) (origin : Origin) (commits : List Commit) → StayAfter store target.files (Leaves target None now middle partition origin commits) new → StayAfter store target.files (Leaves target (Some other) now first partition origin commits) new
       stay_since partition origin commits is = record { middle = is.middle; left = left_since partition origin commits (store.disk is.middle).files is.left; stay = is.stay }
 
       contested_since : IsContested store source target.files (Leaves target None now) mode start middle mid new → IsContested store source target.files (Leaves target (Some other) now) mode start first old new
@@ -441,6 +462,7 @@ module _ {S : Type 0} (store : Ghosts S) (only_now : NowOnly store) (now_counts 
         left = stay_since is.due.partition (origin_of is.due) (take is.place is.due.commits) is.left;
         newest = is.newest;
         stay = shown_since (origin_of is.due) is.due.commits is.stay;
+        theirs = is.theirs;
       }
 
       limited_since : (which : LimitKind) (number : ℕ) → (OnlyReads store mid new × IsOverAtFirst source target mode now middle which number) ⊎ IsLimited store source target.files passes_now (Leaves target None now) mode start middle new which number

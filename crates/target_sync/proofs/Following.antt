@@ -152,4 +152,5 @@ module _ {S : Type 0} (store : Ghosts S) (source : SourceMeaning) (target : Targ
         left = is.left;
         newest = is.newest;
         stay = stay_behind store target.files (origin_of is.due) start is.due.commits crash old mid new told (reading told) ready.reads ready.settled (store.disk new).files is.stay;
+        theirs = is.theirs;
       }

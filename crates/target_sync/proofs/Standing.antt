@@ -25,7 +25,7 @@ use Rattle.target_core.specs.Gained.{Carries, Gained, GainedSome, StillCarries}
 use Rattle.target_core.specs.Meaning.{Meaning}
 use Rattle.target_core.specs.Publishing.{LeavesSome, Publishes}
 use Rattle.target_core.specs.Views.{IsAdvancedAll, IsPublished, IsSchemaAfter, IsUnpublished, Origin, SameView, Standing, View, absent, standing_at}
-use Rattle.target_core.specs.Written.{IsAsLeft, StayAfter}
+use Rattle.target_core.specs.Written.{IsAsLeft, KeepsTheirs, StayAfter}
 use Rattle.target_core.proofs.Apart.{folders_apart}
 use Rattle.target_core.proofs.Same.{advanced_from, same_refl}
 use Rattle.target_core.proofs.Steps.{count_taken}
@@ -414,9 +414,10 @@ module _ (source : SourceMeaning) (own : SourceLaws source) (target : Meaning) (
         }
 
         pub contested_here : {S : Type 0} (store : Ghosts S) (leaves : Leaving) (old new : S) (place : ℕ) → place < length commits → Carries target origin v.commits commits place (store.disk new).files
-            → StayAfter store target (leaves before partition origin (take place commits)) new → target.commits_in (store.disk new).files ≤ v.commits + place + 1 → IsEachMoment store old new (StayShown target origin v.commits commits (store.disk new).files) → IsContested store source target leaves mode start before old new
+            → (left : StayAfter store target (leaves before partition origin (take place commits)) new) → target.commits_in (store.disk new).files ≤ v.commits + place + 1 → IsEachMoment store old new (StayShown target origin v.commits commits (store.disk new).files)
+            → KeepsTheirs store target left.middle new → IsContested store source target leaves mode start before old new
         unfolding due_one due_here
-        contested_here store leaves old new place within published left newest stay = record {
+        contested_here store leaves old new place within published left newest stay theirs = record {
           due = due_one source mode before v start one due_here;
           columns = columns_of v start partition one columns;
           place = place;
@@ -425,6 +426,7 @@ module _ (source : SourceMeaning) (own : SourceLaws source) (target : Meaning) (
           left = left;
           newest = subst (λ (c : ℕ). target.commits_in (store.disk new).files ≤ c + place + 1) begun_same.commits newest;
           stay = subst (λ (c : ℕ). IsEachMoment store old new (StayShown target origin c commits (store.disk new).files)) begun_same.commits stay;
+          theirs = theirs;
         }
 
         pub told_due : (last : View) → IsAdvancedAll target.image origin v commits last → ToldDue source target mode v start before head partition commits full origin last

@@ -257,7 +257,7 @@ module _ {S F T K : Type 0} (store : Ghosts S) (only_now : NowOnly store) (sourc
       left_is : (cs : List Commit) (files : Files) → HaveWritten target t kept (store.disk mid).files origin now cs files → Leaves (target_facts target t) None now before partition origin cs files
       left_is cs files is = (kept, is_kept told, subst (λ (d : Disk). HaveWritten target t kept d.files origin now cs files) disk_same is)
 
-      stay_is : (cs : List Commit) → StayAfter store (meaning target t) (HaveWritten target t kept (store.disk mid).files origin now cs) new → StayAfter store (meaning target t) (Leaves (target_facts target t) None now before partition origin cs) new
+      abbrev stay_is : (cs : List Commit) → StayAfter store (meaning target t) (HaveWritten target t kept (store.disk mid).files origin now cs) new → StayAfter store (meaning target t) (Leaves (target_facts target t) None now before partition origin cs) new
       stay_is cs is = record {
         middle = is.middle;
         left = left_is cs (store.disk is.middle).files is.left;
@@ -269,7 +269,7 @@ module _ {S F T K : Type 0} (store : Ghosts S) (only_now : NowOnly store) (sourc
       contested_is start ready at =
           contested_here (source_meaning source f) laws.source_own (meaning target t) mode v before head (is_head told) id (is_id told) partition commits full (way told) at.columns start
           (laws.views.one_view before v start (kept_reads told) ready.reads) store (Leaves (target_facts target t) None now) old new at.place at.within at.published (stay_is (take at.place commits) at.left) at.newest
-          (stay_behind store (meaning target t) origin v commits laws.crash old mid new told (reading told) (kept_reads told) ready.settled (store.disk new).files at.stay)
+          (stay_behind store (meaning target t) origin v commits laws.crash old mid new told (reading told) (kept_reads told) ready.settled (store.disk new).files at.stay) at.theirs
 
       abbrev passes_at : Files → List (List ℕ) → Origin → List Commit → LimitKind → ℕ → Type 0
       passes_at files names at = (target_facts target t).passes files names at now

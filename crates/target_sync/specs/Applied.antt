@@ -19,7 +19,7 @@ use Rattle.target_core.specs.Meaning.{Meaning}
 use Rattle.target_core.specs.Outcome.{Uncontested}
 use Rattle.target_core.specs.Publishing.{Publishes}
 use Rattle.target_core.specs.Views.{IsAdvancedAll, Origin, Standing, View}
-use Rattle.target_core.specs.Written.{IsAsLeft, StayAfter}
+use Rattle.target_core.specs.Written.{IsAsLeft, KeepsTheirs, StayAfter}
 use Rattle.target_core.specs.declared.target.TargetError.{TargetError}
 use Rattle.target_core.specs.declared.target.TargetError.TheVariants.{Memory, StoreFault, Contested, Limit, Unsupported}
 use Rattle.target_sync.specs.Targets.{IsStart}
@@ -83,7 +83,7 @@ abbrev pub StayShown : Meaning → Origin → ℕ → List Commit → Files → 
 StayShown target origin count commits files image = (i : ℕ) → CarriesAt target origin count commits i image → CarriesAt target origin count commits i files
 
 -- Publishing one of the commits met another writer's. Those before it left just what they write, which stays byte for byte, and they stand, as does each
--- that a crash would have shown. Nothing is published after that writer's.
+-- that a crash would have shown. That writer's stays byte for byte too, and nothing is published after it.
 pub record IsContestedAt {S : Type 0} (store : Ghosts S) (target : Meaning) (written : List Commit → Files → Type 0) (origin : Origin) (start : View) (partition : List (List ℕ)) (commits : List Commit) (old new : S) : Type 0 where
   pub place : ℕ
   pub within : place < length commits
@@ -92,6 +92,7 @@ pub record IsContestedAt {S : Type 0} (store : Ghosts S) (target : Meaning) (wri
   pub left : StayAfter store target (written (take place commits)) new
   pub newest : target.commits_in (store.disk new).files ≤ start.commits + place + 1
   pub stay : IsEachMoment store old new (StayShown target origin start.commits commits (store.disk new).files)
+  pub theirs : KeepsTheirs store target left.middle new
 
 -- Publishing one of the commits passes this number. Those before it are published and left just what they write, which stays byte for byte, and it isn't.
 -- Where it isn't the number of names, there are some before it, and no file has changed since.

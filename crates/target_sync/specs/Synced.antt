@@ -12,7 +12,7 @@ use Rattle.target_core.specs.Folders.{after_crash, folder_of}
 use Rattle.target_core.specs.Gained.{Carries, Gained, GainedSome, StillCarries}
 use Rattle.target_core.specs.Meaning.{Meaning}
 use Rattle.target_core.specs.Views.{IsUnpublished, Origin, SameView, View}
-use Rattle.target_core.specs.Written.{IsAsLeft, StayAfter}
+use Rattle.target_core.specs.Written.{IsAsLeft, KeepsTheirs, StayAfter}
 use Rattle.target_sync.specs.Applied.{StayShown, position_at}
 use Rattle.target_sync.specs.Dues.{Due, origin_of}
 use Rattle.target_sync.specs.Sources.{SameSource, SourceMeaning}
@@ -68,7 +68,8 @@ pub record IsStopped {S : Type 0} (store : Ghosts S) (source : SourceMeaning) (t
       × IsAsLeft target.reached (leaves before due.partition (origin_of due) (take n due.commits)) (store.disk new).files
 
 -- Publishing one of the commits that are due met another writer's. Those before it left just what they write, and what they reach stays byte for byte
--- from then on; they stand, each with its own change, as does each that a crash at any moment would have shown. Nothing is published after that writer's.
+-- from then on; they stand, each with its own change, as does each that a crash at any moment would have shown. That writer's commit came after them and
+-- stays byte for byte too. Nothing is published after it.
 pub record IsContested {S : Type 0} (store : Ghosts S) (source : SourceMeaning) (target : Meaning) (leaves : Leaving) (mode : Mode) (start : View) (before : Files) (old new : S) : Type 0 where
   pub due : Due source mode before start
   pub columns : (due.partition ≡ start.table.partition) ⊎ IsUnpublished start
@@ -78,6 +79,7 @@ pub record IsContested {S : Type 0} (store : Ghosts S) (source : SourceMeaning) 
   pub left : StayAfter store target (leaves before due.partition (origin_of due) (take place due.commits)) new
   pub newest : target.commits_in (store.disk new).files ≤ start.commits + place + 1
   pub stay : IsEachMoment store old new (StayShown target (origin_of due) start.commits due.commits (store.disk new).files)
+  pub theirs : KeepsTheirs store target left.middle new
 
 -- Publishing one of the commits that are due passes this number. The target has gained those before it, and not that one. They left just what they
 -- write, and what they reach stays byte for byte from then on. Where it isn't the number of names, there are some before it, and no file of the target has

@@ -226,6 +226,10 @@ returns-in_err-commit-clause-refusal g c told =
           let few : target.commits_in t (store.disk c.commit.new.store).files ≤ here.commits + 1 = (c.in_err-commit.ensures.publishes told (so_far.stands told was.0 was.1) way.settled).contested (ap (λ (e : TargetError). Err e) (sym exit.2 ∙ is)) in
           let here_is : here.commits ≡ start.commits + i = count_taken (target.image t) origin start commits i here so_far.view way.within in
           omega (arith, few, here_is);
+      theirs = λ was is. record {
+        came = c.in_err-commit.ensures.refuses.contest.rose (ap (λ (e : TargetError). Err e) (sym exit.2 ∙ is));
+        stay = (c.in_err-commit.ensures.publishes told (so_far.stands told was.0 was.1) (so_far.under_way told was.0 was.1).settled).theirs (ap (λ (e : TargetError). Err e) (sym exit.2 ∙ is));
+      };
       limited = λ was which number is.
           let way = so_far.under_way told was.0 was.1 in
           stopped_on store (meaning target t) origin start commits i here s c.loop-commit.store c.commit.new.store way commit at _ false

@@ -19,7 +19,7 @@ use Rattle.target_hudi.specs.Reading.{commits_in}
 use Rattle.target_hudi.proofs.TimelineLemmas.{free}
 use Rattle.target_hudi.proofs.KeepsLemmas.{advanced, fits_behind}
 use Rattle.target_hudi.proofs.PublishLemmas.{earlier}
-use Rattle.target_hudi.proofs.StoreLemmas.{as_left, come_there, contest_too, contested_error, counted_now, few_now, kept_taken, limited_by, only_names, orderly_before, passes_ahead, publishes_instant, publishes_nothing, reads_unmoved, ready, refused_by, same_instant, stands_behind, taken_answer, taken_now, writes}
+use Rattle.target_hudi.proofs.StoreLemmas.{as_left, come_there, contest_too, contested_error, counted_now, few_now, kept_taken, limited_by, only_names, orderly_before, passes_ahead, publishes_instant, publishes_nothing, reads_unmoved, ready, refused_by, same_instant, stands_behind, taken_answer, taken_now, theirs_taken, writes}
 use Rattle.target_hudi.proofs.commit.publish.Goals as goal
 
 pub returns-in_err-new-clause-folder : goal.returns-in_err-new-clause-folder
@@ -44,6 +44,7 @@ returns-in_err-new-clause-publishes g c told stands settled =
       came = never_come result exit.0 kept.commits (commits_in files) exit.1 (omega (arith, count));
       contested = λ is. omega (arith, count);
       kept = λ is. search rules;
+      theirs = λ is. search rules;
       limited = λ which number is. search rules;
     }
 
@@ -130,6 +131,7 @@ returns-in-Ok-clause-publishes g c told stands settled =
       came = λ come. as_left store old new told name origin now kept next commit instant properties text v counted alone stands c.requires.can c.requires.fits c.requires.source settled came;
       contested = λ is. absurd cc;
       kept = λ is. absurd cc;
+      theirs = λ is. absurd cc;
       limited = λ which number is. absurd cc;
     }
 
@@ -191,6 +193,7 @@ returns-clause-publishes g c told stands settled =
       came = λ come. as_left store old new told name origin now kept next commit instant properties text v counted alone stands c.requires.can c.requires.fits c.requires.source settled (came come);
       contested = λ contested. few_now store old new told name origin now kept next commit instant properties text v counted alone;
       kept = λ contested. kept_taken store old new told name origin now kept next commit instant properties text v counted alone settled (c.in-Err.ensures.theirs told (taken_answer c.in-Err.error c.of_list.result gives contested));
+      theirs = λ contested. theirs_taken store old new told name origin now kept next commit instant properties text v counted alone settled (c.in-Err.ensures.theirs told (taken_answer c.in-Err.error c.of_list.result gives contested));
       limited = λ which number limited.
           let long = limited_by c.in-Err.error c.of_list.result gives which number limited in
           reads_unmoved store old new told name origin now kept next commit instant properties text v counted alone stands ((c.in-Err.ensures.too_long long.0 long.1).unmoved told whole);

@@ -22,7 +22,7 @@ use Rattle.target_delta.specs.NewVersion.{IsNewVersion}
 use Rattle.target_delta.specs.Reading.{commits_in}
 use Rattle.target_delta.specs.Writing.{LogEnd}
 use Rattle.target_delta.proofs.CommitLemmas.{fits_behind, free_path, stands_now}
-use Rattle.target_delta.proofs.StoreLemmas.{alone_staged, as_left, as_left_come, beside_now, contested_by, count_taken, counted_now, err_same, kept_taken, not_ok, ok_taken, publishes_nothing, publishes_staged, stands_come, unlimited_by, untaken_by, writes_now}
+use Rattle.target_delta.proofs.StoreLemmas.{alone_staged, as_left, as_left_come, beside_now, contested_by, count_taken, counted_now, err_same, kept_taken, not_ok, ok_taken, publishes_nothing, publishes_staged, stands_come, theirs_taken, unlimited_by, untaken_by, writes_now}
 use Rattle.target_delta.proofs.target.DeltaTargetTarget.commit.Goals as goal
 
 pub returns-in_err-version-clause-folder : goal.returns-in_err-version-clause-folder
@@ -48,6 +48,7 @@ returns-in_err-version-clause-publishes g c told stands settled =
       came = never_come result exit.0 kept.commits (commits_in files) exit.1 (omega (arith, count));
       contested = λ is. omega (arith, count);
       kept = λ is. search rules;
+      theirs = λ is. search rules;
       limited = λ which number is. stands.reads;
     }
 
@@ -114,6 +115,8 @@ returns-in_err-stage_and_publish-clause-publishes g c told stands settled =
           (λ taken. untaken_by result exit.0 error exit.1 exit.2 (come_uncontested result kept.commits count come) (err_same error taken)) (come_later result exit.0 kept.commits count exit.1 come);
       contested = λ is. count_taken store old new told staged name bytes kept.commits is_staged named _ (c.in_err-stage_and_publish.ensures.left told) c.in_err-stage_and_publish.ensures.any_moment (c.requires.counted told) v.within (is_taken is).theirs (is_taken is).file;
       kept = λ is. kept_taken store old new told staged name bytes kept.commits is_staged named _ (c.in_err-stage_and_publish.ensures.left told) c.in_err-stage_and_publish.ensures.any_moment id origin c.args.now_ms kept next c.args.commit.now refl v c.requires.can c.requires.fits stands settled
+          (is_taken is).theirs (is_taken is).file (is_taken is).moments;
+      theirs = λ is. theirs_taken store old new told staged name bytes kept.commits is_staged named _ (c.in_err-stage_and_publish.ensures.left told) c.in_err-stage_and_publish.ensures.any_moment id origin c.args.now_ms kept next c.args.commit.now refl v c.requires.can c.requires.fits stands settled
           (is_taken is).theirs (is_taken is).file (is_taken is).moments;
       limited = λ which number is. absurd (unlimited_by result exit.0 error which number exit.1 exit.2 (λ n long. c.in_err-stage_and_publish.ensures.not_too_long n (ap (λ e. Err e) long)) is);
     }
@@ -205,6 +208,7 @@ returns-clause-publishes g c told stands settled =
       came = λ come. as_left store old new told staged name bytes kept.commits is_staged named _ (c.in_ok-stage_and_publish.ensures.left told) c.in_ok-stage_and_publish.ensures.any_moment id origin c.args.now_ms kept next c.args.commit.now refl v c.requires.can c.requires.fits stands settled file;
       contested = λ is. absurd cc;
       kept = λ is. absurd cc;
+      theirs = λ is. absurd cc;
       limited = λ which number is. absurd cc;
     }
 

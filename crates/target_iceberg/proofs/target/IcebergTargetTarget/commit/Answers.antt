@@ -21,7 +21,7 @@ use Rattle.target_iceberg.specs.IcebergMeaning.{iceberg_meaning}
 use Rattle.target_iceberg.specs.Reading.{commits_in}
 use Rattle.target_iceberg.proofs.CommitFiles.{free_path, number}
 use Rattle.target_iceberg.proofs.CommitKept.{fits_behind, kinds_stay, passes_behind}
-use Rattle.target_iceberg.proofs.CommitStore.{as_left, count_contested, counted_now, done_or_later, kept_contested, never_contested, never_fault, never_later, never_limited, no_contest, no_fault, on_ok, publishes_nothing, publishes_version, stands_come, writes_now}
+use Rattle.target_iceberg.proofs.CommitStore.{as_left, count_contested, counted_now, done_or_later, kept_contested, never_contested, never_fault, never_later, never_limited, no_contest, no_fault, on_ok, publishes_nothing, publishes_version, stands_come, theirs_contested, writes_now}
 use Rattle.target_iceberg.proofs.target.IcebergTargetTarget.commit.Goals as goal
 
 pub returns-in_err-new-clause-folder : goal.returns-in_err-new-clause-folder
@@ -49,6 +49,7 @@ returns-in_err-new-clause-publishes g c told stands settled =
       came = λ come. absurd (never_later id location kept files stands (come_later result exit.0 kept.version (commits_in files) exit.1 come));
       contested = λ is. absurd (never_contested passes result exit.0 exit.1 refused is);
       kept = λ is. absurd (never_contested passes result exit.0 exit.1 refused is);
+      theirs = λ is. absurd (never_contested passes result exit.0 exit.1 refused is);
       limited = λ which most is. stands.reads;
     }
 
@@ -145,6 +146,7 @@ returns-clause-publishes g c told stands settled =
           (done_or_later r kept.version (commits_in (g.S.Store.disk new).files) come);
       contested = λ is. count_contested g.S.Store old new told files (Uncontested r) (IsErrOf r Contested) (is_ok r) (c.publish_version.ensures.publishes told) kept next origin c.args.now_ms commit v id location plain c.requires.can c.requires.fits stands settled is;
       kept = λ is. kept_contested g.S.Store old new told files (Uncontested r) (IsErrOf r Contested) (is_ok r) (c.publish_version.ensures.publishes told) kept next origin c.args.now_ms commit v id location plain c.requires.can c.requires.fits stands settled is;
+      theirs = λ is. theirs_contested g.S.Store old new told files (Uncontested r) (IsErrOf r Contested) (is_ok r) (c.publish_version.ensures.publishes told) kept next origin c.args.now_ms commit v id location plain c.requires.can c.requires.fits stands settled is;
       limited = λ which most is. absurd (never_limited r c.publish_version.ensures.refusal which most is);
     }
 
