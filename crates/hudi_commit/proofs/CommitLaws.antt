@@ -3,7 +3,6 @@ use Rattle.std.proofs.Common.{◌≡◌, ◌≢◌, ◌⊎◌, inl, inr, ⊎_eli
 use Rattle.std.specs.Prelude.{Option, None, Some, is_some, Result, Ok, Err}
 use Rattle.std.specs.FinMap as map
 use Rattle.lake_store.specs.Disk.{Disk, Files, IsClean, IsName, synced}
-use Rattle.lake_store.specs.Runs.{IsIn, IsOutside}
 use Rattle.lake_store.specs.declared.store.Store.{Ghosts}
 use Rattle.lake_store.specs.declared.store.StoreError.{StoreError}
 use Rattle.lake_store.proofs.DiskLaws.{clean-synced}
@@ -11,17 +10,17 @@ use Rattle.lake_store.proofs.MomentLaws.{goes_further, weaker}
 use Rattle.hudi_names.specs.Time.{IsDigits, IsSomeTime}
 use Rattle.hudi_names.specs.declared.name.State.{State}
 use Rattle.hudi_names.specs.declared.name.State.TheVariants as state
-use Rattle.hudi_commit.specs.Names.{IsInstantIn, IsThere, claim_path, completed_name, completed_path, pending_path, properties_path, timeline_folder, timeline_path}
+use Rattle.hudi_commit.specs.Names.{IsInstantIn, IsThere, claim_path, completed_name, completed_path, pending_path, properties_path, timeline_path}
 use Rattle.hudi_commit.specs.Orderly.{IsOrderly}
-use Rattle.hudi_commit.specs.Runs.{HasProperties, IsAfter, IsAllClean, IsBase, IsBefore, IsBeforeOrAfter, IsCommitted, IsIdle, IsKept, IsKeptBut, IsNext, IsNoFileOf, IsOneStep, IsPrepared, IsPublished, IsQuiet, IsReady, IsRecovered, IsTidied, IsUncontested, NotGiven, StaysBefore, StaysOrGains, announced, claimed, completed, prepared}
+use Rattle.hudi_commit.specs.Runs.{HasProperties, IsAfter, IsAllClean, IsBase, IsBefore, IsBeforeOrAfter, IsCommitted, IsIdle, IsKept, IsKeptBut, IsNext, IsNoFileOf, IsOneStep, IsPrepared, IsPublished, IsQuiet, IsReady, IsRecovered, IsTidied, IsUncontested, StaysBefore, StaysOrGains, announced, claimed, completed, prepared}
 use Rattle.hudi_commit.specs.Settled.{IsSettled, Stands, StandsAt}
 use Rattle.hudi_commit.proofs.NameLaws.{claim_not_properties, claim_not_staged, completed_instant, completed_is_name, completed_not_properties, completed_stays, not_staged, properties_stay}
-use Rattle.hudi_commit.proofs.OpenLaws.{not_of, open_inside}
+use Rattle.hudi_commit.proofs.OpenLaws.{not_of}
 use Rattle.hudi_commit.proofs.OrderlyLaws.{orderly_real, there, there_none}
 use Rattle.hudi_commit.proofs.PublishLaws.{absent, has_quiet, has_stands, moved_here, quiet_unannounced}
 use Rattle.hudi_commit.proofs.RecoveryLaws.{tidied_fewer, tidied_others}
 use Rattle.hudi_commit.proofs.StagingLaws.{after_of}
-use Rattle.hudi_commit.proofs.StepLaws.{clean_settled, in_timeline}
+use Rattle.hudi_commit.proofs.StepLaws.{clean_settled}
 
 -- a result that isn't a contest, where it is `Ok`
 pub ok_uncontested : {T : Type 0} {x : T} (r : Result T StoreError) → r ≡ Ok x → IsUncontested r
@@ -160,14 +159,3 @@ pub completed_kept_but : (properties : Option (List ℕ)) (t : List ℕ) → IsD
 completed_kept_but None t is = record { staged = not_staged (completed_path t) (completed_stays t is); given = tt }
 completed_kept_but (Some p) t is = record { staged = not_staged (completed_path t) (completed_stays t is); given = completed_not_properties t is }
 
--- all paths that change lie in the timeline's folder
-pub outside_kept : (properties : Option (List ℕ)) (t : List ℕ) (entry : Files) (path : List ℕ) → IsOutside timeline_folder path → IsKept properties t entry path
-outside_kept properties t entry path outside = record {
-  leftover = λ leftover. outside (open_inside entry path leftover);
-  completed = λ e. outside (subst (IsIn timeline_folder) (sym e) (in_timeline _));
-  given = not_given properties;
-}
-  where
-    not_given : (properties : Option (List ℕ)) → NotGiven properties path
-    not_given None = tt
-    not_given (Some p) = λ e. outside (subst (IsIn timeline_folder) (sym e) (in_timeline _))

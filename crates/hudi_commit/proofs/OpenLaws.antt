@@ -1,15 +1,13 @@
 -- Which leftovers a commit may change.
-use Rattle.std.proofs.Common.{◌≡◌, inl, inr, ⊎_elim, ℕ, List, refl, sym, ◌∙◌, subst}
+use Rattle.std.proofs.Common.{◌≡◌, inl, inr, ⊎_elim, ℕ, List, refl, sym, ◌∙◌}
 use Rattle.std.specs.Prelude.{Option, None, Some, option_map}
 use Rattle.std.specs.FinMap as map
 use Rattle.lake_store.specs.Disk.{Files}
-use Rattle.lake_store.specs.Runs.{IsIn}
 use Rattle.hudi_names.specs.Time.{IsDigits, IsSomeTime}
-use Rattle.hudi_commit.specs.Names.{IsLeftover, IsOf, IsOpenLeftover, IsThere, Stage, StaysOrGoes, completed_path, pending_path, timeline_folder}
+use Rattle.hudi_commit.specs.Names.{IsLeftover, IsOf, IsOpenLeftover, IsThere, Stage, StaysOrGoes, completed_path, pending_path}
 use Rattle.hudi_commit.specs.Runs.{IsNotOf, IsNotOpen}
 use Rattle.hudi_commit.proofs.NameLaws.{completed_stays}
 use Rattle.hudi_commit.proofs.OrderlyLaws.{there, there_none}
-use Rattle.hudi_commit.proofs.StepLaws.{in_timeline}
 
 module _ (files : Files) (q : List ℕ) where
   abbrev Open : Type 0
@@ -19,13 +17,6 @@ module _ (files : Files) (q : List ℕ) where
   open_leftover = ⊎_elim inl (λ (o : Open). ⊎_elim
       (λ c. inr (inl (o.0, o.1.1.digits, c)))
       (λ (p : (s : Stage) × (q ≡ pending_path s o.0)). inr (inr (p.0, o.0, o.1.1.digits, p.1))) o.3)
-
-  pub open_inside : IsOpenLeftover files q → IsIn timeline_folder q
-  open_inside = ⊎_elim
-      (λ e. subst (IsIn timeline_folder) (sym e) (in_timeline _))
-      (λ (o : Open). ⊎_elim
-      (λ c. subst (IsIn timeline_folder) (sym c) (in_timeline _))
-      (λ (p : (s : Stage) × (q ≡ pending_path s o.0)). subst (IsIn timeline_folder) (sym p.1) (in_timeline _)) o.3)
 
   -- an instant that isn't completed may change
   pub not_of : (t : List ℕ) → IsSomeTime t → map.get files (completed_path t) ≡ None → IsNotOpen files q → IsNotOf t q

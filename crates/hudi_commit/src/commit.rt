@@ -5,9 +5,9 @@ ghost use Rattle.std.specs.FinMap as map;
 ghost use Rattle.lake_basics.specs.declared.limits.TheConstants.{MAX_FILE_BYTES};
 ghost use Rattle.lake_store.specs.Cause.{IsNotTooLong};
 ghost use Rattle.lake_store.specs.Disk.{AddsShort, Files};
-ghost use Rattle.lake_store.specs.Runs.{ChangesOnlyIn, FailsBy, IsContestedBy, IsEachMoment, LeavesAlone};
+ghost use Rattle.lake_store.specs.Runs.{FailsBy, IsContestedBy, IsEachMoment, LeavesAlone};
 ghost use Rattle.hudi_names.specs.Time.{IsSomeTime};
-ghost use Rattle.hudi_commit.specs.Names.{IsThere, StaysOrGoes, completed_path, properties_path, staged_properties_path, timeline_folder};
+ghost use Rattle.hudi_commit.specs.Names.{IsThere, StaysOrGoes, completed_path, properties_path, staged_properties_path};
 ghost use Rattle.hudi_commit.specs.Orderly.{IsOrderly};
 ghost use Rattle.hudi_commit.specs.Runs.{HasCome, HasCompleted, HasManyClaims, IsIdle, IsKept, IsKeptBut, IsOneStep, IsPrepared, IsReady, IsTakenBy, IsUncontested, LacksOrIs, NotGiven, StaysBefore};
 ghost use Rattle.hudi_commit.specs.Settled.{IsSettled, Stands};
@@ -92,7 +92,6 @@ pub fn publish_commit<S: Store>(
     ensures theirs { S.tells → IsErrOf result StoreError.Taken
         → IsEachMoment ⟦<S as Store>⟧ store.old store.new
         (LacksOrIs instant.now (S.disk store.old) (S.disk store.new).files) }
-    ensures folder { S.tells → ChangesOnlyIn ⟦<S as Store>⟧ timeline_folder store.old store.new }
 
     // Each file is as before, or can be read whole, where the texts can.
     ensures short { S.tells

@@ -1,10 +1,10 @@
 -- What a sync of one target leaves is what the next one asks.
-use Rattle.std.proofs.Common.{◌≡◌, inl, inr, ⊎_elim, ℕ, zero, suc, ◌^◌, ◌≤◌, ◌<◌, Bool, true, false, ◌&&◌, List, ◌++◌, length, Some, None, Result, Ok, Err, refl, sym, ap, subst, ◌∙◌, arith, if◌then◌else◌}
+use Rattle.std.proofs.Common.{◌≡◌, inl, inr, ⊎_elim, ℕ, zero, suc, ◌^◌, ◌≤◌, ◌<◌, Bool, true, false, ◌&&◌, List, ◌++◌, length, Some, None, Result, Ok, Err, refl, sym, ap, subst, ◌∙◌, arith}
 use Rattle.std.proofs.lemmas.Bool.{cases_lt, false≢true}
 use Rattle.std.specs.FinMap as map
 use Rattle.lake_store.specs.Disk.{IsClean}
 use Rattle.lake_store.specs.Fuse.{FuseCanBeContested, fuse_disk, room_of}
-use Rattle.lake_store.specs.Runs.{IsIn, IsOutside, OnlyReads}
+use Rattle.lake_store.specs.Runs.{IsIn, OnlyReads}
 use Rattle.lake_store.specs.declared.fuse.FuseStore.{FuseStore}
 use Rattle.conformance.specs.Histories.{IsHistoryFrom}
 use Rattle.source_core.specs.Histories.{IsAt, ShowsTable}
@@ -14,8 +14,9 @@ use Rattle.table_history.specs.declared.kind.Kind.{Kind}
 use Rattle.table_history.specs.declared.kind.Kind.TheVariants.{Delta}
 use Rattle.target_core.specs.Conditions.{GoesOn}
 use Rattle.target_core.specs.Folders.{SameIn, folder_of}
+use Rattle.target_core.specs.OwnFiles.{MayNotTouch}
 use Rattle.target_core.specs.Views.{View}
-use Rattle.target_core.proofs.Apart.{folders_apart}
+use Rattle.target_core.proofs.Apart.{apart_untouched}
 use Rattle.target_sync.specs.Along.{GoesOnAlong, IsWholeSync}
 use Rattle.target_sync.specs.Answered.{IsContest, IsDone, IsFew, IsOfSync, IsReady, IsReported, IsUndisturbed, StopsSo}
 use Rattle.target_sync.specs.Dues.{Due}
@@ -93,12 +94,12 @@ module _ (target : TargetFacts) (mode : Mode) (now : ℕ) (old new : FuseStore) 
   abbrev sync : IsWholeSync scripted_store from_delta target None mode now (scripted (room_of old) old) (scripted brings.room new) (Some brings.answer)
   sync = brings.sync
 
-  -- what isn't in the target's folder stays
-  pub outside_stays : (path : List ℕ) → IsOutside (folder_of target.files.kind) path → map.get (fuse_disk new).files path ≡ map.get (fuse_disk old).files path
-  outside_stays path out = (sync.sync.alone tt).disk.files path out
+  -- what isn't the target's own file stays
+  pub untouched_stays : (path : List ℕ) → MayNotTouch target.files.kind path → map.get (fuse_disk new).files path ≡ map.get (fuse_disk old).files path
+  untouched_stays path out = (sync.sync.alone tt).disk.files path out
 
-  pub outside_clean : (path : List ℕ) → IsOutside (folder_of target.files.kind) path → IsClean (fuse_disk old) path → IsClean (fuse_disk new) path
-  outside_clean path out = (sync.sync.alone tt).disk.clean path out
+  pub untouched_clean : (path : List ℕ) → MayNotTouch target.files.kind path → IsClean (fuse_disk old) path → IsClean (fuse_disk new) path
+  untouched_clean path out = (sync.sync.alone tt).disk.clean path out
 
   pub still_uncontested : FuseCanBeContested new → ⊥
   still_uncontested can = enters_free old none (sync.sync.contest.still (inl can))
@@ -225,11 +226,11 @@ module _ (target : TargetFacts) (mode : Mode) (now : ℕ) (old new : FuseStore) 
 -- ---- the other target, and the source
 
 module _ (target : TargetFacts) (mode : Mode) (now : ℕ) (old new : FuseStore) (given : Status) (brings : Brings target mode now old new given) (none : FuseCanBeContested old → ⊥) (kind : Kind) (apart : target.files.kind ≡ kind → ⊥) where
-  out : (path : List ℕ) → IsIn (folder_of kind) path → IsOutside (folder_of target.files.kind) path
-  out path mine theirs = folders_apart kind target.files.kind apart path mine theirs
+  out : (path : List ℕ) → IsIn (folder_of kind) path → MayNotTouch target.files.kind path
+  out = apart_untouched kind target.files.kind apart
 
   pub same_beside : SameIn (folder_of kind) (fuse_disk old).files (fuse_disk new).files
-  same_beside path mine = outside_stays target mode now old new given brings none path (out path mine)
+  same_beside path mine = untouched_stays target mode now old new given brings none path (out path mine)
 
   pub clean_beside : (path : List ℕ) → IsIn (folder_of kind) path → IsClean (fuse_disk old) path → IsClean (fuse_disk new) path
-  clean_beside path mine was = outside_clean target mode now old new given brings none path (out path mine) was
+  clean_beside path mine was = untouched_clean target mode now old new given brings none path (out path mine) was

@@ -3,7 +3,7 @@ use Rattle.std.proofs.Common.{◌≡◌, ◌⊎◌, ◌++◌, ℕ, Bool, true, f
 use Rattle.std.specs.Prelude.{Ok, Err}
 use Rattle.lake_store.specs.Cause.{HasFault, Rose}
 use Rattle.lake_store.specs.Disk.{Files}
-use Rattle.lake_store.specs.Runs.{ChangesOnlyIn, FailsBy, IsOutside, IsUncontestedBy, OnlyReads}
+use Rattle.lake_store.specs.Runs.{FailsBy, IsUncontestedBy, OnlyReads}
 use Rattle.lake_store.specs.declared.sink.Sink as sinks
 use Rattle.lake_store.specs.declared.store.Store.{Ghosts}
 use Rattle.lake_store.proofs.RunLaws.{alone_by_reading, reading_begins}
@@ -12,7 +12,7 @@ use Rattle.source_core.specs.declared.error.SourceError.{SourceError}
 use Rattle.source_core.specs.declared.error.SourceError.TheVariants as source_error
 use Rattle.source_core.specs.declared.head.Head.{Head}
 use Rattle.table_history.specs.declared.kind.Kind.{Kind}
-use Rattle.target_core.specs.Folders.{folder_of}
+use Rattle.target_core.specs.OwnFiles.{MayNotTouch, TouchesOwn}
 use Rattle.target_sync.specs.Answered.{Answer, CanSync, IsAbsent, IsCaused, IsComplete, IsDone, IsFew, IsOfSync, IsReadFault, IsRefusal, IsSync}
 use Rattle.target_sync.specs.Applied.{status_of_source}
 use Rattle.target_sync.specs.Sources.{SourceMeaning}
@@ -21,7 +21,7 @@ use Rattle.target_sync.specs.declared.plan.Mode.{Mode}
 use Rattle.target_sync.specs.declared.status.Side.TheVariants as side
 use Rattle.target_sync.specs.declared.status.Status.{Status}
 use Rattle.target_sync.specs.declared.status.Status.TheVariants as status
-use Rattle.target_sync.specs.Others.{ChangesTargets, IsOutsideBoth}
+use Rattle.target_sync.specs.Others.{ChangesTargets, NeitherTouches}
 use Rattle.target_sync.proofs.Along.{AlongLaws, sync_along}
 use Rattle.target_sync.proofs.Applying.{CrashLaws}
 use Rattle.target_sync.proofs.Beside.{beside_behind}
@@ -265,7 +265,7 @@ not_counted count may old new A never same still = record { later = omega (arith
 sync_skipped : {S : Type 0} (store : Ghosts S) (source : SourceMeaning) (target : TargetFacts) (other : Kind) (mode : Mode) (now : ℕ) → SourceLaws source → CrashLaws target.files → (old new : S) → (store.tells → OnlyReads store old new) → (A B : Type 0) → FailsBy store old new A
     → IsUncontestedBy store old new B → IsSync store source target (Some other) mode now old new None
 sync_skipped store source target other mode now own crash old new reading A B cause quiet =
-    let alone : store.tells → ChangesTargets store target.files.kind (Some other) old new = λ told. alone_by_reading store (IsOutsideBoth target.files.kind other) old new (reading told) in
+    let alone : store.tells → ChangesTargets store target.files.kind (Some other) old new = λ told. alone_by_reading store (NeitherTouches target.files.kind other) old new (reading told) in
     record {
       alone = alone;
       short = short_reading store old new reading;
@@ -278,7 +278,7 @@ sync_skipped store source target other mode now own crash old new reading A B ca
       limited = λ told which number is start ready. absurd (cc is);
       stopped = λ told start ready. tt;
       few = tt;
-      caused = λ told. alone_by_reading store (IsOutside (folder_of other)) old new (reading told);
+      caused = λ told. alone_by_reading store (MayNotTouch other) old new (reading told);
       absent = λ told is. tt;
       foreign = λ told path is. tt;
       fault = fails_as store.faults store.may_fail old new A (None ≡ Some (Err status.StoreFault)) (λ is. absurd (cc is)) cause;
@@ -327,7 +327,7 @@ module _ {S O : Type 0} (store : Ghosts S) (sink : sinks.Ghosts O) (source : Sou
   head_ended old new out_old out_new e given reading sync A quiet refused told =
       let one : Answer = Some (Err (status_of_source e)) in
       let Fault : Type 0 = one ≡ Some (Err status.StoreFault) in
-      let idle : store.tells → ChangesOnlyIn store (folder_of second.files.kind) new new = λ tells. alone_by_reading store (IsOutside (folder_of second.files.kind)) new new (reading_begins store laws.only_now new tells) in
+      let idle : store.tells → TouchesOwn store second.files.kind new new = λ tells. alone_by_reading store (MayNotTouch second.files.kind) new new (reading_begins store laws.only_now new tells) in
       syncs_both old new out_old out_new given None one None false
       (record {
         first_sync = beside_behind store laws.only_now laws.now_counts source laws.source_laws laws.fault_laws first laws.first_crash laws.first_own second.files.kind (λ is. laws.apart (sym is)) mode now old new new one sync idle (short_reading store new new (reading_begins store laws.only_now new)) ⊥ ⊥

@@ -2,7 +2,7 @@
 use Rattle.std.proofs.Common.{◌≡◌, ℕ, Bool, true, false, List, [], Option, Some, None, inl, inr, ⊎_elim, refl, sym, subst, ◌∙◌}
 use Rattle.std.specs.Prelude.{IfErr, Result, Ok, Err}
 use Rattle.lake_store.specs.Disk.{Disk, Files}
-use Rattle.lake_store.specs.Runs.{ChangesOnlyIn, OnlyReads}
+use Rattle.lake_store.specs.Runs.{OnlyReads}
 use Rattle.lake_store.specs.declared.sink.Sink as sinks
 use Rattle.lake_store.specs.declared.store.Store.{Ghosts}
 use Rattle.lake_store.proofs.RunLaws.{reading_begins, reading_further}
@@ -13,6 +13,7 @@ use Rattle.table_history.specs.declared.kind.Kind.{Kind}
 use Rattle.table_history.specs.declared.limit.LimitKind.{LimitKind}
 use Rattle.target_core.specs.Conditions.{GoesOn}
 use Rattle.target_core.specs.Folders.{SameIn, folder_of}
+use Rattle.target_core.specs.OwnFiles.{TouchesOwn}
 use Rattle.target_core.specs.Views.{View, absent}
 use Rattle.target_core.specs.declared.target.Target as targets
 use Rattle.target_core.specs.declared.target.TargetError.{TargetError}
@@ -198,10 +199,10 @@ pub behind_as : {O : Type 0} (sink : sinks.Ghosts O) (old new : O) (so_far : Sta
 behind_as sink old new so_far kind is answer given status same equal told =
     subst (λ (k : Kind). TellsBehind sink old new so_far k (Some given) status) same (subst (λ (a : Result Report Status). TellsBehind sink old new so_far kind (Some a) status) equal told)
 
--- ---- behind what was written to another target's folder
+-- ---- behind what was written of another target's files
 
 module _ {S : Type 0} (store : Ghosts S) (source : SourceMeaning) (laws : SourceLaws source) (written : Kind) (far : source.kind ≡ written → ⊥) (old read mid : S) (reading : store.tells → OnlyReads store old read)
-    (alone : store.tells → ChangesOnlyIn store (folder_of written) read mid) where
+    (alone : store.tells → TouchesOwn store written read mid) where
   same_beside : (kind : Kind) → (kind ≡ written → ⊥) → store.tells → SameIn (folder_of kind) (store.disk old).files (store.disk mid).files
   same_beside kind apart told = subst (λ (d : Disk). SameIn (folder_of kind) d.files (store.disk mid).files) (reading told).disk (folder_stays store kind written apart read mid alone told)
 

@@ -3,14 +3,15 @@ use Rattle.std.proofs.Common.{◌≡◌, ◌⊎◌, ◌++◌, ℕ, Bool, true, f
 use Rattle.std.proofs.lemmas.List.{append-nil}
 use Rattle.std.specs.Prelude.{Ok, Err}
 use Rattle.lake_store.specs.Disk.{Disk}
-use Rattle.lake_store.specs.Runs.{ChangesOnlyIn, FailsBy, IsUncontestedBy, OnlyReads}
+use Rattle.lake_store.specs.Runs.{FailsBy, IsUncontestedBy, OnlyReads}
 use Rattle.lake_store.specs.declared.sink.Sink as sinks
 use Rattle.lake_store.specs.declared.store.Store.{Ghosts}
 use Rattle.lake_store.proofs.RunLaws.{NowOnly, reading_further}
 use Rattle.table_history.specs.declared.kind.Kind.{Kind}
 use Rattle.target_core.specs.Conditions.{GoesOn}
 use Rattle.target_core.specs.Folders.{SameIn, folder_of}
-use Rattle.target_core.proofs.Apart.{folders_apart}
+use Rattle.target_core.specs.OwnFiles.{TouchesOwn}
+use Rattle.target_core.proofs.Apart.{apart_untouched}
 use Rattle.target_sync.specs.Answered.{Answer, IsSync, StandsAt}
 use Rattle.target_sync.specs.Sources.{SourceMeaning}
 use Rattle.target_sync.specs.Targets.{TargetFacts}
@@ -169,12 +170,12 @@ pub record PairLaws {S : Type 0} (store : Ghosts S) (source : SourceMeaning) (fi
   pub far_second : source.kind ≡ second.files.kind → ⊥
   pub apart : first.files.kind ≡ second.files.kind → ⊥
 
--- what is written to a target's folder leaves the folder of another format
-pub folder_stays : {S : Type 0} (store : Ghosts S) (kind target : Kind) → (kind ≡ target → ⊥) → (old new : S) → (store.tells → ChangesOnlyIn store (folder_of target) old new) → store.tells → SameIn (folder_of kind) (store.disk old).files (store.disk new).files
-folder_stays store kind target far old new run told path mine = (run told).disk.files path (λ theirs. folders_apart kind target (λ is. far (sym is)) path mine theirs)
+-- what is written of a target's own files leaves the folder of another format
+pub folder_stays : {S : Type 0} (store : Ghosts S) (kind target : Kind) → (kind ≡ target → ⊥) → (old new : S) → (store.tells → TouchesOwn store target old new) → store.tells → SameIn (folder_of kind) (store.disk old).files (store.disk new).files
+folder_stays store kind target far old new run told path mine = (run told).disk.files path (apart_untouched kind target (λ is. far (sym is)) path mine)
 
 -- and so the source is there still
-pub absent_on : {S : Type 0} (store : Ghosts S) (source : SourceMeaning) (target : Kind) → SourceLaws source → (source.kind ≡ target → ⊥) → (old new : S) → (store.tells → ChangesOnlyIn store (folder_of target) old new)
+pub absent_on : {S : Type 0} (store : Ghosts S) (source : SourceMeaning) (target : Kind) → SourceLaws source → (source.kind ≡ target → ⊥) → (old new : S) → (store.tells → TouchesOwn store target old new)
     → (store.tells → ¬ source.is_absent (store.disk old).files) → store.tells → ¬ source.is_absent (store.disk new).files
 absent_on store source target laws far old new run there told absent =
     there told (laws.absent_own (store.disk new).files (store.disk old).files (same_back (folder_of source.kind) (store.disk old).files (store.disk new).files (folder_stays store source.kind target far old new run told)) absent)

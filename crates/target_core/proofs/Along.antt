@@ -5,17 +5,18 @@ use Rattle.std.proofs.lemmas.Option.{slice_get_within, get_or_from_slice_get}
 use Rattle.std.specs.Prelude.{slice_get}
 use Rattle.lake_basics.specs.declared.limits.TheConstants.{MAX_FILE_BYTES}
 use Rattle.lake_store.specs.Cause.{HasContest, HasFault, HasNoContest}
-use Rattle.lake_store.specs.Runs.{IsOutside}
 use Rattle.lake_store.specs.declared.store.Store.{Ghosts}
 use Rattle.lake_store.proofs.RunLaws.{alone_further}
 use Rattle.lake_store.proofs.ShortLaws.{short_then}
 use Rattle.table_history.specs.TypeTree.{ColumnTrees}
+use Rattle.table_history.specs.declared.kind.Kind.{Kind}
 use Rattle.table_history.specs.declared.limit.LimitKind.{LimitKind}
 use Rattle.table_history.specs.declared.table.Commit.{Commit}
 use Rattle.target_core.specs.declared.target.TargetError.{TargetError}
 use Rattle.target_core.specs.declared.target.TargetError.TheVariants.{Memory, StoreFault, Contested, Limit, Unsupported}
 use Rattle.target_core.specs.Conditions.{CanPublishAll, Fits}
-use Rattle.target_core.specs.OneCommit.{StaysIn}
+use Rattle.target_core.specs.OneCommit.{StaysInOwn}
+use Rattle.target_core.specs.OwnFiles.{MayNotTouch}
 use Rattle.target_core.specs.Refusals.{IsCommitRefusal}
 use Rattle.target_core.specs.Views.{Origin, View}
 
@@ -62,9 +63,9 @@ module _ {S : Type 0} (count : S → ℕ) (may : S → Type 0) (old mid new : S)
     never = λ none. none;
   }
 
--- a folder that a run stays in, and one call more
-pub stays_further : {S : Type 0} (store : Ghosts S) (folder : List ℕ) (old mid new : S) → (store.tells → StaysIn store folder old mid) → (store.tells → StaysIn store folder mid new) → store.tells → StaysIn store folder old new
-stays_further store folder old mid new run call told = record {
-  alone = alone_further store (IsOutside folder) old mid new (λ t. (run t).alone) (λ t. (call t).alone) told;
+-- a run that stays in a target's own files, and one call more
+pub stays_further : {S : Type 0} (store : Ghosts S) (kind : Kind) (old mid new : S) → (store.tells → StaysInOwn store kind old mid) → (store.tells → StaysInOwn store kind mid new) → store.tells → StaysInOwn store kind old new
+stays_further store kind old mid new run call told = record {
+  alone = alone_further store (MayNotTouch kind) old mid new (λ t. (run t).alone) (λ t. (call t).alone) told;
   short = short_then MAX_FILE_BYTES (store.disk old).files (store.disk mid).files (store.disk new).files (run told).short (call told).short;
 }

@@ -1,5 +1,6 @@
 pub mod Mark
 pub mod Folders
+pub mod OwnFiles
 pub mod FolderLemmas
 pub mod Views
 pub mod Changes

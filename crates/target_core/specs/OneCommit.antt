@@ -2,9 +2,10 @@
 use Rattle.std.specs.Prelude.{◌≢◌, ◌≤◌, ◌+◌, ℕ, List, [], ◌∷◌, Option, Result, IfErr, IsErrOf, is_ok}
 use Rattle.lake_basics.specs.declared.limits.TheConstants.{MAX_FILE_BYTES}
 use Rattle.lake_store.specs.Disk.{AddsShort, Files}
-use Rattle.lake_store.specs.Runs.{ChangesOnlyIn, FailsBy, IsContestedBy, IsEachMoment, OnlyReads}
+use Rattle.lake_store.specs.Runs.{FailsBy, IsContestedBy, IsEachMoment, OnlyReads}
 use Rattle.lake_store.specs.declared.store.Store.{Ghosts}
 use Rattle.table_history.specs.TypeTree.{ColumnTrees}
+use Rattle.table_history.specs.declared.kind.Kind.{Kind}
 use Rattle.table_history.specs.declared.limit.LimitKind.{LimitKind}
 use Rattle.table_history.specs.declared.limit.LimitKind.TheVariants.{Names}
 use Rattle.table_history.specs.declared.table.Commit.{Commit}
@@ -12,6 +13,7 @@ use Rattle.target_core.specs.Conditions.{Fits}
 use Rattle.target_core.specs.Gained.{CarriesAll}
 use Rattle.target_core.specs.Meaning.{Meaning}
 use Rattle.target_core.specs.Outcome.{HasCome, Uncontested}
+use Rattle.target_core.specs.OwnFiles.{TouchesOwn}
 use Rattle.target_core.specs.Publishing.{Publishes}
 use Rattle.target_core.specs.Refusals.{IsCommitRefusal, IsOfCommit}
 use Rattle.target_core.specs.Views.{IsAdvanced, Origin, View}
@@ -20,9 +22,9 @@ use Rattle.target_core.specs.declared.target.TargetError.{TargetError}
 use Rattle.target_core.specs.declared.target.TargetError.TheVariants.{StoreFault, Contested, Limit}
 
 -- What a call does to files, whatever it answers.
-pub record StaysIn {S : Type 0} (store : Ghosts S) (folder : List ℕ) (old new : S) : Type 0 where
-  -- It touches this folder alone, at each moment.
-  pub alone : ChangesOnlyIn store folder old new
+pub record StaysInOwn {S : Type 0} (store : Ghosts S) (kind : Kind) (old new : S) : Type 0 where
+  -- It touches only files that a target of this format writes, at each moment.
+  pub alone : TouchesOwn store kind old new
   -- Each file is as before, or can be read whole.
   pub short : AddsShort MAX_FILE_BYTES (store.disk old).files (store.disk new).files
 

@@ -4,9 +4,8 @@ ghost use Rattle.std.specs.Prelude.{◌≡◌, ◌<◌, ◌^◌, [], length, IfE
 ghost use Rattle.std.specs.Option.{option_copied};
 ghost use Rattle.lake_store.specs.Runs.{FailsBy, IsContestedBy, OnlyReads};
 ghost use Rattle.target_core.specs.Conditions.{CanPublishAll, Fits, GoesOn};
-ghost use Rattle.target_core.specs.Folders.{folder_of};
 ghost use Rattle.target_core.specs.Following.{Follows, IsRefusedIn};
-ghost use Rattle.target_core.specs.OneCommit.{StaysIn};
+ghost use Rattle.target_core.specs.OneCommit.{StaysInOwn};
 ghost use Rattle.target_core.specs.Refusals.{IsOfCommit};
 ghost use Rattle.target_core.specs.Views.{IsAdvancedAll, origin_of};
 
@@ -38,9 +37,9 @@ pub fn follow<T: Target, S: Store>(
     requires fits { Fits (T.unfit target.now kept.old)
         (T.view target.now kept.old).table.partition commits.now }
 
-    // It touches the target's folder alone, and writes nothing where there are no commits.
-    ensures folder { S.tells
-        → StaysIn ⟦<S as Store>⟧ (folder_of (T.kind target.now)) store.old store.new }
+    // It touches the target's own files alone, and writes nothing where there are no commits.
+    ensures own { S.tells
+        → StaysInOwn ⟦<S as Store>⟧ (T.kind target.now) store.old store.new }
     ensures none { S.tells → commits.now ≡ [] → OnlyReads ⟦<S as Store>⟧ store.old store.new }
 
     // At `Ok` it has published them all, and what is kept goes on by them.

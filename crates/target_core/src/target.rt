@@ -17,7 +17,7 @@ ghost use Rattle.target_core.specs.Conditions.{CanPublish, Fits, GoesOn, IsPubli
 ghost use Rattle.target_core.specs.Changes.{SameRowChange};
 ghost use Rattle.target_core.specs.Folders.{MayLeaveIn, SameIn, after_crash, folder_of};
 ghost use Rattle.target_core.specs.Meaning.{meaning_of};
-ghost use Rattle.target_core.specs.OneCommit.{GoesOnBy, PublishesOne, Refuses, StaysIn};
+ghost use Rattle.target_core.specs.OneCommit.{GoesOnBy, PublishesOne, Refuses, StaysInOwn};
 ghost use Rattle.target_core.specs.Outcome.{answer_of};
 ghost use Rattle.target_core.specs.Refusals.{IsFitsRefusal, IsInspectRefusal, IsOfInspect};
 ghost use Rattle.target_core.specs.SeenView.{IsSeen, IsSeenSound};
@@ -248,9 +248,9 @@ pub trait Target {
         requires fits { Fits (unfit self.now kept.old) (view self.now kept.old).table.partition
             (commit.now ∷ []) }
 
-        // It touches its own folder alone.
-        ensures folder { S.tells
-            → StaysIn ⟦<S as Store>⟧ (folder_of (kind self.now)) store.old store.new }
+        // It touches its own files alone, by their names, and no other file of its folder.
+        ensures own { S.tells
+            → StaysInOwn ⟦<S as Store>⟧ (kind self.now) store.old store.new }
 
         // At `Ok` what is kept goes on by the commit.
         ensures goes_on { OnOk result (GoesOnBy S.tells (image self.now) (view self.now)

@@ -1,5 +1,5 @@
 -- What a commit leaves of the store, where it is refused before it writes, and where its version is staged and published.
-use Rattle.std.proofs.Common.{◌≡◌, ◌≢◌, ◌⊎◌, inl, inr, ⊎_elim, ℕ, suc, ◌+◌, ◌<◌, ◌≤◌, Bool, true, false, List, [], ◌∷◌, Option, Some, None, refl, sym, ap, subst, ◌∙◌, arith}
+use Rattle.std.proofs.Common.{◌≡◌, ◌≢◌, ◌⊎◌, inl, inr, ⊎_elim, ℕ, suc, ◌+◌, ◌<◌, ◌≤◌, Bool, true, false, List, [], ◌∷◌, ◌++◌, Option, Some, None, refl, sym, ap, subst, ◌∙◌, arith}
 use Rattle.std.specs.Prelude.{Err, IsErrOf, IsSome, Ok, Result, is_ok}
 use Rattle.std.specs.FinMap as map
 use Rattle.std.proofs.lemmas.Bool.{false≢true}
@@ -8,12 +8,13 @@ use Rattle.lake_basics.proofs.Options.{none_there}
 use Rattle.lake_store.specs.Cause.{HasContest, HasFault}
 use Rattle.lake_store.specs.Disk.{Disk, Files, IsClean, MayLeave}
 use Rattle.lake_store.specs.Publication.{IsAbsentOrWhole, IsPublished, IsStaged, IsStagedImage}
-use Rattle.lake_store.specs.Runs.{IsEachMoment, IsIn, IsOutside, LeavesAlone, LeavesOnly}
+use Rattle.lake_store.specs.Runs.{IsEachMoment, LeavesAlone, LeavesOnly}
 use Rattle.lake_store.specs.declared.store.Store.{Ghosts}
 use Rattle.lake_store.specs.declared.store.StoreError.{StoreError}
 use Rattle.lake_store.specs.declared.store.StoreError.TheVariants.{Taken}
 use Rattle.lake_store.specs.declared.store.StoreError.TheVariants as errors
 use Rattle.lake_store.proofs.DiskLaws.{get-remove_here, get-remove_other, path_cases}
+use Rattle.table_history.specs.declared.kind.Kind.TheVariants.{Delta}
 use Rattle.table_history.specs.declared.limit.LimitKind.{LimitKind}
 use Rattle.table_history.specs.declared.limit.LimitKind.TheVariants.{File}
 use Rattle.lake_store.proofs.MomentLaws.{both, started, weaker}
@@ -21,11 +22,12 @@ use Rattle.lake_store.proofs.RunLaws.{NowOnly, alone_by_reading, reading_begins}
 use Rattle.table_history.specs.declared.table.Commit.{Commit}
 use Rattle.delta_text.specs.Writing.{commit_text}
 use Rattle.delta_log.specs.declared.commit.DeltaCommit.{DeltaCommit}
-use Rattle.delta_table.specs.Versions.{IsVersionPath, log_folder}
+use Rattle.delta_table.specs.Versions.{IsVersionPath}
 use Rattle.target_core.specs.Conditions.{CanPublish, Fits}
 use Rattle.target_core.specs.Folders.{MayLeaveIn, after_crash}
 use Rattle.target_core.specs.Gained.{CarriesAll}
 use Rattle.target_core.specs.Outcome.{Uncontested, answer_of}
+use Rattle.target_core.specs.OwnFiles.{IsDeltaFile, MayNotTouch, TouchesOwn}
 use Rattle.target_core.specs.Publishing.{Publishes}
 use Rattle.target_core.specs.Step.{IsBefore, IsBeforeOrBehind}
 use Rattle.target_core.specs.Views.{Origin}
@@ -36,7 +38,7 @@ use Rattle.target_core.proofs.OneStep.{publishes_none, publishes_one}
 use Rattle.target_delta.specs.DeltaMeaning.{delta_meaning}
 use Rattle.target_delta.specs.Fitting.{Unfit}
 use Rattle.target_delta.specs.Kept.{StandsFor, end_of, view_of}
-use Rattle.target_delta.specs.Names.{HasVersions, IsLeftover, IsReached, IsSettled, IsStagedPath, path_of}
+use Rattle.target_delta.specs.Names.{HasVersions, IsLeftover, IsReached, IsSettled, IsStagedPath, leftover_front, path_of}
 use Rattle.target_delta.specs.NewVersion.{IsNewVersion, Writes}
 use Rattle.target_delta.specs.Reading.{commits_in}
 use Rattle.target_delta.specs.Writing.{IsWritten, LogEnd}
@@ -44,8 +46,8 @@ use Rattle.target_delta.specs.declared.kept.DeltaKept.{DeltaKept}
 use Rattle.target_delta.proofs.CommitLemmas.{advanced, earlier, free_path, is_before, is_behind, stands_now}
 use Rattle.target_delta.specs.CountLemmas.{count_is}
 use Rattle.target_delta.specs.KeptLemmas.{versions_of_reads}
-use Rattle.delta_table.specs.SameVersions.{version_in, versions_sym}
-use Rattle.target_delta.specs.NameLemmas.{leftover_in, never_leftover, one_staged, staged_leftover}
+use Rattle.delta_table.specs.SameVersions.{versions_sym}
+use Rattle.target_delta.specs.NameLemmas.{never_leftover, one_staged, staged_leftover}
 use Rattle.target_delta.proofs.PublishLemmas.{IsBeside, image_beside, same_versions, staged_beside, versions_now}
 use Rattle.target_delta.specs.ReadingLemmas.{carried_too, carries_within, crash_carries, crash_reads, crash_settled, dirty_or_clean, version_clean}
 
@@ -163,6 +165,16 @@ writes_now old new staged name bytes version end origin now commit written is_st
 
 -- ---- staged and published
 
+version_touched : (path : List ℕ) (version : ℕ) → IsVersionPath path version → IsDeltaFile path
+version_touched path version named =
+    let padded = named.named.padded in
+    IsDeltaFile.version padded.digits (record { len = padded.padded.len; numeral = padded.padded.numeral }) (named.split ∙ ap path_of padded.split)
+
+staged_touched : (path : List ℕ) (version : ℕ) → IsStagedPath path version → IsDeltaFile path
+staged_touched path version named =
+    let padded = named.named.padded in
+    IsDeltaFile.staged padded.digits (record { len = padded.padded.len; numeral = padded.padded.numeral }) (named.is ∙ ap (λ (name : List ℕ). path_of (leftover_front ++ name)) padded.split)
+
 three : {A B C D : Type 0} → (A → D) → (B → D) → (C → D) → A ⊎ B ⊎ C → D
 three f g h (inl a) = f a
 three f g h (inr (inl b)) = g b
@@ -183,10 +195,10 @@ module _ {S : Type 0} (store : Ghosts S) (old new : S) (told : store.tells) (sta
         (λ image is path kept clean. is.others path (off_staged path kept) (off_name path kept) clean) moments told;
   }
 
-  pub alone_staged : LeavesAlone store (IsOutside log_folder) old new
-  alone_staged = alone_apart (IsOutside log_folder)
-      (λ path outside is. outside (subst (λ (p : List ℕ). IsIn log_folder p) (sym is) (leftover_in staged leftover)))
-      (λ path outside is. outside (subst (λ (p : List ℕ). IsIn log_folder p) (sym is) (version_in name version named)))
+  pub touches_staged : TouchesOwn store Delta old new
+  touches_staged = alone_apart (MayNotTouch Delta)
+      (λ path untouched is. untouched (subst IsDeltaFile (sym is) (staged_touched staged version is_staged)))
+      (λ path untouched is. untouched (subst IsDeltaFile (sym is) (version_touched name version named)))
 
   module _ (versions : HasVersions (store.disk old).files version) where
     free : map.get (store.disk old).files name ≡ None

@@ -21,6 +21,7 @@ use Rattle.lake_store.proofs.DiskLaws.{is_path}
 use Rattle.lake_store.proofs.MomentLaws.{both, started, weaker}
 use Rattle.lake_store.proofs.OrderLaws.{names_in_listed, names_in_sorted}
 use Rattle.lake_store.proofs.RunLaws.{NowOnly, alone_by_reading, alone_of_fewer, reading_begins}
+use Rattle.table_history.specs.declared.kind.Kind.TheVariants.{Hudi}
 use Rattle.table_history.specs.declared.limit.LimitKind.{LimitKind}
 use Rattle.table_history.specs.declared.limit.LimitKind.TheVariants.{Names}
 use Rattle.table_history.specs.declared.table.Commit.{Commit}
@@ -30,7 +31,7 @@ use Rattle.hudi_names.specs.declared.name.State.TheVariants as state
 use Rattle.hudi_table.specs.declared.instants.CompletedInstant.{CompletedInstant}
 use Rattle.hudi_groups.proofs.AnyLemmas.{any_from, any_to}
 use Rattle.hudi_properties.specs.Written.{properties_text}
-use Rattle.hudi_commit.specs.Names.{IsLeftover, IsOf, IsThere, Stage, StaysOrGoes, claim_path, claims_folder, completed_name, completed_path, pending_path, properties_path, staged_properties_path, timeline_folder, timeline_path}
+use Rattle.hudi_commit.specs.Names.{Inflight, IsLeftover, IsOf, IsOpenLeftover, IsThere, Requested, Stage, StaysOrGoes, claim_path, claims_folder, completed_name, completed_path, pending_path, properties_path, staged_properties_path, timeline_folder, timeline_path}
 use Rattle.hudi_commit.specs.Orderly.{IsOrderly}
 use Rattle.hudi_commit.specs.Runs.{HasCompleted, HasNotGrown, IsBeforeOrAfter, IsCommitted, IsKept, IsOneStep, IsOther, IsReady, IsTakenBy, LacksOrIs, NotGiven}
 use Rattle.hudi_commit.specs.Settled.{IsSettled, Stands}
@@ -40,6 +41,7 @@ use Rattle.target_core.specs.Conditions.{CanPublish, Fits, GoesOn}
 use Rattle.target_core.specs.Folders.{MayLeaveIn, after_crash}
 use Rattle.target_core.specs.Gained.{CarriesAll}
 use Rattle.target_core.specs.Outcome.{answer_of}
+use Rattle.target_core.specs.OwnFiles.{AreDigits, IsHudiFile, MayNotTouch, TouchesOwn}
 use Rattle.target_core.specs.Publishing.{Publishes}
 use Rattle.target_core.specs.Refusals.{IsCommitRefusal}
 use Rattle.target_core.specs.Step as step
@@ -183,6 +185,32 @@ same_instant end origin now kept next commit time t text b properties p at_time 
     subst (λ (x : List ℕ). IsNewInstant end origin now kept commit x p b next) (sym at_time)
     (subst (λ (x : Option (List ℕ)). IsNewInstant end origin now kept commit time x b next) (sym at_properties)
     (subst (λ (x : List ℕ). IsNewInstant end origin now kept commit time properties x next) (sym at_text) v))
+
+-- ---- a target's own files
+
+seventeen : (instant : List ℕ) → IsSomeTime instant → AreDigits 17 instant
+seventeen instant real = record { len = real.1.digits.len; numeral = real.1.digits.numeral }
+
+leftover_touched : (files : Files) (path : List ℕ) → IsOpenLeftover files path → IsHudiFile path
+leftover_touched files path (inl is) = IsHudiFile.staged_properties is
+leftover_touched files path (inr (instant, real, lacking, inl is)) = IsHudiFile.claim instant (seventeen instant real) is
+leftover_touched files path (inr (instant, real, lacking, inr (Requested, is))) = IsHudiFile.requested instant (seventeen instant real) is
+leftover_touched files path (inr (instant, real, lacking, inr (Inflight, is))) = IsHudiFile.inflight instant (seventeen instant real) is
+
+untouched_kept : (properties : Option (List ℕ)) (instant : List ℕ) → IsSomeTime instant → (files : Files) (path : List ℕ) → MayNotTouch Hudi path → IsKept properties instant files path
+untouched_kept properties instant real files path untouched = record {
+  leftover = λ open. untouched (leftover_touched files path open);
+  completed = λ is. untouched (IsHudiFile.completed instant (seventeen instant real) is);
+  given = not_given properties;
+}
+  where
+    not_given : (given : Option (List ℕ)) → NotGiven given path
+    not_given None = tt
+    not_given (Some text) = λ is. untouched (IsHudiFile.properties is)
+
+pub touches_own : {S : Type 0} (store : Ghosts S) (old new : S) (instant : List ℕ) (properties : Option (List ℕ)) → IsSomeTime instant → LeavesAlone store (IsKept properties instant (store.disk old).files) old new → TouchesOwn store Hudi old new
+touches_own store old new instant properties real alone =
+    alone_of_fewer store (IsKept properties instant (store.disk old).files) (MayNotTouch Hudi) old new (untouched_kept properties instant real (store.disk old).files) alone
 
 -- a disk without dirty paths, or a settled one, is a settled target where its files say so of folders
 settled_by : (disk : Disk) → IsSettled disk → HasFolders disk.files → IsSettledTarget disk

@@ -2,10 +2,10 @@
 
 ghost use Rattle.std.specs.Prelude.{◌≡◌, ◌∷◌, [], IsErrOf, OnOk};
 ghost use Rattle.std.specs.Option.{option_copied};
-ghost use Rattle.hudi_commit.specs.Names.{timeline_folder};
 ghost use Rattle.target_core.specs.Conditions.{CanPublish, Fits, GoesOn};
-ghost use Rattle.target_core.specs.OneCommit.{GoesOnBy, PublishesOne, Refuses, StaysIn};
+ghost use Rattle.target_core.specs.OneCommit.{GoesOnBy, PublishesOne, Refuses, StaysInOwn};
 ghost use Rattle.target_core.specs.Views.{origin_of};
+ghost use Rattle.table_history.specs.declared.kind.Kind.TheVariants.{Hudi};
 ghost use Rattle.target_hudi.specs.Fitting.{Unfit};
 ghost use Rattle.target_hudi.specs.HudiMeaning.{hudi_meaning, image};
 ghost use Rattle.target_hudi.specs.Kept.{IsCounted, StandsFor, end_of, held_of, view_of};
@@ -50,7 +50,7 @@ pub(crate) fn publish<S: Store>(
     requires source { GoesOn source (view_of kept.old) }
     requires can { CanPublish (view_of kept.old) commit.now }
     requires fits { Fits (Unfit (held_of kept.old)) kept.old.table.partition (commit.now ∷ []) }
-    ensures folder { S.tells → StaysIn ⟦<S as Store>⟧ timeline_folder store.old store.new }
+    ensures own { S.tells → StaysInOwn ⟦<S as Store>⟧ Hudi store.old store.new }
     ensures goes_on { OnOk result (GoesOnBy S.tells image view_of (λ kept. Unfit (held_of kept))
         IsCounted (λ kept files. Passes files (end_of name.now kept))
         (origin_of source (option_copied table.entry)) now_ms

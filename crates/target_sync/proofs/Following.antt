@@ -2,17 +2,18 @@
 use Rattle.std.proofs.Common.{◌≡◌, ◌⊎◌, ⊎_elim, ℕ, List, Option, Some, Ok, Err, None, sym, subst, ◌≤◌, inl, inr, arith}
 use Rattle.lake_store.specs.Cause.{HasFault, Rose}
 use Rattle.lake_store.specs.Disk.{Disk, Files, IsClean}
-use Rattle.lake_store.specs.Runs.{FailsBy, IsIn, IsOutside, IsUncontestedBy, OnlyReads}
+use Rattle.lake_store.specs.Runs.{FailsBy, IsIn, IsUncontestedBy, OnlyReads}
 use Rattle.lake_store.specs.declared.store.Store.{Ghosts}
 use Rattle.lake_store.proofs.RunLaws.{alone_by_reading, alone_further, reading_further}
 use Rattle.table_history.specs.declared.kind.Kind.{Kind}
 use Rattle.table_history.specs.declared.limit.LimitKind.{LimitKind}
 use Rattle.target_core.specs.Folders.{folder_of}
+use Rattle.target_core.specs.OwnFiles.{MayNotTouch}
 use Rattle.target_core.specs.Views.{View}
-use Rattle.target_core.proofs.Apart.{folders_apart}
+use Rattle.target_core.proofs.Apart.{apart_untouched}
 use Rattle.target_sync.specs.Answered.{Answer, CanSync, IsAbsent, IsCaused, IsContest, IsOverAtFirst, IsReady, IsRefusal, IsReported, IsStatus, IsSync, Leaves, StandsAtHead, StopsSo}
 use Rattle.target_sync.specs.Dues.{origin_of}
-use Rattle.target_sync.specs.Others.{ChangesTargets, CountsContest, IsApart, IsIdle, IsOutsideBoth}
+use Rattle.target_sync.specs.Others.{ChangesTargets, CountsContest, IsApart, IsIdle, NeitherTouches}
 use Rattle.target_sync.specs.Sources.{SourceMeaning}
 use Rattle.target_sync.specs.Synced.{IsContested, IsLimited, IsStopped, KeepsSource}
 use Rattle.target_sync.specs.Targets.{TargetFacts}
@@ -61,12 +62,12 @@ rose_from a b c le rose = omega (arith, le, rose)
 
 module _ {S : Type 0} (store : Ghosts S) (old mid new : S) (reading : store.tells → OnlyReads store old mid) where
   pub changes_behind : (target : Kind) (other : Option Kind) → (store.tells → ChangesTargets store target other mid new) → store.tells → ChangesTargets store target other old new
-  changes_behind target None more = alone_further store (IsOutside (folder_of target)) old mid new (λ told. alone_by_reading store (IsOutside (folder_of target)) old mid (reading told)) more
-  changes_behind target (Some other) more = alone_further store (IsOutsideBoth target other) old mid new (λ told. alone_by_reading store (IsOutsideBoth target other) old mid (reading told)) more
+  changes_behind target None more = alone_further store (MayNotTouch target) old mid new (λ told. alone_by_reading store (MayNotTouch target) old mid (reading told)) more
+  changes_behind target (Some other) more = alone_further store (NeitherTouches target other) old mid new (λ told. alone_by_reading store (NeitherTouches target other) old mid (reading told)) more
 
   pub idle_behind : (other : Option Kind) → store.tells → IsIdle store other mid new → IsIdle store other old new
   idle_behind None told idle = reading_further store old mid new reading (λ t. idle) told
-  idle_behind (Some other) told idle = alone_further store (IsOutside (folder_of other)) old mid new (λ t. alone_by_reading store (IsOutside (folder_of other)) old mid (reading t)) (λ t. idle) told
+  idle_behind (Some other) told idle = alone_further store (MayNotTouch other) old mid new (λ t. alone_by_reading store (MayNotTouch other) old mid (reading t)) (λ t. idle) told
 
   pub contest_behind : (other : Option Kind) (A B : Type 0) → IsUncontestedBy store old mid A → CountsContest store other mid new B → CountsContest store other old new B
   contest_behind None A B quiet contest = contested_then store.contests store.may_contest old mid new A B quiet contest
@@ -82,7 +83,7 @@ pub source_of_others : {S : Type 0} (store : Ghosts S) (source : SourceMeaning) 
     → ((path : List ℕ) → IsIn (folder_of source.kind) path → IsClean (store.disk old) path) → KeepsSource store source old new
 source_of_others store source own target None old new told apart alone clean = source_kept store source own target apart old new told alone clean
 source_of_others store source own target (Some other) old new told apart alone clean =
-    source_left store source own (IsOutsideBoth target other) (λ path mine. (folders_apart source.kind target (λ is. apart.0 (sym is)) path mine, folders_apart source.kind other (λ is. apart.1 (sym is)) path mine)) old new told alone clean
+    source_left store source own (NeitherTouches target other) (λ path mine. (apart_untouched source.kind target (λ is. apart.0 (sym is)) path mine, apart_untouched source.kind other (λ is. apart.1 (sym is)) path mine)) old new told alone clean
 
 module _ {S : Type 0} (store : Ghosts S) (source : SourceMeaning) (target : TargetFacts) (own : SourceLaws source) (crash : CrashLaws target.files) (other : Option Kind) (mode : Mode) (now : ℕ) where
   pub sync_behind : (old mid new : S) → (store.tells → OnlyReads store old mid) → (A B : Type 0) → FailsBy store old mid A → IsUncontestedBy store old mid B → (answer : Answer) → IsSync store source target other mode now mid new answer

@@ -2,10 +2,10 @@
 use Rattle.std.proofs.Common.{◌≡◌, ◌⊎◌, ⊎_elim, ◌+◌, ◌-◌, ◌^◌, ◌≤◌, ℕ, Some, None, ◌∙◌, arith}
 use Rattle.std.specs.Prelude.{Err, min}
 use Rattle.lake_store.specs.Cause.{HasContest, HasFault, Rose}
-use Rattle.lake_store.specs.Runs.{ChangesOnlyIn, FailsBy, IsOutside, IsUncontestedBy, OnlyReads}
+use Rattle.lake_store.specs.Runs.{FailsBy, IsUncontestedBy, OnlyReads}
 use Rattle.lake_store.specs.declared.store.Store.{Ghosts}
 use Rattle.lake_store.proofs.RunLaws.{NowOnly, alone_by_reading}
-use Rattle.target_core.specs.Folders.{folder_of}
+use Rattle.target_core.specs.OwnFiles.{MayNotTouch, TouchesOwn}
 use Rattle.target_sync.specs.Answered.{Answer, IsSync}
 use Rattle.target_sync.specs.Sources.{SourceMeaning}
 use Rattle.target_sync.specs.Targets.{TargetFacts}
@@ -33,8 +33,7 @@ fails_either count may old mid new A B one two =
 pub sync_none : {S : Type 0} (store : Ghosts S) (source : SourceMeaning) (target : TargetFacts) (mode : Mode) (now : ℕ) → SourceLaws source → CrashLaws target.files → (old new : S) → (store.tells → OnlyReads store old new) → (A B : Type 0) → FailsBy store old new A
     → IsUncontestedBy store old new B → (store.tells → ¬ source.is_absent (store.disk old).files) → IsSync store source target None mode now old new None
 sync_none store source target mode now own crash old new reading A B cause quiet there =
-    let folder = folder_of target.files.kind in
-    let alone : store.tells → ChangesOnlyIn store folder old new = λ told. alone_by_reading store (IsOutside folder) old new (reading told) in
+    let alone : store.tells → TouchesOwn store target.files.kind old new = λ told. alone_by_reading store (MayNotTouch target.files.kind) old new (reading told) in
     record {
       alone = alone;
       short = short_reading store old new reading;

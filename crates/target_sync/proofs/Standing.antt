@@ -2,7 +2,7 @@
 use Rattle.std.proofs.Common.{◌≡◌, ◌≢◌, ◌⊎◌, inl, inr, ⊎_elim, ℕ, ◌+◌, ◌<◌, ◌≤◌, Bool, true, false, List, [], ◌∷◌, length, take, Contains, Option, Some, None, refl, sym, ap, subst, ◌∙◌, arith}
 use Rattle.std.proofs.Math.Seq.{take-length}
 use Rattle.lake_store.specs.Disk.{Disk, Files, IsClean, MayLeave}
-use Rattle.lake_store.specs.Runs.{ChangesOnlyIn, IsEachMoment, IsIn, IsOutside, KeepsImage, LeavesAlone, OnlyReads}
+use Rattle.lake_store.specs.Runs.{IsEachMoment, IsIn, KeepsImage, LeavesAlone, OnlyReads}
 use Rattle.lake_store.specs.declared.store.Store.{Ghosts}
 use Rattle.lake_store.proofs.MomentLaws.{goes_further, weaker}
 use Rattle.lake_store.proofs.RunLaws.{NowOnly, alone_by_reading, alone_further}
@@ -21,12 +21,13 @@ use Rattle.table_history.specs.declared.table.Table.{Table}
 use Rattle.table_history.proofs.Laws.{change_of_same_rows}
 use Rattle.table_history.proofs.SameTableLemmas.{row_after}
 use Rattle.target_core.specs.Folders.{SameIn, after_crash, folder_of}
+use Rattle.target_core.specs.OwnFiles.{MayNotTouch, TouchesOwn}
 use Rattle.target_core.specs.Gained.{Carries, Gained, GainedSome, StillCarries}
 use Rattle.target_core.specs.Meaning.{Meaning}
 use Rattle.target_core.specs.Publishing.{LeavesSome, Publishes}
 use Rattle.target_core.specs.Views.{IsAdvancedAll, IsPublished, IsSchemaAfter, IsUnpublished, Origin, SameView, Standing, View, absent, standing_at}
 use Rattle.target_core.specs.Written.{IsAsLeft, KeepsTheirs, StayAfter}
-use Rattle.target_core.proofs.Apart.{folders_apart}
+use Rattle.target_core.proofs.Apart.{apart_untouched}
 use Rattle.target_core.proofs.Same.{advanced_from, same_refl}
 use Rattle.target_core.proofs.Steps.{count_taken}
 use Rattle.target_sync.specs.Applied.{StayShown, position_at}
@@ -80,10 +81,10 @@ source_left store source laws Kept kept old new told alone clean = record {
       (λ image left. same_source source laws (store.disk old).files image (λ path own. left path (kept path own) (clean path own))) (λ t. alone.moments) told;
 }
 
-pub source_kept : {S : Type 0} (store : Ghosts S) (source : SourceMeaning) → SourceLaws source → (kind : Kind) → (source.kind ≡ kind → ⊥) → (old new : S) → store.tells → ChangesOnlyIn store (folder_of kind) old new
+pub source_kept : {S : Type 0} (store : Ghosts S) (source : SourceMeaning) → SourceLaws source → (kind : Kind) → (source.kind ≡ kind → ⊥) → (old new : S) → store.tells → TouchesOwn store kind old new
     → ((path : List ℕ) → IsIn (folder_of source.kind) path → IsClean (store.disk old) path) → KeepsSource store source old new
 source_kept store source laws kind apart old new told alone clean =
-    source_left store source laws (IsOutside (folder_of kind)) (λ path own other. folders_apart source.kind kind (λ same. apart (sym same)) path own other) old new told alone clean
+    source_left store source laws (MayNotTouch kind) (apart_untouched source.kind kind (λ same. apart (sym same))) old new told alone clean
 
 -- ---- the target
 

@@ -2,7 +2,7 @@
 use Rattle.std.proofs.Common.{◌≡◌, ◌≢◌, ◌⊎◌, inl, inr, ⊎_elim, ℕ, ◌+◌, Bool, true, List, [], ◌∷◌, length, take, Option, Some, None, refl, sym, ap, subst, ◌∙◌}
 use Rattle.std.specs.Prelude.{IfErr, Result, Ok, Err, IsErrOf, is_ok}
 use Rattle.lake_store.specs.Disk.{Disk, Files}
-use Rattle.lake_store.specs.Runs.{ChangesOnlyIn, FailsBy, IsOutside, IsUncontestedBy, OnlyReads}
+use Rattle.lake_store.specs.Runs.{FailsBy, IsUncontestedBy, OnlyReads}
 use Rattle.lake_store.specs.declared.store.Store.{Ghosts}
 use Rattle.lake_store.proofs.RunLaws.{NowOnly, alone_by_reading, alone_further, reading_further}
 use Rattle.source_core.specs.declared.head.Head.{Head}
@@ -11,9 +11,9 @@ use Rattle.table_history.specs.declared.kind.Kind.{Kind}
 use Rattle.table_history.specs.declared.limit.LimitKind.{LimitKind}
 use Rattle.table_history.specs.declared.table.Commit.{Commit}
 use Rattle.target_core.specs.Conditions.{GoesOn}
-use Rattle.target_core.specs.Folders.{folder_of}
 use Rattle.target_core.specs.Gained.{Gained}
 use Rattle.target_core.specs.Outcome.{Uncontested}
+use Rattle.target_core.specs.OwnFiles.{MayNotTouch, TouchesOwn}
 use Rattle.target_core.specs.TargetMeanings.{meaning}
 use Rattle.target_core.specs.Views.{IsOfSource, IsUnpublished, Origin, View}
 use Rattle.target_core.specs.Written.{StayAfter}
@@ -115,8 +115,7 @@ module _ {S F T K : Type 0} (store : Ghosts S) (only_now : NowOnly store) (sourc
       → (store.tells → (which : LimitKind) (number : ℕ) → e ≡ status.Limit (side.Target (target.kind t)) which number → IsOverAtFirst (source_meaning source f) (target_facts target t) mode now (store.disk old).files which number)
       → IsSync store (source_meaning source f) (target_facts target t) None mode now old new (Some (Err e))
   sync_idle old new e few reading cause contest refused absent foreign over =
-      let folder = folder_of (target.kind t) in
-      let alone : store.tells → ChangesOnlyIn store folder old new = λ told. alone_by_reading store (IsOutside folder) old new (reading told) in
+      let alone : store.tells → TouchesOwn store (target.kind t) old new = λ told. alone_by_reading store (MayNotTouch (target.kind t)) old new (reading told) in
       record {
         alone = alone;
         short = short_reading store old new reading;
@@ -355,8 +354,7 @@ module _ {S F T K : Type 0} (store : Ghosts S) (only_now : NowOnly store) (sourc
 
     applied_is : (answer : Result Report TargetError) → Applied answer → IsSync store (source_meaning source f) (target_facts target t) None mode now old new (Some (answer_of_target (target.kind t) answer))
     applied_is answer given =
-        let folder = folder_of (target.kind t) in
-        let alone : store.tells → ChangesOnlyIn store folder old new = alone_further store (IsOutside folder) old mid new (λ told. alone_by_reading store (IsOutside folder) old mid (reading told)) given.alone in
+        let alone : store.tells → TouchesOwn store (target.kind t) old new = alone_further store (MayNotTouch (target.kind t)) old mid new (λ told. alone_by_reading store (MayNotTouch (target.kind t)) old mid (reading told)) given.alone in
         let fault = fails_as store.faults store.may_fail old new (IsErrOf answer target_error.StoreFault) (Some (answer_of_target (target.kind t) answer) ≡ Some (Err status.StoreFault)) (fault_told (target.kind t) answer)
         (fails_then store.faults store.may_fail old mid new Before (IsErrOf answer target_error.StoreFault) cause given.fault) in
         let contest = contested_as store.contests store.may_contest old new (IsErrOf answer target_error.Contested) (Some (answer_of_target (target.kind t) answer) ≡ Some (Err (status.Contested (target.kind t)))) (contest_told (target.kind t) answer)

@@ -286,7 +286,7 @@ StandsAtHead source files start = IsMarked start (λ standing. IsWhole source fi
 
 -- A sync of one target: what it answers, and what it leaves. The command may name another target, which is synced beside it.
 pub record IsSync {S : Type 0} (store : Ghosts S) (source : SourceMeaning) (target : TargetFacts) (other : Option Kind) (mode : Mode) (now : ℕ) (old new : S) (answer : Answer) : Type 0 where
-  -- No file outside the targets' folders changes.
+  -- No file changes but the targets' own.
   pub alone : store.tells → ChangesTargets store target.files.kind other old new
   -- Each file is as before, or can be read whole, whatever is answered.
   pub short : store.tells → AddsShort MAX_FILE_BYTES (store.disk old).files (store.disk new).files

@@ -2,7 +2,7 @@
 use Rattle.std.specs.Prelude.{◌≡◌, ◌≢◌, ◌⊎◌, ◌+◌, ◌<◌, ◌≤◌, ℕ, Bool, List, [], length, take, Option, Some, None, IfErr, IfOk, IsErrOf, Result, Ok, Err, is_ok, true}
 use Rattle.lake_basics.specs.declared.limits.TheConstants.{MAX_FILE_BYTES}
 use Rattle.lake_store.specs.Disk.{AddsShort, Files}
-use Rattle.lake_store.specs.Runs.{ChangesOnlyIn, FailsBy, IsContestedBy, IsEachMoment, OnlyReads}
+use Rattle.lake_store.specs.Runs.{FailsBy, IsContestedBy, IsEachMoment, OnlyReads}
 use Rattle.lake_store.specs.declared.store.Store.{Ghosts}
 use Rattle.source_core.specs.declared.error.SourceError.{SourceError}
 use Rattle.source_core.specs.declared.error.SourceError.TheVariants as source
@@ -13,10 +13,10 @@ use Rattle.table_history.specs.declared.limit.LimitKind.{LimitKind}
 use Rattle.table_history.specs.declared.limit.LimitKind.TheVariants.{Names}
 use Rattle.table_history.specs.declared.table.Commit.{Commit}
 use Rattle.target_core.specs.Conditions.{CanPublishAll}
-use Rattle.target_core.specs.Folders.{folder_of}
 use Rattle.target_core.specs.Gained.{Carries, CarriesAt, Gained}
 use Rattle.target_core.specs.Meaning.{Meaning}
 use Rattle.target_core.specs.Outcome.{Uncontested}
+use Rattle.target_core.specs.OwnFiles.{TouchesOwn}
 use Rattle.target_core.specs.Publishing.{Publishes}
 use Rattle.target_core.specs.Views.{IsAdvancedAll, Origin, Standing, View}
 use Rattle.target_core.specs.Written.{IsAsLeft, KeepsTheirs, StayAfter}
@@ -139,7 +139,7 @@ answer_of_target kind (Err e) = Err (status_of_target kind e)
 -- come. `Stands` says that what was kept stood for the files, and that these were settled.
 pub record Applies {S : Type 0} (store : Ghosts S) (target : Meaning) (unfit : TargetError → Type 0) (passes : List Commit → LimitKind → ℕ → Type 0) (written : List Commit → Files → Type 0) (origin : Origin) (start : View) (partition : List (List ℕ)) (commits : List Commit) (full : Bool) (Stands : Type 0)
     (old new : S) (answer : Result Report TargetError) : Type 0 where
-  pub alone : store.tells → ChangesOnlyIn store (folder_of target.kind) old new
+  pub alone : store.tells → TouchesOwn store target.kind old new
   pub short : store.tells → AddsShort MAX_FILE_BYTES (store.disk old).files (store.disk new).files
   pub publishes : store.tells → Stands → Publishes store target origin start commits (Uncontested answer) (is_ok answer) old new
   pub none : store.tells → commits ≡ [] → OnlyReads store old new

@@ -2,24 +2,25 @@
 use Rattle.std.specs.Prelude.{◌≡◌, ℕ, List, Option, Some, None}
 use Rattle.lake_store.specs.Cause.{HasFault}
 use Rattle.lake_store.specs.Disk.{Files}
-use Rattle.lake_store.specs.Runs.{ChangesOnlyIn, IsContestedBy, IsOutside, LeavesAlone, OnlyReads}
+use Rattle.lake_store.specs.Runs.{IsContestedBy, LeavesAlone, OnlyReads}
 use Rattle.lake_store.specs.declared.store.Store.{Ghosts}
 use Rattle.table_history.specs.declared.kind.Kind.{Kind}
 use Rattle.target_core.specs.Folders.{SameIn, folder_of}
+use Rattle.target_core.specs.OwnFiles.{MayNotTouch, TouchesOwn}
 
--- the path lies in the folder of neither format
-abbrev pub IsOutsideBoth : Kind → Kind → List ℕ → Type 0
-IsOutsideBoth target other path = IsOutside (folder_of target) path × IsOutside (folder_of other) path
+-- no file of either target
+abbrev pub NeitherTouches : Kind → Kind → List ℕ → Type 0
+NeitherTouches target other path = MayNotTouch target path × MayNotTouch other path
 
--- Files change in the target's folder alone, and in that of the other target, if there is one.
+-- No files change but the target's own, and those of the other target, if there is one. All else in their folders stays.
 abbrev pub ChangesTargets : {S : Type 0} → Ghosts S → Kind → Option Kind → S → S → Type 0
-ChangesTargets store target None old new = ChangesOnlyIn store (folder_of target) old new
-ChangesTargets store target (Some other) old new = LeavesAlone store (IsOutsideBoth target other) old new
+ChangesTargets store target None old new = TouchesOwn store target old new
+ChangesTargets store target (Some other) old new = LeavesAlone store (NeitherTouches target other) old new
 
--- Files are read alone, but for those in the folder of the other target, if there is one.
+-- Files are read alone, but for those of the other target, if there is one.
 abbrev pub IsIdle : {S : Type 0} → Ghosts S → Option Kind → S → S → Type 0
 IsIdle store None old new = OnlyReads store old new
-IsIdle store (Some other) old new = ChangesOnlyIn store (folder_of other) old new
+IsIdle store (Some other) old new = TouchesOwn store other old new
 
 -- the source is of another format than the targets
 abbrev pub IsApart : Kind → Kind → Option Kind → Type 0

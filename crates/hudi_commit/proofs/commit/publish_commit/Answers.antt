@@ -4,14 +4,14 @@ use Rattle.std.specs.Option.{option_copied}
 use Rattle.std.specs.FinMap as map
 use Rattle.std.proofs.lemmas.Result.{err_from_is_err_and}
 use Rattle.lake_store.specs.Disk.{Disk}
-use Rattle.lake_store.specs.Runs.{IsEachMoment, IsOutside}
+use Rattle.lake_store.specs.Runs.{IsEachMoment}
 use Rattle.lake_store.proofs.RunLaws.{alone_further, alone_of_fewer}
 use Rattle.hudi_names.specs.Time.{IsDigits, IsSomeTime}
-use Rattle.hudi_commit.specs.Names.{completed_path, staged_properties_path, timeline_folder}
+use Rattle.hudi_commit.specs.Names.{completed_path, staged_properties_path}
 use Rattle.hudi_commit.specs.Runs.{HasCome, IsCommitted, IsKept, IsKeptBut, IsNext, IsNoFileOf, IsNotOpen, IsOneStep, LacksOrIs, completed, prepared}
 use Rattle.hudi_commit.proofs.AloneLaws.{alone_begun, alone_sync}
 use Rattle.hudi_commit.proofs.ClaimLaws.{others_not_grown}
-use Rattle.hudi_commit.proofs.CommitLaws.{before_step, committed, completed_here, completed_kept_but, entry_stands, kept_but, kept_from, outside_kept, prepared_next, recovered_idle, step_then, synced_clean, synced_stands, tidied_ready}
+use Rattle.hudi_commit.proofs.CommitLaws.{before_step, committed, completed_here, completed_kept_but, entry_stands, kept_but, kept_from, prepared_next, recovered_idle, step_then, synced_clean, synced_stands, tidied_ready}
 use Rattle.hudi_commit.proofs.KeepLaws.{begun, keeps_then, sync_keeps}
 use Rattle.hudi_commit.proofs.OpenLaws.{completed_not_open, open_same}
 use Rattle.hudi_commit.proofs.OtherLaws.{others_kept, staged_no_file}
@@ -244,16 +244,6 @@ returns-in_err-paths-clause-kept g c told =
     let a0 = alone_begun store told g.met.S.Store.only_now (IsKept props t (disk s0).files) s0 in
     a0
 
-pub returns-in_err-paths-clause-folder : goal.returns-in_err-paths-clause-folder
-returns-in_err-paths-clause-folder g c told =
-    let store = g.S.Store in
-    let disk = g.S.Store.disk in
-    let props = option_copied c.args.properties in
-    let t = c.args.instant.now in
-    let s0 = c.args.store.now in
-    let a0 = alone_begun store told g.met.S.Store.only_now (IsKept props t (disk s0).files) s0 in
-    alone_of_fewer store (IsKept props t (disk s0).files) (IsOutside timeline_folder) s0 s0 (outside_kept props t (disk s0).files) a0
-
 pub returns-in_err-sync-clause-kept : goal.returns-in_err-sync-clause-kept
 returns-in_err-sync-clause-kept g c told =
     let store = g.S.Store in
@@ -265,18 +255,6 @@ returns-in_err-sync-clause-kept g c told =
     let a0 = alone_begun store told g.met.S.Store.only_now (IsKept props t (disk s0).files) s0 in
     let a1 = alone_sync store told g.met.S.Store.only_now (IsKept props t (disk s0).files) s0 s0 s1 a0 c.sync.ensures.elapses c.sync.result c.sync.ensures.ok c.sync.ensures.err in
     a1
-
-pub returns-in_err-sync-clause-folder : goal.returns-in_err-sync-clause-folder
-returns-in_err-sync-clause-folder g c told =
-    let store = g.S.Store in
-    let disk = g.S.Store.disk in
-    let props = option_copied c.args.properties in
-    let t = c.args.instant.now in
-    let s0 = c.args.store.now in
-    let s1 = c.sync.new.self in
-    let a0 = alone_begun store told g.met.S.Store.only_now (IsKept props t (disk s0).files) s0 in
-    let a1 = alone_sync store told g.met.S.Store.only_now (IsKept props t (disk s0).files) s0 s0 s1 a0 c.sync.ensures.elapses c.sync.result c.sync.ensures.ok c.sync.ensures.err in
-    alone_of_fewer store (IsKept props t (disk s0).files) (IsOutside timeline_folder) s0 s1 (outside_kept props t (disk s0).files) a1
 
 pub returns-in_err-clear_claims-clause-kept : goal.returns-in_err-clear_claims-clause-kept
 returns-in_err-clear_claims-clause-kept g c told =
@@ -293,22 +271,6 @@ returns-in_err-clear_claims-clause-kept g c told =
     let f2 = alone_of_fewer store (IsNotOpen (disk s1).files) (IsKept props t (disk s0).files) s1 s2 (λ q kept. open_same (disk s0).files q (disk s1).files (λ u is_u. ap (λ (d : Disk). map.get d.files (completed_path u)) ok1) kept.leftover) (c.clear_claims.ensures.alone told) in
     let a2 = alone_further store (IsKept props t (disk s0).files) s0 s1 s2 (λ _. a1) (λ _. f2) told in
     a2
-
-pub returns-in_err-clear_claims-clause-folder : goal.returns-in_err-clear_claims-clause-folder
-returns-in_err-clear_claims-clause-folder g c told =
-    let store = g.S.Store in
-    let disk = g.S.Store.disk in
-    let props = option_copied c.args.properties in
-    let t = c.args.instant.now in
-    let s0 = c.args.store.now in
-    let s1 = c.sync.new.self in
-    let s2 = c.clear_claims.new.store in
-    let ok1 = c.in_ok-sync.ensures.ok told in
-    let a0 = alone_begun store told g.met.S.Store.only_now (IsKept props t (disk s0).files) s0 in
-    let a1 = alone_sync store told g.met.S.Store.only_now (IsKept props t (disk s0).files) s0 s0 s1 a0 c.sync.ensures.elapses c.sync.result c.sync.ensures.ok c.sync.ensures.err in
-    let f2 = alone_of_fewer store (IsNotOpen (disk s1).files) (IsKept props t (disk s0).files) s1 s2 (λ q kept. open_same (disk s0).files q (disk s1).files (λ u is_u. ap (λ (d : Disk). map.get d.files (completed_path u)) ok1) kept.leftover) (c.clear_claims.ensures.alone told) in
-    let a2 = alone_further store (IsKept props t (disk s0).files) s0 s1 s2 (λ _. a1) (λ _. f2) told in
-    alone_of_fewer store (IsKept props t (disk s0).files) (IsOutside timeline_folder) s0 s2 (outside_kept props t (disk s0).files) a2
 
 pub returns-in_err-prepare-clause-kept : goal.returns-in_err-prepare-clause-kept
 returns-in_err-prepare-clause-kept g c told =
@@ -328,25 +290,6 @@ returns-in_err-prepare-clause-kept g c told =
     let f3 = alone_of_fewer store (IsKeptBut props) (IsKept props t (disk s0).files) s2 s3 (kept_but props t (disk s0).files) (c.prepare.ensures.alone told) in
     let a3 = alone_further store (IsKept props t (disk s0).files) s0 s2 s3 (λ _. a2) (λ _. f3) told in
     a3
-
-pub returns-in_err-prepare-clause-folder : goal.returns-in_err-prepare-clause-folder
-returns-in_err-prepare-clause-folder g c told =
-    let store = g.S.Store in
-    let disk = g.S.Store.disk in
-    let props = option_copied c.args.properties in
-    let t = c.args.instant.now in
-    let s0 = c.args.store.now in
-    let s1 = c.sync.new.self in
-    let s2 = c.clear_claims.new.store in
-    let s3 = c.prepare.new.store in
-    let ok1 = c.in_ok-sync.ensures.ok told in
-    let a0 = alone_begun store told g.met.S.Store.only_now (IsKept props t (disk s0).files) s0 in
-    let a1 = alone_sync store told g.met.S.Store.only_now (IsKept props t (disk s0).files) s0 s0 s1 a0 c.sync.ensures.elapses c.sync.result c.sync.ensures.ok c.sync.ensures.err in
-    let f2 = alone_of_fewer store (IsNotOpen (disk s1).files) (IsKept props t (disk s0).files) s1 s2 (λ q kept. open_same (disk s0).files q (disk s1).files (λ u is_u. ap (λ (d : Disk). map.get d.files (completed_path u)) ok1) kept.leftover) (c.clear_claims.ensures.alone told) in
-    let a2 = alone_further store (IsKept props t (disk s0).files) s0 s1 s2 (λ _. a1) (λ _. f2) told in
-    let f3 = alone_of_fewer store (IsKeptBut props) (IsKept props t (disk s0).files) s2 s3 (kept_but props t (disk s0).files) (c.prepare.ensures.alone told) in
-    let a3 = alone_further store (IsKept props t (disk s0).files) s0 s2 s3 (λ _. a2) (λ _. f3) told in
-    alone_of_fewer store (IsKept props t (disk s0).files) (IsOutside timeline_folder) s0 s3 (outside_kept props t (disk s0).files) a3
 
 pub returns-clause-kept : goal.returns-clause-kept
 returns-clause-kept g c told =
@@ -370,29 +313,6 @@ returns-clause-kept g c told =
     let f4 = alone_of_fewer store (IsNoFileOf c.in_ok-paths.paths) (IsKept props t (disk s0).files) s3 s4 (λ q kept. subst (λ x. IsNoFileOf x q) (sym at) (kept_from props t (disk s0).files c.requires.real (c.requires.free told) q kept)) (c.complete.ensures.alone told) in
     let a4 = alone_further store (IsKept props t (disk s0).files) s0 s3 s4 (λ _. a3) (λ _. f4) told in
     a4
-
-pub returns-clause-folder : goal.returns-clause-folder
-returns-clause-folder g c told =
-    let store = g.S.Store in
-    let disk = g.S.Store.disk in
-    let props = option_copied c.args.properties in
-    let t = c.args.instant.now in
-    let s0 = c.args.store.now in
-    let s1 = c.sync.new.self in
-    let s2 = c.clear_claims.new.store in
-    let s3 = c.prepare.new.store in
-    let s4 = c.complete.new.store in
-    let ok1 = c.in_ok-sync.ensures.ok told in
-    let at = c.in_ok-paths.ensures in
-    let a0 = alone_begun store told g.met.S.Store.only_now (IsKept props t (disk s0).files) s0 in
-    let a1 = alone_sync store told g.met.S.Store.only_now (IsKept props t (disk s0).files) s0 s0 s1 a0 c.sync.ensures.elapses c.sync.result c.sync.ensures.ok c.sync.ensures.err in
-    let f2 = alone_of_fewer store (IsNotOpen (disk s1).files) (IsKept props t (disk s0).files) s1 s2 (λ q kept. open_same (disk s0).files q (disk s1).files (λ u is_u. ap (λ (d : Disk). map.get d.files (completed_path u)) ok1) kept.leftover) (c.clear_claims.ensures.alone told) in
-    let a2 = alone_further store (IsKept props t (disk s0).files) s0 s1 s2 (λ _. a1) (λ _. f2) told in
-    let f3 = alone_of_fewer store (IsKeptBut props) (IsKept props t (disk s0).files) s2 s3 (kept_but props t (disk s0).files) (c.prepare.ensures.alone told) in
-    let a3 = alone_further store (IsKept props t (disk s0).files) s0 s2 s3 (λ _. a2) (λ _. f3) told in
-    let f4 = alone_of_fewer store (IsNoFileOf c.in_ok-paths.paths) (IsKept props t (disk s0).files) s3 s4 (λ q kept. subst (λ x. IsNoFileOf x q) (sym at) (kept_from props t (disk s0).files c.requires.real (c.requires.free told) q kept)) (c.complete.ensures.alone told) in
-    let a4 = alone_further store (IsKept props t (disk s0).files) s0 s3 s4 (λ _. a3) (λ _. f4) told in
-    alone_of_fewer store (IsKept props t (disk s0).files) (IsOutside timeline_folder) s0 s4 (outside_kept props t (disk s0).files) a4
 
 -- up to the last call no image has the instant's completed file
 pub returns-in_err-prepare-clause-theirs : goal.returns-in_err-prepare-clause-theirs

@@ -6,12 +6,11 @@ use Rattle.std.specs.Prelude.{IfErr, slice_get}
 use Rattle.std.specs.Option.{option_copied}
 use Rattle.lake_basics.specs.declared.limits.TheConstants.{MAX_FILE_BYTES}
 use Rattle.lake_store.specs.Disk.{Disk, Files}
-use Rattle.lake_store.specs.Runs.{IsOutside}
 use Rattle.lake_store.proofs.ShortLaws.{short_same}
 use Rattle.lake_store.proofs.RunLaws.{alone_by_reading, reading_begins, reading_further}
 use Rattle.table_history.specs.declared.table.Commit.{Commit}
-use Rattle.target_core.specs.Folders.{folder_of}
 use Rattle.target_core.specs.Following.{Follows}
+use Rattle.target_core.specs.OwnFiles.{MayNotTouch}
 use Rattle.target_core.specs.Progress.{IsRefusedAt}
 use Rattle.target_core.specs.Refusals.{IsCommitRefusal}
 use Rattle.target_core.specs.TargetMeanings.{meaning}
@@ -36,7 +35,7 @@ loop-commit-init g c =
     let origin : Origin = origin_of c.args.source (option_copied c.args.table) in
     let reading = reading_begins store g.met.S.Store.only_now s in
     record {
-      folder = λ told. record { alone = alone_by_reading store (IsOutside (folder_of (target.kind t))) s s (reading told); short = short_same MAX_FILE_BYTES (store.disk s).files (store.disk s).files refl };
+      own = λ told. record { alone = alone_by_reading store (MayNotTouch (target.kind t)) s s (reading told); short = short_same MAX_FILE_BYTES (store.disk s).files (store.disk s).files refl };
       none = λ told none. reading told;
       view = same_refl start;
       source = c.requires.source;
@@ -97,7 +96,7 @@ loop-commit-preserved g c =
     let origin : Origin = origin_of c.args.source (option_copied c.args.table) in
     let at : slice_get commits i ≡ Some commit = slice_get-get_or commits i commit c.loop-commit-test.true ∙ ap (λ (x : Commit). Some x) (sym c.commit-item.is) in
     record {
-      folder = stays_further store (folder_of (target.kind t)) s mid c.commit.new.store so_far.folder step.folder;
+      own = stays_further store (target.kind t) s mid c.commit.new.store so_far.own step.own;
       none = λ told none. absurd (omega (arith, none));
       view = advanced_take (target.image t) origin start commits i here commit next at so_far.view step.goes_on.advanced;
       can = (can_here (target.image t) origin here commits i commit at so_far.can).1 next step.goes_on.advanced;
@@ -121,8 +120,8 @@ loop-commit-preserved g c =
       contest = uncontested_further store.contests store.may_contest s mid c.commit.new.store _ so_far.contest step.refuses.contest (λ contested. cc);
     }
 
-pub returns-in_err-commit-clause-folder : goal.returns-in_err-commit-clause-folder
-returns-in_err-commit-clause-folder g c = stays_further g.S.Store (folder_of (g.T.Target.kind c.args.target.now)) c.args.store.now c.loop-commit.store c.commit.new.store c.loop-commit.invariant.folder c.in_err-commit.ensures.folder
+pub returns-in_err-commit-clause-own : goal.returns-in_err-commit-clause-own
+returns-in_err-commit-clause-own g c = stays_further g.S.Store (g.T.Target.kind c.args.target.now) c.args.store.now c.loop-commit.store c.commit.new.store c.loop-commit.invariant.own c.in_err-commit.ensures.own
 
 pub returns-in_err-commit-clause-publishes : goal.returns-in_err-commit-clause-publishes
 returns-in_err-commit-clause-publishes g c told was settled =

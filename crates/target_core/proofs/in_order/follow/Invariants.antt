@@ -4,8 +4,7 @@ use Rattle.lake_store.specs.Runs.{FailsBy, IsUncontestedBy, OnlyReads}
 use Rattle.table_history.specs.declared.limit.LimitKind.{LimitKind}
 use Rattle.table_history.specs.declared.table.Commit.{Commit}
 use Rattle.target_core.specs.Conditions.{CanPublishAll, Fits, GoesOn}
-use Rattle.target_core.specs.Folders.{folder_of}
-use Rattle.target_core.specs.OneCommit.{StaysIn}
+use Rattle.target_core.specs.OneCommit.{StaysInOwn}
 use Rattle.target_core.specs.TargetMeanings.{meaning}
 use Rattle.target_core.specs.Views.{IsAdvancedAll, Origin, origin_of}
 use Rattle.target_core.specs.Written.{AreWritten}
@@ -21,7 +20,7 @@ invariant-loop-commit g l =
     let origin : Origin = origin_of l.source (option_copied l.table) in
     let i = l.commit-index in
     record {
-      folder : store.tells → StaysIn store (folder_of (target.kind t)) l.fn.store l.store;
+      own : store.tells → StaysInOwn store (target.kind t) l.fn.store l.store;
       none : store.tells → i ≡ 0 → OnlyReads store l.fn.store l.store;
       view : IsAdvancedAll (target.image t) origin start (take i l.commits) (target.view t l.kept);
       source : GoesOn l.source (target.view t l.kept);

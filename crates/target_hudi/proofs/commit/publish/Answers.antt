@@ -2,13 +2,13 @@ use Rattle.std.proofs.Common.{◌≡◌, ◌<◌, ◌≤◌, ℕ, List, refl, Bo
 use Rattle.std.specs.Prelude.{IfSome, Option, is_ok, length}
 use Rattle.std.specs.Option.{option_copied}
 use Rattle.std.proofs.lemmas.Result.{err_from_is_err_and}
-use Rattle.hudi_commit.specs.Names.{timeline_folder}
 use Rattle.lake_basics.specs.declared.limits.TheConstants.{MAX_FILE_BYTES, MAX_NAMES}
 use Rattle.lake_store.proofs.ShortLaws.{short_same}
-use Rattle.lake_store.specs.Runs.{IsOutside}
 use Rattle.lake_store.proofs.RunLaws.{alone_by_reading, reading_begins}
+use Rattle.table_history.specs.declared.kind.Kind.TheVariants.{Hudi}
 use Rattle.table_history.specs.declared.limit.LimitKind.TheVariants.{Names}
 use Rattle.target_core.specs.Outcome.{Uncontested, answer_of}
+use Rattle.target_core.specs.OwnFiles.{MayNotTouch}
 use Rattle.target_core.specs.Publishing.{Publishes}
 use Rattle.target_core.specs.Views.{Origin, origin_of}
 use Rattle.target_core.specs.declared.target.TargetError.TheVariants.{Contested}
@@ -19,14 +19,14 @@ use Rattle.target_hudi.specs.Reading.{commits_in}
 use Rattle.target_hudi.proofs.TimelineLemmas.{free}
 use Rattle.target_hudi.proofs.KeepsLemmas.{advanced, fits_behind}
 use Rattle.target_hudi.proofs.PublishLemmas.{earlier}
-use Rattle.target_hudi.proofs.StoreLemmas.{as_left, come_there, contest_too, contested_error, counted_now, few_now, kept_taken, limited_by, only_names, orderly_before, passes_ahead, publishes_instant, publishes_nothing, reads_unmoved, ready, refused_by, same_instant, stands_behind, taken_answer, taken_now, theirs_taken, writes}
+use Rattle.target_hudi.proofs.StoreLemmas.{as_left, come_there, contest_too, contested_error, counted_now, few_now, kept_taken, limited_by, only_names, orderly_before, passes_ahead, publishes_instant, publishes_nothing, reads_unmoved, ready, refused_by, same_instant, stands_behind, taken_answer, taken_now, theirs_taken, touches_own, writes}
 use Rattle.target_hudi.proofs.commit.publish.Goals as goal
 
-pub returns-in_err-new-clause-folder : goal.returns-in_err-new-clause-folder
-returns-in_err-new-clause-folder g c told =
+pub returns-in_err-new-clause-own : goal.returns-in_err-new-clause-own
+returns-in_err-new-clause-own g c told =
     let store = g.S.Store in
     let s = c.args.store.now in
-    record { alone = alone_by_reading store (IsOutside timeline_folder) s s (reading_begins store g.met.S.Store.only_now s told); short = short_same MAX_FILE_BYTES (store.disk s).files (store.disk s).files refl }
+    record { alone = alone_by_reading store (MayNotTouch Hudi) s s (reading_begins store g.met.S.Store.only_now s told); short = short_same MAX_FILE_BYTES (store.disk s).files (store.disk s).files refl }
 
 pub returns-in_err-new-clause-publishes : goal.returns-in_err-new-clause-publishes
 returns-in_err-new-clause-publishes g c told stands settled =
@@ -74,13 +74,27 @@ publish_commit-requires-clause-free g c told =
     let files = (store.disk old).files in
     free instant v.real files (earlier name origin now kept next commit instant properties text v files (c.requires.counted told).newest)
 
-pub returns-in-Ok-clause-folder : goal.returns-in-Ok-clause-folder
-returns-in-Ok-clause-folder g c told = record {
-  alone = c.publish_commit.ensures.folder told;
-  short = c.publish_commit.ensures.short told
-      (subst (λ (o : Option (List ℕ)). IfSome o (λ bytes. length bytes ≤ MAX_FILE_BYTES)) (sym c.bytes_of-properties.ensures) c.in_ok-new.ensures.short_properties)
-      (subst (λ (bytes : List ℕ). length bytes ≤ MAX_FILE_BYTES) (sym c.as_slice.ensures.value) c.in_ok-new.ensures.short);
-}
+pub returns-in-Ok-clause-own : goal.returns-in-Ok-clause-own
+returns-in-Ok-clause-own g c told =
+    let store = g.S.Store in
+    let name = c.args.name.now in
+    let kept = c.args.kept.now in
+    let next = c.new_instant.new.kept in
+    let commit = c.args.commit.now in
+    let old = c.args.store.now in
+    let new = c.publish_commit.new.store in
+    let now = c.args.now_ms in
+    let instant = c.as_str.result.now in
+    let properties = option_copied c.bytes_of-properties.result in
+    let text = c.as_slice.result.now in
+    let origin : Origin = origin_of c.args.source (option_copied c.args.table) in
+    let v = same_instant (end_of name kept) origin now kept next commit c.in_ok-new.new.time instant c.in_ok-new.new.text text c.in_ok-new.new.properties properties c.as_str.ensures.value c.bytes_of-properties.ensures c.as_slice.ensures.value c.in_ok-new.ensures.is in
+    record {
+      alone = touches_own store old new instant properties v.real (c.publish_commit.ensures.kept told);
+      short = c.publish_commit.ensures.short told
+          (subst (λ (o : Option (List ℕ)). IfSome o (λ bytes. length bytes ≤ MAX_FILE_BYTES)) (sym c.bytes_of-properties.ensures) c.in_ok-new.ensures.short_properties)
+          (subst (λ (bytes : List ℕ). length bytes ≤ MAX_FILE_BYTES) (sym c.as_slice.ensures.value) c.in_ok-new.ensures.short);
+    }
 
 pub returns-in-Ok-clause-goes_on : goal.returns-in-Ok-clause-goes_on
 returns-in-Ok-clause-goes_on g c =
@@ -156,13 +170,27 @@ returns-in-Ok-clause-writes g c told stands =
     let is_ready = ready store old new told name origin now kept next commit instant properties text v counted alone stands in
     writes store old new told name origin now kept next commit instant properties text v counted alone stands ((c.in-Ok.ensures.comes told tt).committed whole is_ready) (c.in-Ok.ensures.comes told tt).staged (c.in-Ok.ensures.comes told tt).others
 
-pub returns-clause-folder : goal.returns-clause-folder
-returns-clause-folder g c told = record {
-  alone = c.publish_commit.ensures.folder told;
-  short = c.publish_commit.ensures.short told
-      (subst (λ (o : Option (List ℕ)). IfSome o (λ bytes. length bytes ≤ MAX_FILE_BYTES)) (sym c.bytes_of-properties.ensures) c.in_ok-new.ensures.short_properties)
-      (subst (λ (bytes : List ℕ). length bytes ≤ MAX_FILE_BYTES) (sym c.as_slice.ensures.value) c.in_ok-new.ensures.short);
-}
+pub returns-clause-own : goal.returns-clause-own
+returns-clause-own g c told =
+    let store = g.S.Store in
+    let name = c.args.name.now in
+    let kept = c.args.kept.now in
+    let next = c.new_instant.new.kept in
+    let commit = c.args.commit.now in
+    let old = c.args.store.now in
+    let new = c.publish_commit.new.store in
+    let now = c.args.now_ms in
+    let instant = c.as_str.result.now in
+    let properties = option_copied c.bytes_of-properties.result in
+    let text = c.as_slice.result.now in
+    let origin : Origin = origin_of c.args.source (option_copied c.args.table) in
+    let v = same_instant (end_of name kept) origin now kept next commit c.in_ok-new.new.time instant c.in_ok-new.new.text text c.in_ok-new.new.properties properties c.as_str.ensures.value c.bytes_of-properties.ensures c.as_slice.ensures.value c.in_ok-new.ensures.is in
+    record {
+      alone = touches_own store old new instant properties v.real (c.publish_commit.ensures.kept told);
+      short = c.publish_commit.ensures.short told
+          (subst (λ (o : Option (List ℕ)). IfSome o (λ bytes. length bytes ≤ MAX_FILE_BYTES)) (sym c.bytes_of-properties.ensures) c.in_ok-new.ensures.short_properties)
+          (subst (λ (bytes : List ℕ). length bytes ≤ MAX_FILE_BYTES) (sym c.as_slice.ensures.value) c.in_ok-new.ensures.short);
+    }
 
 pub returns-clause-publishes : goal.returns-clause-publishes
 returns-clause-publishes g c told stands settled =

@@ -1,20 +1,17 @@
-use Rattle.std.proofs.Common.{◌≡◌, List, ℕ, Bool, true, false, length, Err, arith, refl, subst, sym, ap, ◌∙◌}
+use Rattle.std.proofs.Common.{◌≡◌, List, ℕ, Bool, true, length, Err, arith, refl, subst, sym, ap, ◌∙◌}
 use Rattle.std.specs.Prelude.{IsErrOf, is_ok, is_some}
 use Rattle.std.specs.FinMap as map
 use Rattle.lake_basics.specs.declared.limits.TheConstants.{MAX_FILE_BYTES}
 use Rattle.lake_store.proofs.ShortLaws.{short_publish, short_same, short_sync, short_then, short_write}
 use Rattle.iceberg_commit.specs.Texts.{IsShort}
-use Rattle.std.proofs.lemmas.Bool.{false≢true}
 use Rattle.std.proofs.lemmas.Result.{err_from_is_err_and}
-use Rattle.iceberg_table.specs.Folder.{metadata_folder, path_of, version_path}
+use Rattle.iceberg_table.specs.Folder.{path_of, version_path}
 use Rattle.iceberg_version.specs.Names.{staged_name}
-use Rattle.lake_store.specs.Runs.{IsOutside}
 use Rattle.iceberg_commit.specs.NextVersion.{VersionFiles}
 use Rattle.target_core.specs.Outcome.{Uncontested}
 use Rattle.target_core.specs.declared.target.TargetError.TheVariants.{Contested}
-use Rattle.lake_store.proofs.RunLaws.{alone_of_fewer}
-use Rattle.target_iceberg.specs.Publishing.{AreManifestPaths, IsNotAside, IsOther, PublishesVersion}
-use Rattle.target_iceberg.proofs.PublishingLemmas.{alone_begun, apart_paths, aside₁, aside₂, aside₃, aside₄, contested_by, err_same, memory_never, metadata_not_aside, not_published, outside_other, not_ok, ok_contested, err_ok, published_as, untaken_by, written_aside}
+use Rattle.target_iceberg.specs.Publishing.{AreManifestPaths, IsNotAside, PublishesVersion}
+use Rattle.target_iceberg.proofs.PublishingLemmas.{alone_begun, apart_paths, aside₁, aside₂, aside₃, aside₄, contested_by, err_same, memory_never, metadata_not_aside, not_published, not_ok, ok_contested, err_ok, published_as, untaken_by, written_aside}
 use Rattle.target_iceberg.proofs.publish.publish_version.Goals as goal
 
 pub returns-in_err-manifest_paths-clause-publishes : goal.returns-in_err-manifest_paths-clause-publishes
@@ -28,10 +25,6 @@ returns-in_err-manifest_paths-clause-publishes g c told =
     subst (λ (done : Bool). PublishesVersion store new (Uncontested c.from_residual.result) (IsErrOf c.from_residual.result Contested) done s₀ s₀) (sym (ap is_ok exit.1))
     (not_published store told only_now new s₀ s₀ (alone_begun store told only_now (IsNotAside new) s₀) (Uncontested c.from_residual.result) (IsErrOf c.from_residual.result Contested) never)
 
-pub returns-in_err-manifest_paths-clause-alone : goal.returns-in_err-manifest_paths-clause-alone
-returns-in_err-manifest_paths-clause-alone g c told =
-    alone_begun g.S.Store told g.met.S.Store.only_now (IsOutside metadata_folder) c.args.store.now
-
 pub returns-in_err-list_path-clause-publishes : goal.returns-in_err-list_path-clause-publishes
 returns-in_err-list_path-clause-publishes g c told =
     let store = g.S.Store in
@@ -42,10 +35,6 @@ returns-in_err-list_path-clause-publishes g c told =
     let never : IsErrOf c.from_residual-in_err-list_path.result Contested → ⊥ = memory_never c.from_residual-in_err-list_path.result exit.0 exit.1 exit.2 in
     subst (λ (done : Bool). PublishesVersion store new (Uncontested c.from_residual-in_err-list_path.result) (IsErrOf c.from_residual-in_err-list_path.result Contested) done s₀ s₀) (sym (ap is_ok exit.1))
     (not_published store told only_now new s₀ s₀ (alone_begun store told only_now (IsNotAside new) s₀) (Uncontested c.from_residual-in_err-list_path.result) (IsErrOf c.from_residual-in_err-list_path.result Contested) never)
-
-pub returns-in_err-list_path-clause-alone : goal.returns-in_err-list_path-clause-alone
-returns-in_err-list_path-clause-alone g c told =
-    alone_begun g.S.Store told g.met.S.Store.only_now (IsOutside metadata_folder) c.args.store.now
 
 pub returns-in_err-staged_path-clause-publishes : goal.returns-in_err-staged_path-clause-publishes
 returns-in_err-staged_path-clause-publishes g c told =
@@ -58,10 +47,6 @@ returns-in_err-staged_path-clause-publishes g c told =
     subst (λ (done : Bool). PublishesVersion store new (Uncontested c.from_residual-in_err-staged_path.result) (IsErrOf c.from_residual-in_err-staged_path.result Contested) done s₀ s₀) (sym (ap is_ok exit.1))
     (not_published store told only_now new s₀ s₀ (alone_begun store told only_now (IsNotAside new) s₀) (Uncontested c.from_residual-in_err-staged_path.result) (IsErrOf c.from_residual-in_err-staged_path.result Contested) never)
 
-pub returns-in_err-staged_path-clause-alone : goal.returns-in_err-staged_path-clause-alone
-returns-in_err-staged_path-clause-alone g c told =
-    alone_begun g.S.Store told g.met.S.Store.only_now (IsOutside metadata_folder) c.args.store.now
-
 pub returns-in_err-path-clause-publishes : goal.returns-in_err-path-clause-publishes
 returns-in_err-path-clause-publishes g c told =
     let store = g.S.Store in
@@ -72,10 +57,6 @@ returns-in_err-path-clause-publishes g c told =
     let never : IsErrOf c.from_residual-in_err-path.result Contested → ⊥ = memory_never c.from_residual-in_err-path.result exit.0 exit.1 exit.2 in
     subst (λ (done : Bool). PublishesVersion store new (Uncontested c.from_residual-in_err-path.result) (IsErrOf c.from_residual-in_err-path.result Contested) done s₀ s₀) (sym (ap is_ok exit.1))
     (not_published store told only_now new s₀ s₀ (alone_begun store told only_now (IsNotAside new) s₀) (Uncontested c.from_residual-in_err-path.result) (IsErrOf c.from_residual-in_err-path.result Contested) never)
-
-pub returns-in_err-path-clause-alone : goal.returns-in_err-path-clause-alone
-returns-in_err-path-clause-alone g c told =
-    alone_begun g.S.Store told g.met.S.Store.only_now (IsOutside metadata_folder) c.args.store.now
 
 pub returns-in_err-write_manifests-clause-publishes : goal.returns-in_err-write_manifests-clause-publishes
 returns-in_err-write_manifests-clause-publishes g c told =
@@ -92,18 +73,6 @@ returns-in_err-write_manifests-clause-publishes g c told =
     let never : IsErrOf c.from_residual-in_err-write_manifests.result Contested → ⊥ = λ contested. c.in_err-write_manifests.ensures.contest.never (ap (λ e. Err e) (contested_by c.from_residual-in_err-write_manifests.result exit.0 error exit.1 exit.2 contested)) in
     subst (λ (done : Bool). PublishesVersion store new (Uncontested c.from_residual-in_err-write_manifests.result) (IsErrOf c.from_residual-in_err-write_manifests.result Contested) done s₀ s₁) (sym (ap is_ok exit.1))
     (not_published store told only_now new s₀ s₁ so_far (Uncontested c.from_residual-in_err-write_manifests.result) (IsErrOf c.from_residual-in_err-write_manifests.result Contested) never)
-
-pub returns-in_err-write_manifests-clause-alone : goal.returns-in_err-write_manifests-clause-alone
-returns-in_err-write_manifests-clause-alone g c told =
-    let store = g.S.Store in
-    let only_now = g.met.S.Store.only_now in
-    let new : VersionFiles = record { version = c.args.version; manifests = c.args.manifests.now; list = c.args.list.now; metadata = c.args.metadata.now } in
-    let s₀ = c.args.store.now in
-    let paths = c.as_slice.result.now in
-    let are = subst (AreManifestPaths c.args.version (length c.args.manifests.now)) (sym c.as_slice.ensures.value) c.in_ok-manifest_paths.ensures in
-    let s₁ = c.write_manifests.new.store in
-    let so_far = aside₁ store told only_now new paths are s₀ s₁ c.write_manifests.ensures.alone in
-    alone_of_fewer store (IsNotAside new) (IsOutside metadata_folder) s₀ s₁ (λ path outside. (outside_other new path outside).aside) so_far
 
 pub returns-in_err-write-clause-publishes : goal.returns-in_err-write-clause-publishes
 returns-in_err-write-clause-publishes g c told =
@@ -122,20 +91,6 @@ returns-in_err-write-clause-publishes g c told =
     let never : IsErrOf c.from_residual-in_err-write.result Contested → ⊥ = λ contested. c.in_err-write.ensures.contest.never (ap (λ e. Err e) (contested_by c.from_residual-in_err-write.result exit.0 error exit.1 exit.2 contested)) in
     subst (λ (done : Bool). PublishesVersion store new (Uncontested c.from_residual-in_err-write.result) (IsErrOf c.from_residual-in_err-write.result Contested) done s₀ s₂) (sym (ap is_ok exit.1))
     (not_published store told only_now new s₀ s₂ so_far (Uncontested c.from_residual-in_err-write.result) (IsErrOf c.from_residual-in_err-write.result Contested) never)
-
-pub returns-in_err-write-clause-alone : goal.returns-in_err-write-clause-alone
-returns-in_err-write-clause-alone g c told =
-    let store = g.S.Store in
-    let only_now = g.met.S.Store.only_now in
-    let new : VersionFiles = record { version = c.args.version; manifests = c.args.manifests.now; list = c.args.list.now; metadata = c.args.metadata.now } in
-    let s₀ = c.args.store.now in
-    let paths = c.as_slice.result.now in
-    let are = subst (AreManifestPaths c.args.version (length c.args.manifests.now)) (sym c.as_slice.ensures.value) c.in_ok-manifest_paths.ensures in
-    let s₁ = c.write_manifests.new.store in
-    let list_path_is = c.as_str.ensures.value ∙ c.in_ok-list_path.ensures in
-    let s₂ = c.write.new.self in
-    let so_far = aside₂ store told only_now new paths are s₀ s₁ c.write_manifests.ensures.alone s₂ c.write.ensures.elapses c.write.result c.as_str.result.now c.as_slice-2.result.now list_path_is c.write.ensures.ok c.write.ensures.err in
-    alone_of_fewer store (IsNotAside new) (IsOutside metadata_folder) s₀ s₂ (λ path outside. (outside_other new path outside).aside) so_far
 
 pub returns-in_err-write-2-clause-publishes : goal.returns-in_err-write-2-clause-publishes
 returns-in_err-write-2-clause-publishes g c told =
@@ -157,22 +112,6 @@ returns-in_err-write-2-clause-publishes g c told =
     subst (λ (done : Bool). PublishesVersion store new (Uncontested c.from_residual-in_err-write-2.result) (IsErrOf c.from_residual-in_err-write-2.result Contested) done s₀ s₃) (sym (ap is_ok exit.1))
     (not_published store told only_now new s₀ s₃ so_far (Uncontested c.from_residual-in_err-write-2.result) (IsErrOf c.from_residual-in_err-write-2.result Contested) never)
 
-pub returns-in_err-write-2-clause-alone : goal.returns-in_err-write-2-clause-alone
-returns-in_err-write-2-clause-alone g c told =
-    let store = g.S.Store in
-    let only_now = g.met.S.Store.only_now in
-    let new : VersionFiles = record { version = c.args.version; manifests = c.args.manifests.now; list = c.args.list.now; metadata = c.args.metadata.now } in
-    let s₀ = c.args.store.now in
-    let paths = c.as_slice.result.now in
-    let are = subst (AreManifestPaths c.args.version (length c.args.manifests.now)) (sym c.as_slice.ensures.value) c.in_ok-manifest_paths.ensures in
-    let s₁ = c.write_manifests.new.store in
-    let list_path_is = c.as_str.ensures.value ∙ c.in_ok-list_path.ensures in
-    let s₂ = c.write.new.self in
-    let staged_path_is = c.as_str-2.ensures.value ∙ c.in_ok-staged_path.ensures in
-    let s₃ = c.write-2.new.self in
-    let so_far = aside₃ store told only_now new paths are s₀ s₁ c.write_manifests.ensures.alone s₂ c.write.ensures.elapses c.write.result c.as_str.result.now c.as_slice-2.result.now list_path_is c.write.ensures.ok c.write.ensures.err s₃ c.write-2.ensures.elapses c.write-2.result c.as_str-2.result.now c.as_slice-3.result.now staged_path_is c.write-2.ensures.ok c.write-2.ensures.err in
-    alone_of_fewer store (IsNotAside new) (IsOutside metadata_folder) s₀ s₃ (λ path outside. (outside_other new path outside).aside) so_far
-
 pub returns-in_err-sync-clause-publishes : goal.returns-in_err-sync-clause-publishes
 returns-in_err-sync-clause-publishes g c told =
     let store = g.S.Store in
@@ -193,23 +132,6 @@ returns-in_err-sync-clause-publishes g c told =
     let never : IsErrOf c.from_residual-in_err-sync.result Contested → ⊥ = λ contested. c.in_err-sync.ensures.contest.never (ap (λ e. Err e) (contested_by c.from_residual-in_err-sync.result exit.0 error exit.1 exit.2 contested)) in
     subst (λ (done : Bool). PublishesVersion store new (Uncontested c.from_residual-in_err-sync.result) (IsErrOf c.from_residual-in_err-sync.result Contested) done s₀ s₄) (sym (ap is_ok exit.1))
     (not_published store told only_now new s₀ s₄ so_far (Uncontested c.from_residual-in_err-sync.result) (IsErrOf c.from_residual-in_err-sync.result Contested) never)
-
-pub returns-in_err-sync-clause-alone : goal.returns-in_err-sync-clause-alone
-returns-in_err-sync-clause-alone g c told =
-    let store = g.S.Store in
-    let only_now = g.met.S.Store.only_now in
-    let new : VersionFiles = record { version = c.args.version; manifests = c.args.manifests.now; list = c.args.list.now; metadata = c.args.metadata.now } in
-    let s₀ = c.args.store.now in
-    let paths = c.as_slice.result.now in
-    let are = subst (AreManifestPaths c.args.version (length c.args.manifests.now)) (sym c.as_slice.ensures.value) c.in_ok-manifest_paths.ensures in
-    let s₁ = c.write_manifests.new.store in
-    let list_path_is = c.as_str.ensures.value ∙ c.in_ok-list_path.ensures in
-    let s₂ = c.write.new.self in
-    let staged_path_is = c.as_str-2.ensures.value ∙ c.in_ok-staged_path.ensures in
-    let s₃ = c.write-2.new.self in
-    let s₄ = c.sync.new.self in
-    let so_far = aside₄ store told only_now new paths are s₀ s₁ c.write_manifests.ensures.alone s₂ c.write.ensures.elapses c.write.result c.as_str.result.now c.as_slice-2.result.now list_path_is c.write.ensures.ok c.write.ensures.err s₃ c.write-2.ensures.elapses c.write-2.result c.as_str-2.result.now c.as_slice-3.result.now staged_path_is c.write-2.ensures.ok c.write-2.ensures.err s₄ c.sync.ensures.elapses c.sync.result c.sync.ensures.ok c.sync.ensures.err in
-    alone_of_fewer store (IsNotAside new) (IsOutside metadata_folder) s₀ s₄ (λ path outside. (outside_other new path outside).aside) so_far
 
 pub write_manifests-requires-clause-apart : goal.write_manifests-requires-clause-apart
 write_manifests-requires-clause-apart g c =
@@ -304,30 +226,6 @@ returns-in_err-publish-clause-publishes g c told =
     (λ contested. c.in_err-publish.was ∙ ap (λ e. Err e) (contested_by c.from_residual-in_err-publish.result exit.0 error exit.1 exit.2 contested))
     (λ ok. absurd (not_ok c.from_residual-in_err-publish.result exit.0 exit.1 ok))
 
-pub returns-in_err-publish-clause-alone : goal.returns-in_err-publish-clause-alone
-returns-in_err-publish-clause-alone g c told =
-    let store = g.S.Store in
-    let only_now = g.met.S.Store.only_now in
-    let new : VersionFiles = record { version = c.args.version; manifests = c.args.manifests.now; list = c.args.list.now; metadata = c.args.metadata.now } in
-    let s₀ = c.args.store.now in
-    let paths = c.as_slice.result.now in
-    let are = subst (AreManifestPaths c.args.version (length c.args.manifests.now)) (sym c.as_slice.ensures.value) c.in_ok-manifest_paths.ensures in
-    let s₁ = c.write_manifests.new.store in
-    let list_path_is = c.as_str.ensures.value ∙ c.in_ok-list_path.ensures in
-    let s₂ = c.write.new.self in
-    let staged_path_is = c.as_str-2.ensures.value ∙ c.in_ok-staged_path.ensures in
-    let s₃ = c.write-2.new.self in
-    let s₄ = c.sync.new.self in
-    let so_far = aside₄ store told only_now new paths are s₀ s₁ c.write_manifests.ensures.alone s₂ c.write.ensures.elapses c.write.result c.as_str.result.now c.as_slice-2.result.now list_path_is c.write.ensures.ok c.write.ensures.err s₃ c.write-2.ensures.elapses c.write-2.result c.as_str-2.result.now c.as_slice-3.result.now staged_path_is c.write-2.ensures.ok c.write-2.ensures.err s₄ c.sync.ensures.elapses c.sync.result c.sync.ensures.ok c.sync.ensures.err in
-    let w = written_aside new paths are (store.disk s₁) (store.disk s₂) (store.disk s₃) (store.disk s₄) (c.in_ok-write_manifests.ensures.written told)
-    c.as_str.result.now c.as_slice-2.result.now list_path_is c.as_slice-2.ensures.value (c.in_ok-write.ensures.ok told)
-    c.as_str-2.result.now c.as_slice-3.result.now staged_path_is c.as_slice-3.ensures.value (c.in_ok-write-2.ensures.ok told) (c.in_ok-sync.ensures.ok told) in
-    let staged_is : c.as_str-3.result.now ≡ path_of (staged_name c.args.version) = c.as_str-3.ensures.value ∙ c.in_ok-staged_path.ensures in
-    let path_is : c.as_str-4.result.now ≡ version_path c.args.version = c.as_str-4.ensures.value ∙ c.in_ok-path.ensures in
-    let s₅ = c.publish.new.self in
-    alone_of_fewer store (IsOther new) (IsOutside metadata_folder) s₀ s₅ (outside_other new) (published_as store told only_now new s₀ s₄ s₅ so_far w c.publish.ensures.elapses c.as_str-3.result.now c.as_str-4.result.now staged_is path_is c.publish.result c.publish.ensures.ok c.publish.ensures.taken c.publish.ensures.err
-    ⊥ ⊥ false (λ never. absurd never) (λ never. absurd never) (λ never. absurd (false≢true never))).others
-
 pub returns-clause-publishes : goal.returns-clause-publishes
 returns-clause-publishes g c told =
     let store = g.S.Store in
@@ -351,30 +249,6 @@ returns-clause-publishes g c told =
     let s₅ = c.publish.new.self in
     published_as store told only_now new s₀ s₄ s₅ so_far w c.publish.ensures.elapses c.as_str-3.result.now c.as_str-4.result.now staged_is path_is c.publish.result c.publish.ensures.ok c.publish.ensures.taken c.publish.ensures.err
     _ _ true (λ un taken. err_ok c.publish.result c.in_ok-publish.field-0 c.in_ok-publish.was taken) (λ contested. absurd (ok_contested contested)) (λ ok. ap is_ok c.in_ok-publish.was)
-
-pub returns-clause-alone : goal.returns-clause-alone
-returns-clause-alone g c told =
-    let store = g.S.Store in
-    let only_now = g.met.S.Store.only_now in
-    let new : VersionFiles = record { version = c.args.version; manifests = c.args.manifests.now; list = c.args.list.now; metadata = c.args.metadata.now } in
-    let s₀ = c.args.store.now in
-    let paths = c.as_slice.result.now in
-    let are = subst (AreManifestPaths c.args.version (length c.args.manifests.now)) (sym c.as_slice.ensures.value) c.in_ok-manifest_paths.ensures in
-    let s₁ = c.write_manifests.new.store in
-    let list_path_is = c.as_str.ensures.value ∙ c.in_ok-list_path.ensures in
-    let s₂ = c.write.new.self in
-    let staged_path_is = c.as_str-2.ensures.value ∙ c.in_ok-staged_path.ensures in
-    let s₃ = c.write-2.new.self in
-    let s₄ = c.sync.new.self in
-    let so_far = aside₄ store told only_now new paths are s₀ s₁ c.write_manifests.ensures.alone s₂ c.write.ensures.elapses c.write.result c.as_str.result.now c.as_slice-2.result.now list_path_is c.write.ensures.ok c.write.ensures.err s₃ c.write-2.ensures.elapses c.write-2.result c.as_str-2.result.now c.as_slice-3.result.now staged_path_is c.write-2.ensures.ok c.write-2.ensures.err s₄ c.sync.ensures.elapses c.sync.result c.sync.ensures.ok c.sync.ensures.err in
-    let w = written_aside new paths are (store.disk s₁) (store.disk s₂) (store.disk s₃) (store.disk s₄) (c.in_ok-write_manifests.ensures.written told)
-    c.as_str.result.now c.as_slice-2.result.now list_path_is c.as_slice-2.ensures.value (c.in_ok-write.ensures.ok told)
-    c.as_str-2.result.now c.as_slice-3.result.now staged_path_is c.as_slice-3.ensures.value (c.in_ok-write-2.ensures.ok told) (c.in_ok-sync.ensures.ok told) in
-    let staged_is : c.as_str-3.result.now ≡ path_of (staged_name c.args.version) = c.as_str-3.ensures.value ∙ c.in_ok-staged_path.ensures in
-    let path_is : c.as_str-4.result.now ≡ version_path c.args.version = c.as_str-4.ensures.value ∙ c.in_ok-path.ensures in
-    let s₅ = c.publish.new.self in
-    alone_of_fewer store (IsOther new) (IsOutside metadata_folder) s₀ s₅ (outside_other new) (published_as store told only_now new s₀ s₄ s₅ so_far w c.publish.ensures.elapses c.as_str-3.result.now c.as_str-4.result.now staged_is path_is c.publish.result c.publish.ensures.ok c.publish.ensures.taken c.publish.ensures.err
-    ⊥ ⊥ false (λ never. absurd never) (λ never. absurd never) (λ never. absurd (false≢true never))).others
 
 pub returns-in_err-manifest_paths-clause-short : goal.returns-in_err-manifest_paths-clause-short
 returns-in_err-manifest_paths-clause-short g c told =

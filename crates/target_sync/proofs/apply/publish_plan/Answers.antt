@@ -107,7 +107,7 @@ returns-in_err-published g c =
     subst (λ (r : Result Report TargetError). Applies store (meaning g.T.Target t) (unfit partition commits) (passes_at c.args.plan.now.table) (written_at c.args.plan.now.table) (origin_at c.args.plan.now.table) view partition commits c.args.plan.now.full Stands old new r)
     (sym (exit.1 ∙ ap (λ (x : TargetError). Err x) exit.2))
     (applies_refused store (meaning g.T.Target t) (origin_at c.args.plan.now.table) view commits (unfit partition commits) (passes_at c.args.plan.now.table) (written_at c.args.plan.now.table) partition c.args.plan.now.full Stands old new columns (λ told none. c.in_err-published.ensures.none told (commits_is ∙ none))
-    (λ told. (c.in_err-published.ensures.folder told).alone) (λ told. (c.in_err-published.ensures.folder told).short) e
+    (λ told. (c.in_err-published.ensures.own told).alone) (λ told. (c.in_err-published.ensures.own told).short) e
     (λ told stands.
     subst (λ (cs : List Commit). Publishes store (meaning g.T.Target t) (origin_at c.args.plan.now.table) view cs (e ≡ Contested → ⊥) false old new) commits_is
     (subst (λ (id : Option (List ℕ)). Publishes store (meaning g.T.Target t) (origin_at id) view c.as_slice-commits.result.now (e ≡ Contested → ⊥) false old new) id_is
@@ -147,7 +147,7 @@ returns-in_err-report_of g c =
     subst (λ (r : Result Report TargetError). Applies store (meaning g.T.Target t) (unfit partition commits) (passes_at c.args.plan.now.table) (written_at c.args.plan.now.table) (origin_at c.args.plan.now.table) view partition commits c.args.plan.now.full Stands old new r)
     (sym (exit.1 ∙ ap (λ (x : TargetError). Err x) exit.2))
     (applies_untold store (meaning g.T.Target t) (origin_at c.args.plan.now.table) view commits (unfit partition commits) (passes_at c.args.plan.now.table) (written_at c.args.plan.now.table) partition c.args.plan.now.full Stands old new columns (λ told none. c.in_ok-published.ensures.none told (commits_is ∙ none))
-    (λ told. (c.in_ok-published.ensures.folder told).alone) (λ told. (c.in_ok-published.ensures.folder told).short) c.in_ok-published.published
+    (λ told. (c.in_ok-published.ensures.own told).alone) (λ told. (c.in_ok-published.ensures.own told).short) c.in_ok-published.published
     (λ told stands.
     subst (λ (cs : List Commit). Publishes store (meaning g.T.Target t) (origin_at c.args.plan.now.table) view cs (Unit {0}) true old new) commits_is
     (subst (λ (id : Option (List ℕ)). Publishes store (meaning g.T.Target t) (origin_at id) view c.as_slice-commits.result.now (Unit {0}) true old new) id_is
@@ -182,7 +182,7 @@ returns g c =
     let last = g.T.Target.view t c.follow.new.kept in
     let count = c.in_ok-published.ensures.count ∙ ap (λ (cs : List Commit). length cs) commits_is in
     applies_all store (meaning g.T.Target t) (origin_at c.args.plan.now.table) view commits (unfit partition commits) (passes_at c.args.plan.now.table) (written_at c.args.plan.now.table) partition c.args.plan.now.full Stands old new columns (λ told none. c.in_ok-published.ensures.none told (commits_is ∙ none))
-    (λ told. (c.in_ok-published.ensures.folder told).alone) (λ told. (c.in_ok-published.ensures.folder told).short) c.in_ok-published.published
+    (λ told. (c.in_ok-published.ensures.own told).alone) (λ told. (c.in_ok-published.ensures.own told).short) c.in_ok-published.published
     (λ told stands.
     subst (λ (cs : List Commit). Publishes store (meaning g.T.Target t) (origin_at c.args.plan.now.table) view cs (Unit {0}) true old new) commits_is
     (subst (λ (id : Option (List ℕ)). Publishes store (meaning g.T.Target t) (origin_at id) view c.as_slice-commits.result.now (Unit {0}) true old new) id_is

@@ -3,12 +3,13 @@ use Rattle.std.specs.Prelude.{IsErrOf, is_ok, length, ◌≤◌}
 use Rattle.std.specs.Option.{option_copied}
 use Rattle.std.proofs.lemmas.Result.{err_from_is_err_and}
 use Rattle.lake_basics.specs.declared.limits.TheConstants.{MAX_FILE_BYTES}
-use Rattle.lake_store.specs.Runs.{IsOutside}
 use Rattle.lake_store.proofs.RunLaws.{alone_by_reading, reading_begins}
 use Rattle.lake_store.proofs.ShortLaws.{short_same}
-use Rattle.delta_table.specs.Versions.{IsVersionPath, log_folder}
+use Rattle.delta_table.specs.Versions.{IsVersionPath}
+use Rattle.table_history.specs.declared.kind.Kind.TheVariants.{Delta}
 use Rattle.table_history.specs.declared.limit.LimitKind.TheVariants.{File}
 use Rattle.target_core.specs.Outcome.{Uncontested, answer_of}
+use Rattle.target_core.specs.OwnFiles.{MayNotTouch}
 use Rattle.target_core.specs.Publishing.{Publishes}
 use Rattle.target_core.specs.Views.{Origin, origin_of}
 use Rattle.target_core.specs.declared.target.TargetError.TheVariants.{Contested}
@@ -22,14 +23,14 @@ use Rattle.target_delta.specs.NewVersion.{IsNewVersion}
 use Rattle.target_delta.specs.Reading.{commits_in}
 use Rattle.target_delta.specs.Writing.{LogEnd}
 use Rattle.target_delta.proofs.CommitLemmas.{fits_behind, free_path, stands_now}
-use Rattle.target_delta.proofs.StoreLemmas.{alone_staged, as_left, as_left_come, beside_now, contested_by, count_taken, counted_now, err_same, kept_taken, not_ok, ok_taken, publishes_nothing, publishes_staged, stands_come, theirs_taken, unlimited_by, untaken_by, writes_now}
+use Rattle.target_delta.proofs.StoreLemmas.{as_left, as_left_come, beside_now, contested_by, count_taken, counted_now, err_same, kept_taken, not_ok, ok_taken, publishes_nothing, publishes_staged, stands_come, theirs_taken, touches_staged, unlimited_by, untaken_by, writes_now}
 use Rattle.target_delta.proofs.target.DeltaTargetTarget.commit.Goals as goal
 
-pub returns-in_err-version-clause-folder : goal.returns-in_err-version-clause-folder
-returns-in_err-version-clause-folder g c told =
+pub returns-in_err-version-clause-own : goal.returns-in_err-version-clause-own
+returns-in_err-version-clause-own g c told =
     let store = g.S.Store in
     let s = c.args.store.now in
-    record { alone = alone_by_reading store (IsOutside log_folder) s s (reading_begins store g.met.S.Store.only_now s told); short = short_same MAX_FILE_BYTES (store.disk s).files (store.disk s).files refl }
+    record { alone = alone_by_reading store (MayNotTouch Delta) s s (reading_begins store g.met.S.Store.only_now s told); short = short_same MAX_FILE_BYTES (store.disk s).files (store.disk s).files refl }
 
 pub returns-in_err-version-clause-publishes : goal.returns-in_err-version-clause-publishes
 returns-in_err-version-clause-publishes g c told stands settled =
@@ -67,8 +68,8 @@ stage_and_publish-requires-clause-free g c told =
     let named = subst (λ p. IsVersionPath p kept.commits) (sym c.as_str-path.ensures.value) c.in_ok-version.ensures.path in
     free_path (g.S.Store.disk c.args.store.now).files c.as_str-path.result.now kept.commits named (c.requires.counted told)
 
-pub returns-in_err-stage_and_publish-clause-folder : goal.returns-in_err-stage_and_publish-clause-folder
-returns-in_err-stage_and_publish-clause-folder g c told =
+pub returns-in_err-stage_and_publish-clause-own : goal.returns-in_err-stage_and_publish-clause-own
+returns-in_err-stage_and_publish-clause-own g c told =
     let store = g.S.Store in
     let kept = c.args.kept.now in
     let next = c.new_version.new.kept in
@@ -82,7 +83,7 @@ returns-in_err-stage_and_publish-clause-folder g c told =
     let named = subst (λ p. IsVersionPath p kept.commits) (sym c.as_str-path.ensures.value) c.in_ok-version.ensures.path in
     let v = subst (λ b. IsNewVersion origin c.args.now_ms kept c.args.commit.now b next) (sym c.as_slice.ensures.value) c.in_ok-version.ensures.is in
     record {
-      alone = alone_staged store old new told staged name bytes kept.commits is_staged named _ (c.in_err-stage_and_publish.ensures.left told) c.in_err-stage_and_publish.ensures.any_moment;
+      alone = touches_staged store old new told staged name bytes kept.commits is_staged named _ (c.in_err-stage_and_publish.ensures.left told) c.in_err-stage_and_publish.ensures.any_moment;
       short = c.in_err-stage_and_publish.ensures.short told (subst (λ (b : List ℕ). length b ≤ MAX_FILE_BYTES) (sym c.as_slice.ensures.value) c.in_ok-version.ensures.short);
     }
 
@@ -142,8 +143,8 @@ returns-in_err-stage_and_publish-clause-refuses g c =
       };
     }
 
-pub returns-clause-folder : goal.returns-clause-folder
-returns-clause-folder g c told =
+pub returns-clause-own : goal.returns-clause-own
+returns-clause-own g c told =
     let store = g.S.Store in
     let kept = c.args.kept.now in
     let next = c.new_version.new.kept in
@@ -157,7 +158,7 @@ returns-clause-folder g c told =
     let named = subst (λ p. IsVersionPath p kept.commits) (sym c.as_str-path.ensures.value) c.in_ok-version.ensures.path in
     let v = subst (λ b. IsNewVersion origin c.args.now_ms kept c.args.commit.now b next) (sym c.as_slice.ensures.value) c.in_ok-version.ensures.is in
     record {
-      alone = alone_staged store old new told staged name bytes kept.commits is_staged named _ (c.in_ok-stage_and_publish.ensures.left told) c.in_ok-stage_and_publish.ensures.any_moment;
+      alone = touches_staged store old new told staged name bytes kept.commits is_staged named _ (c.in_ok-stage_and_publish.ensures.left told) c.in_ok-stage_and_publish.ensures.any_moment;
       short = c.in_ok-stage_and_publish.ensures.short told (subst (λ (b : List ℕ). length b ≤ MAX_FILE_BYTES) (sym c.as_slice.ensures.value) c.in_ok-version.ensures.short);
     }
 

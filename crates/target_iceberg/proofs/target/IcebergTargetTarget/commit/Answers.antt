@@ -3,16 +3,17 @@ use Rattle.std.specs.Prelude.{IsErrOf, is_ok}
 use Rattle.std.specs.FinMap as map
 use Rattle.std.specs.Option.{option_copied}
 use Rattle.std.proofs.lemmas.Result.{err_from_is_err_and}
-use Rattle.iceberg_table.specs.Folder.{metadata_folder, version_path}
+use Rattle.iceberg_table.specs.Folder.{version_path}
 use Rattle.iceberg_version.specs.KeptEnd.{end_of, view_of}
 use Rattle.iceberg_version.specs.Writing.{Passes}
 use Rattle.iceberg_commit.specs.NextVersion.{IsNextVersion, VersionFiles}
 use Rattle.iceberg_commit.specs.NewVersion.{IsVersionRefusal}
 use Rattle.lake_basics.specs.declared.limits.TheConstants.{MAX_FILE_BYTES}
-use Rattle.lake_store.specs.Runs.{IsOutside}
 use Rattle.lake_store.proofs.RunLaws.{alone_by_reading, reading_begins}
 use Rattle.lake_store.proofs.ShortLaws.{short_same}
+use Rattle.table_history.specs.declared.kind.Kind.TheVariants.{Iceberg}
 use Rattle.target_core.specs.Outcome.{Uncontested}
+use Rattle.target_core.specs.OwnFiles.{MayNotTouch}
 use Rattle.target_core.specs.Publishing.{Publishes}
 use Rattle.target_core.specs.Views.{Origin, origin_of}
 use Rattle.target_core.specs.declared.target.TargetError.TheVariants.{Contested, StoreFault}
@@ -22,13 +23,14 @@ use Rattle.target_iceberg.specs.Reading.{commits_in}
 use Rattle.target_iceberg.proofs.CommitFiles.{free_path, number}
 use Rattle.target_iceberg.proofs.CommitKept.{fits_behind, kinds_stay, passes_behind}
 use Rattle.target_iceberg.proofs.CommitStore.{as_left, count_contested, counted_now, done_or_later, kept_contested, never_contested, never_fault, never_later, never_limited, no_contest, no_fault, on_ok, publishes_nothing, publishes_version, stands_come, theirs_contested, writes_now}
+use Rattle.target_iceberg.proofs.PublishingLemmas.{touches_own}
 use Rattle.target_iceberg.proofs.target.IcebergTargetTarget.commit.Goals as goal
 
-pub returns-in_err-new-clause-folder : goal.returns-in_err-new-clause-folder
-returns-in_err-new-clause-folder g c told =
+pub returns-in_err-new-clause-own : goal.returns-in_err-new-clause-own
+returns-in_err-new-clause-own g c told =
     let store = g.S.Store in
     let s = c.args.store.now in
-    record { alone = alone_by_reading store (IsOutside metadata_folder) s s (reading_begins store g.met.S.Store.only_now s told); short = short_same MAX_FILE_BYTES (store.disk s).files (store.disk s).files refl }
+    record { alone = alone_by_reading store (MayNotTouch Iceberg) s s (reading_begins store g.met.S.Store.only_now s told); short = short_same MAX_FILE_BYTES (store.disk s).files (store.disk s).files refl }
 
 pub returns-in_err-new-clause-publishes : goal.returns-in_err-new-clause-publishes
 returns-in_err-new-clause-publishes g c told stands settled =
@@ -98,8 +100,14 @@ publish_version-requires-clause-short g c =
     subst (λ (texts : List (List ℕ)). IsNextVersion kept origin c.args.now_ms commit (record { version = made.version; manifests = texts; list = made.list; metadata = made.metadata }) next) (sym c.as_slice-manifests.ensures.value) c.in_ok-new.ensures.is in
     v.short
 
-pub returns-clause-folder : goal.returns-clause-folder
-returns-clause-folder g c told = record { alone = c.publish_version.ensures.alone told; short = c.publish_version.ensures.short told }
+pub returns-clause-own : goal.returns-clause-own
+returns-clause-own g c told =
+    let made = c.in_ok-new.new in
+    let files : VersionFiles = record { version = made.version; manifests = c.as_slice-manifests.result.now; list = made.list; metadata = made.metadata } in
+    record {
+      alone = touches_own g.S.Store files c.args.store.now c.publish_version.new.store (c.publish_version.ensures.publishes told).others;
+      short = c.publish_version.ensures.short told;
+    }
 
 pub returns-clause-goes_on : goal.returns-clause-goes_on
 returns-clause-goes_on g c =
