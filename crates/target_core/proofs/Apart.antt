@@ -1,7 +1,7 @@
 -- The folders of two formats share no path, and a target touches its own alone.
 use Rattle.std.proofs.Common.{◌≡◌, ℕ, List, ◌∷◌, ◌++◌, codes, refl, arith}
 use Rattle.std.specs.Fmt.{decimal}
-use Rattle.lake_store.specs.Runs.{IsIn, IsOutside}
+use Rattle.lake_store.specs.Runs.{IsIn}
 use Rattle.table_history.specs.declared.kind.Kind.{Kind}
 use Rattle.table_history.specs.declared.kind.Kind.TheVariants.{Delta, Iceberg, Hudi}
 use Rattle.target_core.specs.Folders.{AreApart, folder_of}
@@ -37,9 +37,6 @@ touched_in Hudi path (IsHudiFile.claim instant are is) = (codes ".lakebridge/" +
 touched_in Hudi path (IsHudiFile.properties is) = (codes "hoodie.properties", is)
 touched_in Hudi path (IsHudiFile.staged_properties is) = (codes ".lakebridge/properties", is)
 
--- What lies outside of a target's folder, or in another format's, is untouched.
-pub outside_untouched : (kind : Kind) (path : List ℕ) → IsOutside (folder_of kind) path → MayNotTouch kind path
-outside_untouched kind path outside touched = outside (touched_in kind path touched)
-
+-- What lies in another format's folder is untouched.
 pub apart_untouched : (a b : Kind) → (b ≡ a → ⊥) → (path : List ℕ) → IsIn (folder_of a) path → MayNotTouch b path
 apart_untouched a b other path within touched = folders_apart a b other path within (touched_in b path touched)

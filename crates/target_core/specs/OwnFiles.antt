@@ -1,4 +1,4 @@
--- Which files a target writes and removes, by their paths. All else in its folder is another's: an engine's checkpoints, hints and archives.
+-- Which files a target writes and removes, by their paths. All else in its folder stays, such as an engine's checkpoints, hints and archives.
 use Rattle.std.specs.Prelude.{◌≡◌, ℕ, List, ◌++◌, codes, length}
 use Rattle.std.specs.Fmt.{decimal}
 use Rattle.std.specs.Str.Parse.{IsNumeral}

@@ -22,7 +22,7 @@ use Rattle.lake_store.proofs.RunLaws.{NowOnly, alone_by_reading, reading_begins}
 use Rattle.table_history.specs.declared.table.Commit.{Commit}
 use Rattle.delta_text.specs.Writing.{commit_text}
 use Rattle.delta_log.specs.declared.commit.DeltaCommit.{DeltaCommit}
-use Rattle.delta_table.specs.Versions.{IsVersionPath}
+use Rattle.delta_table.specs.Versions.{IsVersionPath, log_folder}
 use Rattle.target_core.specs.Conditions.{CanPublish, Fits}
 use Rattle.target_core.specs.Folders.{MayLeaveIn, after_crash}
 use Rattle.target_core.specs.Gained.{CarriesAll}

@@ -43,8 +43,5 @@ one_staged path other version p o =
     let paths = path_once version (path_of p.name) (path_of o.name) (record { name = p.name; named = p.named; split = refl }) (record { name = o.name; named = o.named; split = refl }) in
     p.is ∙ ap (λ (n : List ℕ). path_of (leftover_front ++ n)) (same_behind p.name o.name (path_of p.name) refl paths) ∙ sym o.is
 
-pub leftover_in : (path : List ℕ) → IsLeftover path → IsIn log_folder path
-leftover_in path left = (left.name, left.is)
-
 pub name_in : (name : List ℕ) → IsIn log_folder (path_of name)
 name_in name = (name, refl)

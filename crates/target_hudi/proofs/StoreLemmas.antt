@@ -199,7 +199,7 @@ leftover_touched files path (inr (instant, real, lacking, inr (Inflight, is))) =
 
 untouched_kept : (properties : Option (List ℕ)) (instant : List ℕ) → IsSomeTime instant → (files : Files) (path : List ℕ) → MayNotTouch Hudi path → IsKept properties instant files path
 untouched_kept properties instant real files path untouched = record {
-  leftover = λ open. untouched (leftover_touched files path open);
+  leftover = λ left. untouched (leftover_touched files path left);
   completed = λ is. untouched (IsHudiFile.completed instant (seventeen instant real) is);
   given = not_given properties;
 }

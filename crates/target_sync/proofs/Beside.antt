@@ -360,7 +360,7 @@ module _ {S : Type 0} (store : Ghosts S) (only_now : NowOnly store) (now_counts 
       back = same_back folder first middle here
 
       source_here : SameIn (folder_of source.kind) first middle
-      source_here path mine = (run told).disk.files path (λ theirs. folders_apart source.kind other (λ is. far (sym is)) path mine theirs)
+      source_here path mine = (run told).disk.files path (apart_untouched source.kind other (λ is. far (sym is)) path mine)
 
       source_back : SameIn (folder_of source.kind) middle first
       source_back = same_back (folder_of source.kind) first middle source_here
