@@ -1,10 +1,8 @@
 -- The entries of manifests of which each counts once.
 use Rattle.std.proofs.Common.{◌≡◌, ◌<◌, ◌≤◌, ◌+◌, ◌||◌, ℕ, Bool, false, cond, List, [], ◌∷◌, ◌++◌, length, get_or, take, drop, append_assoc, take-append-drop, arith, refl, sym, ap, subst, ◌∙◌}
-use Rattle.std.specs.Prelude.{not, filter}
 use Rattle.std.specs.List.{list_any}
 use Rattle.std.specs.Str.{bytes_eq}
 use Rattle.std.proofs.lemmas.List.{take_more}
-use Rattle.std.proofs.lemmas.List.Elements.{filter-append}
 use Rattle.lake_basics.specs.declared.limits.TheConstants.{MAX_ACTIONS}
 use Rattle.lake_basics.proofs.Texts.{key_more}
 use Rattle.iceberg_table.specs.declared.manifest.Manifest.{Manifest}
@@ -14,28 +12,10 @@ use Rattle.source_core.specs.declared.error.SourceError.{SourceError}
 use Rattle.source_core.specs.declared.error.SourceError.TheVariants.{Limit}
 use Rattle.table_history.specs.declared.limit.LimitKind.TheVariants as limit
 use Rattle.source_iceberg.specs.Counted.{Counts}
-use Rattle.iceberg_table.specs.Once.{each_once, entries_once, has_path}
-use Rattle.iceberg_table.proofs.CountLaws.{count_one, once_more, one_left, read_more}
+use Rattle.iceberg_table.specs.Once.{entries_once}
+use Rattle.iceberg_table.proofs.CountLaws.{count_one, once_more, read_more}
 use Rattle.source_iceberg.specs.Since.{HasManyEntries}
 use Rattle.source_iceberg.specs.declared.counted.Counted.{Counted}
-
--- ---- lists
-
--- those whose paths the first list lacks
-abbrev fresh : List Manifest → List Manifest → List Manifest
-fresh [] rs = rs
-fresh (x ∷ xs) rs = filter (λ s. not (has_path s.file.path x)) (fresh xs rs)
-
-once_append : (xs rs : List Manifest) → each_once (xs ++ rs) ≡ each_once xs ++ fresh xs (each_once rs)
-once_append [] rs = refl
-once_append (x ∷ xs) rs =
-    ap (λ (l : List Manifest). x ∷ filter (λ (s : Manifest). not (has_path s.file.path x)) l) (once_append xs rs)
-    ∙ ap (λ (l : List Manifest). x ∷ l) (filter-append (λ (s : Manifest). not (has_path s.file.path x)) (each_once xs) (fresh xs (each_once rs)))
-
-fresh_one : (xs : List Manifest) (r : Manifest) → fresh xs (r ∷ []) ≡ cond (list_any (has_path r.file.path) xs) [] (r ∷ [])
-fresh_one [] r = refl
-fresh_one (x ∷ xs) r =
-    ap (λ (l : List Manifest). filter (λ (s : Manifest). not (has_path s.file.path x)) l) (fresh_one xs r) ∙ one_left x r (has_path r.file.path x) (list_any (has_path r.file.path) xs) refl
 
 -- ---- what is counted
 
