@@ -13,6 +13,7 @@ use Rattle.delta_table.specs.Versions.{HasVersion}
 use Rattle.delta_table.proofs.PathLaws.{says_once}
 use Rattle.source_core.specs.Since.{EndAt}
 use Rattle.source_core.specs.declared.head.Head.{Head}
+use Rattle.source_core.proofs.Heads.{same_parts}
 use Rattle.source_delta.specs.Heads.{IsAbsent, IsDeltaHead, IsNewest, IsTableId}
 use Rattle.source_delta.specs.Since.{AreCommits, IsSince}
 
@@ -34,13 +35,6 @@ one_id files (Some id) (Some other) x y =
     let says = says_once files 0 x.0 y.0 x.3 y.3 in
     let meta = same_Some x.1 y.1 (sym x.4 ∙ ap (λ (c : DeltaCommit). c.meta) says ∙ y.4) in
     ap (λ (i : List ℕ). Some i) (x.5 ∙ ap (λ (m : MetaData). m.id) meta ∙ sym y.5)
-
-abbrev head_of : List ℕ → Option (List ℕ) → Option (List ℕ) → Head
-head_of position pending table = record { position = position; pending = pending; table = table }
-
-same_parts : (a b : Head) → a.position ≡ b.position → a.pending ≡ b.pending → a.table ≡ b.table → a ≡ b
-same_parts a b position pending table =
-    ap (λ (x : List ℕ). head_of x a.pending a.table) position ∙ ap (λ (x : Option (List ℕ)). head_of b.position x a.table) pending ∙ ap (λ (x : Option (List ℕ)). head_of b.position b.pending x) table
 
 pub one_head : (files : Files) (a b : Head) → IsDeltaHead files a → IsDeltaHead files b → a ≡ b
 one_head files a b x y =

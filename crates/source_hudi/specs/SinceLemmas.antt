@@ -26,6 +26,7 @@ use Rattle.hudi_table.proofs.TimeOrder.{earlier_still}
 use Rattle.source_core.specs.Since.{EndAt}
 use Rattle.source_core.specs.declared.error.SourceError.{SourceError}
 use Rattle.source_core.specs.declared.head.Head.{Head}
+use Rattle.source_core.proofs.Heads.{same_parts}
 use Rattle.target_core.specs.Folders.{SameIn}
 use Rattle.source_hudi.specs.Heads.{IsHudiHead, IsPending, IsTableName}
 use Rattle.source_hudi.specs.Instants.{reached_in}
@@ -71,7 +72,7 @@ one_head files a b h k =
     let position = one_position files a.position b.position h.position k.position in
     let pending = one_pending files a.pending b.pending h.pending k.pending in
     let name = one_name files a.table b.table h.table k.table in
-    λ i. record { position = position i; pending = pending i; table = name i }
+    same_parts a b position pending name
 
 -- ---- the later instants
 

@@ -22,6 +22,7 @@ use Rattle.iceberg_metadata.proofs.ContentLemmas.{contents_are}
 use Rattle.iceberg_table.specs.Files.{HoldsFile}
 use Rattle.iceberg_table.specs.Folder.{HasVersion, IsNewest, version_path}
 use Rattle.source_core.specs.declared.head.Head.{Head}
+use Rattle.source_core.proofs.Heads.{same_parts}
 use Rattle.source_iceberg.specs.Heads.{IsAbsent, IsCurrent, IsIcebergHead, IsNewestMetadata, StandsForMetadata, StatesMetadata, metadata_features}
 
 -- ---- what the newest metadata says
@@ -121,13 +122,6 @@ not_absent files v m s is (inr (w, n, stands, none)) =
     none-some s (sym (ap (held_at m.snapshots) no) ∙ is.held)
 
 -- ---- the head
-
-abbrev head_of : List ℕ → Option (List ℕ) → Option (List ℕ) → Head
-head_of position pending table = record { position = position; pending = pending; table = table }
-
-same_parts : (a b : Head) → a.position ≡ b.position → a.pending ≡ b.pending → a.table ≡ b.table → a ≡ b
-same_parts a b position pending table =
-    ap (λ (x : List ℕ). head_of x a.pending a.table) position ∙ ap (λ (x : Option (List ℕ)). head_of b.position x a.table) pending ∙ ap (λ (x : Option (List ℕ)). head_of b.position b.pending x) table
 
 pub head_there : (files : Files) (head : Head) → IsIcebergHead files head → IsAbsent files → ⊥
 head_there files head is absent = not_absent files is.version is.metadata is.snapshot is.current absent
