@@ -1,4 +1,5 @@
 pub mod Answers
 pub mod Runs
 pub mod Heads
+pub mod Lists
 pub mod Histories

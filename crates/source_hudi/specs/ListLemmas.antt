@@ -1,12 +1,12 @@
 -- Lists: their maps, their last items, and texts that are distinct.
-use Rattle.std.proofs.Common.{◌≡◌, ⊎_elim, ℕ, Bool, true, false, cond, List, [], ◌∷◌, ◌++◌, map, Contains, refl, sym, ap, subst, ◌∙◌}
+use Rattle.std.proofs.Common.{◌≡◌, ⊎_elim, ℕ, Bool, true, cond, List, [], ◌∷◌, ◌++◌, map, Contains, refl, sym, ap, subst, ◌∙◌}
 use Rattle.std.specs.Prelude.{filter}
 use Rattle.std.specs.List.{IsDistinct}
 use Rattle.std.specs.Str.{bytes_eq}
-use Rattle.std.proofs.lemmas.Bool.{false≢true}
 use Rattle.std.proofs.lemmas.List.Elements.{Contains-append_right}
-use Rattle.table_history.proofs.RowListLemmas.{Contains-cases, Contains-head, Contains-none, Contains-tail, all_at}
-use Rattle.lake_basics.proofs.Texts.{behind_distinct, bytes_itself}
+use Rattle.table_history.proofs.RowListLemmas.{Contains-cases, Contains-head, Contains-none, Contains-tail}
+use Rattle.lake_basics.proofs.Texts.{behind_distinct}
+use Rattle.source_core.proofs.Lists.{end_of, first_apart}
 
 pub in_map : {X Y : Type 0} (f : X → Y) (xs : List X) (y : Y) → Contains (map f xs) y → (x : X) × Contains xs x × (f x ≡ y)
 in_map f [] y there = absurd (Contains-none y there)
@@ -28,11 +28,6 @@ pub all_kept : {X : Type 0} (p : X → Bool) (xs : List X) → ((x : X) → Cont
 all_kept p [] all = refl
 all_kept p (x ∷ xs) all = ap (λ b. cond b (x ∷ filter p xs) (filter p xs)) (all x (Contains-head x xs)) ∙ ap (λ ys. x ∷ ys) (all_kept p xs (λ y there. all y (Contains-tail x xs y there)))
 
--- a text that is the first of distinct ones isn't among the others
-pub first_apart : (p q : List ℕ) (ys : List (List ℕ)) → IsDistinct bytes_eq (p ∷ ys) → Contains ys q → p ≡ q → ⊥
-unfolding IsDistinct
-first_apart p q ys distinct there e = false≢true (sym (all_at (λ y. bytes_eq p y ≡ false) ys q distinct.0 there) ∙ subst (λ r. bytes_eq p r ≡ true) e (bytes_itself p))
-
 pub last_distinct : (xs ys : List (List ℕ)) → IsDistinct bytes_eq (xs ++ ys) → IsDistinct bytes_eq ys
 last_distinct [] ys distinct = distinct
 last_distinct (x ∷ xs) ys distinct = last_distinct xs ys (behind_distinct x (xs ++ ys) distinct)
@@ -49,22 +44,10 @@ split_last (x ∷ xs) p ys (z ∷ zs) ts distinct e there =
 
 -- ---- the last item
 
-abbrev pub end_of : {X : Type 0} → X → List X → X
-end_of x [] = x
-end_of x (y ∷ ys) = end_of y ys
-
 pub end_front : {X : Type 0} (x : X) (xs : List X) → (front : List X) × (x ∷ xs ≡ front ++ end_of x xs ∷ [])
 end_front x [] = ([], refl)
 end_front x (y ∷ ys) = let h = end_front y ys in (x ∷ h.0, ap (λ l. x ∷ l) h.1)
 
-pub end_in : {X : Type 0} (x : X) (xs : List X) → Contains (x ∷ xs) (end_of x xs)
-end_in x [] = Contains-head x []
-end_in x (y ∷ ys) = Contains-tail x (y ∷ ys) (end_of y ys) (end_in y ys)
-
 pub end_map : {X Y : Type 0} (f : X → Y) (x : X) (xs : List X) → f (end_of x xs) ≡ end_of (f x) (map f xs)
 end_map f x [] = refl
 end_map f x (y ∷ ys) = end_map f y ys
-
-pub end_append : {X : Type 0} (x : X) (xs : List X) (y : X) (ys : List X) → end_of x (xs ++ y ∷ ys) ≡ end_of y ys
-end_append x [] y ys = refl
-end_append x (z ∷ zs) y ys = end_append z zs y ys

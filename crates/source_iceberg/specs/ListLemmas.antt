@@ -1,36 +1,20 @@
--- The last item of a list, and where texts that are distinct stand.
-use Rattle.std.proofs.Common.{◌≡◌, ℕ, true, false, List, [], ◌∷◌, ◌++◌, Contains, refl, sym, ap, subst, ◌∙◌}
+-- The last item of lists that are one, and what is behind a position in a history.
+use Rattle.std.proofs.Common.{◌≡◌, ℕ, List, [], ◌∷◌, ◌++◌, Contains, sym, ap, subst, ◌∙◌}
 use Rattle.std.specs.List.{IsDistinct}
 use Rattle.std.specs.Str.{bytes_eq}
-use Rattle.std.proofs.lemmas.Bool.{false≢true}
 use Rattle.table_history.specs.History.{History, positions_of}
 use Rattle.table_history.specs.declared.table.Table.{Table}
-use Rattle.table_history.proofs.RowListLemmas.{Contains-head, Contains-tail, all_at}
-use Rattle.lake_basics.proofs.Texts.{behind_distinct, bytes_itself}
+use Rattle.table_history.proofs.RowListLemmas.{Contains-head, Contains-tail}
+use Rattle.lake_basics.proofs.Texts.{behind_distinct}
+use Rattle.source_core.proofs.Lists.{end_append, end_of, first_apart}
 
 -- ---- the last item
-
-abbrev pub end_of : {X : Type 0} → X → List X → X
-end_of x [] = x
-end_of x (y ∷ ys) = end_of y ys
-
-pub end_in : {X : Type 0} (x : X) (xs : List X) → Contains (x ∷ xs) (end_of x xs)
-end_in x [] = Contains-head x []
-end_in x (y ∷ ys) = Contains-tail x (y ∷ ys) (end_of y ys) (end_in y ys)
-
-end_append : {X : Type 0} (x : X) (xs : List X) (y : X) (ys : List X) → end_of x (xs ++ y ∷ ys) ≡ end_of y ys
-end_append x [] y ys = refl
-end_append x (z ∷ zs) y ys = end_append z zs y ys
 
 -- lists that are one have one last item
 pub same_end : {X : Type 0} (xs : List X) (x : X) (ys zs : List X) (z : X) → xs ++ x ∷ ys ≡ zs ++ z ∷ [] → end_of x ys ≡ z
 same_end xs x ys zs z e = sym (end_append x xs x ys) ∙ ap (end_of x) e ∙ end_append x zs z []
 
--- ---- texts that are distinct
-
-first_apart : (p q : List ℕ) (ys : List (List ℕ)) → IsDistinct bytes_eq (p ∷ ys) → Contains ys q → p ≡ q → ⊥
-unfolding IsDistinct
-first_apart p q ys distinct there e = false≢true (sym (all_at (λ y. bytes_eq p y ≡ false) ys q distinct.0 there) ∙ subst (λ r. bytes_eq p r ≡ true) e (bytes_itself p))
+-- ---- positions that are distinct
 
 pub in_positions : (xs : History) (e : List ℕ × Table) (ps : History) → Contains (positions_of (xs ++ e ∷ ps)) e.0
 in_positions [] e ps = Contains-head e.0 (positions_of ps)

@@ -12,8 +12,9 @@ use Rattle.iceberg_metadata.specs.declared.metadata.Snapshot.{Snapshot}
 use Rattle.iceberg_table.specs.declared.manifest.Manifest.{Manifest}
 use Rattle.source_core.specs.Since.{EndAt}
 use Rattle.source_core.specs.declared.head.Head.{Head}
+use Rattle.source_core.proofs.Lists.{end_in, end_of}
 use Rattle.source_iceberg.specs.Heads.{IsCurrent, IsIcebergHead}
-use Rattle.source_iceberg.specs.ListLemmas.{end_in, end_of, same_end}
+use Rattle.source_iceberg.specs.ListLemmas.{same_end}
 use Rattle.source_iceberg.specs.HeadLemmas.{metadata_once}
 use Rattle.source_iceberg.specs.Since.{AreCommits, IsReached, IsSince}
 use Rattle.lake_basics.proofs.Options.{none_or_some, some_once}
