@@ -10,10 +10,11 @@ use Rattle.lake_store.specs.declared.sink.Sink as sinks
 use Rattle.lake_store.specs.declared.store.Store.{Ghosts}
 use Rattle.table_history.specs.Path.{IsPath}
 use Rattle.target_sync.specs.declared.status.Status.{Status}
+use Rattle.source_core.proofs.Files.{same_files}
 use Rattle.sync_driver.specs.Formats.{Formats}
 use Rattle.lake_batch.specs.Batch.{AreApart, AreFolders, folder_of}
 use Rattle.lake_batch.specs.Part.{IsBeside, part_files, path_in}
-use Rattle.lake_batch.specs.PartAt.{get-part, same_files}
+use Rattle.lake_batch.specs.PartAt.{get-part}
 use Rattle.lake_batch.specs.Tables.{AreRun, RunsTable}
 use Rattle.lake_batch.specs.declared.batch.Item.{Item}
 use Rattle.lake_basics.proofs.Lists.{all_at_place}

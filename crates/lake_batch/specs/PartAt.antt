@@ -24,10 +24,7 @@ behind_splits [] text rest is = cc
 behind_splits (c ∷ front) [] rest is = cc
 behind_splits (c ∷ front) (d ∷ text) rest is = let more = behind_splits front text rest in grind (arith, nat_tests, more)
 
--- maps that answer alike are one, and so are sets
-pub same_files : (m n : Files) → ((q : List ℕ) → map.get m q ≡ map.get n q) → m ≡ n
-same_files m n is = map.same_map nat_list_cmp_total (slice_cmp-IsAntisymmetric nat_cmp-IsAntisymmetric) m n is
-
+-- sets that answer alike are one
 pub same_paths : (s t : Paths) → ((q : List ℕ) → set.contains s q ≡ set.contains t q) → s ≡ t
 same_paths s t is = set.same_set nat_list_cmp_total (slice_cmp-IsAntisymmetric nat_cmp-IsAntisymmetric) s t is
 

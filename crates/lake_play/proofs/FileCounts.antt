@@ -20,9 +20,7 @@ use Rattle.lake_store.specs.declared.store.StoreError.{StoreError}
 use Rattle.lake_store.specs.declared.store.StoreError.TheVariants.{Taken}
 use Rattle.lake_store.proofs.DiskLaws.{get-insert_here, get-insert_other, get-remove_here, get-remove_other, is_path, path_cases, publish_leaves, remove_leaves, write_leaves}
 use Rattle.lake_basics.proofs.Truth.{T_left, T_less, T_right}
-
-same_files : (m n : Files) → ((q : List ℕ) → map.get m q ≡ map.get n q) → m ≡ n
-same_files = map.same_map nat_list_cmp_total (map.slice_cmp-IsAntisymmetric map.nat_cmp-IsAntisymmetric)
+use Rattle.source_core.proofs.Files.{same_files}
 
 -- ---- one path
 
