@@ -1,17 +1,17 @@
 -- Commits that lead along a history take a target along it.
-use Rattle.std.proofs.Common.{◌≡◌, ◌≤◌, ℕ, zero, suc, List, [], ◌∷◌, length, take, Contains, Option, Some, None, refl, sym, ap, ◌∙◌, inl, inr, ⊎_elim, arith}
+use Rattle.std.proofs.Common.{◌≡◌, ◌≤◌, ℕ, zero, suc, List, [], ◌∷◌, length, take, Contains, Option, Some, None, refl, sym, ap, subst, ◌∙◌, inl, inr, ⊎_elim, arith}
 use Rattle.std.specs.Prelude.{slice_get, unwrap_or}
-use Rattle.table_history.specs.History.{History}
+use Rattle.table_history.specs.History.{FitsColumn, History, column_type}
 use Rattle.table_history.specs.Row.{Row}
 use Rattle.table_history.specs.Rows.{HasDistinctPaths, SameRows}
-use Rattle.table_history.specs.Tables.{IsRowAfter}
+use Rattle.table_history.specs.Tables.{IsRowAfter, SameTable}
 use Rattle.table_history.specs.TypeTree.{ColumnTrees}
 use Rattle.table_history.specs.declared.kind.Kind.{Kind}
 use Rattle.table_history.specs.declared.table.Commit.{Commit}
 use Rattle.table_history.specs.declared.table.Table.{Table}
 use Rattle.table_history.proofs.Laws.{change_leads}
 use Rattle.target_core.specs.Views.{IsAdvanced, IsAdvancedAll, IsSchemaAfter, Origin, SameView, View, standing_at}
-use Rattle.source_core.specs.Histories.{LeadAlong, LeadsTo, ShowsEntry}
+use Rattle.source_core.specs.Histories.{IsLike, LeadAlong, LeadsTo, ShowsEntry}
 
 module _ (source : Kind) (image : ColumnTrees → Option ColumnTrees) where
   -- the same holds of a view that shows the same
@@ -67,6 +67,17 @@ module _ (source : Kind) (image : ColumnTrees → Option ColumnTrees) where
       let next = entry_next origin of before after commit view is.0 distinct (all 0 after refl) shows along.0 is.1 in
       let rest = entry_after origin of after behind commits n is.0 last (all 0 after refl) (λ i p there. all (suc i) p there) next along.1 (omega (arith, within)) is.2 in
       (rest.0, rest.1, rest.2)
+
+-- a table is like one that is the same
+pub like_same : (held base : Table) → SameTable held base → IsLike held base
+like_same held base same = record {
+  rows = same.rows;
+  partition = same.partition;
+  kinds = λ name there v. (
+    λ fits. subst (λ (s : ColumnTrees). FitsColumn (column_type s name) v) same.schema fits,
+    λ fits. subst (λ (s : ColumnTrees). FitsColumn (column_type s name) v) (sym same.schema) fits,
+  );
+}
 
 -- commits along a history are as many as its tables
 pub along_length : (before : Table) (history : History) (commits : List Commit) → LeadAlong before history commits → length commits ≡ length history

@@ -21,6 +21,7 @@ use Rattle.delta_change.proofs.KindLemmas.{same_columns}
 use Rattle.delta_change.proofs.TableLemmas.{partition_kept}
 use Rattle.delta_table.specs.Log.{IsStep}
 use Rattle.source_core.specs.Histories.{IsLike}
+use Rattle.source_core.proofs.Histories.{like_same}
 use Rattle.table_history.specs.Tables.{SameTable}
 use Rattle.source_delta.specs.Histories.{IsReadableOver}
 use Rattle.partition_map.proofs.KindLemmas.{same_kind}
@@ -220,21 +221,11 @@ SameBefore None None = Unit {0}
 SameBefore (Some a) (Some b) = SameTable a b
 SameBefore _ _ = ⊥
 
-same_like : (a b : Table) → SameTable a b → IsLike a b
-same_like a b same = record {
-  rows = same.rows;
-  partition = same.partition;
-  kinds = λ name there v. (
-    λ h. subst (λ s. FitsColumn (column_type s name) v) same.schema h,
-    λ h. subst (λ s. FitsColumn (column_type s name) v) (sym same.schema) h,
-  );
-}
-
 pub like_before : (a b : Option Table) → SameBefore a b → LikeBefore a b
 like_before None None same = tt
 like_before None (Some t) same = absurd same
 like_before (Some t) None same = absurd same
-like_before (Some a) (Some b) same = same_like a b same
+like_before (Some a) (Some b) same = like_same a b same
 
 schema_same : (a b : Option Table) → SameBefore a b → schema_before a ≡ schema_before b
 schema_same None None same = refl

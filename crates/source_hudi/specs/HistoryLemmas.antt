@@ -31,13 +31,14 @@ use Rattle.hudi_table.proofs.TimeOrder.{up_to_itself}
 use Rattle.source_core.specs.Histories.{IsLast, IsLike, LeadAlong, LeadsTo}
 use Rattle.table_history.specs.Tables.{SameTable}
 use Rattle.source_core.specs.declared.head.Head.{Head}
+use Rattle.source_core.proofs.Histories.{like_same}
 use Rattle.source_core.proofs.Lists.{end_append, end_in, end_of, first_apart}
 use Rattle.target_core.specs.Folders.{SameIn}
 use Rattle.target_core.specs.FolderLemmas.{names_own, same_back}
 use Rattle.source_hudi.specs.Heads.{IsHudiHead, IsTableAtHead}
 use Rattle.source_hudi.specs.Histories.{HoldsHistory, IsFromFirst, IsMadeBy, IsReadable, LeaveTables, LeavesFirst, LeavesTable, times_of}
 use Rattle.source_hudi.specs.Instants.{IsArchiveEmpty, archive_folder, reached_in}
-use Rattle.source_hudi.specs.LikeLemmas.{first_same, leads_like, like_same, step_same}
+use Rattle.source_hudi.specs.LikeLemmas.{first_same, leads_like, step_same}
 use Rattle.source_hudi.specs.ListLemmas.{all_kept, end_front, end_map, in_map, last_distinct, map_in, split_last}
 use Rattle.source_hudi.specs.OwnLemmas.{properties_too, reached_same, says_too}
 use Rattle.source_hudi.specs.Since.{AreCommits, IsSince, is_later, later_in}

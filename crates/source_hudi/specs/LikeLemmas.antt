@@ -191,16 +191,6 @@ module _ (u : Completed) (table : HudiTable) (held base : Table) (change : Chang
 
 -- ---- the same table
 
-pub like_same : (held base : Table) → SameTable held base → IsLike held base
-like_same held base same = record {
-  rows = same.rows;
-  partition = same.partition;
-  kinds = λ name there v. (
-    λ fits. subst (λ (s : ColumnTrees). FitsColumn (column_type s name) v) same.schema fits,
-    λ fits. subst (λ (s : ColumnTrees). FitsColumn (column_type s name) v) (sym same.schema) fits,
-  );
-}
-
 -- what the first instant makes of no table
 pub first_same : (u : Completed) (table : HudiTable) (change : Change) (next after : Table) → IsChangeOf u table None change → IsAfter (empty_table table.partition) change next → (IsReadable u table None → IsMadeBy u table None after) → SameTable next after
 first_same u table change next after is to leaves =

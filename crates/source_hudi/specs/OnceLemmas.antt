@@ -29,7 +29,8 @@ use Rattle.source_core.specs.declared.head.Head.{Head}
 use Rattle.source_hudi.specs.Heads.{IsAbsent, IsHudiHead, IsTableAtHead}
 use Rattle.source_hudi.specs.Histories.{IsMadeBy}
 use Rattle.source_hudi.specs.Instants.{reached_in}
-use Rattle.source_hudi.specs.LikeLemmas.{first_same, like_same, step_same}
+use Rattle.source_core.proofs.Histories.{like_same}
+use Rattle.source_hudi.specs.LikeLemmas.{first_same, step_same}
 use Rattle.lake_basics.proofs.Options.{ok_once}
 
 pub head_there : (files : Files) (head : Head) → IsHudiHead files head → IsAbsent files → ⊥
