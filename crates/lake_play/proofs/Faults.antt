@@ -43,6 +43,7 @@ use Rattle.source_delta.specs.Histories.{IsReadableOver}
 use Rattle.source_delta.specs.LikeLemmas.{LikeBefore, SameBefore, like_before, next_like, next_same, readable_like}
 use Rattle.source_delta.specs.Reading.{HasEach, IsRefusedLog, LacksVersion, ShowsAtHead, ShowsFromScratch, Tells, TellsCommit}
 use Rattle.source_delta.specs.Since.{AreCommits, HasManyActions, HasManyCommits, IsRefusedBehind, IsRefusedOver, ShowsFromPosition, StopsBehind}
+use Rattle.source_delta.specs.SinceLemmas.{small}
 use Rattle.lake_play.proofs.Histories.{before_from, entry_of, has_kept, same_length, says_extension}
 use Rattle.lake_play.proofs.Logs.{HoldsCommits}
 
@@ -229,9 +230,6 @@ module _ (commits : List (List ℕ)) (first : ℕ) (disk : Disk) (h : HoldsCommi
       let of = refused.1 in
       told_commit first version of.0 e (over_mild version over.0 (Some before) of.0 over.1 like of.1) of.2)
       over.2
-
-  small : (n : ℕ) → n ≤ MAX_DELTA_VERSION → n < 2 ^ 64
-  small n le = omega (arith, le)
 
   -- over a table like the one there
   pub from_position_fault : (place : ℕ) (at : List ℕ × Table) (base : Table) (e : SourceError) → slice_get history place ≡ Some at → place < 2 ^ 64 → IsLike base at.1 → ShowsFromPosition disk.files (decimal place) base e → IsPlayedFault first e

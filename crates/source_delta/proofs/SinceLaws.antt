@@ -1,5 +1,5 @@
 -- The commits after a position, version by version.
-use Rattle.std.proofs.Common.{◌≡◌, ◌≤◌, ◌<◌, ◌+◌, ◌^◌, Bool, true, false, ℕ, zero, suc, Option, None, List, [], ◌∷◌, ◌++◌, length, Some, inr, refl, sym, ap, subst, ◌∙◌, arith}
+use Rattle.std.proofs.Common.{◌≡◌, ◌≤◌, ◌<◌, ◌+◌, Bool, true, false, ℕ, zero, suc, Option, None, List, [], ◌∷◌, ◌++◌, length, Some, inr, refl, sym, ap, subst, ◌∙◌, arith}
 use Rattle.std.proofs.lemmas.List.{length-append}
 use Rattle.std.proofs.lemmas.Bool.Decides.{nat_tests}
 use Rattle.std.proofs.lemmas.Fmt.{decimal_injective}
@@ -27,7 +27,7 @@ use Rattle.source_delta.specs.Heads.{IsNewest}
 use Rattle.source_delta.specs.Later.{GoesOnBy, IsOneMore}
 use Rattle.source_delta.specs.Reading.{HasManyNames}
 use Rattle.source_delta.specs.Since.{AreCommits, HaveActions, IsCommitOf, IsReached, IsRefusedBehind, IsRefusedOver, IsSince, Reaches, ShowsFromPosition}
-use Rattle.source_delta.specs.SinceLemmas.{one_newest, version_within}
+use Rattle.source_delta.specs.SinceLemmas.{one_newest, small, version_within}
 use Rattle.source_delta.specs.declared.since.Later.{Later}
 use Rattle.source_delta.proofs.Publishable.{log_of_publishable, publishable_of_log}
 
@@ -41,9 +41,6 @@ first_under (suc w) version none = by (nat_lt version w) refl
     by : (b : Bool) → nat_lt version w ≡ b → suc w ≤ version + 1
     by true is = let behind : version < w = grind (arith, nat_tests) in let next : w + 1 ≡ suc w = omega arith in absurd (none w next behind)
     by false is = let from : w ≤ version = grind (arith, nat_tests) in omega (arith, from)
-
-pub small : (n : ℕ) → n ≤ MAX_DELTA_VERSION → n < 2 ^ 64
-small n h = omega (arith, h)
 
 module _ (files : Files) (position : List ℕ) (version newest : ℕ) (spelled : position ≡ decimal version) (within : version ≤ MAX_DELTA_VERSION) (is : IsNewest files newest) (versions : Versions) (are : AreVersions (HasVersion files) versions) where
   same_newest : versions.newest ≡ newest

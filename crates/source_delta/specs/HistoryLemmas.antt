@@ -1,5 +1,5 @@
 -- The histories that a Delta table's log holds: they end at its newest version, and its commits lead along them.
-use Rattle.std.proofs.Common.{◌≡◌, ◌≤◌, ◌<◌, ◌+◌, ◌^◌, ℕ, zero, suc, List, [], ◌∷◌, ◌++◌, Contains, length, Option, Some, None, refl, sym, ap, subst, ◌∙◌, append_assoc, arith, ⊎_elim}
+use Rattle.std.proofs.Common.{◌≡◌, ◌≤◌, ◌<◌, ◌+◌, ℕ, zero, suc, List, [], ◌∷◌, ◌++◌, Contains, length, Option, Some, None, refl, sym, ap, subst, ◌∙◌, append_assoc, arith, ⊎_elim}
 use Rattle.std.proofs.lemmas.Bool.{cases_lt}
 use Rattle.std.proofs.lemmas.Fmt.{decimal_injective}
 use Rattle.std.proofs.lemmas.List.{length-append}
@@ -34,7 +34,7 @@ use Rattle.source_delta.specs.Heads.{IsDeltaHead, IsNewest, IsTableAtHead}
 use Rattle.source_delta.specs.Histories.{HoldsHistory, IsReadableOver, table_before}
 use Rattle.source_delta.specs.LikeLemmas.{SameBefore, like_before, next_like, next_same, readable_like}
 use Rattle.source_delta.specs.Since.{AreCommits, IsCommitOf, IsSince, Reaches}
-use Rattle.source_delta.specs.SinceLemmas.{one_newest, version_within}
+use Rattle.source_delta.specs.SinceLemmas.{one_newest, small, version_within}
 
 -- ---- the log's folder alone
 
@@ -71,9 +71,6 @@ ends_in [] n is = absurd (omega (arith, is))
 ends_in (x ∷ xs) n is = last_of x xs
 
 -- ---- the versions
-
-small : (n : ℕ) → n ≤ MAX_DELTA_VERSION → n < 2 ^ 64
-small n h = omega (arith, h)
 
 newest_of : (files : Files) (history : History) (h : HoldsHistory files history) → IsNewest files h.kept.newest
 newest_of files history h = record { there = h.are.there; last = h.are.last }

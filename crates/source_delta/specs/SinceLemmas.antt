@@ -20,6 +20,10 @@ use Rattle.source_delta.specs.Since.{AreCommits, IsSince}
 pub version_within : (files : Files) (version : ℕ) → HasVersion files version → version ≤ MAX_DELTA_VERSION
 version_within files version there = there.1.is.named.within
 
+-- the number of a version fits in 64 bits
+pub small : (n : ℕ) → n ≤ MAX_DELTA_VERSION → n < 2 ^ 64
+small n h = omega (arith, h)
+
 -- ---- the head
 
 pub one_newest : (files : Files) (a b : ℕ) → IsNewest files a → IsNewest files b → a ≡ b
@@ -63,9 +67,6 @@ ends files head position base commits is since =
 none_of : (commits : List Commit) → length commits ≡ 0 → commits ≡ []
 none_of [] none = refl
 none_of (commit ∷ commits) none = absurd (omega (arith, none))
-
-small : (n : ℕ) → n ≤ MAX_DELTA_VERSION → n < 2 ^ 64
-small n h = omega (arith, h)
 
 pub none_at_head : (files : Files) (head : Head) (base : Table) (commits : List Commit)
     → IsDeltaHead files head → IsSince files head.position base commits → commits ≡ []

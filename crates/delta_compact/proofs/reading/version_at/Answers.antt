@@ -2,7 +2,7 @@ use Rattle.std.proofs.Common.{◌≡◌, ℕ, Some, sym, ap, ◌∙◌, arith}
 use Rattle.std.proofs.lemmas.Fmt.{parse-decimal}
 use Rattle.std.specs.Prelude.{Ok}
 use Rattle.delta_compact.proofs.reading.version_at.Goals as goal
-use Rattle.source_delta.proofs.SinceLaws.{small}
+use Rattle.source_delta.specs.SinceLemmas.{small}
 
 pub returns-in_default-clause-known : goal.returns-in_default-clause-known
 returns-in_default-clause-known c = λ version within is.
