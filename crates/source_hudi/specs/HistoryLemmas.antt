@@ -1,13 +1,12 @@
 -- The commits of a timeline lead along the histories that its files hold, and its table at the head is the last one there.
-use Rattle.std.proofs.Common.{◌≡◌, ⊎_elim, ℕ, zero, suc, true, false, cond, List, [], ◌∷◌, ◌++◌, Contains, Option, Some, None, codes, refl, sym, ap, subst, ◌∙◌}
+use Rattle.std.proofs.Common.{◌≡◌, ⊎_elim, ℕ, zero, suc, true, cond, List, [], ◌∷◌, ◌++◌, Contains, Option, Some, None, codes, refl, sym, ap, subst, ◌∙◌}
 use Rattle.std.specs.Prelude.{filter}
 use Rattle.std.specs.List.{IsDistinct}
 use Rattle.std.specs.Str.{bytes_eq}
 use Rattle.std.specs.Cmp.Lexicographic.{bytes_decides, slice_cmp, texts_ties}
-use Rattle.std.specs.Ordering.{is_eq, is_lt, nat_cmp, ordering_reverse}
+use Rattle.std.specs.Ordering.{is_eq, is_lt, nat_cmp}
 use Rattle.std.specs.declared.cmp.Ordering.{Ordering}
 use Rattle.std.specs.declared.cmp.Ordering.TheVariants.{Less, Equal, Greater}
-use Rattle.std.proofs.lemmas.Cmp.{nat_list_cmp_total}
 use Rattle.std.proofs.lemmas.List.{map-append}
 use Rattle.std.proofs.lemmas.List.Elements.{Contains-append_right}
 use Rattle.lake_store.specs.Disk.{Files}
@@ -42,17 +41,10 @@ use Rattle.source_hudi.specs.LikeLemmas.{first_same, leads_like, step_same}
 use Rattle.source_hudi.specs.ListLemmas.{all_kept, end_front, end_map, in_map, last_distinct, map_in, split_last}
 use Rattle.source_hudi.specs.OwnLemmas.{properties_too, reached_same, says_too}
 use Rattle.source_hudi.specs.Since.{AreCommits, IsSince, is_later, later_in}
+use Rattle.source_hudi.specs.SinceLemmas.{not_later, same_time}
 use Rattle.lake_basics.proofs.Texts.{behind_distinct}
 
 -- ---- the instants behind a position
-
-not_later : (position time : List ℕ) → IsUpTo time position → is_later position time ≡ false
-not_later position time up = by (slice_cmp nat_cmp position time) refl
-  where
-    by : (o : Ordering) → slice_cmp nat_cmp position time ≡ o → is_later position time ≡ false
-    by Less e = absurd (up (nat_list_cmp_total.antisymm time position ∙ ap ordering_reverse e))
-    by Equal e = ap is_lt e
-    by Greater e = ap is_lt e
 
 is_up : (position time : List ℕ) → IsUpTo position time → (position ≡ time → ⊥) → is_later position time ≡ true
 is_up position time up apart = by (slice_cmp nat_cmp position time) refl
@@ -149,14 +141,6 @@ along files front behind entry base commits is holds like at since =
     made.taken.made
 
 -- ---- the table at the head
-
-same_time : (a b : List ℕ) → IsUpTo a b → IsUpTo b a → a ≡ b
-same_time a b up down = by (slice_cmp nat_cmp a b) refl
-  where
-    by : (o : Ordering) → slice_cmp nat_cmp a b ≡ o → a ≡ b
-    by Less e = absurd (down (nat_list_cmp_total.antisymm b a ∙ ap ordering_reverse e))
-    by Equal e = (bytes_decides a b).0 (texts_ties a b ∙ ap is_eq e)
-    by Greater e = absurd (up e)
 
 up_to_end : (c : CompletedInstant) (cs : List CompletedInstant) → AreInOrder (c ∷ cs) → (d : CompletedInstant) → Contains (c ∷ cs) d → IsUpTo d.time (end_of c cs).time
 up_to_end c [] order d there =

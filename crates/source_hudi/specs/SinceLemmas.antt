@@ -40,7 +40,7 @@ reached_exactly files head position is = (λ at. (at.0, is.1 position at), λ h.
 -- ---- one head
 
 -- each is up to the other
-same_time : (a b : List ℕ) → IsUpTo a b → IsUpTo b a → a ≡ b
+pub same_time : (a b : List ℕ) → IsUpTo a b → IsUpTo b a → a ≡ b
 same_time a b up down = by (slice_cmp nat_cmp a b) refl
   where
     by : (o : Ordering) → slice_cmp nat_cmp a b ≡ o → a ≡ b
@@ -104,7 +104,7 @@ later_up position time later greater = by (slice_cmp nat_cmp position time) late
     by Equal later greater = cc
     by Greater later greater = cc
 
-not_later : (position time : List ℕ) → IsUpTo time position → is_later position time ≡ false
+pub not_later : (position time : List ℕ) → IsUpTo time position → is_later position time ≡ false
 not_later position time up = by (slice_cmp nat_cmp position time) refl
   where
     by : (o : Ordering) → slice_cmp nat_cmp position time ≡ o → is_later position time ≡ false
