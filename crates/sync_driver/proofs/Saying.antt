@@ -15,7 +15,7 @@ use Rattle.table_lines.specs.TableLines.{lines_over}
 use Rattle.sync_driver.specs.Tellings.{Puts, Tells, cut_of_put, put_status}
 use Rattle.target_sync.specs.declared.status.Status.{Status}
 use Rattle.target_sync.specs.declared.status.Status.TheVariants.{Done, Memory, SinkFault}
-use Rattle.target_sync.proofs.Following.{rose_from}
+use Rattle.target_sync.proofs.Counting.{rose_from}
 
 -- ---- putting lines out
 

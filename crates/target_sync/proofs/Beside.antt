@@ -29,7 +29,7 @@ use Rattle.target_sync.specs.Targets.{TargetFacts}
 use Rattle.target_sync.specs.declared.plan.Mode.{Mode}
 use Rattle.target_sync.specs.declared.status.Status.TheVariants as status
 use Rattle.target_sync.proofs.Applying.{CrashLaws}
-use Rattle.target_sync.proofs.Counting.{fails_then}
+use Rattle.target_sync.proofs.Counting.{fails_then, rose_from}
 use Rattle.target_sync.proofs.Following.{caused_as, source_of_others}
 use Rattle.target_sync.proofs.Mixing.{whole_image, whole_may_leave, whole_same}
 use Rattle.target_sync.proofs.Owning.{FaultLaws, OwnLaws, absent_of_two, absent_own, at_head_own, at_head_since, can_own, caused_own, due_own, either_own, either_since, gained_own, gained_since, over_own, same_back, stands_at_head, status_own}
@@ -524,8 +524,5 @@ module _ {S : Type 0} (store : Ghosts S) (only_now : NowOnly store) (now_counts 
       contest = fails_then store.contests store.may_contest old mid new B (answer ≡ Some (Err (status.Contested target.files.kind))) contest
           (record { later = sync.contest.later; still = sync.contest.still; rose = sync.contest.rose; allowed = sync.contest.allowed });
       complete = λ told can no_fault no_contest. sync.complete told (can_own source laws faults target own mode now first middle (source_here told) (here told) can)
-          (λ rose. no_fault (rose_since (store.faults old) (store.faults mid) (store.faults new) fault.later rose)) no_contest;
+          (λ rose. no_fault (rose_from (store.faults old) (store.faults mid) (store.faults new) fault.later rose)) no_contest;
     }
-      where
-        rose_since : (a b c : ℕ) → a ≤ b → Rose b c → Rose a c
-        rose_since a b c le rose = omega (arith, le, rose)

@@ -3,6 +3,9 @@ use Rattle.std.proofs.Common.{◌≡◌, ◌≤◌, ◌∙◌, ℕ, refl, arith}
 use Rattle.lake_store.specs.Cause.{HasContest, HasFault, HasNoContest, Rose}
 pub use Rattle.source_core.proofs.Runs.{fails_as}
 
+pub rose_from : (a b c : ℕ) → a ≤ b → Rose b c → Rose a c
+rose_from a b c le rose = omega (arith, le, rose)
+
 module _ {S : Type 0} (count : S → ℕ) (may : S → Type 0) where
   -- the same run, of another answer
   pub contested_as : (old new : S) (A B : Type 0) → (B → A) → (A → B) → HasContest count may old new A → HasContest count may old new B
@@ -26,12 +29,9 @@ module _ {S : Type 0} (count : S → ℕ) (may : S → Type 0) where
       record {
         later = omega (arith, one, two);
         still = λ m. run.still (call.still m);
-        rose = λ b. rose_then (count old) (count mid) (count new) one (call.rose b);
+        rose = λ b. rose_from (count old) (count mid) (count new) one (call.rose b);
         allowed = λ b. run.still (call.allowed b);
       }
-    where
-      rose_then : (a b c : ℕ) → a ≤ b → Rose b c → Rose a c
-      rose_then a b c le rose = omega (arith, le, rose)
 
   pub contested_then : (old mid new : S) (A B : Type 0) → HasNoContest count may old mid A → HasContest count may mid new B → HasContest count may old new B
   contested_then old mid new A B run call =

@@ -1,6 +1,6 @@
 -- A sync behind a run that only read.
-use Rattle.std.proofs.Common.{◌≡◌, ◌⊎◌, ⊎_elim, ℕ, List, Option, Some, Ok, Err, None, sym, subst, ◌≤◌, inl, inr, arith}
-use Rattle.lake_store.specs.Cause.{HasFault, Rose}
+use Rattle.std.proofs.Common.{◌≡◌, ◌⊎◌, ⊎_elim, ℕ, List, Option, Some, Ok, Err, None, sym, subst, inl, inr, arith}
+use Rattle.lake_store.specs.Cause.{HasFault}
 use Rattle.lake_store.specs.Disk.{Disk, Files, IsClean}
 use Rattle.lake_store.specs.Runs.{FailsBy, IsIn, IsUncontestedBy, OnlyReads}
 use Rattle.lake_store.specs.declared.store.Store.{Ghosts}
@@ -22,7 +22,7 @@ use Rattle.target_sync.specs.declared.status.Side.TheVariants as side
 use Rattle.target_sync.specs.declared.status.Status.{Status}
 use Rattle.target_sync.specs.declared.status.Status.TheVariants as status
 use Rattle.target_sync.proofs.Applying.{CrashLaws, stay_behind}
-use Rattle.target_sync.proofs.Counting.{contested_then, fails_then}
+use Rattle.target_sync.proofs.Counting.{contested_then, fails_then, rose_from}
 use Rattle.target_sync.proofs.Sizes.{short_further, short_reading}
 use Rattle.target_sync.proofs.Standing.{SourceLaws, source_kept, source_left, synced_behind}
 
@@ -54,9 +54,6 @@ pub caused_as : (Idle Other : Type 0) → (Idle → Other) → (source : SourceM
 caused_as Idle Other from source target mode now files None is = from is
 caused_as Idle Other from source target mode now files (Some (Ok report)) is = is
 caused_as Idle Other from source target mode now files (Some (Err e)) is = refusal_as Idle Other from source target mode now files e is
-
-pub rose_from : (a b c : ℕ) → a ≤ b → Rose b c → Rose a c
-rose_from a b c le rose = omega (arith, le, rose)
 
 -- ---- files that are only read before
 
