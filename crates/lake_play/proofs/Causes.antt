@@ -59,7 +59,7 @@ use Rattle.lake_play.specs.Scripted.{scripted_store, some_of}
 use Rattle.lake_play.proofs.Faults.{IsPlayedFault, at_head_fault, from_position_fault, from_scratch_fault}
 use Rattle.lake_play.proofs.Histories.{entry_of, holds_history, is_history, not_absent, same_length}
 use Rattle.lake_play.proofs.Logs.{HoldsCommits}
-use Rattle.lake_play.proofs.Rooms.{enters_free, told_by}
+use Rattle.lake_play.proofs.Rooms.{enters_free, none_named, told_by}
 use Rattle.lake_play.proofs.Syncs.{same_told}
 use Rattle.lake_play.proofs.Targets.{IsPlayed, at_front, shows_whole}
 
@@ -104,16 +104,12 @@ module _ (script : Script) (stopped : Bool) (old new : FuseStore) (may : MayFail
     named = may.named;
   })
 
-  none_of : (calls : List ℕ) → some_of calls ≡ 0 → calls ≡ []
-  none_of [] is = refl
-  none_of (call ∷ calls) is = absurd (omega (arith, is))
-
   pub brings_may : (target : TargetFacts) (mode : Mode) (now : ℕ) (given : Status) → Brings target mode now old new given → (FuseCanBeContested old → ⊥) → MayFail script stopped new
   brings_may target mode now given brings none = record {
     can = λ can. may.can (brings.sync.sync.fault.still can);
     named = ⊎_elim inl (λ (was : (old.script.failing.items ≡ []) × (contests_of old ≡ 0)).
         let told = told_by (scripted (room_of old) old) (scripted brings.room new) was.1 (same_told target mode now old new given brings none) in
-        inr (none_of new.script.failing.items (told.some ∙ ap some_of was.0), told.contests)) may.named;
+        inr (none_named new.script.failing.items (told.some ∙ ap some_of was.0), told.contests)) may.named;
   }
 
 -- ---- views of the same files

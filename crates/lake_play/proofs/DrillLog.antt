@@ -1,6 +1,6 @@
 -- The log of a drill passes no number where it is read.
 use Rattle.std.proofs.Common.{◌≡◌, inl, inr, ⊎_elim, ℕ, zero, suc, ◌+◌, ◌*◌, ◌≤◌, ◌<◌, true, List, [], ◌∷◌, ◌++◌, length, map, Contains, Option, Some, None, refl, sym, ap, subst, ◌∙◌, codes, arith}
-use Rattle.std.specs.Prelude.{IsSome, slice_get}
+use Rattle.std.specs.Prelude.{slice_get}
 use Rattle.std.specs.Bool.{Decides}
 use Rattle.std.specs.Cmp.Lexicographic.{slice_cmp}
 use Rattle.std.specs.FinMap as finmap
@@ -16,6 +16,7 @@ use Rattle.std.proofs.lemmas.Map.Made.{is_member-Decides, length-le_from_is_memb
 use Rattle.lake_basics.specs.declared.limits.TheConstants.{MAX_ACTIONS, MAX_COMMITS, MAX_FILE_BYTES, MAX_NAMES}
 use Rattle.lake_basics.proofs.Texts.{fewer}
 use Rattle.lake_basics.proofs.Lists.{some_at}
+use Rattle.lake_basics.proofs.Options.{some_of}
 use Rattle.lake_store.specs.Disk.{Files, names_in}
 use Rattle.lake_store.proofs.DiskLaws.{is_path, path_here, same_path}
 use Rattle.lake_store.proofs.OrderLaws.{names_in_listed}
@@ -138,15 +139,11 @@ module _ (number : ℕ) (files : Files) (commits : List (List ℕ)) (first_of : 
       let count = few_names (names_in files log_folder) known.0 (IsDistinct-from_sorted (slice_cmp nat_cmp) (names_in files log_folder) lists.sorted) (λ name there.
       let proper = (lists.members name).0 there in
       let of = holds.1.alone (codes "_delta_log/" ++ name) (name, refl) proper.1 in
-      let some = some_bytes (finmap.get files (codes "_delta_log/" ++ name)) proper.1 in
+      let some = some_of (finmap.get files (codes "_delta_log/" ++ name)) proper.1 in
       let from = holds.1.only of.0 (some.0, record { path = codes "_delta_log/" ++ name; is = of.1; there = some.1 }) in
       let same : of.1.name ≡ name = append_cancel_left (codes "_delta_log/") of.1.name name (sym of.1.split) in
       known.2 of.0 name from.1 from.0 (subst (λ (m : List ℕ). IsVersionName m of.0) same of.1.named)) in
       omega (arith, count, short, most)
-    where
-      some_bytes : (o : Option (List ℕ)) → IsSome o → (bytes : List ℕ) × (o ≡ Some bytes)
-      some_bytes (Some bytes) is = (bytes, refl)
-      some_bytes None is = absurd cc
 
   pub drill_log : IsDrillLog number files
   drill_log = record { each = each; few = few }

@@ -46,7 +46,7 @@ use Rattle.lake_play.proofs.DrillEvents.{drill_weight}
 use Rattle.lake_play.proofs.FileCounts.{all_torn_count, inserted_count, names_count}
 use Rattle.lake_play.proofs.Histories.{holds_history, is_history, same_length}
 use Rattle.lake_play.proofs.Plays.{Keeps}
-use Rattle.lake_play.proofs.Rooms.{Told, held_by, held_falls, left_until, told_by}
+use Rattle.lake_play.proofs.Rooms.{Told, held_by, held_falls, left_until, none_named, told_by}
 use Rattle.lake_play.proofs.Syncs.{going, same_told, still_free}
 use Rattle.lake_play.proofs.Targets.{shows_front}
 use Rattle.lake_play.proofs.WrittenCounts.{all_written, hudi_one, iceberg_one, total, total_most}
@@ -137,10 +137,6 @@ one_near (Some stop) is = by (nat_le stop (2 ^ 64 - 1)) refl is
     by : (b : Bool) → nat_le stop (2 ^ 64 - 1) ≡ b → ◌≡◌ {A = ℕ} (if b then 1 else 2) 1 → stop ≤ 2 ^ 64 - 1
     by true least one = grind (arith, nat_tests, least)
     by false least one = absurd (omega (arith, one))
-
-none_named : (calls : List ℕ) → some_of calls ≡ 0 → calls ≡ []
-none_named [] is = refl
-none_named (call ∷ calls) is = absurd (omega (arith, is))
 
 module _ (target : TargetFacts) (now : ℕ) (old new : FuseStore) (given : Status) (brings : Brings target modes.Sync now old new given) (none : FuseCanBeContested old → ⊥) (spent : ℕ) (was : HasFew spent old) where
   told : Told (contests_of new) (known_room (scripted brings.room new)) (stop_of new.script.stop) (some_of new.script.failing.items) (known_room (scripted (room_of old) old)) (stop_of old.script.stop) (some_of old.script.failing.items)

@@ -64,6 +64,7 @@ use Rattle.lake_play.proofs.Logs.{extended_elsewhere}
 use Rattle.lake_play.proofs.MetadataTexts.{HoldsDrill, IsDrillMetadata, drill_held, made_is, next_schemas}
 use Rattle.lake_play.proofs.Newest.{AllMay, IsStep, OfNewest, of_behind, of_kept, of_none, of_same, reached_newest, sync_holds, table_held}
 use Rattle.lake_play.proofs.Plays.{Keeps}
+use Rattle.lake_play.proofs.Schemas.{none_stated}
 use Rattle.lake_play.proofs.Syncs.{alone, going}
 use Rattle.lake_play.proofs.Targets.{IsPlayed}
 use Rattle.target_hudi.specs.InspectLemmas.{none_is_some}
@@ -110,10 +111,6 @@ held_drill m (inr holds) s there = ap (λ (h : HeldSchema). h.1) (sym (Contains-
 -- A commit behind so many states the drill's schema or none, and the first of all states it.
 abbrev MayState : ℕ → Commit → Type 0
 MayState version commit = ((schema : ColumnTrees) → commit.change.schema ≡ Some schema → schema ≡ drill_schema) × (version ≡ 0 → IsSome commit.change.schema)
-
-none_stated : (o : Option ColumnTrees) → IsSome o → o ≡ None → ⊥
-none_stated None is same = absurd (cc)
-none_stated (Some schema) is same = cc
 
 stated_by : (version : ℕ) (table : ColumnTrees) → (0 < version → table ≡ drill_schema) → (o : Option ColumnTrees) → (version ≡ 0 → IsSome o) → ((schema : ColumnTrees) → o ≡ Some schema → schema ≡ drill_schema) → unwrap_or o table ≡ drill_schema
 stated_by version table is None first states =

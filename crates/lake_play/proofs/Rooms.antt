@@ -123,6 +123,10 @@ some_most : (calls : List ℕ) → some_of calls ≤ 1
 some_most [] = omega arith
 some_most (call ∷ calls) = omega arith
 
+pub none_named : (calls : List ℕ) → some_of calls ≡ 0 → calls ≡ []
+none_named [] is = refl
+none_named (call ∷ calls) is = absurd (omega (arith, is))
+
 stop_most : (stop : Option ℕ) → stop_of stop ≤ 2
 stop_most None = omega arith
 stop_most (Some stop) = by (nat_le stop (2 ^ 64 - 1))

@@ -80,7 +80,7 @@ abbrev pub BeginsStated : ℕ → List Commit → Type 0
 BeginsStated version [] = Unit {0}
 BeginsStated version (commit ∷ commits) = version ≡ 0 → IsSome commit.change.schema
 
-none_stated : (o : Option ColumnTrees) → IsSome o → o ≡ None → ⊥
+pub none_stated : (o : Option ColumnTrees) → IsSome o → o ≡ None → ⊥
 none_stated None is same = absurd (cc)
 none_stated (Some schema) is same = cc
 
