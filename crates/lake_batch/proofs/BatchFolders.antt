@@ -51,10 +51,7 @@ pub none_more : (folders : List (List ℕ)) (path : List ℕ) (i : ℕ) → None
 none_more folders path i before here j within slash any = ⊎_elim
     (λ (less : j < i). before j less slash any)
     (λ (same : j ≡ i). here (ap (λ k. get_or path k 0) (sym same) ∙ slash) (ap (λ k. list_any (bytes_eq (take k path)) folders) (sym same) ∙ any))
-    (less_or_same j i within)
-  where
-    less_or_same : (j i : ℕ) → j < i + 1 → (j < i) ⊎ (j ≡ i)
-    less_or_same j i within = grind (arith, within)
+    (less_or_at j i within)
 
 slash_behind : (folder rest : List ℕ) → get_or (folder ++ 47 ∷ rest) (length folder) 0 ≡ 47
 slash_behind [] rest = refl

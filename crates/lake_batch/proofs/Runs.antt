@@ -21,7 +21,7 @@ use Rattle.lake_batch.specs.Part.{IsBeside, StaysBeside, part_of}
 use Rattle.lake_batch.specs.Tables.{AreRun, AreWords, GoOn, HasRun, HaveRun, IsBesideEach, IsCutShort, IsEnd, IsEnded, RanTable, RunsBatch, RunsTable, batch_line, done_count, first_of, is_done, table_line}
 use Rattle.lake_batch.specs.declared.batch.Item.{Item}
 use Rattle.lake_batch.specs.declared.tables.Tally.{Tally}
-use Rattle.sync_driver.proofs.CommandEnds.{EndsBy, command_ends, command_gives}
+use Rattle.sync_driver.proofs.CommandEnds.{EndsBy, command_ends, command_gives, three}
 
 -- ---- statuses
 
@@ -248,11 +248,6 @@ module _ {S O : Type 0} (store : Ghosts S) (sink : sinks.Ghosts O) (formats : Fo
         (λ t. alone_of_fewer store (IsBeside item.folder) Kept old ran.0 (λ path each. each item (contains_first item rest)) (run.beside t))
         (λ t. alone_of_fewer store (IsBesideEach rest) Kept ran.0 new (λ path each other within. each other (Contains-append_right (item ∷ []) rest other within))
         (elsewhere only_now items statuses ran.0 new ran.1 out_new ran.3 t)) told
-
-    three : {A B C D : Type 0} → A ⊎ B ⊎ C → (A → D) → (B → D) → (C → D) → D
-    three (inl a) f g h = f a
-    three (inr (inl b)) f g h = g b
-    three (inr (inr c)) f g h = h c
 
     -- the whole batch
     module _ (only_now : NowOnly store) (items : List Item) (old new : S) (out_old out_ran out_new : O) where

@@ -43,7 +43,8 @@ stable a b maybe = elim (nat_le a b) as (λ t. nat_le a b ≡ t → a ≤ b) [
   | false ↦ λ is. absurd (maybe (λ le. grind (arith, nat_tests, le, is)))
 ] refl
 
-three : {A B C D : Type 0} → A ⊎ B ⊎ C → (A → D) → (B → D) → (C → D) → D
+-- what follows of each of three cases
+pub three : {A B C D : Type 0} → A ⊎ B ⊎ C → (A → D) → (B → D) → (C → D) → D
 three (inl a) f g h = f a
 three (inr (inl b)) f g h = g b
 three (inr (inr c)) f g h = h c
