@@ -9,3 +9,4 @@ pub mod SameStart
 pub mod HeldRows
 pub mod Writing
 pub mod Come
+pub mod StoreAnswers

@@ -15,12 +15,13 @@ use Rattle.delta_table.specs.Log.{IsLog, IsStep, SaysCommit}
 use Rattle.delta_table.specs.Versions.{HoldsVersion, IsVersionPath}
 use Rattle.delta_table.proofs.LogLaws.{live_rows}
 use Rattle.target_core.specs.Views.{Standing, View}
+use Rattle.target_core.proofs.StoreAnswers.{dirty_or_clean}
 use Rattle.target_delta.specs.Names.{HasVersions, IsLeftover, IsLeftoverName, IsSettled, path_of}
 use Rattle.target_delta.specs.Reading.{IsCarried, IsMarkAt, IsOurs, Reads}
 use Rattle.target_delta.specs.NameLemmas.{name_in, never_leftover, same_behind, version_of_path}
 use Rattle.delta_table.specs.SameVersions.{SameVersions}
 use Rattle.target_delta.specs.LogLemmas.{id_below, log_below}
-use Rattle.target_delta.specs.ReadingLemmas.{dirty_or_clean, reads_too, version_clean}
+use Rattle.target_delta.specs.ReadingLemmas.{reads_too, version_clean}
 
 -- Every version but the one that is published is as before, and so is each name but leftovers and that version's.
 pub record IsBeside (name : List ℕ) (old new : Files) : Type 0 where

@@ -1,24 +1,22 @@
 -- What a commit leaves of the store, where it is refused before it writes, and where its version is staged and published.
-use Rattle.std.proofs.Common.{◌≡◌, ◌≢◌, ◌⊎◌, inl, inr, ⊎_elim, ℕ, suc, ◌+◌, ◌<◌, ◌≤◌, Bool, true, false, List, [], ◌∷◌, ◌++◌, Option, Some, None, refl, sym, ap, subst, ◌∙◌, arith}
-use Rattle.std.specs.Prelude.{Err, IsErrOf, IsSome, Ok, Result, is_ok}
+use Rattle.std.proofs.Common.{◌≡◌, ◌≢◌, ◌⊎◌, inl, inr, ⊎_elim, ℕ, suc, ◌+◌, ◌<◌, ◌≤◌, Bool, true, false, List, [], ◌∷◌, ◌++◌, Option, Some, None, sym, ap, subst, ◌∙◌, arith}
+use Rattle.std.specs.Prelude.{Err, IsErrOf, IsSome, Ok, Result}
 use Rattle.std.specs.FinMap as map
 use Rattle.std.proofs.lemmas.Bool.{false≢true}
 use Rattle.lake_basics.specs.declared.limits.TheConstants.{MAX_DELTA_VERSION, MAX_FILE_BYTES}
 use Rattle.lake_basics.proofs.Options.{none_there}
-use Rattle.lake_store.specs.Cause.{HasContest, HasFault}
 use Rattle.lake_store.specs.Disk.{Disk, Files, IsClean, MayLeave}
 use Rattle.lake_store.specs.Publication.{IsAbsentOrWhole, IsPublished, IsStaged, IsStagedImage}
 use Rattle.lake_store.specs.Runs.{IsEachMoment, LeavesAlone, LeavesOnly}
 use Rattle.lake_store.specs.declared.store.Store.{Ghosts}
 use Rattle.lake_store.specs.declared.store.StoreError.{StoreError}
-use Rattle.lake_store.specs.declared.store.StoreError.TheVariants.{Taken}
 use Rattle.lake_store.specs.declared.store.StoreError.TheVariants as errors
 use Rattle.lake_store.proofs.DiskLaws.{get-remove_here, get-remove_other, path_cases}
 use Rattle.table_history.specs.declared.kind.Kind.TheVariants.{Delta}
 use Rattle.table_history.specs.declared.limit.LimitKind.{LimitKind}
 use Rattle.table_history.specs.declared.limit.LimitKind.TheVariants.{File}
 use Rattle.lake_store.proofs.MomentLaws.{both, started, weaker}
-use Rattle.lake_store.proofs.RunLaws.{NowOnly, alone_by_reading, reading_begins}
+use Rattle.lake_store.proofs.RunLaws.{NowOnly}
 use Rattle.table_history.specs.declared.table.Commit.{Commit}
 use Rattle.delta_text.specs.Writing.{commit_text}
 use Rattle.delta_log.specs.declared.commit.DeltaCommit.{DeltaCommit}
@@ -26,15 +24,16 @@ use Rattle.delta_table.specs.Versions.{IsVersionPath, log_folder}
 use Rattle.target_core.specs.Conditions.{CanPublish, Fits}
 use Rattle.target_core.specs.Folders.{MayLeaveIn, after_crash}
 use Rattle.target_core.specs.Gained.{CarriesAll}
-use Rattle.target_core.specs.Outcome.{Uncontested, answer_of}
+use Rattle.target_core.specs.Outcome.{answer_of}
 use Rattle.target_core.specs.OwnFiles.{IsDeltaFile, MayNotTouch, TouchesOwn}
 use Rattle.target_core.specs.Publishing.{Publishes}
 use Rattle.target_core.specs.Step.{IsBefore, IsBeforeOrBehind}
 use Rattle.target_core.specs.Views.{Origin}
 use Rattle.target_core.specs.Written.{HasReached, IsAsLeft}
 use Rattle.target_core.specs.declared.target.TargetError.{TargetError}
-use Rattle.target_core.specs.declared.target.TargetError.TheVariants.{Contested, Limit}
+use Rattle.target_core.specs.declared.target.TargetError.TheVariants.{Limit}
 use Rattle.target_core.proofs.OneStep.{publishes_none, publishes_one}
+use Rattle.target_core.proofs.StoreAnswers.{alone_none, dirty_or_clean, ok_err, only_long, three}
 use Rattle.target_delta.specs.DeltaMeaning.{delta_meaning}
 use Rattle.target_delta.specs.Fitting.{Unfit}
 use Rattle.target_delta.specs.Kept.{StandsFor, end_of, view_of}
@@ -49,51 +48,9 @@ use Rattle.target_delta.specs.KeptLemmas.{versions_of_reads}
 use Rattle.delta_table.specs.SameVersions.{versions_sym}
 use Rattle.target_delta.specs.NameLemmas.{never_leftover, one_staged, staged_leftover}
 use Rattle.target_delta.proofs.PublishLemmas.{IsBeside, image_beside, same_versions, staged_beside, versions_now}
-use Rattle.target_delta.specs.ReadingLemmas.{carried_too, carries_within, crash_carries, crash_reads, crash_settled, dirty_or_clean, version_clean}
-
--- ---- causes
-
-pub fault_too : {S : Type 0} (faults : S → ℕ) (may_fail : S → Type 0) (old new : S) (P Q : Type 0) → (Q → P) → HasFault faults may_fail old new P → HasFault faults may_fail old new Q
-fault_too faults may_fail old new P Q back h = record { later = h.later; still = h.still; rose = λ q. h.rose (back q); allowed = λ q. h.allowed (back q) }
-
-pub contest_too : {S : Type 0} (contests : S → ℕ) (may_contest : S → Type 0) (old new : S) (P Q : Type 0) → (P → Q) → (Q → P) → HasContest contests may_contest old new P → HasContest contests may_contest old new Q
-contest_too contests may_contest old new P Q to back h = record { later = h.later; still = h.still; rose = λ q. h.rose (back q); allowed = λ q. h.allowed (back q); same = λ none. h.same (λ p. none (to p)) }
-
-pub no_fault : {S : Type 0} (faults : S → ℕ) (may_fail : S → Type 0) (s : S) (Q : Type 0) → (Q → ⊥) → HasFault faults may_fail s s Q
-no_fault faults may_fail s Q never = record { later = omega arith; still = λ m. m; rose = λ q. absurd (never q); allowed = λ q. absurd (never q) }
-
-pub no_contest : {S : Type 0} (contests : S → ℕ) (may_contest : S → Type 0) (s : S) (Q : Type 0) → (Q → ⊥) → HasContest contests may_contest s s Q
-no_contest contests may_contest s Q never = record { later = omega arith; still = λ m. m; rose = λ q. absurd (never q); allowed = λ q. absurd (never q); same = λ _. refl }
+use Rattle.target_delta.specs.ReadingLemmas.{carried_too, carries_within, crash_carries, crash_reads, crash_settled, version_clean}
 
 -- ---- answers
-
-ok_err : {T : Type 0} (v : T) (e : TargetError) → IsErrOf {T = T} (Ok v) e → ⊥
-ok_err v e is = cc
-
-pub untaken_by : {T : Type 0} (r : Result T TargetError) (e : TargetError) (s : StoreError) → r ≡ Err e → e ≡ answer_of File MAX_FILE_BYTES s → Uncontested r → s ≡ Taken → ⊥
-untaken_by (Ok v) e s is gives u taken = absurd (ok_err v e is)
-untaken_by (Err x) e s is gives u taken =
-    let same : x ≡ e = cc in
-    u (same ∙ gives ∙ ap (answer_of File MAX_FILE_BYTES) taken)
-
-only_taken : (s : StoreError) → answer_of File MAX_FILE_BYTES s ≡ Contested → s ≡ Taken
-only_taken errors.Memory is = absurd (cc)
-only_taken errors.Failed is = absurd (cc)
-only_taken (errors.TooLong n) is = absurd (cc)
-only_taken errors.Taken is = refl
-
-pub contested_by : {T : Type 0} (r : Result T TargetError) (e : TargetError) (s : StoreError) → r ≡ Err e → e ≡ answer_of File MAX_FILE_BYTES s → IsErrOf r Contested → s ≡ Taken
-contested_by (Ok v) e s is gives contested = absurd (ok_err v e is)
-contested_by (Err x) e s is gives contested =
-    let same : x ≡ e = cc in
-    let is_contested : x ≡ Contested = cc in
-    only_taken s (sym gives ∙ sym same ∙ is_contested)
-
-only_limit : (s : StoreError) (which : LimitKind) (number : ℕ) → answer_of File MAX_FILE_BYTES s ≡ Limit which number → (length : ℕ) × (s ≡ errors.TooLong length)
-only_limit errors.Memory which number is = absurd (cc)
-only_limit errors.Failed which number is = absurd (cc)
-only_limit (errors.TooLong n) which number is = (n, refl)
-only_limit errors.Taken which number is = absurd (cc)
 
 -- publishing tells of no number
 pub unlimited_by : {T : Type 0} (r : Result T TargetError) (e : TargetError) (s : StoreError) (which : LimitKind) (number : ℕ) → r ≡ Err e → e ≡ answer_of File MAX_FILE_BYTES s → ((n : ℕ) → s ≡ errors.TooLong n → ⊥) → IsErrOf r (Limit which number) → ⊥
@@ -101,24 +58,15 @@ unlimited_by (Ok v) e s which number is gives short limited = ok_err v e is
 unlimited_by (Err x) e s which number is gives short limited =
     let same : x ≡ e = cc in
     let is_limit : x ≡ Limit which number = cc in
-    let long = only_limit s which number (sym gives ∙ sym same ∙ is_limit) in
+    let long = only_long File MAX_FILE_BYTES s which number (sym gives ∙ sym same ∙ is_limit) in
     short long.0 long.1
-
-pub err_same : {T : Type 0} (s : StoreError) → IsErrOf {T = T} (Err s) Taken → s ≡ Taken
-err_same s is = cc
 
 pub ok_taken : {T : Type 0} (x : T) (s : StoreError) → IsErrOf {T = T} (Ok x) s → ⊥
 ok_taken x s is = cc
 
-pub not_ok : {T : Type 0} (r : Result T TargetError) (e : TargetError) → r ≡ Err e → is_ok r ≡ true → ⊥
-not_ok r e is ok = let no : is_ok r ≡ false = ap is_ok is in false≢true (sym no ∙ ok)
-
 -- ---- nothing is done
 
 module _ {S : Type 0} (store : Ghosts S) (only_now : NowOnly store) (s : S) (told : store.tells) where
-  pub alone_none : (Kept : List ℕ → Type 0) → LeavesAlone store Kept s s
-  alone_none Kept = alone_by_reading store Kept s s (reading_begins store only_now s told)
-
   module _ (id : List ℕ) (origin : Origin) (kept : DeltaKept) (commit : Commit) (stands : StandsFor id kept (store.disk s).files) (settled : IsSettled (store.disk s)) where
     abbrev Left : Files → Type 0
     Left files = IsBefore (delta_meaning id) (view_of kept) (store.disk s).files files × IsSettled (after_crash files)
@@ -137,7 +85,7 @@ module _ {S : Type 0} (store : Ghosts S) (only_now : NowOnly store) (s : S) (tol
 
     pub publishes_nothing : (U : Type 0) → Publishes store (delta_meaning id) origin (view_of kept) (commit ∷ []) U false s s
     publishes_nothing U =
-        publishes_none store (delta_meaning id) origin (view_of kept) commit s s told (λ c change standing le h. h) (alone_none (IsReached (store.disk s).files)) U
+        publishes_none store (delta_meaning id) origin (view_of kept) commit s s told (λ c change standing le h. h) (alone_none store only_now s told (IsReached (store.disk s).files)) U
         (λ _. (record { reads = stands.reads; earlier = λ c change standing le h. h }, settled))
         (λ _. started store only_now s Left (λ t image may. left_by image may) told)
 
@@ -174,11 +122,6 @@ staged_touched : (path : List ℕ) (version : ℕ) → IsStagedPath path version
 staged_touched path version named =
     let padded = named.named.padded in
     IsDeltaFile.staged padded.digits (record { len = padded.padded.len; numeral = padded.padded.numeral }) (named.is ∙ ap (λ (name : List ℕ). path_of (leftover_front ++ name)) padded.split)
-
-three : {A B C D : Type 0} → (A → D) → (B → D) → (C → D) → A ⊎ B ⊎ C → D
-three f g h (inl a) = f a
-three f g h (inr (inl b)) = g b
-three f g h (inr (inr c)) = h c
 
 module _ {S : Type 0} (store : Ghosts S) (old new : S) (told : store.tells) (staged name bytes : List ℕ) (version : ℕ) (is_staged : IsStagedPath staged version) (named : IsVersionPath name version) (IsTaken : Type 0)
     (left : IsStaged staged name bytes IsTaken (store.disk old) (store.disk new)) (moments : LeavesOnly store old new (IsStagedImage staged name bytes IsTaken (store.disk old))) where

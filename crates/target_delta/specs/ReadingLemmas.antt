@@ -1,12 +1,12 @@
 -- What the files of a Delta target stand for: one view at most, by the versions alone, and through a crash.
 use Rattle.std.proofs.Common.{◌≡◌, ◌⊎◌, inl, inr, ⊎_elim, ℕ, suc, ◌≤◌, List, Option, Some, None, Contains, refl, sym, ap, subst, ◌∙◌, arith}
 use Rattle.std.specs.Prelude.{IsSome, Ok}
-use Rattle.std.proofs.lemmas.Bool.{cases_lt, cases_Bool, false≢true}
+use Rattle.std.proofs.lemmas.Bool.{cases_lt, false≢true}
 use Rattle.std.specs.FinMap as map
 use Rattle.std.specs.FinSet as set
 use Rattle.std.specs.Ordering.{nat_cmp}
 use Rattle.std.specs.Cmp.Lexicographic.{slice_cmp}
-use Rattle.lake_store.specs.Disk.{Disk, Files, IsClean, IsDirty}
+use Rattle.lake_store.specs.Disk.{Disk, Files, IsClean}
 use Rattle.lake_store.specs.Runs.{IsIn}
 use Rattle.table_history.specs.Row.{Row}
 use Rattle.table_history.specs.TypeTree.{ColumnTrees}
@@ -29,6 +29,7 @@ use Rattle.target_core.specs.Views.{IsPublished, IsUnpublished, SameView, Standi
 use Rattle.target_core.specs.Mark.{IsMarkText}
 use Rattle.target_core.specs.declared.mark.Mark.{Mark}
 use Rattle.target_core.proofs.Marks.{one_mark}
+use Rattle.target_core.proofs.StoreAnswers.{dirty_or_clean}
 use Rattle.target_delta.specs.Names.{HasVersions, IsLeftoverName, IsReached, IsSettled, path_of}
 use Rattle.target_delta.specs.Reading.{HasMark, IsAbsent, IsCarried, IsMarkAt, IsOurs, Reads, mark_setting, setting}
 use Rattle.delta_table.specs.Log.{IsStep}
@@ -215,9 +216,6 @@ pub carries_own : (new : List ℕ) (a b : Files) (number : ℕ) (change : Change
 carries_own new a b number change s same h = carried_too a b (own_versions a b same) new number change s h
 
 -- ---- settled
-
-pub dirty_or_clean : (disk : Disk) (path : List ℕ) → IsDirty disk path ⊎ IsClean disk path
-dirty_or_clean disk path = cases_Bool (set.contains disk.dirty path)
 
 pub version_clean : (disk : Disk) (path : List ℕ) (version : ℕ) → IsSettled disk → IsVersionPath path version → IsClean disk path
 version_clean disk path version settled is =

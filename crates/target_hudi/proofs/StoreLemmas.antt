@@ -11,7 +11,6 @@ use Rattle.std.proofs.lemmas.Map.Keys.{IsDistinct-from_sorted}
 use Rattle.std.proofs.lemmas.Map.Made.{length-le_from_is_member}
 use Rattle.lake_basics.specs.declared.limits.TheConstants.{MAX_NAMES}
 use Rattle.lake_basics.proofs.Lists.{none_longer}
-use Rattle.lake_store.specs.Cause.{HasContest, HasFault}
 use Rattle.lake_store.specs.Disk.{Disk, Files, IsClean, MayLeave, names_in}
 use Rattle.lake_store.specs.Runs.{IsEachMoment, IsIn, KeepsImage, LeavesAlone}
 use Rattle.lake_store.specs.declared.store.Store.{Ghosts}
@@ -20,7 +19,7 @@ use Rattle.lake_store.specs.declared.store.StoreError.TheVariants as errors
 use Rattle.lake_store.proofs.DiskLaws.{is_path}
 use Rattle.lake_store.proofs.MomentLaws.{both, started, weaker}
 use Rattle.lake_store.proofs.OrderLaws.{names_in_listed, names_in_sorted}
-use Rattle.lake_store.proofs.RunLaws.{NowOnly, alone_by_reading, alone_of_fewer, reading_begins}
+use Rattle.lake_store.proofs.RunLaws.{NowOnly, alone_of_fewer}
 use Rattle.table_history.specs.declared.kind.Kind.TheVariants.{Hudi}
 use Rattle.table_history.specs.declared.limit.LimitKind.{LimitKind}
 use Rattle.table_history.specs.declared.limit.LimitKind.TheVariants.{Names}
@@ -50,6 +49,7 @@ use Rattle.target_core.specs.Written.{HasReached, IsAsLeft}
 use Rattle.target_core.specs.declared.target.TargetError.{TargetError}
 use Rattle.target_core.specs.declared.target.TargetError.TheVariants.{Contested, Limit}
 use Rattle.target_core.proofs.OneStep.{publishes_none, publishes_one}
+use Rattle.target_core.proofs.StoreAnswers.{alone_none, only_long, only_taken}
 use Rattle.target_hudi.specs.Fitting.{Unfit}
 use Rattle.target_hudi.specs.HudiMeaning.{hudi_meaning}
 use Rattle.target_hudi.specs.Kept.{IsCounted, IsNewest, StandsFor, end_of, held_of, view_of}
@@ -67,14 +67,6 @@ use Rattle.target_hudi.proofs.KeepsLemmas.{advanced, newest_is, passes_behind}
 use Rattle.target_hudi.proofs.MomentLemmas.{AreDue, AreGivenNow, IsGrown, beside_kept, beside_stays, grown_after, grown_alike, reached_kept, still_before}
 use Rattle.target_hudi.proofs.PublishLemmas.{HasFolders, due, earlier, earlier_still, folders_before, folders_behind, is_before, is_behind, stands_now}
 
--- ---- causes
-
-pub fault_too : {S : Type 0} (faults : S → ℕ) (may_fail : S → Type 0) (old new : S) (P Q : Type 0) → (Q → P) → HasFault faults may_fail old new P → HasFault faults may_fail old new Q
-fault_too faults may_fail old new P Q back h = record { later = h.later; still = h.still; rose = λ q. h.rose (back q); allowed = λ q. h.allowed (back q) }
-
-pub contest_too : {S : Type 0} (contests : S → ℕ) (may_contest : S → Type 0) (old new : S) (P Q : Type 0) → (P → Q) → (Q → P) → HasContest contests may_contest old new P → HasContest contests may_contest old new Q
-contest_too contests may_contest old new P Q to back h = record { later = h.later; still = h.still; rose = λ q. h.rose (back q); allowed = λ q. h.allowed (back q); same = λ none. h.same (λ p. none (to p)) }
-
 -- ---- answers
 
 error_same : (s t : StoreError) → IsErrOf {T = Unit {0}} (Err s) t → s ≡ t
@@ -82,18 +74,6 @@ error_same s t is = cc
 
 answer_same : (e d : TargetError) → IsErrOf {T = Unit {0}} (Err e) d → e ≡ d
 answer_same e d is = cc
-
-only_taken : (s : StoreError) → answer_of Names MAX_NAMES s ≡ Contested → s ≡ errors.Taken
-only_taken errors.Memory is = absurd (cc)
-only_taken errors.Failed is = absurd (cc)
-only_taken (errors.TooLong n) is = absurd (cc)
-only_taken errors.Taken is = refl
-
-only_long : (s : StoreError) (which : LimitKind) (number : ℕ) → answer_of Names MAX_NAMES s ≡ Limit which number → (n : ℕ) × (s ≡ errors.TooLong n)
-only_long errors.Memory which number is = absurd (cc)
-only_long errors.Failed which number is = absurd (cc)
-only_long (errors.TooLong n) which number is = (n, refl)
-only_long errors.Taken which number is = absurd (cc)
 
 only_of_names : (s : StoreError) (which : LimitKind) (number : ℕ) → answer_of Names MAX_NAMES s ≡ Limit which number → which ≡ Names
 only_of_names errors.Memory which number is = absurd (cc)
@@ -107,12 +87,12 @@ module _ (s : StoreError) (e : TargetError) (gives : e ≡ answer_of Names MAX_N
   contested_error taken = ap (λ (d : TargetError). Err d) (gives ∙ ap (answer_of Names MAX_NAMES) (error_same s errors.Taken taken))
 
   pub taken_answer : IsErrOf {T = Unit {0}} (Err e) Contested → IsErrOf {T = Unit {0}} (Err s) errors.Taken
-  taken_answer contested = ap (λ (t : StoreError). Err t) (only_taken s (sym gives ∙ answer_same e Contested contested))
+  taken_answer contested = ap (λ (t : StoreError). Err t) (only_taken Names MAX_NAMES s (sym gives ∙ answer_same e Contested contested))
 
   -- where a number is passed, a list was too long
   pub limited_by : (which : LimitKind) (number : ℕ) → IsErrOf {T = Unit {0}} (Err e) (Limit which number) → (n : ℕ) × IsErrOf {T = Unit {0}} (Err s) (errors.TooLong n)
   limited_by which number limited =
-      let long = only_long s which number (sym gives ∙ answer_same e (Limit which number) limited) in
+      let long = only_long Names MAX_NAMES s which number (sym gives ∙ answer_same e (Limit which number) limited) in
       (long.0, ap (λ (t : StoreError). Err t) long.1)
 
   -- and it is names of which there are too many
@@ -151,9 +131,6 @@ passes_ahead name origin now kept next commit instant properties text v old new 
 -- ---- nothing is done
 
 module _ {S : Type 0} (store : Ghosts S) (only_now : NowOnly store) (s : S) (told : store.tells) where
-  pub alone_none : (Kept : List ℕ → Type 0) → LeavesAlone store Kept s s
-  alone_none Kept = alone_by_reading store Kept s s (reading_begins store only_now s told)
-
   module _ (origin : Origin) (kept : HudiKept) (commit : Commit) (stands : StandsFor kept (store.disk s).files) (settled : IsSettledTarget (store.disk s)) where
     abbrev Left : Files → Type 0
     Left files = step.IsBefore hudi_meaning (view_of kept) (store.disk s).files files × IsSettledTarget (after_crash files)
@@ -172,7 +149,7 @@ module _ {S : Type 0} (store : Ghosts S) (only_now : NowOnly store) (s : S) (tol
 
     pub publishes_nothing : (U : Type 0) → Publishes store hudi_meaning origin (view_of kept) (commit ∷ []) U false s s
     publishes_nothing U =
-        publishes_none store hudi_meaning origin (view_of kept) commit s s told (λ c change standing le h. h) (alone_none (IsReached (store.disk s).files)) U
+        publishes_none store hudi_meaning origin (view_of kept) commit s s told (λ c change standing le h. h) (alone_none store only_now s told (IsReached (store.disk s).files)) U
         (λ _. (record { reads = stands.reads; earlier = λ c change standing le h. h }, settled))
         (λ _. started store only_now s Left (λ t image may. left_by image may) told)
 

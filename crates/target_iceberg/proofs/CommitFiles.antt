@@ -29,6 +29,7 @@ use Rattle.target_core.specs.Folders.{after_crash}
 use Rattle.target_core.specs.Gained.{CarriesAll}
 use Rattle.target_core.specs.Step.{IsBefore, IsBeforeOrBehind, IsBehind}
 use Rattle.target_core.specs.Views.{Origin, View}
+use Rattle.target_core.proofs.StoreAnswers.{dirty_or_clean}
 use Rattle.target_iceberg.specs.CountLemmas.{commits_newest, commits_read}
 use Rattle.target_iceberg.specs.Fitting.{Unfit, state_of}
 use Rattle.target_iceberg.specs.IcebergMeaning.{iceberg_meaning}
@@ -37,9 +38,9 @@ use Rattle.target_iceberg.specs.Leftovers.{IsDecimal, IsLeftover, IsLeftoverName
 use Rattle.target_iceberg.specs.Publishing.{IsAside, IsDurable, IsNotAside, IsOther, IsPublished}
 use Rattle.target_iceberg.specs.Reached.{CanGoOn, IsReached, IsSettled, LeavesNames}
 use Rattle.target_iceberg.specs.Reading.{IsAbsent, Reads, commits_in}
-use Rattle.target_iceberg.specs.SameLemmas.{SameReached, files_back, goes_on_too, newest_too, ours_too, reached_back, reached_in}
+use Rattle.target_iceberg.specs.SameLemmas.{SameReached, files_back, goes_on_too, newest_too, ours_too, reached_back}
 use Rattle.target_iceberg.specs.SameLemmas as same
-use Rattle.target_iceberg.specs.SettledLemmas.{dirty_or_clean, leftover_name, name_in, never_leftover, not_both, reached_clean}
+use Rattle.target_iceberg.specs.SettledLemmas.{leftover_name, name_in, never_leftover, not_both, reached_clean}
 use Rattle.target_iceberg.specs.Writes.{Writes}
 use Rattle.target_iceberg.proofs.FewManifests.{few_written}
 use Rattle.target_iceberg.proofs.Written as behind

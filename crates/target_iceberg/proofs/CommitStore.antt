@@ -2,12 +2,11 @@
 use Rattle.std.proofs.Common.{◌≡◌, ◌≢◌, ◌⊎◌, inl, inr, ⊎_elim, ℕ, ◌+◌, ◌<◌, ◌≤◌, Bool, true, false, List, [], ◌∷◌, ◌++◌, refl, sym, ◌∙◌, arith}
 use Rattle.std.specs.Prelude.{Err, IfErr, IsErrOf, Ok, OnOk, Result, is_ok}
 use Rattle.std.specs.FinMap as map
-use Rattle.lake_store.specs.Cause.{HasContest, HasFault}
 use Rattle.lake_store.specs.Disk.{Files, MayLeave}
-use Rattle.lake_store.specs.Runs.{IsEachMoment, KeepsImage, LeavesAlone}
+use Rattle.lake_store.specs.Runs.{IsEachMoment, KeepsImage}
 use Rattle.lake_store.specs.declared.store.Store.{Ghosts}
 use Rattle.lake_store.proofs.MomentLaws.{started, weaker}
-use Rattle.lake_store.proofs.RunLaws.{NowOnly, alone_by_reading, alone_of_fewer, reading_begins}
+use Rattle.lake_store.proofs.RunLaws.{NowOnly, alone_of_fewer}
 use Rattle.table_history.specs.declared.limit.LimitKind.{LimitKind}
 use Rattle.table_history.specs.declared.table.Commit.{Commit}
 use Rattle.iceberg_table.specs.Folder.{metadata_folder}
@@ -27,6 +26,7 @@ use Rattle.target_core.specs.Written.{HasReached, IsAsLeft}
 use Rattle.target_core.specs.declared.target.TargetError.{TargetError}
 use Rattle.target_core.specs.declared.target.TargetError.TheVariants.{Contested, Limit, Memory, StoreFault, Unsupported}
 use Rattle.target_core.proofs.OneStep.{publishes_none, publishes_one}
+use Rattle.target_core.proofs.StoreAnswers.{alone_none}
 use Rattle.target_iceberg.specs.CountLemmas.{commits_read}
 use Rattle.target_iceberg.specs.Fitting.{Unfit, state_of}
 use Rattle.target_iceberg.specs.IcebergMeaning.{iceberg_meaning}
@@ -43,12 +43,6 @@ use Rattle.target_iceberg.proofs.CommitFiles.{carries_back, image_before}
 use Rattle.target_iceberg.proofs.WrittenFiles.{carried_too}
 
 -- ---- causes
-
-pub no_fault : {S : Type 0} (faults : S → ℕ) (may_fail : S → Type 0) (s : S) (Q : Type 0) → (Q → ⊥) → HasFault faults may_fail s s Q
-no_fault faults may_fail s Q never = record { later = omega arith; still = λ m. m; rose = λ q. absurd (never q); allowed = λ q. absurd (never q) }
-
-pub no_contest : {S : Type 0} (contests : S → ℕ) (may_contest : S → Type 0) (s : S) (Q : Type 0) → (Q → ⊥) → HasContest contests may_contest s s Q
-no_contest contests may_contest s Q never = record { later = omega arith; still = λ m. m; rose = λ q. absurd (never q); allowed = λ q. absurd (never q); same = λ _. refl }
 
 pub done_or_later : {T : Type 0} (r : Result T TargetError) (before after : ℕ) → HasCome r before after → (is_ok r ≡ true) ⊎ (Uncontested r × (before < after))
 done_or_later (Ok v) before after come = inl refl
@@ -101,9 +95,6 @@ never_later id location kept files stands later = let same : commits_in files �
 -- ---- nothing is done
 
 module _ {S : Type 0} (store : Ghosts S) (only_now : NowOnly store) (s : S) (told : store.tells) where
-  pub alone_none : (Kept : List ℕ → Type 0) → LeavesAlone store Kept s s
-  alone_none Kept = alone_by_reading store Kept s s (reading_begins store only_now s told)
-
   module _ (id location : List ℕ) (origin : Origin) (kept : IcebergKept) (commit : Commit) (stands : StandsFor id location kept (store.disk s).files) (settled : IsSettled (store.disk s)) where
     abbrev Left : Files → Type 0
     Left files = IsBefore (iceberg_meaning id) (view_of kept) (store.disk s).files files × IsSettled (after_crash files)
@@ -122,7 +113,7 @@ module _ {S : Type 0} (store : Ghosts S) (only_now : NowOnly store) (s : S) (tol
 
     pub publishes_nothing : (U : Type 0) → Publishes store (iceberg_meaning id) origin (view_of kept) (commit ∷ []) U false s s
     publishes_nothing U =
-        publishes_none store (iceberg_meaning id) origin (view_of kept) commit s s told (λ number change standing le h. h) (alone_none (IsReached (store.disk s).files)) U
+        publishes_none store (iceberg_meaning id) origin (view_of kept) commit s s told (λ number change standing le h. h) (alone_none store only_now s told (IsReached (store.disk s).files)) U
         (λ _. (record { reads = stands.reads; earlier = λ number change standing le h. h }, settled))
         (λ _. started store only_now s Left (λ t image may. left_by image may) told)
 

@@ -8,24 +8,21 @@ use Rattle.std.proofs.lemmas.Bool.{cases_lt, false≢true}
 use Rattle.std.proofs.lemmas.Fmt.{decimal_injective}
 use Rattle.std.proofs.lemmas.List.{append_cancel_left, append_cancel_right, get_or_default}
 use Rattle.std.proofs.lemmas.Option.{slice_get-get_or}
-use Rattle.lake_basics.specs.declared.limits.TheConstants.{MAX_FILE_BYTES}
 use Rattle.lake_store.specs.Disk.{Disk, Files, IsClean, IsPartlySynced, MayLeave, Moves, SameElsewhere, stored, synced, written}
 use Rattle.lake_store.specs.Moments.{Elapses}
 use Rattle.lake_store.specs.Runs.{Keeps, KeepsImage, LeavesAlone}
 use Rattle.lake_store.specs.declared.store.Store.{Ghosts}
 use Rattle.lake_store.specs.declared.store.StoreError.{StoreError}
 use Rattle.lake_store.specs.declared.store.StoreError.TheVariants.{Taken}
-use Rattle.lake_store.specs.declared.store.StoreError.TheVariants as errors
 use Rattle.lake_store.proofs.DiskLaws.{clean-synced, contains-remove_here, contains-remove_other, get-insert_here, get-insert_other, get-remove_here, get-remove_other, path_cases, publish_leaves}
 use Rattle.lake_store.proofs.MomentLaws.{goes_on, weaker}
 use Rattle.lake_store.proofs.RunLaws.{IsRun, NowOnly, alone_by_run, alone_of_fewer, begins, keeps_crash, keeps_elsewhere, keeps_first, keeps_moved, keeps_stored, keeps_sync, publishes, syncs, writes}
 use Rattle.table_history.specs.declared.kind.Kind.TheVariants.{Iceberg}
-use Rattle.table_history.specs.declared.limit.LimitKind.TheVariants.{File}
 use Rattle.iceberg_commit.specs.NextVersion.{VersionFiles}
-use Rattle.target_core.specs.Outcome.{Uncontested, answer_of}
 use Rattle.target_core.specs.OwnFiles.{IsIcebergFile, MayNotTouch, TouchesOwn}
 use Rattle.target_core.specs.declared.target.TargetError.{TargetError}
 use Rattle.target_core.specs.declared.target.TargetError.TheVariants.{Contested, Memory}
+use Rattle.target_core.proofs.StoreAnswers.{ok_err, three}
 use Rattle.iceberg_table.specs.Folder.{path_of, version_path}
 use Rattle.iceberg_version.specs.Names.{list_name, manifest_name, staged_name}
 use Rattle.target_iceberg.specs.Publishing.{AreApart, AreManifestPaths, HaveBytes, IsAside, IsDurable, IsForestalled, IsNoneOf, IsNotAside, IsOther, IsPublished, PublishesVersion}
@@ -271,11 +268,6 @@ module _ {S : Type 0} (store : Ghosts S) (told : store.tells) (only_now : NowOnl
         (err : store.tells → OnErr r ((IsErrOf r Taken → ⊥) → (store.disk s₂ ≡ store.disk s₁) ⊎ Moves (path_of (staged_name new.version)) (version_path new.version) (store.disk s₁) (store.disk s₂))) where
       untaken : (IsErrOf r Taken → ⊥) → (store.disk s₂ ≡ store.disk s₁) ⊎ Moves (path_of (staged_name new.version)) (version_path new.version) (store.disk s₁) (store.disk s₂)
       untaken none = three inl inr (λ contest. absurd (none contest.0)) (publish_leaves r (store.disk s₁) (store.disk s₂) (path_of (staged_name new.version)) (version_path new.version) (ok told) (taken told) (err told))
-        where
-          three : {A B C D : Type 0} → (A → D) → (B → D) → (C → D) → A ⊎ B ⊎ C → D
-          three f g h (inl a) = f a
-          three f g h (inr (inl b)) = g b
-          three f g h (inr (inr c)) = h c
 
       moved_now : is_ok r ≡ true → Moves (path_of (staged_name new.version)) (version_path new.version) (store.disk s₁) (store.disk s₂)
       moved_now done = by_ok r done (ok told)
@@ -314,31 +306,6 @@ module _ {S : Type 0} (store : Ghosts S) (told : store.tells) (only_now : NowOnl
 
 -- ---- answers
 
-ok_err : {T : Type 0} (v : T) (e : TargetError) → IsErrOf {T = T} (Ok v) e → ⊥
-ok_err v e is = cc
-
-pub untaken_by : {T : Type 0} (r : Result T TargetError) (e : TargetError) (s : StoreError) → r ≡ Err e → e ≡ answer_of File MAX_FILE_BYTES s → Uncontested r → s ≡ Taken → ⊥
-untaken_by (Ok v) e s is gives u taken = absurd (ok_err v e is)
-untaken_by (Err x) e s is gives u taken =
-    let same : x ≡ e = cc in
-    u (same ∙ gives ∙ ap (answer_of File MAX_FILE_BYTES) taken)
-
-only_taken : (s : StoreError) → answer_of File MAX_FILE_BYTES s ≡ Contested → s ≡ Taken
-only_taken errors.Memory is = absurd (cc)
-only_taken errors.Failed is = absurd (cc)
-only_taken (errors.TooLong n) is = absurd (cc)
-only_taken errors.Taken is = refl
-
-pub contested_by : {T : Type 0} (r : Result T TargetError) (e : TargetError) (s : StoreError) → r ≡ Err e → e ≡ answer_of File MAX_FILE_BYTES s → IsErrOf r Contested → s ≡ Taken
-contested_by (Ok v) e s is gives contested = absurd (ok_err v e is)
-contested_by (Err x) e s is gives contested =
-    let same : x ≡ e = cc in
-    let is_contested : x ≡ Contested = cc in
-    only_taken s (sym gives ∙ sym same ∙ is_contested)
-
-pub err_same : {T : Type 0} (s : StoreError) → IsErrOf {T = T} (Err s) Taken → s ≡ Taken
-err_same s is = cc
-
 pub memory_never : {T : Type 0} (r : Result T TargetError) (e : TargetError) → r ≡ Err e → e ≡ Memory → IsErrOf r Contested → ⊥
 memory_never (Ok v) e is memory contested = absurd (ok_err v e is)
 memory_never (Err x) e is memory contested =
@@ -346,9 +313,6 @@ memory_never (Err x) e is memory contested =
     let is_contested : x ≡ Contested = cc in
     let both : Memory ≡ Contested = sym memory ∙ sym same ∙ is_contested in
     absurd (cc)
-
-pub not_ok : {T : Type 0} (r : Result T TargetError) (e : TargetError) → r ≡ Err e → is_ok r ≡ true → ⊥
-not_ok r e is ok = let no : is_ok r ≡ false = ap is_ok is in false≢true (sym no ∙ ok)
 
 pub err_ok : {T : Type 0} (r : Result T StoreError) (v : T) → r ≡ Ok v → IsErrOf r Taken → ⊥
 err_ok r v is taken = let both : Ok v ≡ Err Taken = sym is ∙ taken in absurd (cc)

@@ -1,7 +1,7 @@
 -- What an Iceberg target's files stand for lies in its folder, in what its versions reach, and stays through a crash.
 use Rattle.std.proofs.Common.{◌≡◌, ◌⊎◌, inl, inr, ⊎_elim, ℕ, ◌≤◌, List, [], get_or, Option, Some, None, refl, sym, ap, subst, ◌∙◌, arith}
 use Rattle.std.specs.Prelude.{IsSome}
-use Rattle.std.proofs.lemmas.Bool.{cases_Bool, false≢true}
+use Rattle.std.proofs.lemmas.Bool.{false≢true}
 use Rattle.std.specs.FinMap as map
 use Rattle.std.specs.FinSet as set
 use Rattle.std.specs.Ordering.{nat_cmp}
@@ -15,6 +15,7 @@ use Rattle.target_iceberg.specs.Leftovers.{IsLeftover, IsLeftoverName}
 use Rattle.target_core.specs.Folders.{MayLeaveIn, SameIn, after_crash}
 use Rattle.target_core.specs.FolderLemmas.{same_back}
 use Rattle.target_core.specs.Views.{Standing, View, absent}
+use Rattle.target_core.proofs.StoreAnswers.{dirty_or_clean}
 use Rattle.target_iceberg.specs.Reached.{IsReached, IsSettled}
 use Rattle.target_iceberg.specs.Reading.{IsAbsent, IsCarried, Reads}
 use Rattle.target_iceberg.specs.SameLemmas.{SameReached, carried_too, files_back, goes_on_too, has_too, newest_too, ours_too, reached_back, reached_in}
@@ -89,9 +90,6 @@ pub reached_alone : (new : List ℕ) (a b : Files) (v : View) → ((path : List 
 reached_alone new a b v same none reads = (alone_reads a b same none v reads, λ c change m le h. carried_too a b (alone_reached a b same none) new c change m h)
 
 -- ---- settled
-
-pub dirty_or_clean : (disk : Disk) (path : List ℕ) → IsDirty disk path ⊎ IsClean disk path
-dirty_or_clean disk path = cases_Bool (set.contains disk.dirty path)
 
 pub not_both : (disk : Disk) (path : List ℕ) → IsClean disk path → IsDirty disk path → ⊥
 not_both disk path clean dirty = false≢true (sym clean ∙ dirty)

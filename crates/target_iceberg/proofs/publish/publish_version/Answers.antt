@@ -10,8 +10,9 @@ use Rattle.iceberg_version.specs.Names.{staged_name}
 use Rattle.iceberg_commit.specs.NextVersion.{VersionFiles}
 use Rattle.target_core.specs.Outcome.{Uncontested}
 use Rattle.target_core.specs.declared.target.TargetError.TheVariants.{Contested}
+use Rattle.target_core.proofs.StoreAnswers.{contested_by, err_same, not_ok, untaken_by}
 use Rattle.target_iceberg.specs.Publishing.{AreManifestPaths, IsNotAside, PublishesVersion}
-use Rattle.target_iceberg.proofs.PublishingLemmas.{alone_begun, apart_paths, aside₁, aside₂, aside₃, aside₄, contested_by, err_same, memory_never, metadata_not_aside, not_published, not_ok, ok_contested, err_ok, published_as, untaken_by, written_aside}
+use Rattle.target_iceberg.proofs.PublishingLemmas.{alone_begun, apart_paths, aside₁, aside₂, aside₃, aside₄, memory_never, metadata_not_aside, not_published, ok_contested, err_ok, published_as, written_aside}
 use Rattle.target_iceberg.proofs.publish.publish_version.Goals as goal
 
 pub returns-in_err-manifest_paths-clause-publishes : goal.returns-in_err-manifest_paths-clause-publishes

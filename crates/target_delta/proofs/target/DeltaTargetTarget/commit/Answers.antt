@@ -14,6 +14,7 @@ use Rattle.target_core.specs.Publishing.{Publishes}
 use Rattle.target_core.specs.Views.{Origin, origin_of}
 use Rattle.target_core.specs.declared.target.TargetError.TheVariants.{Contested}
 use Rattle.target_core.proofs.Come.{come_later, come_uncontested, never_come}
+use Rattle.target_core.proofs.StoreAnswers.{contested_by, err_same, not_ok, untaken_by}
 use Rattle.target_delta.specs.CountLemmas.{count_is}
 use Rattle.target_delta.specs.DeltaMeaning.{delta_meaning}
 use Rattle.target_delta.specs.Kept.{end_of, view_of}
@@ -23,7 +24,7 @@ use Rattle.target_delta.specs.NewVersion.{IsNewVersion}
 use Rattle.target_delta.specs.Reading.{commits_in}
 use Rattle.target_delta.specs.Writing.{LogEnd}
 use Rattle.target_delta.proofs.CommitLemmas.{fits_behind, free_path, stands_now}
-use Rattle.target_delta.proofs.StoreLemmas.{as_left, as_left_come, beside_now, contested_by, count_taken, counted_now, err_same, kept_taken, not_ok, ok_taken, publishes_nothing, publishes_staged, stands_come, theirs_taken, touches_staged, unlimited_by, untaken_by, writes_now}
+use Rattle.target_delta.proofs.StoreLemmas.{as_left, as_left_come, beside_now, count_taken, counted_now, kept_taken, ok_taken, publishes_nothing, publishes_staged, stands_come, theirs_taken, touches_staged, unlimited_by, writes_now}
 use Rattle.target_delta.proofs.target.DeltaTargetTarget.commit.Goals as goal
 
 pub returns-in_err-version-clause-own : goal.returns-in_err-version-clause-own

@@ -18,11 +18,12 @@ use Rattle.target_core.specs.Publishing.{Publishes}
 use Rattle.target_core.specs.Views.{Origin, origin_of}
 use Rattle.target_core.specs.declared.target.TargetError.TheVariants.{Contested, StoreFault}
 use Rattle.target_core.proofs.Come.{come_later}
+use Rattle.target_core.proofs.StoreAnswers.{no_contest, no_fault}
 use Rattle.target_iceberg.specs.IcebergMeaning.{iceberg_meaning}
 use Rattle.target_iceberg.specs.Reading.{commits_in}
 use Rattle.target_iceberg.proofs.CommitFiles.{free_path, number}
 use Rattle.target_iceberg.proofs.CommitKept.{fits_behind, kinds_stay, passes_behind}
-use Rattle.target_iceberg.proofs.CommitStore.{as_left, count_contested, counted_now, done_or_later, kept_contested, never_contested, never_fault, never_later, never_limited, no_contest, no_fault, on_ok, publishes_nothing, publishes_version, stands_come, theirs_contested, writes_now}
+use Rattle.target_iceberg.proofs.CommitStore.{as_left, count_contested, counted_now, done_or_later, kept_contested, never_contested, never_fault, never_later, never_limited, on_ok, publishes_nothing, publishes_version, stands_come, theirs_contested, writes_now}
 use Rattle.target_iceberg.proofs.PublishingLemmas.{touches_own}
 use Rattle.target_iceberg.proofs.target.IcebergTargetTarget.commit.Goals as goal
 
