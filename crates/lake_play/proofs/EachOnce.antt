@@ -25,7 +25,6 @@ use Rattle.target_iceberg.specs.IcebergMeaning.{iceberg_meaning}
 use Rattle.target_iceberg.specs.TableId.{table_id}
 use Rattle.target_iceberg.specs.ViewLemmas as iceberg_view
 use Rattle.target_iceberg.specs.declared.target.IcebergTarget.{IcebergTarget}
-use Rattle.target_iceberg.specs.ViewLemmas.{no_commits}
 use Rattle.target_sync.specs.Targets.{TargetFacts, target_facts}
 use Rattle.target_sync.specs.declared.plan.Mode.{Mode}
 use Rattle.target_sync.specs.declared.plan.Mode.TheVariants as modes
@@ -41,6 +40,7 @@ use Rattle.lake_play.proofs.Syncs.{floor_other, same_beside}
 use Rattle.lake_play.proofs.Targets.{IsPlayed, Laws, at_front, first_get, hudi_laws, iceberg_laws}
 use Rattle.lake_play.proofs.Logs.{extended_elsewhere}
 use Rattle.target_core.proofs.Apart.{folders_apart}
+use Rattle.target_core.proofs.Unpublished.{no_commits}
 use Rattle.delta_table.specs.SameVersions.{version_in}
 use Rattle.delta_table.specs.Versions.{log_folder}
 use Rattle.lake_store.specs.Runs.{IsIn}

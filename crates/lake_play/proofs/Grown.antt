@@ -16,8 +16,8 @@ use Rattle.target_core.specs.Folders.{SameIn, folder_of}
 use Rattle.target_core.specs.Meaning.{Meaning}
 use Rattle.target_core.specs.Views.{View}
 use Rattle.target_core.proofs.Apart.{folders_apart}
+use Rattle.target_core.proofs.Unpublished.{no_commits}
 use Rattle.target_iceberg.specs.IcebergMeaning.{iceberg_meaning}
-use Rattle.target_iceberg.specs.ViewLemmas.{no_commits}
 use Rattle.target_sync.specs.Along.{GoesOnAlong, HasGoneTo, LeadsAsFar, StandsFrom}
 use Rattle.target_sync.specs.Answered.{IsDone, IsUndisturbed}
 use Rattle.target_sync.specs.Dues.{origin_of}

@@ -72,12 +72,13 @@ use Rattle.target_core.proofs.Apart.{folders_apart}
 use Rattle.target_core.specs.Folders.{SameIn}
 use Rattle.target_core.specs.Meaning.{Meaning}
 use Rattle.target_core.specs.Views.{IsUnpublished, Origin, SameView, View}
+use Rattle.target_core.proofs.Unpublished.{no_commits}
 use Rattle.target_iceberg.specs.CountLemmas.{commits_read}
 use Rattle.target_iceberg.specs.IcebergMeaning.{iceberg_meaning}
 use Rattle.target_iceberg.specs.Reached.{CanGoOn, IsSettled}
 use Rattle.target_iceberg.specs.SettledLemmas.{crash_reached, own_reached}
 use Rattle.target_iceberg.specs.SameLemmas.{SameReached, SameSnapshot, current_too, list_reached, manifest_reached, version_reached}
-use Rattle.target_iceberg.specs.ViewLemmas.{is_absent, no_commits, one_view}
+use Rattle.target_iceberg.specs.ViewLemmas.{is_absent, one_view}
 use Rattle.target_iceberg.specs.declared.target.IcebergTarget.{IcebergTarget}
 use Rattle.target_sync.specs.Along.{HasGoneTo, IsToLast, LeadsAsFar, StandsFrom}
 use Rattle.target_sync.specs.Answered.{IsReady}

@@ -33,6 +33,7 @@ use Rattle.iceberg_version.proofs.Shared.{in_take}
 use Rattle.target_core.proofs.Apart.{folders_apart}
 use Rattle.target_core.specs.Folders.{SameIn}
 use Rattle.target_core.specs.Views.{Origin, Standing, View}
+use Rattle.target_core.proofs.Unpublished.{no_commits}
 use Rattle.target_iceberg.specs.AlikeLemmas.{held_ours}
 use Rattle.target_iceberg.specs.CountLemmas.{commits_read}
 use Rattle.target_iceberg.specs.IcebergMeaning.{iceberg_meaning}
@@ -40,7 +41,7 @@ use Rattle.target_iceberg.specs.Kept.{StandsFor}
 use Rattle.target_iceberg.specs.Reading.{Reads}
 use Rattle.target_iceberg.specs.SettledLemmas.{crash_reached, own_reached}
 use Rattle.target_iceberg.specs.TableId.{table_id}
-use Rattle.target_iceberg.specs.ViewLemmas.{is_absent, no_commits}
+use Rattle.target_iceberg.specs.ViewLemmas.{is_absent}
 use Rattle.target_iceberg.specs.declared.target.IcebergTarget.{IcebergTarget}
 use Rattle.target_sync.specs.Answered.{IsPassed, IsReady}
 use Rattle.target_sync.specs.Dues.{AreSinceMark, Due, IsInFull, origin_of}

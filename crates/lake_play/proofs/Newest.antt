@@ -26,6 +26,7 @@ use Rattle.iceberg_version.specs.declared.kept.IcebergKept.{IcebergKept}
 use Rattle.iceberg_commit.specs.NextVersion.{VersionFiles, version_files}
 use Rattle.target_core.specs.Views.{Origin, View}
 use Rattle.target_core.specs.Written.{AreWritten}
+use Rattle.target_core.proofs.Unpublished.{no_commits}
 use Rattle.target_iceberg.proofs.CommitFiles.{newest_now}
 use Rattle.target_iceberg.proofs.WrittenFiles.{metadata_at}
 use Rattle.target_iceberg.specs.AlikeLemmas.{held_ours}
@@ -37,7 +38,6 @@ use Rattle.target_iceberg.specs.Publishing.{IsAside, IsOther}
 use Rattle.target_iceberg.specs.Reached.{IsReached}
 use Rattle.target_iceberg.specs.Reading.{IsAbsent, IsOurs, Reads}
 use Rattle.target_iceberg.specs.SameLemmas.{SameReached, files_back, newest_too, version_reached}
-use Rattle.target_iceberg.specs.ViewLemmas.{no_commits}
 use Rattle.target_iceberg.specs.Writes.{Writes}
 use Rattle.target_iceberg.specs.declared.target.IcebergTarget.{IcebergTarget}
 use Rattle.target_sync.specs.Dues.{Due, origin_of}

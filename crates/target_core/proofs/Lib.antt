@@ -10,3 +10,4 @@ pub mod HeldRows
 pub mod Writing
 pub mod Come
 pub mod StoreAnswers
+pub mod Unpublished

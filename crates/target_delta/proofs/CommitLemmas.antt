@@ -34,6 +34,7 @@ use Rattle.target_core.specs.Mark.{mark_data}
 use Rattle.target_core.specs.Step.{IsBefore, IsBehind}
 use Rattle.target_core.specs.Views.{IsAdvanced, IsSchemaAfter, Origin, View, standing_at, standing_of}
 use Rattle.target_core.specs.declared.mark.Mark.{Mark}
+use Rattle.target_core.proofs.Unpublished.{no_commits}
 use Rattle.target_delta.specs.DeltaMeaning.{delta_meaning, image}
 use Rattle.target_delta.specs.Fitting.{Unfit, kinds_of}
 use Rattle.target_delta.specs.Kept.{HoldsEnd, IsFirst, StandsFor, end_of, view_of}
@@ -46,7 +47,6 @@ use Rattle.target_delta.specs.FitLemmas.{fits_alike, fits_rest}
 use Rattle.target_delta.specs.KeptLemmas.{versions_of_reads}
 use Rattle.target_delta.proofs.KindLemmas.{other_kinds}
 use Rattle.target_delta.proofs.PublishLemmas.{IsBeside, below, carried_below, ours_now, reads_before, says_below}
-use Rattle.target_delta.specs.ReadingLemmas.{no_commits}
 use Rattle.target_delta.proofs.StepLemmas.{StandsBefore, added_again, added_from, again, due_first, found, meta_partition, protocol_is, spelled, step}
 use Rattle.target_delta.proofs.WrittenLemmas.{again_from, again_of, only_setting}
 

@@ -19,12 +19,13 @@ use Rattle.delta_table.specs.Log.{IsLog, IsStep}
 use Rattle.delta_table.specs.Versions.{IsVersionPath}
 use Rattle.delta_table.proofs.PathLaws.{bytes_once, path_once, says_once}
 use Rattle.target_core.specs.Views.{IsOfSource, IsUnpublished, Standing, View}
+use Rattle.target_core.proofs.Unpublished.{no_commits}
 use Rattle.target_delta.specs.Inspecting.{IsFault, IsFaulty, IsFirstFaulty, IsFirstStray, IsForeign, IsUnmarked}
 use Rattle.target_delta.specs.Names.{path_of}
 use Rattle.target_delta.specs.Reading.{IsAbsent, IsMarkAt, IsOurs, Reads}
 use Rattle.target_delta.specs.AlikeLemmas.{feature_too, grammar_too}
 use Rattle.target_delta.specs.LogLemmas.{SameTables, log_front, one_table, tables_sym}
-use Rattle.target_delta.specs.ReadingLemmas.{no_commits, one_count}
+use Rattle.target_delta.specs.ReadingLemmas.{one_count}
 use Rattle.lake_basics.proofs.Texts.{greater_turned}
 
 alike : (c : DeltaCommit) (a b : Option Table) (e : DeltaError) → SameTables a b → IsFault e → IsChangeRefusal c a e → IsChangeRefusal c b e

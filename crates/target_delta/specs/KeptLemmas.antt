@@ -9,6 +9,7 @@ use Rattle.delta_table.specs.Log.{IsNewestProtocol, SaysCommit}
 use Rattle.delta_table.proofs.PathLaws.{says_once}
 use Rattle.target_core.specs.Folders.{SameIn}
 use Rattle.target_core.specs.Views.{IsUnpublished, SameView, View, absent}
+use Rattle.target_core.proofs.Unpublished.{no_commits, schema_of_absent}
 use Rattle.delta_table.specs.Versions.{log_folder}
 use Rattle.target_delta.specs.Kept.{HoldsEnd, IsFirst, StandsFor, end_of, view_of}
 use Rattle.target_delta.specs.Names.{HasVersions}
@@ -17,7 +18,7 @@ use Rattle.target_delta.specs.Writing.{LogEnd, names_ntz}
 use Rattle.target_delta.specs.declared.kept.DeltaKept.{DeltaKept}
 use Rattle.delta_table.specs.SameVersions.{own_versions, says_too}
 use Rattle.target_delta.specs.LogLemmas.{newest_below}
-use Rattle.target_delta.specs.ReadingLemmas.{one_view, reads_own, no_commits}
+use Rattle.target_delta.specs.ReadingLemmas.{one_view, reads_own}
 use Rattle.lake_basics.proofs.Options.{some_or_none}
 
 one_meta : (files : Files) (version : ℕ) (c d : DeltaCommit) (m n : MetaData) → SaysCommit files version c → SaysCommit files version d → c.meta ≡ Some m → d.meta ≡ Some n → m ≡ n
@@ -42,9 +43,6 @@ one_protocol files count p q h k =
 -- the ends are one by their parts
 pub ends_by : (a b : LogEnd) → a.version ≡ b.version → a.id ≡ b.id → a.schema ≡ b.schema → a.partition ≡ b.partition → a.ntz ≡ b.ntz → a ≡ b
 ends_by a b version id schema partition ntz = λ i. record { version = version i; id = id i; schema = schema i; partition = partition i; ntz = ntz i }
-
-schema_of_absent : (view : View) → IsUnpublished view → view.table.schema ≡ (absent view.table.partition).table.schema
-schema_of_absent view is = ap (λ (v : View). v.table.schema) is
 
 -- of the views that the same files stand for, the schemas are one
 pub one_schema : (files : Files) (v w : View) → Reads files v → Reads files w → v.table.schema ≡ w.table.schema

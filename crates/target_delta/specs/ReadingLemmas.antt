@@ -30,6 +30,7 @@ use Rattle.target_core.specs.Mark.{IsMarkText}
 use Rattle.target_core.specs.declared.mark.Mark.{Mark}
 use Rattle.target_core.proofs.Marks.{one_mark}
 use Rattle.target_core.proofs.StoreAnswers.{dirty_or_clean}
+use Rattle.target_core.proofs.Unpublished.{no_commits}
 use Rattle.target_delta.specs.Names.{HasVersions, IsLeftoverName, IsReached, IsSettled, path_of}
 use Rattle.target_delta.specs.Reading.{HasMark, IsAbsent, IsCarried, IsMarkAt, IsOurs, Reads, mark_setting, setting}
 use Rattle.delta_table.specs.Log.{IsStep}
@@ -63,9 +64,6 @@ one_count files n m h k =
         | inr ge ↦ omega arith
       ]
     ]
-
-pub no_commits : (view : View) → IsUnpublished view → view.commits ≡ 0
-no_commits view is = ap (λ (v : View). v.commits) is
 
 pub absent_or_ours : (files : Files) (view : View) → IsAbsent files → IsOurs files view → ⊥
 absent_or_ours files view none ours = none.versions ours.newest (ours.versions.there ours.newest (omega arith))

@@ -7,8 +7,9 @@ use Rattle.table_history.specs.declared.limit.LimitKind.{LimitKind}
 use Rattle.table_history.specs.declared.table.Commit.{Commit}
 use Rattle.hudi_table.specs.declared.instants.CompletedInstant.{CompletedInstant}
 use Rattle.target_core.specs.Conditions.{Fits}
-use Rattle.target_core.specs.Views.{IsUnpublished, Origin, SameView, View, absent}
+use Rattle.target_core.specs.Views.{Origin, SameView, View}
 use Rattle.target_core.specs.declared.target.TargetError.{TargetError}
+use Rattle.target_core.proofs.Unpublished.{schema_of_absent}
 use Rattle.target_hudi.specs.Fitting.{Held, Unfit}
 use Rattle.target_hudi.specs.Kept.{IsNewest, StandsFor, end_of, held_of, view_of}
 use Rattle.target_hudi.specs.Reading.{Reads}
@@ -36,9 +37,6 @@ one_newest files (Some time) None h k = absurd (none_longer h.0 h.1 [] (sym k �
 one_newest files (Some time) (Some other) h k = ap Some (sym h.3 ∙ ap (λ (c : CompletedInstant). c.time) (one_last h.0 h.1 k.0 k.1 (sym h.2 ∙ k.2)) ∙ k.3)
 
 -- ---- the schema
-
-schema_of_absent : (view : View) → IsUnpublished view → view.table.schema ≡ (absent view.table.partition).table.schema
-schema_of_absent view is = ap (λ (v : View). v.table.schema) is
 
 -- of the views that the same files stand for, the schemas are one
 pub one_schema : (files : Files) (v w : View) → Reads files v → Reads files w → v.table.schema ≡ w.table.schema

@@ -17,15 +17,13 @@ use Rattle.hudi_table.specs.declared.reading.Latest.{Latest}
 use Rattle.hudi_table.specs.declared.reading.Naming.TheVariants.{External}
 use Rattle.target_core.specs.Changes.{IsGone, SameRowChange}
 use Rattle.target_core.specs.Views.{IsPublished, IsUnpublished, SameView, Standing, View, absent}
+use Rattle.target_core.proofs.Unpublished.{no_commits}
 use Rattle.target_hudi.specs.Reading.{HasStatRow, IsAbsent, IsCarried, IsMarkAt, IsOurs, Reads, commits_in, completed_in}
 use Rattle.target_hudi.specs.Writing.{replaced_of}
 use Rattle.target_hudi.specs.OnceLemmas.{latest_partition, one_instant, one_kinds, one_place, one_rows, one_schema, one_standing, one_table_of}
 use Rattle.lake_basics.proofs.Lists.{none_longer}
 
 -- ---- counts
-
-pub no_commits : (view : View) → IsUnpublished view → view.commits ≡ 0
-no_commits view is = ap (λ (v : View). v.commits) is
 
 longer : {X : Type 0} (front : List X) (x : X) (behind : List X) → length (front ++ x ∷ behind) ≡ suc (length front + length behind)
 longer front x behind = let len = length-append front (x ∷ behind) in omega (arith, len)

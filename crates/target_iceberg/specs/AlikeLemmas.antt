@@ -23,9 +23,10 @@ use Rattle.iceberg_version.specs.Writing.{AreWritten, HasLongList, HasLongManife
 use Rattle.iceberg_metadata.specs.Writing.{metadata_text}
 use Rattle.iceberg_version.specs.declared.kept.IcebergKept.{IcebergKept}
 use Rattle.iceberg_version.specs.declared.kept.KeptManifest.{KeptManifest}
-use Rattle.target_core.specs.Views.{IsUnpublished, Origin, SameView, View, absent, standing_of}
+use Rattle.target_core.specs.Views.{Origin, SameView, View, standing_of}
 use Rattle.target_core.specs.declared.mark.Mark.{Mark}
 use Rattle.target_core.specs.declared.target.TargetError.{TargetError}
+use Rattle.target_core.proofs.Unpublished.{schema_of_absent}
 use Rattle.target_iceberg.specs.Fitting.{HeldState, Unfit, state_of}
 use Rattle.target_iceberg.specs.Kept.{HoldsEnd, IsFirst, IsKeptOf, StandsFor, held_of}
 use Rattle.target_iceberg.specs.Reading.{IsOurs, Reads, SaysCurrent}
@@ -131,9 +132,6 @@ held_ours files kept h (inl none) =
     let mark : (view_of kept).mark ≡ None = ap (λ (v : View). v.mark) none.1 in
     absurd (none_or_some (option_map standing_of kept.mark) (standing_of h.mark) mark (ap (λ (o : Option Mark). option_map standing_of o) h.marked))
 held_ours files kept h (inr ours) = ours
-
-schema_of_absent : (view : View) → IsUnpublished view → view.table.schema ≡ (absent view.table.partition).table.schema
-schema_of_absent view is = ap (λ (v : View). v.table.schema) is
 
 -- of the views that the same files stand for, the schemas are one
 pub one_schema : (files : Files) (v w : View) → Reads files v → Reads files w → v.table.schema ≡ w.table.schema

@@ -17,8 +17,8 @@ use Rattle.table_history.proofs.RowListLemmas.{Contains-cases, Contains-head, Co
 use Rattle.iceberg_metadata.specs.VersionName.{IsVersionName}
 use Rattle.iceberg_table.specs.Folder.{HasVersion, IsNewest, metadata_folder}
 use Rattle.target_core.specs.Views.{View}
+use Rattle.target_core.proofs.Unpublished.{no_commits}
 use Rattle.target_iceberg.specs.Reading.{Reads, commits_in, version_digits, version_name, version_named}
-use Rattle.target_iceberg.specs.ViewLemmas.{no_commits}
 
 -- ---- the version that a name is of
 

@@ -17,11 +17,12 @@ use Rattle.iceberg_version.specs.Writing.{TableEnd, no_version}
 use Rattle.iceberg_version.specs.declared.kept.IcebergKept.{IcebergKept}
 use Rattle.target_core.specs.Folders.{SameIn}
 use Rattle.target_core.specs.Views.{View, absent, standing_of}
+use Rattle.target_core.proofs.Unpublished.{no_commits}
 use Rattle.target_iceberg.specs.Kept.{HoldsEnd, IsCounted, IsFirst, StandsFor}
 use Rattle.target_iceberg.specs.Reading.{Reads}
 use Rattle.target_iceberg.specs.SameLemmas.{SameSnapshot, current_too, newest_too}
 use Rattle.target_iceberg.specs.SettledLemmas.{absent_own, own_reached, reads_own}
-use Rattle.target_iceberg.specs.ViewLemmas.{is_absent, no_commits}
+use Rattle.target_iceberg.specs.ViewLemmas.{is_absent}
 use Rattle.lake_basics.proofs.Options.{none_or_some}
 
 pub kept_view : (id location : List ℕ) (kept : IcebergKept) (files : Files) → StandsFor id location kept files → Reads files (view_of kept)

@@ -16,13 +16,11 @@ use Rattle.iceberg_table.specs.declared.list.ManifestFile.{ManifestFile}
 use Rattle.iceberg_table.specs.declared.plan.Plan.{Plan}
 use Rattle.target_core.specs.Changes.{IsGone, SameRowChange}
 use Rattle.target_core.specs.Views.{IsPublished, IsUnpublished, SameView, Standing, View, absent}
+use Rattle.target_core.proofs.Unpublished.{no_commits}
 use Rattle.target_iceberg.specs.Reading.{Adds, Deletes, IsAbsent, IsCarried, IsCurrent, IsEntryIn, IsMarked, IsOurs, Reads, SaysCurrent, SaysSnapshot}
 use Rattle.target_iceberg.specs.OnceLemmas.{current_once, metadata_once, newest_once, says_once, standing_once, table_once}
 
 -- ---- absent
-
-pub no_commits : (view : View) → IsUnpublished view → view.commits ≡ 0
-no_commits view is = ap (λ (v : View). v.commits) is
 
 pub absent_or_ours : (files : Files) (view : View) → IsAbsent files → IsOurs files view → ⊥
 absent_or_ours files view none ours = none.versions view.commits ours.newest.there
