@@ -11,3 +11,4 @@ pub mod Writing
 pub mod Come
 pub mod StoreAnswers
 pub mod Unpublished
+pub mod Texts

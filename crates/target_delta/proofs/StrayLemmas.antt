@@ -3,7 +3,6 @@ use Rattle.std.proofs.Common.{◌≡◌, inl, ⊎_elim, ℕ, ◌==◌, ◌&&◌,
 use Rattle.std.proofs.lemmas.List.{length-append, length-drop, length-take, take-append-drop}
 use Rattle.std.proofs.lemmas.Bool.{and_from, false≢true, not-false}
 use Rattle.std.proofs.lemmas.Bool.Decides.{nat_tests}
-use Rattle.std.proofs.lemmas.Cmp.{nat_list_cmp_total}
 use Rattle.std.proofs.lemmas.Slice.Eq.{bytes_eq-Decides}
 use Rattle.std.proofs.lemmas.Str.Parse.{IsNumeralModel, numerals_by_value, tells_all_ascii_digits}
 use Rattle.std.specs.Prelude.{◌↔◌, IsTrue}
@@ -11,11 +10,11 @@ use Rattle.std.specs.Char.{is_ascii_digit}
 use Rattle.std.specs.Cmp.Lexicographic.{slice_cmp}
 use Rattle.std.specs.List.{AllByRecursion, list_all}
 use Rattle.std.specs.List.Sorted.{IsStrictlySortedBy}
-use Rattle.std.specs.Ordering.{nat_cmp, ordering_reverse}
+use Rattle.std.specs.Ordering.{nat_cmp}
 use Rattle.std.specs.Str.{all_ascii_digits, bytes_eq}
 use Rattle.std.specs.Str.Parse.{AllDigits, digits_value}
 use Rattle.std.specs.declared.cmp.Ordering.{Ordering}
-use Rattle.std.specs.declared.cmp.Ordering.TheVariants.{Greater, Less}
+use Rattle.std.specs.declared.cmp.Ordering.TheVariants.{Less}
 use Rattle.std.proofs.lemmas.Option.{none-some, same_Some}
 use Rattle.lake_store.specs.Disk.{Files, ListsFolder}
 use Rattle.table_history.proofs.RowListLemmas.{Contains-cases, Contains-head, Contains-none, Contains-tail}
@@ -26,6 +25,7 @@ use Rattle.delta_table.proofs.PathLaws.{held_named, named_held}
 use Rattle.target_core.specs.SeenView.{IsSeen}
 use Rattle.target_core.specs.declared.target.Seen.{Seen}
 use Rattle.target_core.specs.declared.target.Seen.TheVariants.{Absent, Ours, Foreign}
+use Rattle.target_core.proofs.Texts.{turned}
 use Rattle.target_delta.specs.Inspecting.{IsFirstStray, IsForeign}
 use Rattle.target_delta.specs.InspectSteps.{IsNewest, IsSeenIn, is_leftover_name, is_stray_name}
 use Rattle.target_delta.specs.Names.{IsLeftoverName, leftover_front, path_of}
@@ -93,12 +93,6 @@ leftover_test name h = subst (λ (n : List ℕ). is_leftover_name n ≡ true) (s
 
 abbrev cmp : List ℕ → List ℕ → Ordering
 cmp = slice_cmp nat_cmp
-
-turned : (a b : List ℕ) → cmp a b ≡ Less → cmp b a ≡ Less → ⊥
-turned a b less back =
-    let greater : cmp b a ≡ Greater = nat_list_cmp_total.antisymm b a ∙ ap ordering_reverse less in
-    let both : Less ≡ Greater = sym back ∙ greater in
-    cc
 
 below_in : (x : List ℕ) (xs : List (List ℕ)) (y : List ℕ) → AllByRecursion (λ z. cmp x z ≡ Less) xs → Contains xs y → cmp x y ≡ Less
 below_in x [] y all there = absurd (Contains-none y there)

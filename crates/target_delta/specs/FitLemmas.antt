@@ -1,9 +1,8 @@
 -- What fits a Delta target: no commits, and of a list that fits the first commit and, behind it, the rest.
-use Rattle.std.proofs.Common.{◌≡◌, ◌≢◌, ◌⊎◌, inl, inr, ⊎_elim, ℕ, ◌<◌, List, [], ◌∷◌, length, Contains, refl, sym, ap, subst, arith}
+use Rattle.std.proofs.Common.{◌≡◌, ◌⊎◌, inl, inr, ⊎_elim, ℕ, ◌<◌, List, [], ◌∷◌, length, Contains, refl, sym, ap, subst, arith}
 use Rattle.std.proofs.lemmas.List.{append-nil}
 use Rattle.std.proofs.lemmas.List.Elements.{Contains-append_left, Contains-append_right}
 use Rattle.lake_basics.specs.declared.limits.TheConstants.{MAX_PUBLISHED_COMMITS}
-use Rattle.lake_store.proofs.DiskLaws.{path_cases}
 use Rattle.table_history.specs.Row.{Row}
 use Rattle.table_history.specs.declared.feature.Feature.TheVariants.{PartitionChange, ValueForm}
 use Rattle.table_history.specs.declared.limit.LimitKind.TheVariants.{Publish}
@@ -12,6 +11,7 @@ use Rattle.table_history.proofs.RowListLemmas.{Contains-none, Contains-head, Con
 use Rattle.target_core.specs.Conditions.{Fits}
 use Rattle.target_core.specs.declared.target.TargetError.{TargetError}
 use Rattle.target_core.specs.declared.target.TargetError.TheVariants.{Limit, Unsupported}
+use Rattle.target_core.proofs.Texts.{texts_cases}
 use Rattle.target_delta.specs.Fitting.{ChangesKinds, ChangesPartition, HasValueForm, IsFirstValueForm, Unfit, added_rows, many, changes, form}
 use Rattle.target_delta.specs.Writing.{LogEnd, end_behind}
 
@@ -83,16 +83,6 @@ fits_rest end commit commits fits = record {
 }
 
 -- ---- the partition columns
-
-texts_cases : (a b : List (List ℕ)) → (a ≡ b) ⊎ (a ≢ b)
-texts_cases [] [] = inl refl
-texts_cases [] (y ∷ b) = inr (λ same. cc)
-texts_cases (x ∷ a) [] = inr (λ same. cc)
-texts_cases (x ∷ a) (y ∷ b) =
-    ⊎_elim
-    (λ (first : x ≡ y). ⊎_elim (λ (rest : a ≡ b). inl (λ i. first i ∷ rest i)) (λ (apart : a ≢ b). inr (λ same. apart (cc))) (texts_cases a b))
-    (λ (apart : x ≢ y). inr (λ same. apart (cc)))
-    (path_cases x y)
 
 pub fits_partition : (end : LogEnd) (partition : List (List ℕ)) (commits : List Commit) → (commits ≡ [] → ⊥) → Fits (Unfit end) partition commits → 0 < end.version → end.partition ≡ partition
 fits_partition end partition commits some fits published =

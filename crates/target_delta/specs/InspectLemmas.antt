@@ -2,11 +2,8 @@
 use Rattle.std.proofs.Common.{◌≡◌, inl, inr, ℕ, suc, ◌<◌, List, Option, Some, refl, sym, ap, subst, ◌∙◌, arith}
 use Rattle.std.proofs.lemmas.Bool.{cases_lt}
 use Rattle.std.specs.Cmp.Lexicographic.{slice_cmp}
-use Rattle.std.specs.Ordering.{nat_cmp, is_eq}
-use Rattle.std.specs.declared.cmp.Ordering.{Ordering}
-use Rattle.std.specs.declared.cmp.Ordering.TheVariants.{Equal, Greater, Less}
+use Rattle.std.specs.Ordering.{nat_cmp}
 use Rattle.lake_store.specs.Disk.{Files}
-use Rattle.lake_store.proofs.DiskLaws.{same_path}
 use Rattle.table_history.specs.declared.kind.Kind.{Kind}
 use Rattle.table_history.specs.declared.table.Table.{Table}
 use Rattle.delta_change.specs.Change.{IsChangeRefusal, Shows, commit_features}
@@ -20,13 +17,13 @@ use Rattle.delta_table.specs.Versions.{IsVersionPath}
 use Rattle.delta_table.proofs.PathLaws.{bytes_once, path_once, says_once}
 use Rattle.target_core.specs.Views.{IsOfSource, IsUnpublished, Standing, View}
 use Rattle.target_core.proofs.Unpublished.{no_commits}
+use Rattle.target_core.proofs.Texts.{less_or_more}
 use Rattle.target_delta.specs.Inspecting.{IsFault, IsFaulty, IsFirstFaulty, IsFirstStray, IsForeign, IsUnmarked}
 use Rattle.target_delta.specs.Names.{path_of}
 use Rattle.target_delta.specs.Reading.{IsAbsent, IsMarkAt, IsOurs, Reads}
 use Rattle.target_delta.specs.AlikeLemmas.{feature_too, grammar_too}
 use Rattle.target_delta.specs.LogLemmas.{SameTables, log_front, one_table, tables_sym}
 use Rattle.target_delta.specs.ReadingLemmas.{one_count}
-use Rattle.lake_basics.proofs.Texts.{greater_turned}
 
 alike : (c : DeltaCommit) (a b : Option Table) (e : DeltaError) → SameTables a b → IsFault e → IsChangeRefusal c a e → IsChangeRefusal c b e
 alike c a b errors.Memory same fault h = absurd fault
@@ -87,11 +84,6 @@ not_foreign source files path v foreign (inr ours) = (
 )
 
 -- ---- one path
-
-less_or_more : (a b : List ℕ) (o p : Ordering) → slice_cmp nat_cmp a b ≡ o → slice_cmp nat_cmp b a ≡ p → (o ≡ Less → ⊥) → (p ≡ Less → ⊥) → a ≡ b
-less_or_more a b Less p is also not_less not_more = absurd (not_less refl)
-less_or_more a b Equal p is also not_less not_more = same_path a b (ap is_eq is)
-less_or_more a b Greater p is also not_less not_more = absurd (not_more (sym also ∙ greater_turned a b is))
 
 strays : (files : Files) (p q : List ℕ) → IsFirstStray files p → IsFirstStray files q → p ≡ q
 strays files p q a b =

@@ -4,17 +4,18 @@ use Rattle.std.specs.Prelude.{ℤ, codes, is_some, option_map}
 use Rattle.std.specs.Char.{is_ascii_digit}
 use Rattle.std.specs.Cmp.Lexicographic.{slice_cmp}
 use Rattle.std.specs.List.{AllByRecursion, list_all}
-use Rattle.std.specs.Ordering.{nat_cmp, ordering_reverse}
+use Rattle.std.specs.Ordering.{nat_cmp}
 use Rattle.std.specs.Str.{bytes_eq}
 use Rattle.std.specs.declared.cmp.Ordering.{Ordering}
-use Rattle.std.specs.declared.cmp.Ordering.TheVariants.{Less, Equal, Greater}
+use Rattle.std.specs.declared.cmp.Ordering.TheVariants.{Less}
 use Rattle.std.proofs.lemmas.Bool.{and_parts, false≢true}
 use Rattle.std.proofs.lemmas.Bool.Decides.{nat_tests}
-use Rattle.std.proofs.lemmas.Cmp.{nat_list_cmp_total, tied_itself}
 use Rattle.std.proofs.lemmas.List.Elements.{Contains-append_cases, Contains-append_left}
 use Rattle.std.proofs.lemmas.Slice.Eq.{bytes_eq-Decides}
+use Rattle.lake_basics.proofs.Truth.{never_both}
 use Rattle.lake_store.specs.Disk.{Files, IsName, names_in}
 use Rattle.lake_store.proofs.OrderLaws.{names_in_listed, names_in_sorted}
+use Rattle.table_history.proofs.OrderLemmas.{not_itself}
 use Rattle.table_history.proofs.RowListLemmas.{Contains-cases, all_at}
 use Rattle.hudi_names.specs.Name.{IsRestOf, instant_of}
 use Rattle.hudi_names.specs.Time.{IsDigits, IsSomeTime, IsTime}
@@ -35,6 +36,7 @@ use Rattle.hudi_commit.proofs.NameLaws.{completed_is_name, is_instant_of}
 use Rattle.target_hudi.specs.Inspecting.{IsFirstForeignName, LooksUpClaims}
 use Rattle.target_hudi.specs.InspectSteps.{HasOwnForm, IsOwnInstant}
 use Rattle.target_hudi.specs.Reading.{HasOwnNames, HasOwnProperties, IsOwnName, NamesInstant}
+use Rattle.target_core.proofs.Texts.{turned}
 
 abbrev Instant : Type 0
 Instant = ℕ × Action × State
@@ -160,18 +162,6 @@ module _ (files : Files) where
   up_behind [] i behind up = up.0
   up_behind (j ∷ front) i behind up = up_behind front i behind up.1
 
-  not_above : (a b : List ℕ) → cmp a b ≡ Less → cmp b a ≡ Less → ⊥
-  not_above a b less more = less_greater (sym more ∙ nat_list_cmp_total.antisymm b a ∙ ap ordering_reverse less)
-    where
-      less_greater : Less ≡ Greater → ⊥
-      less_greater e = cc
-
-  not_itself : (a : List ℕ) → cmp a a ≡ Less → ⊥
-  not_itself a less = less_equal (sym less ∙ tied_itself nat_list_cmp_total a)
-    where
-      less_equal : Less ≡ Equal → ⊥
-      less_equal e = cc
-
   -- what comes before one of them is in front of it
   in_front : (front : List InstantName) (i : InstantName) (behind : List InstantName) → instants ≡ front ++ i ∷ behind → (j : InstantName) → Contains instants j → cmp j.name i.name ≡ Less → Contains front j
   in_front front i behind split j there less =
@@ -181,18 +171,14 @@ module _ (files : Files) where
       (λ from.
       ⊎_elim
       (λ (same : i ≡ j). absurd (not_itself j.name (subst (λ (k : InstantName). cmp j.name k.name ≡ Less) same less)))
-      (λ later. absurd (not_above i.name j.name (all_at (Below i) behind j rest later) less))
+      (λ later. absurd (turned i.name j.name (all_at (Below i) behind j rest later) less))
       (Contains-cases i behind j from))
       (Contains-append_cases front (i ∷ behind) j (subst (λ (l : List InstantName). Contains l j) split there))
 
   -- ---- own names
 
   missing_not : (name : List ℕ) → is_missing folder (Some name) ≡ true → Contains folder name → ⊥
-  missing_not name missing there = not_true (has_name folder name) missing ((name_decided folder name (has_name folder name) refl).1 there)
-    where
-      not_true : (b : Bool) → not b ≡ true → b ≡ true → ⊥
-      not_true true is here = cc
-      not_true false is here = cc
+  missing_not name missing there = never_both (has_name folder name) missing ((name_decided folder name (has_name folder name) refl).1 there)
 
   not_missing : (name : List ℕ) → is_missing folder (Some name) ≡ false → Contains folder name
   not_missing name there = (name_decided folder name (has_name folder name) refl).0 (not_false (has_name folder name) there)

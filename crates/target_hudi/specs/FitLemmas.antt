@@ -2,7 +2,6 @@
 use Rattle.std.proofs.Common.{◌≡◌, ◌≢◌, ◌⊎◌, inl, inr, ⊎_elim, ℕ, ◌<◌, List, [], ◌∷◌, length, Contains, Option, None, Some, refl, sym, ap, subst, ◌∙◌, arith}
 use Rattle.std.proofs.lemmas.List.Elements.{Contains-append_right}
 use Rattle.lake_basics.specs.declared.limits.TheConstants.{MAX_PUBLISHED_COMMITS}
-use Rattle.lake_store.proofs.DiskLaws.{path_cases}
 use Rattle.table_history.specs.TypeTree.{ColumnTrees}
 use Rattle.table_history.specs.declared.feature.Feature.{Feature}
 use Rattle.table_history.specs.declared.feature.Feature.TheVariants.{PartitionChange}
@@ -13,6 +12,7 @@ use Rattle.schema_map.specs.Image.{wide_columns}
 use Rattle.target_core.specs.Conditions.{Fits}
 use Rattle.target_core.specs.declared.target.TargetError.{TargetError}
 use Rattle.target_core.specs.declared.target.TargetError.TheVariants.{Limit, Unsupported}
+use Rattle.target_core.proofs.Texts.{texts_cases}
 use Rattle.target_hudi.specs.Fitting.{ChangesKinds, ChangesPartition, HasNoFault, Held, IsFirstFault, Unfit, columns_behind, columns_of, kinds_of, many, changes, fault}
 use Rattle.target_hudi.specs.WideLemmas.{wide_kind}
 use Rattle.target_hudi.specs.Writing.{held_behind}
@@ -137,16 +137,6 @@ fits_rest held columns partition commit commits either fits =
     }
 
 -- ---- the partition columns
-
-texts_cases : (a b : List (List ℕ)) → (a ≡ b) ⊎ (a ≢ b)
-texts_cases [] [] = inl refl
-texts_cases [] (y ∷ b) = inr (λ same. cc)
-texts_cases (x ∷ a) [] = inr (λ same. cc)
-texts_cases (x ∷ a) (y ∷ b) =
-    ⊎_elim
-    (λ (first : x ≡ y). ⊎_elim (λ (rest : a ≡ b). inl (λ i. first i ∷ rest i)) (λ (apart : a ≢ b). inr (λ same. apart (cc))) (texts_cases a b))
-    (λ (apart : x ≢ y). inr (λ same. apart (cc)))
-    (path_cases x y)
 
 pub fits_partition : (held : Option Held) (target : Held) (partition : List (List ℕ)) (commits : List Commit) → held ≡ Some target → (commits ≡ [] → ⊥) → Fits (Unfit held) partition commits → target.partition ≡ partition
 fits_partition held target partition commits is some fits =

@@ -7,10 +7,9 @@ use Rattle.std.specs.Fmt.{decimal}
 use Rattle.std.specs.List.{AllByRecursion}
 use Rattle.std.specs.List.Sorted.{IsStrictlySortedBy}
 use Rattle.std.specs.Option.{option_and_then, option_map}
-use Rattle.std.specs.Ordering.{nat_cmp, ordering_reverse}
+use Rattle.std.specs.Ordering.{nat_cmp}
 use Rattle.std.specs.declared.cmp.Ordering.{Ordering}
-use Rattle.std.specs.declared.cmp.Ordering.TheVariants.{Greater, Less}
-use Rattle.std.proofs.lemmas.Cmp.{nat_list_cmp_total}
+use Rattle.std.specs.declared.cmp.Ordering.TheVariants.{Less}
 use Rattle.std.proofs.lemmas.List.Elements.{Contains-append_cases, Contains-append_right}
 use Rattle.std.proofs.lemmas.List.Sorted.{IsPermutation-refl}
 use Rattle.std.proofs.lemmas.Option.{none-some, same_Some}
@@ -59,6 +58,7 @@ use Rattle.target_core.specs.declared.target.Seen.{Seen}
 use Rattle.target_core.specs.declared.target.Seen.TheVariants.{Absent, Ours, Foreign}
 use Rattle.target_core.specs.declared.target.TargetError.{TargetError}
 use Rattle.target_core.specs.declared.target.TargetError.TheVariants as target
+use Rattle.target_core.proofs.Texts.{turned}
 use Rattle.target_iceberg.specs.Inspecting.{HasForm, IsCrowded, IsFirstStray, IsForeign, IsNewestRead, IsOfThis, TellsNumber, faulty_path}
 use Rattle.target_iceberg.specs.InspectSteps.{IsFirstOf, IsKeptBy, IsOursBy, IsOwnMark, IsOwnVersion, IsSeenIn, told_of}
 use Rattle.target_iceberg.specs.Kept.{HoldsEnd, StandsFor}
@@ -276,12 +276,6 @@ all_ours_sound source version m mark read own table (Err e) is = tt
 
 abbrev cmp : List ℕ → List ℕ → Ordering
 cmp = slice_cmp nat_cmp
-
-turned : (a b : List ℕ) → cmp a b ≡ Less → cmp b a ≡ Less → ⊥
-turned a b less back =
-    let greater : cmp b a ≡ Greater = nat_list_cmp_total.antisymm b a ∙ ap ordering_reverse less in
-    let both : Less ≡ Greater = sym back ∙ greater in
-    cc
 
 sorted_behind : (front : List (List ℕ)) (name : List ℕ) (behind : List (List ℕ)) → IsStrictlySortedBy cmp (front ++ name ∷ behind) → AllByRecursion (λ z. cmp name z ≡ Less) behind
 unfolding IsStrictlySortedBy

@@ -1,13 +1,13 @@
 -- What fits an Iceberg target: no commits, and of a list that fits the first commit and, behind it, the rest.
-use Rattle.std.proofs.Common.{◌≡◌, ◌≢◌, ◌⊎◌, inl, inr, ⊎_elim, ℕ, ◌<◌, List, [], ◌∷◌, length, refl, arith}
+use Rattle.std.proofs.Common.{◌≡◌, ◌⊎◌, inl, inr, ⊎_elim, ℕ, ◌<◌, List, [], ◌∷◌, length, refl, arith}
 use Rattle.lake_basics.specs.declared.limits.TheConstants.{MAX_PUBLISHED_COMMITS}
-use Rattle.lake_store.proofs.DiskLaws.{path_cases}
 use Rattle.table_history.specs.declared.feature.Feature.TheVariants.{PartitionChange, TypeChange}
 use Rattle.table_history.specs.declared.limit.LimitKind.TheVariants.{Publish}
 use Rattle.table_history.specs.declared.table.Commit.{Commit}
 use Rattle.target_core.specs.Conditions.{Fits}
 use Rattle.target_core.specs.declared.target.TargetError.{TargetError}
 use Rattle.target_core.specs.declared.target.TargetError.TheVariants.{Limit, Unsupported}
+use Rattle.target_core.proofs.Texts.{texts_cases}
 use Rattle.target_iceberg.specs.Fitting.{ChangesKinds, ChangesPartition, HasTypeChange, HeldState, IsFirstChange, Unfit, changes, many, state_behind}
 
 -- ---- what a list that fits has not
@@ -54,16 +54,6 @@ fits_rest state commit commits fits = record {
 }
 
 -- ---- the partition columns
-
-texts_cases : (a b : List (List ℕ)) → (a ≡ b) ⊎ (a ≢ b)
-texts_cases [] [] = inl refl
-texts_cases [] (y ∷ b) = inr (λ same. cc)
-texts_cases (x ∷ a) [] = inr (λ same. cc)
-texts_cases (x ∷ a) (y ∷ b) =
-    ⊎_elim
-    (λ (first : x ≡ y). ⊎_elim (λ (rest : a ≡ b). inl (λ i. first i ∷ rest i)) (λ (apart : a ≢ b). inr (λ same. apart (cc))) (texts_cases a b))
-    (λ (apart : x ≢ y). inr (λ same. apart (cc)))
-    (path_cases x y)
 
 pub fits_partition : (state : HeldState) (partition : List (List ℕ)) (commits : List Commit) → (commits ≡ [] → ⊥) → Fits (Unfit state) partition commits → 0 < state.version → state.partition ≡ partition
 fits_partition state partition commits some fits published =

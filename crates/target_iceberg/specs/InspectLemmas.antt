@@ -1,11 +1,8 @@
 -- Foreign files are neither absent nor ours, and have one first path at fault.
 use Rattle.std.proofs.Common.{◌≡◌, ◌⊎◌, inl, inr, ℕ, List, [], ◌∷◌, ◌++◌, Some, refl, sym, ap, subst, ◌∙◌}
 use Rattle.std.specs.Cmp.Lexicographic.{slice_cmp}
-use Rattle.std.specs.Ordering.{is_eq, nat_cmp}
-use Rattle.std.specs.declared.cmp.Ordering.{Ordering}
-use Rattle.std.specs.declared.cmp.Ordering.TheVariants.{Equal, Greater, Less}
+use Rattle.std.specs.Ordering.{nat_cmp}
 use Rattle.lake_store.specs.Disk.{Files}
-use Rattle.lake_store.proofs.DiskLaws.{same_path}
 use Rattle.table_history.specs.Row.{Row}
 use Rattle.table_history.specs.Rows.{HasDistinctPaths}
 use Rattle.table_history.specs.declared.kind.Kind.{Kind}
@@ -27,13 +24,13 @@ use Rattle.iceberg_table.specs.declared.list.ManifestFile.{ManifestFile}
 use Rattle.iceberg_table.specs.declared.manifest.Manifest.{Manifest}
 use Rattle.iceberg_table.specs.declared.plan.Plan.{Plan}
 use Rattle.target_core.specs.Views.{IsOfSource, IsUnpublished, Standing, View}
+use Rattle.target_core.proofs.Texts.{less_or_more}
 use Rattle.target_iceberg.specs.Inspecting.{HasForm, IsFirstStray, IsForeign, IsNewestRead, IsNotOurs, IsOfThis, IsRefusedSnapshot, IsRefusedVersion, faulty_path}
 use Rattle.target_iceberg.specs.Reading.{IsAbsent, IsCurrent, IsOurs, Reads, SaysSnapshot}
 use Rattle.target_iceberg.specs.FaultLemmas.{IsOfFile, file_told, list_or_fault, manifest_or_fault, manifest_told, plan_or_fault, shares_none, told_at, told_none, version_or_fault}
 use Rattle.target_iceberg.specs.OnceLemmas.{current_once, list_once, manifest_once, manifests_once, metadata_once, newest_once, plan_once}
 use Rattle.target_iceberg.specs.ViewLemmas.{never_ours}
 use Rattle.lake_basics.proofs.Options.{some_once}
-use Rattle.lake_basics.proofs.Texts.{greater_turned}
 
 -- ---- lists that stop
 
@@ -216,11 +213,6 @@ not_foreign source files path v foreign (inl h) = (λ is. not_absent source file
 not_foreign source files path v foreign (inr h) = (λ is. never_ours files v is h, λ of. not_ours files v h source path foreign of)
 
 -- ---- one path
-
-less_or_more : (a b : List ℕ) (o p : Ordering) → slice_cmp nat_cmp a b ≡ o → slice_cmp nat_cmp b a ≡ p → (o ≡ Less → ⊥) → (p ≡ Less → ⊥) → a ≡ b
-less_or_more a b Less p is also not_less not_more = absurd (not_less refl)
-less_or_more a b Equal p is also not_less not_more = same_path a b (ap is_eq is)
-less_or_more a b Greater p is also not_less not_more = absurd (not_more (sym also ∙ greater_turned a b is))
 
 strays : (files : Files) (p q : List ℕ) → IsFirstStray files p → IsFirstStray files q → p ≡ q
 strays files p q a b =
