@@ -12,3 +12,4 @@ pub mod Come
 pub mod StoreAnswers
 pub mod Unpublished
 pub mod Texts
+pub mod Lists

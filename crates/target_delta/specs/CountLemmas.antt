@@ -1,5 +1,5 @@
 -- How many names of versions a folder has, where its versions are those under a number.
-use Rattle.std.proofs.Common.{◌≡◌, inl, inr, ⊎_elim, ℕ, ◌<◌, ◌≤◌, ◌==◌, ◌&&◌, ◌||◌, Bool, true, false, eqb, List, [], ◌∷◌, ◌++◌, length, take, drop, filter_map, codes, Contains, Option, Some, None, refl, sym, ap, subst, ◌∙◌, arith, if◌then◌else◌}
+use Rattle.std.proofs.Common.{◌≡◌, inl, inr, ⊎_elim, ℕ, ◌<◌, ◌≤◌, ◌==◌, ◌&&◌, ◌||◌, true, false, eqb, List, [], ◌∷◌, ◌++◌, length, take, drop, filter_map, codes, Contains, Some, None, refl, sym, ap, subst, ◌∙◌, arith, if◌then◌else◌}
 use Rattle.std.specs.Prelude.{IsSome, nat_le}
 use Rattle.std.specs.Char.{digit_value}
 use Rattle.std.specs.List.{AllByRecursion, IsDistinct, cons_option, list_all, list_any}
@@ -20,7 +20,7 @@ use Rattle.std.proofs.lemmas.Slice.Eq.{bytes_eq-Decides}
 use Rattle.lake_basics.specs.declared.limits.TheConstants.{MAX_DELTA_VERSION}
 use Rattle.lake_basics.proofs.Truth.{left_true, right_true}
 use Rattle.lake_basics.proofs.Numbers.{le_by, le_test}
-use Rattle.lake_basics.proofs.Options.{some_there}
+use Rattle.lake_basics.proofs.Options.{chosen, some_there}
 use Rattle.lake_store.specs.Disk.{Files, names_in}
 use Rattle.lake_store.proofs.OrderLaws.{names_in_listed, names_in_sorted}
 use Rattle.delta_log.specs.VersionName.{IsVersionName}
@@ -33,6 +33,7 @@ use Rattle.target_delta.specs.Names.{HasVersions, path_of}
 use Rattle.target_delta.specs.NameLemmas.{same_behind}
 use Rattle.target_delta.specs.ReadingLemmas.{reached_there}
 use Rattle.target_delta.specs.Reading.{commits_in, is_digit, is_version_name, version_named, versions_in}
+use Rattle.target_core.proofs.Lists.{picked, picked_from}
 
 -- ---- the test of a name
 
@@ -55,10 +56,6 @@ same_test n m is = grind (arith, nat_tests)
 
 same_by : (n m : ℕ) → (n == m) ≡ true → n ≡ m
 same_by n m is = grind (arith, nat_tests)
-
-chosen : (b : Bool) (n v : ℕ) → (if b then Some n else None) ≡ Some v → (b ≡ true) × (n ≡ v)
-chosen true n v is = (refl, cc)
-chosen false n v is = absurd (cc)
 
 pub named_version : (name : List ℕ) (v : ℕ) → IsVersionName name v → version_named name ≡ Some v
 named_version name v h =
@@ -86,32 +83,6 @@ version_by_name name v h =
     name_of_parts name (take 20 name) (drop 20 name) v refl refl suffix
     (record { len = front; numeral = (omega (arith, front), numeral); value = sym whole.1 })
     (subst (λ (n : ℕ). n ≤ MAX_DELTA_VERSION) whole.1 within)
-
--- ---- what is picked from a list
-
-module _ {X Y : Type 0} (f : X → Option Y) where
-  behind_option : (o : Option Y) (ys : List Y) (y : Y) → f ≡ f → Contains ys y → Contains (cons_option o ys) y
-  behind_option None ys y same h = h
-  behind_option (Some w) ys y same h = Contains-tail w ys y h
-
-  pub picked : (xs : List X) (x : X) (y : Y) → Contains xs x → f x ≡ Some y → Contains (filter_map f xs) y
-  picked [] x y there is = absurd (Contains-none x there)
-  picked (z ∷ xs) x y there is =
-      ⊎_elim
-      (λ (same : z ≡ x). subst (λ (o : Option Y). Contains (cons_option o (filter_map f xs)) y) (sym (ap f same ∙ is)) (Contains-head y (filter_map f xs)))
-      (λ later. behind_option (f z) (filter_map f xs) y refl (picked xs x y later is))
-      (Contains-cases z xs x there)
-
-  pub picked_from : (xs : List X) (y : Y) → Contains (filter_map f xs) y → (x : X) × Contains xs x × (f x ≡ Some y)
-  picked_from [] y there = absurd (Contains-none y there)
-  picked_from (z ∷ xs) y there =
-      elim (f z) as (λ (o : Option Y). f z ≡ o → Contains (cons_option o (filter_map f xs)) y → (x : X) × Contains (z ∷ xs) x × (f x ≡ Some y)) [
-        | None ↦ λ is h. let found = picked_from xs y h in (found.0, Contains-tail z xs found.0 found.1, found.2)
-        | Some w ↦ λ is h. ⊎_elim
-            (λ (same : w ≡ y). (z, Contains-head z xs, is ∙ ap (λ (v : Y). Some v) same))
-            (λ later. let found = picked_from xs y later in (found.0, Contains-tail z xs found.0 found.1, found.2))
-            (Contains-cases w (filter_map f xs) y h)
-      ] refl there
 
 -- ---- the versions in a folder
 

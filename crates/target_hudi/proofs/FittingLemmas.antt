@@ -1,10 +1,10 @@
 -- Whether commits fit what is kept: the kinds of partition columns along the commits, and the first commit with a fault.
-use Rattle.std.proofs.Common.{◌≡◌, ◌≢◌, ◌⊎◌, ⊎_elim, inl, inr, ℕ, ◌+◌, ◌<◌, List, [], ◌∷◌, length, get_or, take, drop, Bool, Contains, Decides, Option, Some, None, Result, Err, Ok, refl, sym, ap, subst, ◌∙◌, rules}
+use Rattle.std.proofs.Common.{◌≡◌, ◌≢◌, ◌⊎◌, ⊎_elim, inl, inr, ℕ, ◌+◌, ◌<◌, List, ◌∷◌, length, get_or, take, drop, Bool, Contains, Decides, Option, Some, None, Result, Err, Ok, refl, sym, ap, subst, ◌∙◌, rules}
 use lib.Pointwise.{pointwise}
 use Rattle.std.specs.Prelude.{IfErr, OnOk, option_map}
 use Rattle.std.specs.Option.{option_eq}
 use Rattle.std.proofs.lemmas.Bool.{cases_Bool, false≢true}
-use Rattle.std.proofs.lemmas.List.Elements.{Contains-append_cases, Contains-append_right}
+use Rattle.std.proofs.lemmas.List.Elements.{Contains-append_right}
 use Rattle.std.proofs.lemmas.Slice.Eq.{slice_eq-Decides}
 use denote.Enum.Bare.{same_false, same_true}
 use Rattle.partition_map.specs.contracts.kind.PartKind.{the_type}
@@ -16,11 +16,11 @@ use Rattle.table_history.specs.declared.feature.Feature.{Feature}
 use Rattle.table_history.specs.declared.feature.Feature.TheVariants.{PartitionPath}
 use Rattle.table_history.specs.declared.row.PartValue.{PartValue}
 use Rattle.table_history.specs.declared.table.Commit.{Commit}
-use Rattle.table_history.proofs.RowListLemmas.{Contains-none, Contains-head, Contains-cases}
+use Rattle.table_history.proofs.RowListLemmas.{Contains-head}
 use Rattle.partition_map.specs.Folder.{CarriesValues}
 use Rattle.lake_basics.specs.declared.limits.TheConstants.{MAX_PUBLISHED_COMMITS}
 use Rattle.lake_basics.specs.Outcome.{GivesUnlessMemory}
-use Rattle.lake_basics.proofs.Lists.{last_of, split_of}
+use Rattle.lake_basics.proofs.Lists.{split_of}
 use Rattle.lake_basics.proofs.Options.{option_decides}
 use Rattle.table_history.specs.declared.limit.LimitKind.{LimitKind}
 use Rattle.schema_avro.specs.AvroWriting.{avro_schema_text}
@@ -108,13 +108,6 @@ module _ (names : List (List ℕ)) (kinds : Option (List (Option PartKind))) (be
         s.back (inl (held.0, schema, held.1, stated, λ (same : kinds_of held.0 names ≡ kinds_of schema names). apart (sym held.2 ∙ same ∙ sym are)))
 
 -- ---- the first that is so
-
-pub one_more : {X : Type 0} (P : X → Type 0) (xs : List X) (i : ℕ) (x : X) → i < length xs → x ≡ get_or xs i x → ((y : X) → Contains (take i xs) y → P y) → P x → (y : X) → Contains (take (i + 1) xs) y → P y
-one_more P xs i x within at before here y there =
-    ⊎_elim
-    (λ earlier. before y earlier)
-    (λ last. ⊎_elim (λ (same : x ≡ y). subst P same here) (λ none. absurd (Contains-none y none)) (Contains-cases x [] y last))
-    (Contains-append_cases (take i xs) (x ∷ []) y (subst (λ (l : List _). Contains l y) (last_of xs i x within at) there))
 
 carried : (partition : List (List ℕ)) (row : Row) (path : List ℕ) (values : List PartValue) → path ≡ row.path → values ≡ row.values → CarriesValues path partition values → CarriesValues row.path partition row.values
 carried partition row path values path_is values_are is = subst (λ (p : List ℕ). CarriesValues p partition row.values) path_is (subst (CarriesValues path partition) values_are is)

@@ -1,5 +1,5 @@
 -- How the newest shapes are kept, path by path.
-use Rattle.std.proofs.Common.{◌≡◌, ◌≢◌, ⊎_elim, ℕ, ◌<◌, ◌+◌, Bool, true, false, cond, List, [], ◌∷◌, length, get_or, take, drop, map, Contains, Option, Some, None, refl, sym, ap, subst, ◌∙◌, arith}
+use Rattle.std.proofs.Common.{◌≡◌, ◌≢◌, ⊎_elim, ℕ, ◌<◌, ◌+◌, Bool, true, false, cond, List, [], ◌∷◌, length, get_or, drop, map, Contains, Option, Some, None, refl, sym, ap, subst, ◌∙◌, arith}
 use Rattle.std.specs.Prelude.{ℤ, int_lt, IfOk, Result, Vec}
 use Rattle.std.specs.Cmp.Lexicographic.{pointwise}
 use Rattle.std.specs.List.{zip}
@@ -18,7 +18,6 @@ use Rattle.target_iceberg.specs.Fitting.{IdSchema, type_in}
 use Rattle.target_iceberg.specs.Newest.{HeldShape, IsTop, is_changed, is_older, later, shape_at, with_schema, with_schemas, with_type}
 use Rattle.target_iceberg.specs.Shapes.{shape_of}
 use Rattle.target_iceberg.specs.declared.shape.Shape.{Shape}
-use Rattle.lake_basics.proofs.Lists.{last_of}
 use Rattle.iceberg_metadata.proofs.PathLemmas.{path_Decides}
 
 -- ---- one path
@@ -155,13 +154,6 @@ pub no_shapes_left : (id : ℤ) (path : Path) (held goal : Option HeldShape) (re
 no_shapes_left id path held goal rest left none so_far = sym (ap (λ (l : List Shape). with_pairs id path held (zip rest l)) none ∙ ap (with_pairs id path held) (zip_none rest)) ∙ so_far
 
 -- ---- the first of the paths
-
-pub one_more : {X : Type 0} (P : X → Type 0) (xs : List X) (i : ℕ) (x : X) → i < length xs → x ≡ get_or xs i x → ((y : X) → Contains (take i xs) y → P y) → P x → (y : X) → Contains (take (i + 1) xs) y → P y
-one_more P xs i x within at before here y there =
-    ⊎_elim
-    (λ earlier. before y earlier)
-    (λ last. ⊎_elim (λ (same : x ≡ y). subst P same here) (λ none. absurd (Contains-none y none)) (Contains-cases x [] y last))
-    (Contains-append_cases (take i xs) (x ∷ []) y (subst (λ (l : List _). Contains l y) (last_of xs i x within at) there))
 
 -- paths whose shapes are the same have the same first change
 pub top_alike : {E : Type 0} (before after other : Path → Option HeldShape) → ((path : Path) → after path ≡ other path) → (paths others : List Path) → paths ≡ others → (r : Result (Option (List ℕ)) E)

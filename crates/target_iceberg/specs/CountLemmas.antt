@@ -1,8 +1,7 @@
 -- How many commits the names of a folder tell.
-use Rattle.std.proofs.Common.{◌≡◌, inl, inr, ⊎_elim, ℕ, ◌≤◌, ◌-◌, ◌&&◌, Bool, true, false, List, [], ◌∷◌, ◌++◌, length, take, codes, Contains, Option, Some, None, refl, sym, ap, subst, ◌∙◌, arith, if◌then◌else◌}
+use Rattle.std.proofs.Common.{◌≡◌, inl, inr, ⊎_elim, ℕ, ◌≤◌, ◌-◌, ◌&&◌, List, [], ◌∷◌, ◌++◌, length, take, codes, Contains, Some, None, sym, ap, subst, ◌∙◌, arith, if◌then◌else◌}
 use Rattle.std.specs.Prelude.{filter_map, fold, max, nat_le}
 use Rattle.std.specs.Fmt.{decimal}
-use Rattle.std.specs.List.{cons_option}
 use Rattle.std.specs.Str.{bytes_eq}
 use Rattle.std.specs.Str.Parse.{digits_value}
 use Rattle.std.proofs.lemmas.Fmt.{decimal_is_IsNumeral}
@@ -12,19 +11,17 @@ use Rattle.std.proofs.lemmas.Bool.{and_from, and_parts}
 use Rattle.lake_basics.specs.declared.limits.TheConstants.{MAX_ICEBERG_VERSION}
 use Rattle.lake_basics.proofs.Lists.{take_front}
 use Rattle.lake_basics.proofs.Numbers.{le_by, le_test}
+use Rattle.lake_basics.proofs.Options.{chosen}
 use Rattle.lake_store.specs.Disk.{Files, names_in}
 use Rattle.table_history.proofs.RowListLemmas.{Contains-cases, Contains-head, Contains-none, Contains-tail}
 use Rattle.iceberg_metadata.specs.VersionName.{IsVersionName}
 use Rattle.iceberg_table.specs.Folder.{HasVersion, IsNewest, metadata_folder}
 use Rattle.target_core.specs.Views.{View}
 use Rattle.target_core.proofs.Unpublished.{no_commits}
+use Rattle.target_core.proofs.Lists.{picked, picked_from}
 use Rattle.target_iceberg.specs.Reading.{Reads, commits_in, version_digits, version_name, version_named}
 
 -- ---- the version that a name is of
-
-chosen : (b : Bool) (n v : ℕ) → (if b then Some n else None) ≡ Some v → (b ≡ true) × (n ≡ v)
-chosen true n v is = (refl, cc)
-chosen false n v is = absurd (cc)
 
 name_digits : (v : ℕ) → version_digits (version_name v) ≡ decimal v
 name_digits v =
@@ -54,32 +51,6 @@ version_by_name name v h =
     let spelled = (bytes_eq-Decides name (version_name n)).0 parts.0 in
     let within = le_by n MAX_ICEBERG_VERSION parts.1 in
     record { spelled = spelled ∙ ap version_name whole.1; within = subst (λ (m : ℕ). m ≤ MAX_ICEBERG_VERSION) whole.1 within }
-
--- ---- what is picked from a list
-
-module _ {X Y : Type 0} (f : X → Option Y) where
-  behind_option : (o : Option Y) (ys : List Y) (y : Y) → f ≡ f → Contains ys y → Contains (cons_option o ys) y
-  behind_option None ys y same h = h
-  behind_option (Some w) ys y same h = Contains-tail w ys y h
-
-  picked : (xs : List X) (x : X) (y : Y) → Contains xs x → f x ≡ Some y → Contains (filter_map f xs) y
-  picked [] x y there is = absurd (Contains-none x there)
-  picked (z ∷ xs) x y there is =
-      ⊎_elim
-      (λ (same : z ≡ x). subst (λ (o : Option Y). Contains (cons_option o (filter_map f xs)) y) (sym (ap f same ∙ is)) (Contains-head y (filter_map f xs)))
-      (λ later. behind_option (f z) (filter_map f xs) y refl (picked xs x y later is))
-      (Contains-cases z xs x there)
-
-  picked_from : (xs : List X) (y : Y) → Contains (filter_map f xs) y → (x : X) × Contains xs x × (f x ≡ Some y)
-  picked_from [] y there = absurd (Contains-none y there)
-  picked_from (z ∷ xs) y there =
-      elim (f z) as (λ (o : Option Y). f z ≡ o → Contains (cons_option o (filter_map f xs)) y → (x : X) × Contains (z ∷ xs) x × (f x ≡ Some y)) [
-        | None ↦ λ is h. let found = picked_from xs y h in (found.0, Contains-tail z xs found.0 found.1, found.2)
-        | Some w ↦ λ is h. ⊎_elim
-            (λ (same : w ≡ y). (z, Contains-head z xs, is ∙ ap (λ (v : Y). Some v) same))
-            (λ later. let found = picked_from xs y later in (found.0, Contains-tail z xs found.0 found.1, found.2))
-            (Contains-cases w (filter_map f xs) y h)
-      ] refl there
 
 -- ---- the greatest
 

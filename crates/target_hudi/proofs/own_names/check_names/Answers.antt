@@ -1,11 +1,11 @@
-use Rattle.std.proofs.Common.{◌≡◌, ◌∙◌, ◌+◌, ◌++◌, ◌∷◌, [], List, ℕ, ◌<◌, length, get_or, Result, ⊎_elim, Contains, ap, drop, subst, sym, take}
+use Rattle.std.proofs.Common.{◌≡◌, ◌∙◌, ◌+◌, ◌++◌, ◌∷◌, List, Result, Contains, ap, drop, subst, sym, take}
 use Rattle.std.specs.Prelude.{IfErr, IfSome}
-use Rattle.std.proofs.lemmas.List.{drop_more, take-append-drop, take_all, take_more}
-use Rattle.std.proofs.lemmas.List.Elements.{Contains-append_cases, Contains-append_right}
+use Rattle.std.proofs.lemmas.List.{drop_more, take-append-drop, take_all}
+use Rattle.std.proofs.lemmas.List.Elements.{Contains-append_right}
 use Rattle.std.proofs.lemmas.Result.{err_from_is_err_and}
 use Rattle.lake_store.specs.Disk.{Disk, Files, names_in}
 use Rattle.lake_store.proofs.RunLaws as runs
-use Rattle.table_history.proofs.RowListLemmas.{Contains-head, Contains-one}
+use Rattle.table_history.proofs.RowListLemmas.{Contains-head}
 use Rattle.hudi_table.specs.Instants.{instants_in}
 use Rattle.hudi_table.specs.declared.instants.InstantName.{InstantName}
 use Rattle.hudi_table.proofs.FolderLaws.{instant_says}
@@ -16,15 +16,7 @@ use Rattle.target_hudi.specs.declared.stop.Stop.{Stop}
 use Rattle.target_hudi.proofs.SeenLemmas.{name_stop}
 use Rattle.target_hudi.proofs.OwnNameLemmas.{own_names}
 use Rattle.target_hudi.proofs.own_names.check_names.Goals as goal
-
--- what holds of the first ones and of the next holds of one more
-one_more : (P : InstantName → Type 0) (xs : List InstantName) (i : ℕ) (x : InstantName) → i < length xs → x ≡ get_or xs i x → ((y : InstantName) → Contains (take i xs) y → P y) → P x → (y : InstantName) → Contains (take (i + 1) xs) y → P y
-one_more P xs i x within is before here y there =
-    let longer : take (i + 1) xs ≡ take i xs ++ x ∷ [] = take_more xs i x within ∙ ap (λ z. take i xs ++ z ∷ []) (sym is) in
-    ⊎_elim
-    (λ earlier. before y earlier)
-    (λ last. subst P (Contains-one x y last) here)
-    (Contains-append_cases (take i xs) (x ∷ []) y (subst (λ (l : List InstantName). Contains l y) longer there))
+use Rattle.target_core.proofs.Lists.{one_more}
 
 pub returns-in_err-claims-clause-stop : goal.returns-in_err-claims-clause-stop
 returns-in_err-claims-clause-stop g c = λ source told.
