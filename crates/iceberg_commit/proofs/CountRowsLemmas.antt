@@ -14,9 +14,10 @@ use Rattle.iceberg_version.specs.KeptEnd.{held_rows, live_manifest}
 use Rattle.iceberg_version.specs.Manifests.{LiveManifest, has_rows}
 use Rattle.iceberg_version.specs.Sound.{AreRowsOf, OwnEachPath}
 use Rattle.iceberg_version.specs.declared.kept.KeptManifest.{KeptManifest}
-use Rattle.iceberg_version.proofs.BehindLemmas.{apart_all, rows_length}
+use Rattle.iceberg_version.proofs.BehindLemmas.{apart_all}
 use Rattle.iceberg_version.proofs.Shared.{in_map}
 use Rattle.lake_basics.proofs.Texts.{fewer}
+use Rattle.target_core.proofs.RowPaths.{rows_length}
 
 -- the path of the first row, if there is one
 first_path : List Held → List (List ℕ)

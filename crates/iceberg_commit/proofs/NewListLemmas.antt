@@ -27,12 +27,13 @@ use Rattle.table_history.proofs.RowListLemmas.{Contains-cases, Contains-none, Co
 use Rattle.table_history.proofs.TableLemmas.{Contains-paths_cases}
 use Rattle.iceberg_metadata.proofs.ListLemmas.{all_from}
 use Rattle.target_core.specs.Conditions.{CanPublish, IsPublishable}
+use Rattle.target_core.proofs.RowPaths.{rows_length}
 use Rattle.iceberg_version.specs.KeptEnd.{held_rows, view_of}
 use Rattle.iceberg_commit.specs.NewVersion.{ChangesKinds, kinds_in, schema_behind}
 use Rattle.iceberg_version.specs.Sound.{is_born, is_sound_owner}
 use Rattle.iceberg_version.specs.declared.kept.IcebergKept.{IcebergKept}
 use Rattle.iceberg_version.specs.declared.kept.KeptManifest.{KeptManifest}
-use Rattle.iceberg_version.proofs.BehindLemmas.{is_behind, kind_there, rows_length, same_kinds, table_behind}
+use Rattle.iceberg_version.proofs.BehindLemmas.{is_behind, kind_there, same_kinds, table_behind}
 use Rattle.iceberg_version.proofs.IdLemmas.{top_path}
 use Rattle.iceberg_version.proofs.RowLemmas.{entries_of, there}
 use Rattle.iceberg_version.proofs.Shared.{of_map}

@@ -1,10 +1,10 @@
 -- A table behind a change: it is there, and what may be said of its rows and columns.
-use Rattle.std.proofs.Common.{◌≡◌, ◌≢◌, ℕ, zero, suc, List, [], ◌∷◌, ◌++◌, map, length, Bool, true, false, Contains, Option, Some, None, refl, sym, ap, subst, ◌∙◌, cond, inl, inr, ⊎_elim}
+use Rattle.std.proofs.Common.{◌≡◌, ◌≢◌, ℕ, zero, suc, List, [], ◌∷◌, ◌++◌, map, Bool, true, false, Contains, Option, Some, None, refl, sym, ap, subst, ◌∙◌, cond, inl, inr, ⊎_elim}
 use Rattle.std.specs.Prelude.{not, is_some, option_and_then, unwrap_or}
 use Rattle.std.specs.List.{AllByRecursion, IsDistinct, filter, list_any}
 use Rattle.std.specs.Str.{bytes_eq}
 use Rattle.std.proofs.lemmas.Bool.{cases_Bool, false≢true}
-use Rattle.std.proofs.lemmas.List.{length-map, map-append}
+use Rattle.std.proofs.lemmas.List.{map-append}
 use Rattle.std.proofs.lemmas.List.Elements.{Contains-append_cases, Contains-append_left, Contains-append_right}
 use Rattle.std.proofs.lemmas.Map.Keys.{IsDistinct-cons, IsDistinct-head, IsDistinct-tail}
 use Rattle.std.proofs.lemmas.Map.Made.{is_member-Decides}
@@ -45,9 +45,6 @@ distinct_joined (x ∷ xs) ys one two apart =
     IsDistinct-cons bytes_eq x (xs ++ ys)
     (all_append (λ y. bytes_eq x y ≡ false) xs ys (IsDistinct-head bytes_eq x xs one) (apart_all x ys (λ there. apart x (Contains-head x xs) there)))
     (distinct_joined xs ys (IsDistinct-tail bytes_eq x xs one) two (λ p there. apart p (Contains-tail x xs p there)))
-
-pub rows_length : (rows : List Row) → length (paths_of rows) ≡ length rows
-rows_length rows = length-map rows (λ r. r.path)
 
 -- ---- the table
 

@@ -13,3 +13,4 @@ pub mod StoreAnswers
 pub mod Unpublished
 pub mod Texts
 pub mod Lists
+pub mod RowPaths

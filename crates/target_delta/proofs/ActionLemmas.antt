@@ -1,16 +1,12 @@
 -- The actions of a change, in the order of their paths.
-use Rattle.std.proofs.Common.{◌≡◌, ⊎_elim, ℕ, ◌+◌, ◌<◌, Bool, Bor, true, false, not, cond, List, [], ◌∷◌, ◌++◌, length, get_or, take, filter, map, All, Contains, Some, refl, sym, ap, subst, ◌∙◌}
-use Rattle.std.specs.Prelude.{◌↔◌, IfOk, is_some, Result, Ok, Err}
+use Rattle.std.proofs.Common.{◌≡◌, ⊎_elim, ℕ, ◌+◌, ◌<◌, Bor, List, [], ◌∷◌, ◌++◌, length, get_or, take, filter, map, All, Contains, refl, sym, ap, subst, ◌∙◌}
+use Rattle.std.specs.Prelude.{◌↔◌, IfOk, Result, Ok, Err}
 use Rattle.std.proofs.lemmas.List.Elements.{All-cons, All-nil}
 use Rattle.std.proofs.lemmas.List.{get_or-map, length-map, map-append}
-use Rattle.std.proofs.lemmas.Bool.{cases_Bool, false≢true, not-true}
-use Rattle.std.proofs.lemmas.Slice.Eq.{bytes_eq-Decides}
 use Rattle.table_history.proofs.RowListLemmas.{Contains-cases, Contains-filter, Contains-head, Contains-none, Contains-tail, filter_contains}
-use Rattle.delta_live.proofs.BehindLemmas.{has_row}
-use Rattle.std.specs.Str.{bytes_eq}
 use Rattle.table_history.specs.Path.{IsPath}
 use Rattle.table_history.specs.Row.{Row}
-use Rattle.table_history.specs.Rows.{HasPath, IsInByteOrder, IsInPathOrder, SameRows, paths_of, row_at}
+use Rattle.table_history.specs.Rows.{HasPath, IsInByteOrder, IsInPathOrder, SameRows, paths_of}
 use Rattle.table_history.specs.declared.table.Change.{Change}
 use Rattle.delta_log.specs.Commit.{file_path, file_paths}
 use Rattle.delta_log.specs.Sound.{IsSoundFile}
@@ -18,14 +14,11 @@ use Rattle.delta_log.specs.declared.commit.FileAction.TheVariants as file
 use Rattle.delta_log.specs.declared.commit.FileAction.{FileAction}
 use Rattle.target_delta.specs.Writing.{AreActions, AreAdds, IsAddOf, LeavesAdded, LosesRemoved}
 use Rattle.lake_basics.proofs.Lists.{last_of}
+use Rattle.target_core.proofs.RowPaths.{is_lost, lost_none, none_lost}
 
 -- what references to rows hold
 abbrev pub rows_now : List (Bor Row) → List Row
 rows_now rows = map (λ r. r.now) rows
-
--- no row has the path
-abbrev pub is_lost : List Row → List ℕ → Bool
-is_lost rows path = not (is_some (row_at rows path))
 
 row_there : (rows : List (Bor Row)) (i : ℕ) (row : Bor Row) → i < length rows → row ≡ get_or rows i row → Contains (rows_now rows) row.now
 row_there rows i row within at =
@@ -49,23 +42,6 @@ adds_more partition rows files i row f within at h add =
     subst (λ (l : List Row). AreAdds partition l (files ++ f ∷ [])) (sym grown) (adds_push partition (rows_now (take i rows)) files row.now f h add)
 
 -- ---- the paths that are lost
-
-none_has : (rows : List Row) (path : List ℕ) → is_some (row_at rows path) ≡ false → HasPath rows path → ⊥
-none_has [] path none h = Contains-none h.0 h.1
-none_has (r ∷ rows) path none h =
-    elim (bytes_eq path r.path) as (λ b. bytes_eq path r.path ≡ b → is_some (cond b (Some r) (row_at rows path)) ≡ false → ⊥) [
-      | true ↦ λ _ found. false≢true (sym found)
-      | false ↦ λ apart rest. ⊎_elim
-          (λ (here : r ≡ h.0). false≢true (sym apart ∙ (bytes_eq-Decides path r.path).1 (sym h.2 ∙ ap (λ (x : Row). x.path) (sym here))))
-          (λ later. none_has rows path rest (h.0, later, h.2))
-          (Contains-cases r rows h.0 h.1)
-    ] refl none
-
-pub lost_none : (rows : List Row) (path : List ℕ) → is_lost rows path ≡ true → HasPath rows path → ⊥
-lost_none rows path is = none_has rows path (not-true (is_some (row_at rows path)) is)
-
-pub none_lost : (rows : List Row) (path : List ℕ) → (HasPath rows path → ⊥) → is_lost rows path ≡ true
-none_lost rows path none = ⊎_elim (λ some. absurd (none (has_row rows path some))) (λ is. ap not is) (cases_Bool (is_some (row_at rows path)))
 
 pub lost_are : (rows : List Row) (removed : List (List ℕ)) (path : List ℕ) → Contains (filter (is_lost rows) removed) path ↔ (Contains removed path × (HasPath rows path → ⊥))
 lost_are rows removed path = (

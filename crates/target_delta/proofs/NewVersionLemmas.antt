@@ -39,6 +39,7 @@ use Rattle.target_delta.specs.Writing.{AreActions, CanAdd, IsWritten, LeavesAdde
 use Rattle.target_delta.specs.declared.kept.DeltaKept.{DeltaKept}
 use Rattle.target_delta.specs.FitLemmas.{fits_rows}
 use Rattle.target_core.proofs.HeldRows.{held_few, held_of, held_paths}
+use Rattle.target_core.proofs.RowPaths.{rows_length}
 use Rattle.target_delta.specs.KeptLemmas.{ends_by}
 
 -- ---- the text of what is written
@@ -96,10 +97,6 @@ module _ (kept : DeltaKept) (commit : Commit) (can : CanPublish (view_of kept) c
       let rows = rows_length kept.table.rows in
       let few = held_few kept.table.rows kept.rows_held in
       omega (arith, fewer_rows, rows, few)
-    where
-      rows_length : (rows : List Row) → length (paths_of rows) ≡ length rows
-      rows_length [] = refl
-      rows_length (r ∷ rows) = ap suc (rows_length rows)
 
   module _ (after : Table) (is : IsAfter kept.table commit.change after) where
     pub can_add : Fits (Unfit (end_of kept)) kept.table.partition (commit ∷ []) → (row : Row) → Contains commit.change.added row → CanAdd after.partition row

@@ -1,17 +1,16 @@
 -- What is written for a change may be written: its actions are on distinct paths of the table, and aren't too many.
 use Rattle.std.proofs.Common.{◌≡◌, ⊎_elim, ℕ, suc, ◌≤◌, Bool, false, List, [], ◌∷◌, ◌++◌, length, All, Contains, Option, Some, None, refl, sym, ap, subst, ◌∙◌, arith}
 use Rattle.std.specs.Prelude.{IfSome}
-use Rattle.std.specs.List.{AllByRecursion, IsDistinct}
+use Rattle.std.specs.List.{IsDistinct}
 use Rattle.std.specs.Str.{bytes_eq}
-use Rattle.std.proofs.lemmas.Bool.{cases_Bool, false≢true}
+use Rattle.std.proofs.lemmas.Bool.{false≢true}
 use Rattle.std.proofs.lemmas.List.{length-append}
-use Rattle.std.proofs.lemmas.Slice.Eq.{bytes_eq-Decides}
 use Rattle.lake_basics.specs.declared.limits.TheConstants.{MAX_ACTIONS, MAX_LIVE_FILES}
 use Rattle.lake_basics.proofs.Texts.{fewer}
 use Rattle.table_history.specs.Row.{Row}
 use Rattle.table_history.specs.Rows.{HasPath, paths_of}
 use Rattle.table_history.specs.declared.table.Change.{Change}
-use Rattle.table_history.proofs.RowListLemmas.{Contains-none, Contains-head, Contains-tail, Contains-cases, Contains-paths}
+use Rattle.table_history.proofs.RowListLemmas.{Contains-paths}
 use Rattle.table_history.proofs.TableLemmas.{distinct_order}
 use Rattle.delta_log.specs.Commit.{file_path, file_paths}
 use Rattle.delta_log.specs.Sound.{HasNeededFeatures, HaveDistinctNames, IsSoundFile, IsWritable}
@@ -23,43 +22,13 @@ use Rattle.target_core.specs.declared.mark.Mark.{Mark}
 use Rattle.serde_json.specs.Written.{compact_text}
 use Rattle.target_core.specs.Changes.{IsGone}
 use Rattle.target_core.specs.Mark.{mark_data}
+use Rattle.target_core.proofs.RowPaths.{rows_length}
 use Rattle.target_delta.specs.Reading.{mark_setting}
 use Rattle.target_delta.specs.NewVersion.{IsWrittenOf}
 use Rattle.target_delta.specs.Writing.{AreActions, LeavesAdded, have_ntz, ntz_protocol, plain_protocol, protocol_due}
 use Rattle.target_delta.specs.declared.kept.DeltaKept.{DeltaKept}
 use Rattle.target_delta.proofs.StepLemmas.{due_is, path_from}
 use Rattle.delta_live.proofs.BehindLemmas.{distinct_both}
-
--- ---- distinct texts that are all among others
-
-split_at : (xs : List (List ℕ)) (x : List ℕ) → Contains xs x → (before : List (List ℕ)) × (after : List (List ℕ)) × (xs ≡ before ++ x ∷ after)
-split_at [] x there = absurd (Contains-none x there)
-split_at (y ∷ ys) x there =
-    ⊎_elim
-    (λ (here : y ≡ x). ([], ys, ap (λ (w : List ℕ). w ∷ ys) here))
-    (λ later. let more = split_at ys x later in (y ∷ more.0, more.1, ap (λ (l : List (List ℕ)). y ∷ l) more.2))
-    (Contains-cases y ys x there)
-
-none_at : (x : List ℕ) (xs : List (List ℕ)) (z : List ℕ) → AllByRecursion (λ y. bytes_eq x y ≡ false) xs → Contains xs z → x ≡ z → ⊥
-none_at x [] z all there same = Contains-none z there
-none_at x (y ∷ xs) z all there same =
-    ⊎_elim
-    (λ (here : y ≡ z). false≢true (sym all.0 ∙ (bytes_eq-Decides x y).1 (same ∙ sym here)))
-    (λ later. none_at x xs z all.1 later same)
-    (Contains-cases y xs z there)
-
--- ---- two lists that share none
-
-apart_from : (x : List ℕ) (ys : List (List ℕ)) → (Contains ys x → ⊥) → AllByRecursion (λ y. bytes_eq x y ≡ false) ys
-apart_from x [] none = tt
-apart_from x (y ∷ ys) none = (
-  ⊎_elim (λ is. absurd (none (subst (λ (z : List ℕ). Contains (y ∷ ys) z) (sym ((bytes_eq-Decides x y).0 is)) (Contains-head y ys)))) (λ is. is) (cases_Bool (bytes_eq x y)),
-  apart_from x ys (λ later. none (Contains-tail y ys x later)),
-)
-
-all_both : (P : List ℕ → Type 0) (xs ys : List (List ℕ)) → AllByRecursion P xs → AllByRecursion P ys → AllByRecursion P (xs ++ ys)
-all_both P [] ys a b = b
-all_both P (x ∷ xs) ys a b = (a.0, all_both P xs ys a.1 b)
 
 -- ---- the actions
 
@@ -70,10 +39,6 @@ paths_append (f ∷ fs) gs = ap (λ (l : List (List ℕ)). file_path f ∷ l) (p
 paths_length : (fs : List FileAction) → length (file_paths fs) ≡ length fs
 paths_length [] = refl
 paths_length (f ∷ fs) = ap suc (paths_length fs)
-
-rows_length : (rows : List Row) → length (paths_of rows) ≡ length rows
-rows_length [] = refl
-rows_length (r ∷ rows) = ap suc (rows_length rows)
 
 module _ (partition : List (List ℕ)) (change : Change) (files : List FileAction) (are : AreActions partition change files) where
   remove_gone : (path : List ℕ) → Contains (file_paths are.removes) path → IsGone change path

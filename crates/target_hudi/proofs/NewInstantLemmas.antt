@@ -5,7 +5,6 @@ use Rattle.std.specs.Ordering.{nat_cmp}
 use Rattle.std.specs.Cmp.Lexicographic.{slice_cmp}
 use Rattle.std.specs.declared.cmp.Ordering.TheVariants.{Less}
 use Rattle.std.proofs.lemmas.Bool.{false≢true}
-use Rattle.std.proofs.lemmas.List.{length-map}
 use Rattle.serde_json.specs.Written.{compact_text}
 use Rattle.lake_basics.specs.declared.limits.TheConstants.{MAX_ACTIONS, MAX_FILE_BYTES, MAX_LIVE_FILES, MAX_PUBLISHED_COMMITS}
 use Rattle.table_history.specs.Path.{IsPath}
@@ -20,7 +19,8 @@ use Rattle.table_history.specs.declared.feature.Feature.TheVariants.{AvroName, P
 use Rattle.table_history.specs.declared.limit.LimitKind.{LimitKind}
 use Rattle.table_history.specs.declared.table.Commit.{Commit}
 use Rattle.table_history.specs.declared.table.Table.{Table}
-use Rattle.table_history.proofs.RowListLemmas.{Contains-cases, Contains-head, Contains-none, Contains-paths, Contains-tail}
+use Rattle.table_history.proofs.RowListLemmas.{Contains-none, Contains-paths}
+use Rattle.table_history.proofs.TableLemmas.{Contains-paths_cases}
 use Rattle.schema_avro.specs.AvroWriting.{avro_schema_text, avro_text, columns_unless, key_fault, name_fault}
 use Rattle.schema_map.specs.Image.{wide_columns}
 use Rattle.schema_map.specs.declared.fault.MapError.{MapError}
@@ -38,6 +38,7 @@ use Rattle.target_core.specs.declared.mark.Mark.{Mark}
 use Rattle.target_core.specs.declared.target.TargetError.{TargetError}
 use Rattle.target_core.specs.declared.target.TargetError.TheVariants as errors
 use Rattle.target_core.proofs.HeldRows.{held_few, held_of, held_paths}
+use Rattle.target_core.proofs.RowPaths.{rows_length}
 use Rattle.target_hudi.specs.Fitting.{ChangesPartition, Held, IsCommitFault, Unfit, changes, fault}
 use Rattle.target_hudi.specs.Kept.{end_of, view_of}
 use Rattle.target_hudi.specs.NewInstant.{AreGiven, IsFileRefusal, IsInstantRefusal, IsNewInstant, IsTextAt, IsTimeRefusal, IsTooLongAt}
@@ -56,17 +57,6 @@ module _ (before after : Table) (commit : Commit) (is : IsAfter before commit.ch
       (λ (added : Contains commit.change.added has.0). (has.0, added, has.2))
       (λ (kept : Contains before.rows has.0 × (Contains commit.change.removed has.0.path → ⊥)). absurd (kept.1 (subst (λ (p : List ℕ). Contains commit.change.removed p) (sym has.2) removed)))
       ((is.rows has.0).0 has.1)
-
-rows_length : (rows : List Row) → length (paths_of rows) ≡ length rows
-rows_length rows = length-map rows (λ r. r.path)
-
-path_from : (rows : List Row) (path : List ℕ) → Contains (paths_of rows) path → (row : Row) × Contains rows row × (row.path ≡ path)
-path_from [] path there = absurd (Contains-none path there)
-path_from (r ∷ rows) path there =
-    ⊎_elim
-    (λ (here : r.path ≡ path). (r, Contains-head r rows, here))
-    (λ later. let found = path_from rows path later in (found.0, Contains-tail r rows found.0 found.1, found.2))
-    (Contains-cases r.path (paths_of rows) path there)
 
 module _ (kept : HudiKept) (commit : Commit) (can : CanPublish (view_of kept) commit) where
   pub removed_paths : (path : List ℕ) → Contains commit.change.removed path → IsPath path
@@ -89,7 +79,7 @@ module _ (kept : HudiKept) (commit : Commit) (can : CanPublish (view_of kept) co
     added_few : length commit.change.added ≤ MAX_LIVE_FILES
     added_few =
         let among = fewer (paths_of commit.change.added) (paths_of after.rows) can.change.added_distinct
-        (λ path there. let row = path_from commit.change.added path there in subst (λ (p : List ℕ). Contains (paths_of after.rows) p) row.2 (Contains-paths after.rows row.0 ((is.rows row.0).1 (inl row.1)))) in
+        (λ path there. let row = Contains-paths_cases commit.change.added path there in subst (λ (p : List ℕ). Contains (paths_of after.rows) p) row.2 (Contains-paths after.rows row.0 ((is.rows row.0).1 (inl row.1)))) in
         omega (arith, among, rows_length commit.change.added, rows_length after.rows, may.live_files)
 
     pub actions_few : length commit.change.added + length commit.change.removed ≤ MAX_ACTIONS

@@ -1,6 +1,6 @@
 -- The paths that are lost, and their file groups.
-use Rattle.std.proofs.Common.{◌≡◌, ⊎_elim, ℕ, suc, zero, ◌-◌, ◌<◌, ◌≤◌, ◌==◌, not, cond, Bool, true, false, List, [], ◌∷◌, length, get_or, take, drop, filter, map, Contains, Option, Some, None, refl, sym, ap, subst, ◌∙◌, arith}
-use Rattle.std.specs.Prelude.{◌↔◌, IfOk, is_some, reverse, Result, Ok, Err}
+use Rattle.std.proofs.Common.{◌≡◌, ⊎_elim, ℕ, suc, zero, ◌-◌, ◌<◌, ◌≤◌, ◌==◌, not, cond, Bool, true, false, List, [], ◌∷◌, length, get_or, take, drop, filter, map, Contains, refl, sym, ap, subst, ◌∙◌, arith}
+use Rattle.std.specs.Prelude.{◌↔◌, IfOk, reverse, Result, Ok, Err}
 use Rattle.std.specs.List.{slice_split, suffix_len}
 use Rattle.std.proofs.lemmas.Bool.{cases_Bool, eqb-true, false≢true}
 use Rattle.std.proofs.lemmas.List.{get_or-reverse, length-reverse}
@@ -8,33 +8,16 @@ use Rattle.std.proofs.lemmas.List.Elements.{All-head}
 use Rattle.std.proofs.lemmas.List.Sums.{prefix_len_stops, suffix_len-le-length}
 use Rattle.table_history.specs.Path.{IsPath, IsSegment, is_slash}
 use Rattle.table_history.specs.Row.{Row}
-use Rattle.table_history.specs.Rows.{HasPath, row_at}
-use Rattle.table_history.proofs.RowListLemmas.{Contains-cases, Contains-filter, Contains-head, Contains-none, Contains-tail, filter_contains, row_at-found, row_at-none}
+use Rattle.table_history.specs.Rows.{HasPath}
+use Rattle.table_history.proofs.RowListLemmas.{Contains-cases, Contains-filter, Contains-head, Contains-none, Contains-tail, filter_contains}
 use Rattle.hudi_groups.specs.Group.{file_name_of, folder_of, joined}
 use Rattle.hudi_groups.proofs.GroupLemmas.{joined_whole}
 use Rattle.table_history.specs.declared.table.Change.{Change}
 use Rattle.target_core.specs.Changes.{IsGone}
+use Rattle.target_core.proofs.RowPaths.{is_lost, lost_none, none_lost}
 use Rattle.target_hudi.specs.Writing.{LeavesAdded, LosesRemoved, replaced_of}
 
 -- ---- the paths that are lost
-
--- no row has the path
-abbrev pub is_lost : List Row → List ℕ → Bool
-is_lost rows path = not (is_some (row_at rows path))
-
-lost_none : (rows : List Row) (path : List ℕ) → is_lost rows path ≡ true → HasPath rows path → ⊥
-lost_none rows path is there = by (row_at rows path) refl
-  where
-    by : (o : Option Row) → row_at rows path ≡ o → ⊥
-    by None at = row_at-none rows path at there
-    by (Some row) at = false≢true (sym (ap (λ (o : Option Row). not (is_some o)) at) ∙ is)
-
-none_lost : (rows : List Row) (path : List ℕ) → (HasPath rows path → ⊥) → is_lost rows path ≡ true
-none_lost rows path none = by (row_at rows path) refl
-  where
-    by : (o : Option Row) → row_at rows path ≡ o → is_lost rows path ≡ true
-    by None at = ap (λ (o : Option Row). not (is_some o)) at
-    by (Some row) at = let found = row_at-found rows path row at in absurd (none (row, found.0, found.1))
 
 pub lost_are : (rows : List Row) (removed lost : List (List ℕ)) → lost ≡ filter (is_lost rows) removed → (path : List ℕ) → Contains lost path ↔ (Contains removed path × (HasPath rows path → ⊥))
 lost_are rows removed lost is path = (

@@ -20,11 +20,11 @@ use Rattle.iceberg_metadata.specs.declared.metadata.SpecField.{SpecField}
 use Rattle.iceberg_version.specs.Manifests.{AreNextManifests, AreParts, LiveManifest, NextManifest, added_manifest, carried, has_rows, is_lost, new, new_entries, stays}
 use Rattle.iceberg_version.specs.Schemas.{Schemas}
 use Rattle.iceberg_version.specs.Writing.{AreWritten, IsManifestText, TableEnd, front_in, next_version}
-use Rattle.iceberg_version.proofs.BehindLemmas.{rows_length}
 use Rattle.iceberg_version.proofs.Shared.{each_length}
 use Rattle.target_iceberg.specs.Writes.{manifests_for, most_manifests}
 use Rattle.target_iceberg.proofs.WrittenRows.{of_paths, removed_any}
 use Rattle.target_iceberg.proofs.WrittenStart.{live_rows, rows_held}
+use Rattle.target_core.proofs.RowPaths.{rows_length}
 
 -- ---- new manifests
 
