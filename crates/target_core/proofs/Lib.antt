@@ -14,3 +14,4 @@ pub mod Unpublished
 pub mod Texts
 pub mod Lists
 pub mod RowPaths
+pub mod Hyphens

@@ -1,19 +1,15 @@
 -- The tests of a name against what a commit may have written.
-use Rattle.std.proofs.Common.{◌≡◌, ◌≢◌, ◌⊎◌, ◌+◌, ◌-◌, ◌<◌, ℕ, Bool, true, false, ◌==◌, cond, nat_lt, ◌≤◌, List, ◌∷◌, ◌++◌, codes, length, take, drop, get_or, Some, None, refl, sym, ap, subst, ◌∙◌, inl, inr, append_assoc, arith}
+use Rattle.std.proofs.Common.{◌≡◌, ◌≢◌, ◌⊎◌, ◌+◌, ◌-◌, ◌<◌, ℕ, Bool, true, false, List, ◌++◌, codes, length, take, drop, get_or, Some, None, refl, sym, ap, subst, ◌∙◌, inl, inr, append_assoc, arith}
 use Rattle.std.specs.Prelude.{◌↔◌, IsTrue}
 use Rattle.std.specs.Char.{is_ascii_digit}
-use Rattle.std.specs.List.{after_first, before_first, list_all, position, position_or_len}
+use Rattle.std.specs.List.{list_all, position}
 use Rattle.std.specs.Str.{all_ascii_digits}
 use Rattle.std.specs.Str.Parse.{IsNumeral, digits_value}
 use Rattle.std.proofs.lemmas.Bool.{false≢true}
-use Rattle.std.proofs.lemmas.Bool.Decides.{nat_tests}
-use Rattle.std.proofs.Math.ListN.{get_or-append}
-use Rattle.std.proofs.Math.Seq.{drop-append-add, get_or-append_seam, take-append_seam}
-use Rattle.std.proofs.lemmas.List.{length-append}
-use Rattle.std.proofs.lemmas.List.Sums.{passes_at_first, position_or_len_is, split_at_first}
-use Rattle.std.proofs.lemmas.Str.Parse.{IsNumeralModel, numerals_by_value, tells_all_ascii_digits, digit_at}
+use Rattle.std.proofs.lemmas.Str.Parse.{IsNumeralModel, numerals_by_value, tells_all_ascii_digits}
 use Rattle.target_leftovers.specs.Names.{AreNumbers, IsDecimal, IsDeltaName, IsIcebergName, IsManifestName, IsNumbered, list, manifest, staged}
 use Rattle.lake_basics.proofs.Texts.{between_unique, same_digits}
+use Rattle.target_core.proofs.Hyphens.{hyphen_there, is_hyphen, numbers_parts, numbers_split}
 
 -- ---- decimals
 
@@ -62,69 +58,21 @@ delta_lacks name none = (λ no. absurd (false≢true no), λ named. absurd (none
 
 -- ---- two numbers
 
-abbrev is_hyphen : ℕ → Bool
-is_hyphen b = b == 45
-
--- the place of the first hyphen
-abbrev place_of : List ℕ → ℕ
-place_of bytes = position_or_len is_hyphen bytes
-
-hyphen_seen : (bytes : List ℕ) (place : ℕ) → Some place ≡ position is_hyphen bytes → (position_or_len is_hyphen bytes < length bytes) × (place ≡ position_or_len is_hyphen bytes)
-hyphen_seen bytes place found = by (nat_lt (place_of bytes) (length bytes)) refl found
-  where
-    by : (b : Bool) → nat_lt (place_of bytes) (length bytes) ≡ b → Some place ≡ cond b (Some (place_of bytes)) None → (place_of bytes < length bytes) × (place ≡ place_of bytes)
-    by true is found = (grind (arith, nat_tests), cc)
-    by false is found = absurd cc
-
-hyphen_at : (version number : List ℕ) → IsDecimal version → position_or_len is_hyphen (version ++ (codes "-" ++ number)) ≡ length version
-hyphen_at version number decimal =
-    position_or_len_is is_hyphen (version ++ (codes "-" ++ number)) (length version) 0
-    (omega (arith, length-append version (codes "-" ++ number)))
-    (λ k within. rw (get_or-append version (codes "-" ++ number) 0 k within) (no_hyphen k within))
-    (λ _. rw (get_or-append_seam version 45 number 0))
-  where
-    no_hyphen : (k : ℕ) → k < length version → is_hyphen (get_or version k 0) ≡ false
-    no_hyphen k within = let digit = digit_at version k decimal.numeral.1 within in grind (arith, nat_tests)
-
-numbers_split : (bytes : List ℕ) (place : ℕ) → Some place ≡ position is_hyphen bytes → bytes ≡ take place bytes ++ (codes "-" ++ drop (place + 1) bytes)
-numbers_split bytes place found =
-    let seen = hyphen_seen bytes place found in
-    let hyphen : get_or bytes (position_or_len is_hyphen bytes) 0 ≡ 45 = let passes = passes_at_first is_hyphen bytes 0 seen.0 in grind (arith, nat_tests) in
-    subst (λ (n : ℕ). bytes ≡ take n bytes ++ (codes "-" ++ drop (n + 1) bytes)) (sym seen.1)
-    (split_at_first is_hyphen bytes 0 seen.0 ∙ ap (λ (b : ℕ). before_first is_hyphen bytes ++ (b ∷ after_first is_hyphen bytes)) hyphen)
-
--- the two parts of numbers stand before and behind the first hyphen
-numbers_parts : (bytes : List ℕ) (place : ℕ) → Some place ≡ position is_hyphen bytes → (are : AreNumbers bytes) → (are.version ≡ take place bytes) × (are.number ≡ drop (place + 1) bytes)
-numbers_parts bytes place found are =
-    let seen = hyphen_seen bytes place found in
-    let here : place ≡ length are.version = seen.1 ∙ ap (position_or_len is_hyphen) are.is ∙ hyphen_at are.version are.number are.first in (
-      sym (ap (λ (n : ℕ). take n bytes) here ∙ ap (take (length are.version)) are.is ∙ take-append_seam are.version (codes "-" ++ are.number)),
-      sym (ap (λ (n : ℕ). drop (n + 1) bytes) here ∙ ap (drop (length are.version + 1)) are.is ∙ drop-append-add are.version (codes "-" ++ are.number) 1),
-    )
-
 module _ (bytes : List ℕ) (place : ℕ) (found : Some place ≡ position is_hyphen bytes) (first : Bool) (is_first : IsTrue first ↔ IsDecimal (take place bytes)) where
   pub numbers_by : first ≡ true → (second : Bool) → IsTrue second ↔ IsDecimal (drop (place + 1) bytes) → IsTrue second ↔ AreNumbers bytes
   numbers_by whole second is_second = (
     λ also. record { version = take place bytes; number = drop (place + 1) bytes; first = is_first.0 whole; second = is_second.0 also; is = numbers_split bytes place found },
-    λ are. is_second.1 (subst IsDecimal (numbers_parts bytes place found are).1 are.second),
+    λ are. is_second.1 (subst IsDecimal (numbers_parts bytes are.version are.number are.first.numeral are.is place found).1 are.second),
   )
 
   pub no_numbers : first ≡ false → IsTrue first ↔ AreNumbers bytes
   no_numbers none = (
     λ whole. absurd (false≢true (sym none ∙ whole)),
-    λ are. is_first.1 (subst IsDecimal (numbers_parts bytes place found are).0 are.first),
+    λ are. is_first.1 (subst IsDecimal (numbers_parts bytes are.version are.number are.first.numeral are.is place found).0 are.first),
   )
 
 pub hyphen_lacks : (bytes : List ℕ) → None ≡ position is_hyphen bytes → AreNumbers bytes → ⊥
-hyphen_lacks bytes none are = by (nat_lt (place_of bytes) (length bytes)) refl none
-  where
-    by : (b : Bool) → nat_lt (place_of bytes) (length bytes) ≡ b → None ≡ cond b (Some (place_of bytes)) None → ⊥
-    by true is found = absurd cc
-    by false is found =
-        let here : place_of bytes ≡ length are.version = ap (position_or_len is_hyphen) are.is ∙ hyphen_at are.version are.number are.first in
-        let long : length bytes ≡ length are.version + length (codes "-" ++ are.number) = ap length are.is ∙ length-append are.version (codes "-" ++ are.number) in
-        let past : length bytes ≤ place_of bytes = grind (arith, nat_tests) in
-        omega (arith, here, long, past)
+hyphen_lacks bytes none are = hyphen_there bytes are.version are.number are.first.numeral are.is none
 
 -- ---- leftovers
 
