@@ -19,6 +19,7 @@ use Rattle.table_history.specs.declared.table.Change.{Change}
 use Rattle.table_history.specs.declared.table.Commit.{Commit}
 use Rattle.table_history.proofs.RowListLemmas.{Contains-cases, Contains-filter, Contains-head, Contains-none, Contains-tail}
 use Rattle.target_core.specs.Conditions.{CanPublish}
+use Rattle.target_core.proofs.Lists.{some_length}
 use Rattle.table_history.specs.Path.{is_path}
 use Rattle.iceberg_manifest.specs.Entry.{EntryData}
 use Rattle.iceberg_manifest.specs.Lists.{AreEach}
@@ -64,10 +65,6 @@ each_there P (z ∷ xs) (y ∷ ys) x are named =
     (λ same. (y, subst (λ w. P w y) same are.0, Contains-head y ys))
     (λ later. let rest = each_there P xs ys x are.1 later in (rest.0, rest.1, Contains-tail y ys rest.0 rest.2))
     (Contains-cases z xs x named)
-
-some_length : {A : Type 0} (xs : List A) → (xs ≡ [] → ⊥) → 0 < length xs
-some_length [] some = absurd (some refl)
-some_length (x ∷ xs) some = omega arith
 
 pub few_parts : {A : Type 0} (size : ℕ) (xs : List A) (parts : List (List A)) → 0 < size → AreParts size xs parts → length parts ≤ length xs
 few_parts size xs [] large cut = omega arith

@@ -1,5 +1,5 @@
 -- What holds of the first items of a list, and what is picked from one.
-use Rattle.std.proofs.Common.{◌≡◌, ⊎_elim, ℕ, ◌+◌, ◌<◌, List, [], ◌∷◌, length, get_or, take, filter_map, Contains, Option, Some, None, refl, sym, ap, subst, ◌∙◌}
+use Rattle.std.proofs.Common.{◌≡◌, ⊎_elim, ℕ, ◌+◌, ◌<◌, List, [], ◌∷◌, length, get_or, take, filter_map, Contains, Option, Some, None, refl, sym, ap, subst, ◌∙◌, arith}
 use Rattle.std.specs.List.{cons_option}
 use Rattle.std.proofs.lemmas.List.Elements.{Contains-append_cases}
 use Rattle.lake_basics.proofs.Lists.{last_of}
@@ -12,6 +12,12 @@ one_more P xs i x within at before here y there =
     (λ earlier. before y earlier)
     (λ last. ⊎_elim (λ (same : x ≡ y). subst P same here) (λ none. absurd (Contains-none y none)) (Contains-cases x [] y last))
     (Contains-append_cases (take i xs) (x ∷ []) y (subst (λ (l : List _). Contains l y) (last_of xs i x within at) there))
+
+pub some_length : {A : Type 0} (xs : List A) → (xs ≡ [] → ⊥) → 0 < length xs
+some_length [] some = absurd (some refl)
+some_length (x ∷ xs) some = omega arith
+
+-- ---- what is picked
 
 module _ {X Y : Type 0} (f : X → Option Y) where
   behind_option : (o : Option Y) (ys : List Y) (y : Y) → f ≡ f → Contains ys y → Contains (cons_option o ys) y

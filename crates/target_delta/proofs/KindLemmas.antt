@@ -16,7 +16,7 @@ use Rattle.partition_map.specs.Columns.{HasOtherKind, column_kind}
 use Rattle.partition_map.specs.declared.kind.PartKind.{PartKind}
 use Rattle.target_delta.specs.Fitting.{ChangesKinds, EndsWith, kinds_of}
 use Rattle.target_delta.specs.Writing.{LogEnd, end_behind, schema_behind}
-use Rattle.lake_basics.proofs.Options.{option_decides}
+use Rattle.lake_basics.proofs.Options.{none_or_some, option_decides, some_once}
 
 -- ---- a column of another kind
 
@@ -48,9 +48,6 @@ pub at_start : (names : List (List ℕ)) (kinds : List (Option PartKind)) (has :
 at_start names kinds has end commits ends = record { here = end; ends = ends; to = λ h. h; back = λ h. h }
 
 module _ (names : List (List ℕ)) (kinds : List (Option PartKind)) (has : Bool) (end : LogEnd) (commits : List Commit) (commit : Commit) (rest : List Commit) (s : AtStep names kinds has end commits (commit ∷ rest)) where
-  stated_none : (schema : ColumnTrees) → commit.change.schema ≡ None → commit.change.schema ≡ Some schema → ⊥
-  stated_none schema none some = cc
-
   pub step_none : commit.change.schema ≡ None → AtStep names kinds true end commits rest
   step_none none = record {
     here = end_behind s.here commit;
@@ -59,14 +56,11 @@ module _ (names : List (List ℕ)) (kinds : List (Option PartKind)) (has : Bool)
       kinds_are = subst (λ (o : Option ColumnTrees). kinds_of (schema_behind s.here (record { schema = o; removed = commit.change.removed; added = commit.change.added })) s.here.partition ≡ kinds) (sym none) s.ends.kinds_are;
       commit = (λ _. omega arith, λ _. refl);
     };
-    to = λ h. ⊎_elim (λ a. absurd (stated_none a.1.0 none a.1.1)) (λ later. later) (s.to h);
+    to = λ h. ⊎_elim (λ a. absurd (none_or_some commit.change.schema a.1.0 none a.1.1)) (λ later. later) (s.to h);
     back = λ later. s.back (inr later);
   }
 
   module _ (schema : ColumnTrees) (stated : commit.change.schema ≡ Some schema) (new : List (Option PartKind)) (are : new ≡ kinds_of schema names) where
-    same_stated : (other : ColumnTrees) → commit.change.schema ≡ Some other → schema ≡ other
-    same_stated other is = let both : Some schema ≡ Some other = sym stated ∙ is in cc
-
     here_kinds : kinds_of schema s.here.partition ≡ new
     here_kinds = ap (λ (n : List (List ℕ)). kinds_of schema n) s.ends.names_are ∙ sym are
 
@@ -80,7 +74,7 @@ module _ (names : List (List ℕ)) (kinds : List (Option PartKind)) (has : Bool)
       };
       to = λ h. ⊎_elim
           (λ (a : (0 < s.here.version) × ((other : ColumnTrees) × (commit.change.schema ≡ Some other) × (kinds_of s.here.schema s.here.partition ≢ kinds_of other s.here.partition))).
-          absurd (a.1.2 (s.ends.kinds_are ∙ same (s.ends.commit.1 a.0) ∙ sym here_kinds ∙ ap (λ (t : ColumnTrees). kinds_of t s.here.partition) (same_stated a.1.0 a.1.1))))
+          absurd (a.1.2 (s.ends.kinds_are ∙ same (s.ends.commit.1 a.0) ∙ sym here_kinds ∙ ap (λ (t : ColumnTrees). kinds_of t s.here.partition) (some_once commit.change.schema schema a.1.0 stated a.1.1))))
           (λ later. later)
           (s.to h);
       back = λ later. s.back (inr later);

@@ -21,7 +21,7 @@ use Rattle.partition_map.specs.Folder.{CarriesValues}
 use Rattle.lake_basics.specs.declared.limits.TheConstants.{MAX_PUBLISHED_COMMITS}
 use Rattle.lake_basics.specs.Outcome.{GivesUnlessMemory}
 use Rattle.lake_basics.proofs.Lists.{split_of}
-use Rattle.lake_basics.proofs.Options.{option_decides}
+use Rattle.lake_basics.proofs.Options.{none_or_some, option_decides, some_once}
 use Rattle.table_history.specs.declared.limit.LimitKind.{LimitKind}
 use Rattle.schema_avro.specs.AvroWriting.{avro_schema_text}
 use Rattle.schema_map.specs.Errors.{is_memory}
@@ -62,9 +62,6 @@ pub at_start : (names : List (List ℕ)) (kinds : Option (List (Option PartKind)
 at_start names kinds before commits are = record { here = before; are = are; to = λ h. h; back = λ h. h }
 
 module _ (names : List (List ℕ)) (kinds : Option (List (Option PartKind))) (before : Option ColumnTrees) (commits : List Commit) (commit : Commit) (rest : List Commit) (s : AtStep names kinds before commits (commit ∷ rest)) where
-  stated_none : (schema : ColumnTrees) → commit.change.schema ≡ None → commit.change.schema ≡ Some schema → ⊥
-  stated_none schema none some = cc
-
   behind_none : commit.change.schema ≡ None → columns_behind s.here commit.change.schema ≡ s.here
   behind_none none = ap (columns_behind s.here) none
 
@@ -72,14 +69,11 @@ module _ (names : List (List ℕ)) (kinds : Option (List (Option PartKind))) (be
   step_none none = record {
     here = s.here;
     are = s.are;
-    to = λ h. ⊎_elim (λ a. absurd (stated_none a.1 none a.3)) (λ later. subst (λ (b : Option ColumnTrees). ChangesKinds b names rest) (behind_none none) later) (s.to h);
+    to = λ h. ⊎_elim (λ a. absurd (none_or_some commit.change.schema a.1 none a.3)) (λ later. subst (λ (b : Option ColumnTrees). ChangesKinds b names rest) (behind_none none) later) (s.to h);
     back = λ later. s.back (inr (subst (λ (b : Option ColumnTrees). ChangesKinds b names rest) (sym (behind_none none)) later));
   }
 
   module _ (schema : ColumnTrees) (stated : commit.change.schema ≡ Some schema) (new : List (Option PartKind)) (are : new ≡ kinds_of schema names) where
-    same_stated : (other : ColumnTrees) → commit.change.schema ≡ Some other → schema ≡ other
-    same_stated other is = let both : Some schema ≡ Some other = sym stated ∙ is in cc
-
     kinds_here : (held : ColumnTrees) → s.here ≡ Some held → kinds ≡ Some (kinds_of held names)
     kinds_here held is = sym s.are ∙ ap (option_map (λ (schema : ColumnTrees). kinds_of schema names)) is
 
@@ -92,7 +86,7 @@ module _ (names : List (List ℕ)) (kinds : Option (List (Option PartKind))) (be
       are = ap Some (sym are);
       to = λ h. ⊎_elim
           (λ (a : (held : ColumnTrees) × (other : ColumnTrees) × (s.here ≡ Some held) × (commit.change.schema ≡ Some other) × (kinds_of held names ≢ kinds_of other names)).
-          absurd (a.4 (same (kinds_of a.0 names) (kinds_here a.0 a.2) ∙ are ∙ ap (λ (t : ColumnTrees). kinds_of t names) (same_stated a.1 a.3))))
+          absurd (a.4 (same (kinds_of a.0 names) (kinds_here a.0 a.2) ∙ are ∙ ap (λ (t : ColumnTrees). kinds_of t names) (some_once commit.change.schema schema a.1 stated a.3))))
           (λ later. subst (λ (b : Option ColumnTrees). ChangesKinds b names rest) behind_some later)
           (s.to h);
       back = λ later. s.back (inr (subst (λ (b : Option ColumnTrees). ChangesKinds b names rest) (sym behind_some) later));

@@ -1,12 +1,13 @@
 -- What the steps of inspecting find, taken together.
 use Rattle.std.proofs.Common.{◌≡◌, ◌≢◌, ◌⊎◌, inl, inr, ⊎_elim, ℕ, suc, ◌+◌, ◌-◌, ◌<◌, ◌&&◌, Bool, true, false, cond, List, [], ◌∷◌, ◌++◌, length, filter, Contains, Option, Some, None, refl, sym, ap, subst, ◌∙◌, arith}
-use Rattle.std.specs.Prelude.{codes, IfErr, IfOk, IfSome, IsSome, Result, Ok, Err, option_map, slice_get}
+use Rattle.std.specs.Prelude.{codes, IfErr, IfOk, IfSome, Result, Ok, Err, option_map, slice_get}
 use Rattle.std.specs.FinMap as map
 use Rattle.std.specs.List.{filter_map}
 use Rattle.std.specs.Option.{ForSome}
 use Rattle.std.proofs.lemmas.List.{length-append}
 use Rattle.std.proofs.lemmas.List.Elements.{Contains-append_cases, Contains-append_right}
 use Rattle.lake_basics.specs.Outcome.{◌>>=◌, each}
+use Rattle.lake_basics.proofs.Options.{none_there}
 use Rattle.lake_store.specs.Disk.{Files, names_in}
 use Rattle.table_history.specs.declared.feature.Feature.{Feature}
 use Rattle.table_history.specs.declared.kind.Kind.{Kind}
@@ -154,11 +155,7 @@ module _ (source : Kind) (files : Files) where
   step_stop p c latest timeline.StoreFault there refused = tt
   step_stop p c latest timeline.ManyNames there refused = absurd refused
   step_stop p c latest timeline.ManyCommits there refused = absurd refused
-  step_stop p c latest (timeline.Missing path) there refused = absurd (none_there (map.get files (path_of c.name)) there refused.1)
-    where
-      none_there : (o : Option (List ℕ)) → IsSome o → o ≡ None → ⊥
-      none_there None some none = cc
-      none_there (Some b) some none = cc
+  step_stop p c latest (timeline.Missing path) there refused = absurd (none_there (map.get files (path_of c.name)) refused.1 there)
   step_stop p c latest (timeline.Large path) there refused = inl (refl, refl, (refused.1, refused.2, refused.3))
   step_stop p c latest (timeline.Refused path hudi.Memory) there refused = tt
   step_stop p c latest (timeline.Refused path (hudi.Malformed line)) there refused = (refused.0, inl (hudi.Malformed line, tt, refused.1))
@@ -316,11 +313,7 @@ pub properties_lacking : (files : Files) (instants : List InstantName) → insta
 properties_lacking files [] are some none = absurd (some refl)
 properties_lacking files (i ∷ rest) are some none =
     let named = names_instant files i (instant_says (names_in files timeline_folder) i (subst (λ (l : List InstantName). Contains l i) are (0, omega arith, refl))) in
-    (named.state, i.name, named.proper, named.says, named.there, λ there. none_there (map.get files properties_path) there none)
-  where
-    none_there : (o : Option (List ℕ)) → IsSome o → o ≡ None → ⊥
-    none_there None some none = cc
-    none_there (Some b) some none = cc
+    (named.state, i.name, named.proper, named.says, named.there, λ there. none_there (map.get files properties_path) none there)
 
 -- without an instant's name none need be there
 pub properties_needless : (files : Files) → instants_in (names_in files timeline_folder) ≡ [] → map.get files properties_path ≡ None → HasOwnProperties files

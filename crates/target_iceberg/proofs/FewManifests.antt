@@ -1,5 +1,5 @@
 -- How many manifests a commit writes.
-use Rattle.std.proofs.Common.{◌≡◌, ℕ, suc, ◌+◌, ◌-◌, ◌*◌, ◌<◌, ◌≤◌, ◌||◌, List, [], ◌∷◌, ◌++◌, map, length, drop, Bool, true, false, cond, Contains, refl, sym, ap, subst, ◌∙◌, arith}
+use Rattle.std.proofs.Common.{◌≡◌, ℕ, suc, ◌+◌, ◌-◌, ◌*◌, ◌≤◌, ◌||◌, List, [], ◌∷◌, ◌++◌, map, length, drop, Bool, true, false, cond, Contains, refl, sym, ap, subst, ◌∙◌, arith}
 use Rattle.std.specs.List.{filter, list_any}
 use Rattle.std.specs.Str.{bytes_eq}
 use Rattle.std.proofs.lemmas.Bool.{false≢true}
@@ -25,6 +25,7 @@ use Rattle.target_iceberg.specs.Writes.{manifests_for, most_manifests}
 use Rattle.target_iceberg.proofs.WrittenRows.{of_paths, removed_any}
 use Rattle.target_iceberg.proofs.WrittenStart.{live_rows, rows_held}
 use Rattle.target_core.proofs.RowPaths.{rows_length}
+use Rattle.target_core.proofs.Lists.{some_length}
 
 -- ---- new manifests
 
@@ -54,14 +55,10 @@ added_count front version (part ∷ parts) = ap suc (added_count front version p
 parts_count : {A : Type 0} (xs : List A) (parts : List (List A)) → AreParts MAX_MANIFEST_ENTRIES xs parts → length parts * MAX_MANIFEST_ENTRIES ≤ length xs + (MAX_MANIFEST_ENTRIES - 1)
 parts_count xs [] cut = omega arith
 parts_count xs (part ∷ parts) cut =
-    let some = not_none xs cut.0 in
+    let some = some_length xs cut.0 in
     let rest = parts_count (drop MAX_MANIFEST_ENTRIES xs) parts cut.2 in
     let left = length-drop MAX_MANIFEST_ENTRIES xs in
     omega (arith, some, rest, left)
-  where
-    not_none : {B : Type 0} (ys : List B) → (ys ≡ [] → ⊥) → 0 < length ys
-    not_none [] other = absurd (other refl)
-    not_none (y ∷ ys) other = omega arith
 
 -- ---- manifests that lose a row
 

@@ -16,7 +16,7 @@ use Rattle.table_history.specs.declared.table.Commit.{Commit}
 use Rattle.iceberg_version.proofs.BehindLemmas.{wide_kind}
 use Rattle.target_iceberg.specs.Fitting.{ChangesKinds, HeldState, kinds_of, state_behind}
 use Rattle.target_iceberg.specs.Following.{AreKindsOf}
-use Rattle.lake_basics.proofs.Options.{option_decides}
+use Rattle.lake_basics.proofs.Options.{none_or_some, option_decides, some_once}
 
 -- ---- Iceberg's types change no kind
 
@@ -34,9 +34,6 @@ pub record AtKinds (names : List (List ℕ)) (kinds : List (Option PartKind)) (h
   pub back : ChangesKinds here names rest → ChangesKinds state names commits
 
 module _ (names : List (List ℕ)) (kinds : List (Option PartKind)) (has : Bool) (state : HeldState) (commits : List Commit) (commit : Commit) (rest : List Commit) (s : AtKinds names kinds has state commits (commit ∷ rest)) where
-  stated_none : (schema : ColumnTrees) → commit.change.schema ≡ None → commit.change.schema ≡ Some schema → ⊥
-  stated_none schema none some = cc
-
   kinds_behind : (schema : ColumnTrees) → unwrap_or commit.change.schema s.here.schema ≡ schema → kinds_of (state_behind s.here commit).schema names ≡ kinds_of schema names
   kinds_behind schema is = wide_kinds (unwrap_or commit.change.schema s.here.schema) names ∙ ap (λ (t : ColumnTrees). kinds_of t names) is
 
@@ -44,21 +41,18 @@ module _ (names : List (List ℕ)) (kinds : List (Option PartKind)) (has : Bool)
   kinds_none none = record {
     here = state_behind s.here commit;
     are = record { are = kinds_behind s.here.schema (ap (λ (o : Option ColumnTrees). unwrap_or o s.here.schema) none) ∙ s.are.are; commit = (λ _. omega arith, λ _. refl) };
-    to = λ h. ⊎_elim (λ a. absurd (stated_none a.1.0 none a.1.1)) (λ later. later) (s.to h);
+    to = λ h. ⊎_elim (λ a. absurd (none_or_some commit.change.schema a.1.0 none a.1.1)) (λ later. later) (s.to h);
     back = λ later. s.back (inr later);
   }
 
   module _ (schema : ColumnTrees) (stated : commit.change.schema ≡ Some schema) (new : List (Option PartKind)) (are : new ≡ kinds_of schema names) where
-    same_stated : (other : ColumnTrees) → commit.change.schema ≡ Some other → schema ≡ other
-    same_stated other is = let both : Some schema ≡ Some other = sym stated ∙ is in cc
-
     pub kinds_some : (IsTrue has → kinds ≡ new) → AtKinds names new true state commits rest
     kinds_some same = record {
       here = state_behind s.here commit;
       are = record { are = kinds_behind schema (ap (λ (o : Option ColumnTrees). unwrap_or o s.here.schema) stated) ∙ sym are; commit = (λ _. omega arith, λ _. refl) };
       to = λ h. ⊎_elim
           (λ (a : (0 < s.here.version) × ((other : ColumnTrees) × (commit.change.schema ≡ Some other) × (kinds_of s.here.schema names ≢ kinds_of other names))).
-          absurd (a.1.2 (s.are.are ∙ same (s.are.commit.1 a.0) ∙ are ∙ ap (λ (t : ColumnTrees). kinds_of t names) (same_stated a.1.0 a.1.1))))
+          absurd (a.1.2 (s.are.are ∙ same (s.are.commit.1 a.0) ∙ are ∙ ap (λ (t : ColumnTrees). kinds_of t names) (some_once commit.change.schema schema a.1.0 stated a.1.1))))
           (λ later. later)
           (s.to h);
       back = λ later. s.back (inr later);
