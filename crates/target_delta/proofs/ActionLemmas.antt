@@ -12,9 +12,9 @@ use Rattle.delta_log.specs.Commit.{file_path, file_paths}
 use Rattle.delta_log.specs.Sound.{IsSoundFile}
 use Rattle.delta_log.specs.declared.commit.FileAction.TheVariants as file
 use Rattle.delta_log.specs.declared.commit.FileAction.{FileAction}
+use Rattle.target_core.proofs.RowPaths.{is_lost, lost_none, none_lost}
 use Rattle.target_delta.specs.Writing.{AreActions, AreAdds, IsAddOf, LeavesAdded, LosesRemoved}
 use Rattle.lake_basics.proofs.Lists.{last_of}
-use Rattle.target_core.proofs.RowPaths.{is_lost, lost_none, none_lost}
 
 -- what references to rows hold
 abbrev pub rows_now : List (Bor Row) → List Row

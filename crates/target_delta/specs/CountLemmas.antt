@@ -29,11 +29,11 @@ use Rattle.delta_table.proofs.PathLaws.{path_once, version_is_name}
 use Rattle.delta_table.specs.Versions.{HasVersion, log_folder}
 use Rattle.table_history.proofs.RowListLemmas.{Contains-none, Contains-head, Contains-tail, Contains-cases}
 use Rattle.table_history.proofs.OrderLemmas.{not_itself}
+use Rattle.target_core.proofs.Lists.{picked, picked_from}
 use Rattle.target_delta.specs.Names.{HasVersions, path_of}
 use Rattle.target_delta.specs.NameLemmas.{same_behind}
 use Rattle.target_delta.specs.ReadingLemmas.{reached_there}
 use Rattle.target_delta.specs.Reading.{commits_in, is_digit, is_version_name, version_named, versions_in}
-use Rattle.target_core.proofs.Lists.{picked, picked_from}
 
 -- ---- the test of a name
 

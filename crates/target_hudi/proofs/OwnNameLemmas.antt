@@ -33,10 +33,10 @@ use Rattle.hudi_table.proofs.UpLists.{Up, picked, sorted_up, up_picked}
 use Rattle.hudi_table.proofs.TimeOrder.{before_dot}
 use Rattle.hudi_commit.specs.Names.{Inflight, IsThere, Requested, Stage, claim_path, claims_folder, completed_name, completed_path, pending_name, timeline_folder, timeline_path}
 use Rattle.hudi_commit.proofs.NameLaws.{completed_is_name, is_instant_of}
+use Rattle.target_core.proofs.Texts.{turned}
 use Rattle.target_hudi.specs.Inspecting.{IsFirstForeignName, LooksUpClaims}
 use Rattle.target_hudi.specs.InspectSteps.{HasOwnForm, IsOwnInstant}
 use Rattle.target_hudi.specs.Reading.{HasOwnNames, HasOwnProperties, IsOwnName, NamesInstant}
-use Rattle.target_core.proofs.Texts.{turned}
 
 abbrev Instant : Type 0
 Instant = ℕ × Action × State

@@ -21,11 +21,11 @@ use Rattle.iceberg_version.specs.Manifests.{AreNextManifests, AreParts, LiveMani
 use Rattle.iceberg_version.specs.Schemas.{Schemas}
 use Rattle.iceberg_version.specs.Writing.{AreWritten, IsManifestText, TableEnd, front_in, next_version}
 use Rattle.iceberg_version.proofs.Shared.{each_length}
+use Rattle.target_core.proofs.RowPaths.{rows_length}
+use Rattle.target_core.proofs.Lists.{some_length}
 use Rattle.target_iceberg.specs.Writes.{manifests_for, most_manifests}
 use Rattle.target_iceberg.proofs.WrittenRows.{of_paths, removed_any}
 use Rattle.target_iceberg.proofs.WrittenStart.{live_rows, rows_held}
-use Rattle.target_core.proofs.RowPaths.{rows_length}
-use Rattle.target_core.proofs.Lists.{some_length}
 
 -- ---- new manifests
 

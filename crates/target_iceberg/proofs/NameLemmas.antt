@@ -9,10 +9,10 @@ use Rattle.std.proofs.lemmas.Bool.{false≢true}
 use Rattle.std.proofs.lemmas.List.{take-append-drop, take_all, take_more}
 use Rattle.std.proofs.lemmas.List.Elements.{Contains-push_cases}
 use Rattle.std.proofs.lemmas.Str.Parse.{IsNumeralModel, numerals_by_value, tells_all_ascii_digits}
+use Rattle.target_core.proofs.Hyphens.{hyphen_there, is_hyphen, numbers_parts, numbers_split}
 use Rattle.target_iceberg.specs.Leftovers.{IsDecimal, IsLeftoverName, list, manifest, staged}
 use Rattle.target_iceberg.specs.InspectSteps.{AreNumbers, IsFirstOf, IsManifestName, IsNumbered}
 use Rattle.lake_basics.proofs.Texts.{between_unique, same_digits}
-use Rattle.target_core.proofs.Hyphens.{hyphen_there, is_hyphen, numbers_parts, numbers_split}
 
 -- ---- decimals
 

@@ -7,9 +7,9 @@ use Rattle.std.specs.Str.{all_ascii_digits}
 use Rattle.std.specs.Str.Parse.{IsNumeral, digits_value}
 use Rattle.std.proofs.lemmas.Bool.{false≢true}
 use Rattle.std.proofs.lemmas.Str.Parse.{IsNumeralModel, numerals_by_value, tells_all_ascii_digits}
+use Rattle.target_core.proofs.Hyphens.{hyphen_there, is_hyphen, numbers_parts, numbers_split}
 use Rattle.target_leftovers.specs.Names.{AreNumbers, IsDecimal, IsDeltaName, IsIcebergName, IsManifestName, IsNumbered, list, manifest, staged}
 use Rattle.lake_basics.proofs.Texts.{between_unique, same_digits}
-use Rattle.target_core.proofs.Hyphens.{hyphen_there, is_hyphen, numbers_parts, numbers_split}
 
 -- ---- decimals
 

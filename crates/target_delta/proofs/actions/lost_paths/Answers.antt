@@ -1,11 +1,11 @@
 use Rattle.std.proofs.Common.{◌≡◌, List, ℕ, filter, sym, ap, subst, ◌∙◌}
 use Rattle.std.specs.List.{IsDistinct}
 use Rattle.std.specs.Str.{bytes_eq}
+use Rattle.target_core.proofs.RowPaths.{is_lost}
 use Rattle.target_delta.proofs.ActionLemmas.{lost_by}
 use Rattle.target_delta.proofs.actions.lost_paths.Goals as goal
 use Rattle.lake_basics.proofs.Texts.{distinct_filter}
 use Rattle.lake_basics.proofs.Lists.{all_taken}
-use Rattle.target_core.proofs.RowPaths.{is_lost}
 
 pub sorted_texts-requires : goal.sorted_texts-requires
 sorted_texts-requires c =

@@ -2,11 +2,11 @@ use Rattle.std.proofs.Common.{List, sym, subst}
 use Rattle.std.specs.Prelude.{Contains, IfErr}
 use Rattle.std.proofs.lemmas.Result.{err_from_is_err_and}
 use Rattle.table_history.specs.declared.table.Commit.{Commit}
+use Rattle.target_core.proofs.Lists.{one_more}
 use Rattle.target_hudi.specs.Fitting.{HasNoFault, IsCommitFault, IsFaultRefusal, IsFirstFault}
 use Rattle.target_hudi.proofs.FittingLemmas.{first_fault, refusal_further}
 use Rattle.target_hudi.proofs.fitting.commits_fit.Goals as goal
 use Rattle.lake_basics.proofs.Lists.{all_taken}
-use Rattle.target_core.proofs.Lists.{one_more}
 
 pub returns-in_err-commit_fits-clause-fault : goal.returns-in_err-commit_fits-clause-fault
 returns-in_err-commit_fits-clause-fault c =

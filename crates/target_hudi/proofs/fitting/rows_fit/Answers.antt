@@ -2,11 +2,11 @@ use Rattle.std.proofs.Common.{List, sym, refl, ap, subst, ◌∙◌}
 use Rattle.std.specs.Prelude.{Contains}
 use Rattle.std.proofs.lemmas.Bool.{false≢true}
 use Rattle.table_history.specs.Row.{Row}
+use Rattle.target_core.proofs.Lists.{one_more}
 use Rattle.target_hudi.specs.Fitting.{IsAstray, IsFirstAstray}
 use Rattle.target_hudi.proofs.FittingLemmas.{astray, first_astray, not_astray}
 use Rattle.target_hudi.proofs.fitting.rows_fit.Goals as goal
 use Rattle.lake_basics.proofs.Lists.{all_taken}
-use Rattle.target_core.proofs.Lists.{one_more}
 
 pub returns-then-not-branch-clause-fault : goal.returns-then-not-branch-clause-fault
 returns-then-not-branch-clause-fault c =

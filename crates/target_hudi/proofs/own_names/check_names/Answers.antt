@@ -11,12 +11,12 @@ use Rattle.hudi_table.specs.declared.instants.InstantName.{InstantName}
 use Rattle.hudi_table.proofs.FolderLaws.{instant_says}
 use Rattle.hudi_table.proofs.Runs.{fails_never, uncontested_further}
 use Rattle.hudi_commit.specs.Names.{claims_folder, timeline_folder}
+use Rattle.target_core.proofs.Lists.{one_more}
 use Rattle.target_hudi.specs.InspectSteps.{HasOwnForm, IsNameStop, IsOwnInstant, IsStopIn}
 use Rattle.target_hudi.specs.declared.stop.Stop.{Stop}
 use Rattle.target_hudi.proofs.SeenLemmas.{name_stop}
 use Rattle.target_hudi.proofs.OwnNameLemmas.{own_names}
 use Rattle.target_hudi.proofs.own_names.check_names.Goals as goal
-use Rattle.target_core.proofs.Lists.{one_more}
 
 pub returns-in_err-claims-clause-stop : goal.returns-in_err-claims-clause-stop
 returns-in_err-claims-clause-stop g c = λ source told.

@@ -1,11 +1,11 @@
 use Rattle.std.proofs.Common.{◌≡◌, ◌≤◌, List, ℕ, filter, length, sym, ap, subst, ◌∙◌}
 use Rattle.std.specs.List.{IsDistinct}
 use Rattle.std.specs.Str.{bytes_eq}
+use Rattle.target_core.proofs.RowPaths.{is_lost}
 use Rattle.target_hudi.proofs.ReplacedLemmas.{filter_few, lost_are}
 use Rattle.target_hudi.proofs.replaced.lost_paths.Goals as goal
 use Rattle.lake_basics.proofs.Texts.{distinct_filter}
 use Rattle.lake_basics.proofs.Lists.{all_taken}
-use Rattle.target_core.proofs.RowPaths.{is_lost}
 
 pub returns-clause-paths : goal.returns-clause-paths
 returns-clause-paths c =

@@ -1,9 +1,9 @@
 use Rattle.std.proofs.Common.{◌≡◌, ◌+◌, false, List, Contains, take, drop, ap, sym, subst, ◌∙◌}
 use Rattle.schema_map.specs.Paths.{Path}
+use Rattle.target_core.proofs.Lists.{one_more}
 use Rattle.target_iceberg.specs.Newest.{is_changed, shape_at}
 use Rattle.target_iceberg.proofs.newest.first_changed.Goals as goal
 use Rattle.lake_basics.proofs.Lists.{all_taken, split_of, there_at}
-use Rattle.target_core.proofs.Lists.{one_more}
 
 pub loop-path-preserved : goal.loop-path-preserved
 loop-path-preserved c =
