@@ -158,4 +158,3 @@ kept_from properties t entry real none path kept = record { leftover = not_of en
 pub completed_kept_but : (properties : Option (List ℕ)) (t : List ℕ) → IsDigits t → IsKeptBut properties (completed_path t)
 completed_kept_but None t is = record { staged = not_staged (completed_path t) (completed_stays t is); given = tt }
 completed_kept_but (Some p) t is = record { staged = not_staged (completed_path t) (completed_stays t is); given = completed_not_properties t is }
-
