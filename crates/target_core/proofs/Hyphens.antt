@@ -24,7 +24,7 @@ hyphen_seen bytes place found = by (nat_lt (place_of bytes) (length bytes)) refl
     by false is found = absurd cc
 
 none_before_end : (bytes : List ℕ) → nat_lt (place_of bytes) (length bytes) ≡ false → length bytes ≤ place_of bytes
-none_before_end bytes no = grind (arith, nat_tests)
+none_before_end bytes short = grind (arith, nat_tests)
 
 hyphen_at : (version number : List ℕ) → IsNumeral 10 version → position_or_len is_hyphen (version ++ (codes "-" ++ number)) ≡ length version
 hyphen_at version number numeral =
