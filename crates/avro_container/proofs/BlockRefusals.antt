@@ -1,5 +1,5 @@
 -- What is at fault in a block is refused so.
-use Rattle.std.proofs.Common.{◌≡◌, ℕ, zero, suc, ◌+◌, ◌-◌, ◌<◌, ◌≤◌, pos, false, List, [], ◌∷◌, ◌++◌, length, take, drop, Result, Ok, Err, refl, sym, ap, ◌∙◌, append_assoc, arith, inl, inr}
+use Rattle.std.proofs.Common.{◌≡◌, ℕ, zero, suc, ◌+◌, ◌-◌, ◌<◌, ◌≤◌, pos, false, List, [], ◌∷◌, ◌++◌, length, take, drop, Ok, Err, refl, sym, ap, ◌∙◌, append_assoc, arith, inl, inr}
 use Rattle.std.specs.Str.{bytes_eq}
 use Rattle.std.proofs.lemmas.Bool.{cases_lt, false_from_ne_true}
 use Rattle.std.proofs.lemmas.Slice.Eq.{bytes_eq-Decides}
@@ -9,12 +9,12 @@ use Rattle.avro_value.specs.Layout.{Layout}
 use Rattle.avro_value.specs.ValueTree.{ValueTree, value_count, total}
 use Rattle.lake_basics.specs.Outcome.{◌>>=◌}
 use Rattle.avro_value.proofs.BlockLaws.{total-append}
-use Rattle.avro_value.proofs.FaultLaws.{bind_err, err_is}
+use Rattle.avro_value.proofs.FaultLaws.{bind_err}
 use Rattle.avro_container.specs.declared.fault.Flaw.TheVariants as flaw
 use Rattle.avro_container.specs.declared.fault.ContainerFault.{ContainerFault}
-use Rattle.avro_container.specs.Format.{Block, Blocks}
-use Rattle.avro_container.specs.Reading.{Step, flaw_at, natural_in, run_in, objects_in, block_at, blocks_at}
-use Rattle.avro_container.specs.Faults.{IsFlawAt, FaultsInNumber, FaultsInObjects, IsWholeBlock, FaultsInBlock, FaultsInBlocks}
+use Rattle.avro_container.specs.Format.{Block}
+use Rattle.avro_container.specs.Reading.{natural_in, run_in, block_at, blocks_at}
+use Rattle.avro_container.specs.Faults.{IsFlawAt, FaultsInBlock, FaultsInBlocks}
 use Rattle.avro_container.proofs.Objects.{objects_again, objects_refused, run_in_again, run_in_refused, natural_in_again, natural_in_refused, fault_is}
 use Rattle.avro_container.proofs.ContainerLoops.{some_blocks}
 use Rattle.avro_container.proofs.WholeBlocks.{block_is, block_takes, block_length, block_faulty, whole_again, blocks_length, blocks_on}

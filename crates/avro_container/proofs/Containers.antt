@@ -1,12 +1,12 @@
 -- Reading a container meets what a container is.
-use Rattle.std.proofs.Common.{◌≡◌, ℕ, ◌+◌, ◌-◌, ◌≤◌, ◌⊎◌, Bool, true, false, cond, List, [], length, map, Option, Some, None, Result, Ok, Err, IfOk, IfErr, MatchResult, refl, sym, ap, subst, ◌∙◌, arith, inl, inr}
+use Rattle.std.proofs.Common.{◌≡◌, ℕ, ◌+◌, ◌-◌, ◌≤◌, ◌⊎◌, Bool, true, false, cond, List, length, map, Option, Some, None, Result, Ok, Err, IfOk, IfErr, MatchResult, refl, sym, ap, subst, ◌∙◌, arith, inl, inr}
 use Rattle.std.specs.Str.{bytes_eq}
 use Rattle.std.proofs.lemmas.Slice.Eq.{bytes_eq-Decides}
 use Rattle.std.proofs.lemmas.List.{length-append}
 use Rattle.avro_schema.specs.declared.error.SchemaError.{SchemaError}
 use Rattle.avro_schema.specs.Tree.{SchemaTree, tree_of}
-use Rattle.avro_value.specs.Layout.{Layout, layout_of}
-use Rattle.avro_value.specs.ValueTree.{ValueTree, value_tree, value_count, total}
+use Rattle.avro_value.specs.Layout.{layout_of}
+use Rattle.avro_value.specs.ValueTree.{ValueTree, value_tree}
 use Rattle.lake_basics.specs.Outcome.{◌>>=◌}
 use Rattle.avro_schema.specs.Reading.{schema_of}
 use Rattle.avro_schema.proofs.Texts.{text_found, text_read}
@@ -18,9 +18,9 @@ use Rattle.avro_container.specs.declared.error.ContainerError.TheVariants as err
 use Rattle.avro_container.specs.declared.fault.Flaw.{Flaw}
 use Rattle.avro_container.specs.declared.fault.Flaw.TheVariants as flaw
 use Rattle.avro_container.specs.declared.fault.ContainerFault.{ContainerFault}
-use Rattle.avro_container.specs.Format.{Pairs, first_named, schema_name, codec_name, null_codec, HasSchema, IsPlain, Header, Blocks, IsContainer, IsWithin}
-use Rattle.avro_container.specs.Reading.{Step, flaw_at, schema_in, codec_in, step_of, header_at, blocks_at, container_at}
-use Rattle.avro_container.specs.Faults.{IsFlawAt, FaultsInHeader, FaultsInBlocks, IsFirstFlaw}
+use Rattle.avro_container.specs.Format.{Pairs, first_named, schema_name, codec_name, null_codec, HasSchema, IsPlain, IsWithin}
+use Rattle.avro_container.specs.Reading.{Step, schema_in, codec_in, step_of, header_at, blocks_at, container_at}
+use Rattle.avro_container.specs.Faults.{IsFirstFlaw}
 use Rattle.avro_container.specs.Laws.{error_of, Answers, IsThat, IsRefused}
 use Rattle.avro_container.proofs.Objects.{fault_is}
 use Rattle.avro_container.proofs.WholeBlocks.{blocks_take, blocks_again}

@@ -1,5 +1,5 @@
 -- What a header takes, what it is read again from, and where it is at fault.
-use Rattle.std.proofs.Common.{◌≡◌, ℕ, ◌+◌, ◌-◌, ◌<◌, ◌≤◌, ◌⊎◌, pos, Bool, true, false, cond, List, [], ◌++◌, length, Result, Ok, Err, refl, sym, ap, subst, ◌∙◌, append_assoc, arith, inl, inr}
+use Rattle.std.proofs.Common.{◌≡◌, ℕ, ◌+◌, ◌-◌, ◌<◌, ◌≤◌, ◌⊎◌, Bool, true, false, cond, List, ◌++◌, length, Result, Ok, Err, refl, sym, ap, subst, ◌∙◌, append_assoc, arith, inl, inr}
 use Rattle.std.specs.Str.{bytes_eq}
 use Rattle.std.proofs.lemmas.Slice.Eq.{bytes_eq-Decides}
 use Rattle.std.proofs.lemmas.List.{length-append}
@@ -7,31 +7,27 @@ use Rattle.std.proofs.lemmas.Bool.{false_from_ne_true}
 use Rattle.avro_value.specs.declared.fault.Fault.{Fault}
 use Rattle.avro_value.specs.declared.fault.Fault.TheVariants.{Short, BadLong, BadLength, BadIndex, BadText, BadBool, Limit}
 use Rattle.avro_value.specs.declared.fault.FaultAt.{FaultAt}
-use Rattle.avro_schema.specs.declared.error.SchemaError.{SchemaError}
-use Rattle.avro_schema.specs.Tree.{SchemaTree}
-use Rattle.avro_value.specs.ValueTree.{total}
-use Rattle.avro_value.specs.Spelling.{LengthPrefixed, KeyAndValue, SomeBlocks}
+use Rattle.avro_value.specs.Spelling.{LengthPrefixed, KeyAndValue}
 use Rattle.lake_basics.specs.Outcome.{◌>>=◌}
-use Rattle.avro_value.specs.Reading.{Item, Read, Reader, item_at, run_at, bytes_at, with_count, entry_at, all_blocks_at}
+use Rattle.avro_value.specs.Reading.{Item, Read, item_at, run_at, bytes_at, with_count, entry_at, all_blocks_at}
 use Rattle.avro_value.specs.Faults.{FaultsAtFront, CountedAsBegun, FaultsInSomeBlock, FaultsInEntry, LacksBytes}
-use Rattle.avro_schema.specs.Reading.{schema_of}
 use Rattle.avro_value.proofs.NumberLaws.{bind_ok, ok_is}
 use Rattle.avro_value.proofs.ItemLaws.{run_takes, run_again, bytes_takes, bytes_again}
-use Rattle.avro_value.proofs.ReaderLaws.{TakenBy, TakesBy, AgainBy, item_takes, item_again}
+use Rattle.avro_value.proofs.ReaderLaws.{TakesBy, AgainBy, item_takes, item_again}
 use Rattle.avro_value.proofs.BlockLaws.{all_blocks_take, all_blocks_again}
 use Rattle.avro_value.proofs.ValueLaws.{counted_takes, counted_again, keyed_takes, keyed_again}
 use Rattle.avro_value.proofs.FaultLaws.{bind_err, err_is, run_refuses, bytes_refuse}
 use Rattle.avro_value.proofs.FaultAgain.{run_refused, bytes_refused}
-use Rattle.avro_value.proofs.ReaderFaults.{FaultBy, FaultsBy, item_faults, all_blocks_fault}
+use Rattle.avro_value.proofs.ReaderFaults.{FaultsBy, item_faults, all_blocks_fault}
 use Rattle.avro_value.proofs.ReaderFaultAgain.{FaultAgainBy, item_refused, all_blocks_refused}
 use Rattle.avro_value.proofs.ValueFaults.{begun_faults, entry_faults}
 use Rattle.avro_value.proofs.ValueFaultAgain.{begun_refused, entry_refused}
 use Rattle.avro_container.specs.declared.fault.Flaw.{Flaw}
 use Rattle.avro_container.specs.declared.fault.Flaw.TheVariants as flaw
 use Rattle.avro_container.specs.declared.fault.ContainerFault.{ContainerFault}
-use Rattle.avro_container.specs.Format.{Pairs, magic, Meta, meta_size, first_named, schema_name, codec_name, null_codec, HasSchema, IsPlain, Header}
-use Rattle.avro_container.specs.Reading.{Step, flaw_at, after_magic, meta_at, meta_fault_by, meta_fault, run_in, schema_in, codec_in, step_of, meta_step, header_at}
-use Rattle.avro_container.specs.Faults.{IsFlawAt, FaultsInMeta, FaultsInHeader}
+use Rattle.avro_container.specs.Format.{Pairs, magic, Meta, meta_size, Header}
+use Rattle.avro_container.specs.Reading.{Step, flaw_at, after_magic, meta_at, meta_fault_by, meta_fault, run_in, step_of, meta_step, header_at}
+use Rattle.avro_container.specs.Faults.{FaultsInMeta, FaultsInHeader}
 use Rattle.avro_container.proofs.Objects.{run_in_takes, run_in_again, run_in_faulty, run_in_refused, fault_is}
 
 -- ---- the magic

@@ -1,5 +1,5 @@
 -- What refusals rule out, whatever the budget of the objects, and what is read fits.
-use Rattle.std.proofs.Common.{◌≡◌, ℕ, zero, suc, ◌+◌, ◌-◌, ◌⊎◌, List, [], ◌++◌, length, map, Option, Some, None, Result, Ok, Err, IfOk, IfErr, refl, sym, ap, subst, ◌∙◌, arith, inl, inr}
+use Rattle.std.proofs.Common.{◌≡◌, ℕ, zero, suc, ◌+◌, ◌-◌, ◌⊎◌, List, ◌++◌, length, map, Option, Some, None, Result, Ok, Err, IfOk, IfErr, refl, sym, ap, subst, ◌∙◌, arith, inl, inr}
 use Rattle.std.specs.List.{AllByRecursion}
 use Rattle.avro_schema.specs.Tree.{SchemaTree, tree_of}
 use Rattle.avro_value.specs.declared.fault.Fault.{Fault}
@@ -17,10 +17,10 @@ use Rattle.avro_container.specs.declared.error.ContainerError.TheVariants as err
 use Rattle.avro_container.specs.declared.fault.Flaw.{Flaw}
 use Rattle.avro_container.specs.declared.fault.Flaw.TheVariants as flaw
 use Rattle.avro_container.specs.declared.fault.ContainerFault.{ContainerFault}
-use Rattle.avro_container.specs.Format.{Pairs, Header, HasSchema, IsPlain, first_named, codec_name, null_codec, Block, Blocks, IsContainer}
-use Rattle.avro_container.specs.Reading.{Step, flaw_at, schema_in, header_at, blocks_at, container_at}
+use Rattle.avro_container.specs.Format.{Pairs, Header, HasSchema, IsPlain, first_named, codec_name, null_codec, Blocks}
+use Rattle.avro_container.specs.Reading.{Step, flaw_at, header_at, blocks_at, container_at}
 use Rattle.avro_container.specs.Faults.{FaultsInNumber, FaultsInObject, FaultsInObjects, FaultsInBlock, FaultsInBlocks, FaultsInHeader, IsFirstFlaw}
-use Rattle.avro_container.specs.Laws.{error_of, Answers, IsRefused, IsLimit, IsNoContainer, HasOtherCodec}
+use Rattle.avro_container.specs.Laws.{error_of, Answers, IsLimit, IsNoContainer, HasOtherCodec}
 use Rattle.avro_container.proofs.WholeBlocks.{blocks_again}
 use Rattle.avro_container.proofs.BlockRefusals.{blocks_refused}
 use Rattle.avro_container.proofs.Headers.{header_again, header_refused}

@@ -1,5 +1,5 @@
 -- What a block's objects take, and where they are at fault.
-use Rattle.std.proofs.Common.{◌≡◌, ℕ, zero, suc, ◌+◌, ◌-◌, ◌<◌, ◌≤◌, ◌⊎◌, pos, true, List, [], ◌∷◌, ◌++◌, length, Result, Ok, Err, refl, sym, ap, subst, ◌∙◌, append_assoc, arith, inl, inr}
+use Rattle.std.proofs.Common.{◌≡◌, ℕ, ◌+◌, ◌-◌, ◌<◌, ◌≤◌, ◌⊎◌, pos, true, List, [], ◌∷◌, ◌++◌, length, Ok, Err, refl, sym, ap, subst, ◌∙◌, arith, inl, inr}
 use Rattle.std.proofs.lemmas.List.{length-append, append-nil}
 use Rattle.avro_value.specs.declared.fault.Fault.{Fault}
 use Rattle.avro_value.specs.declared.fault.Fault.TheVariants.{Short, BadLong, BadLength, BadIndex, BadText, BadBool, Limit}
@@ -8,15 +8,15 @@ use Rattle.avro_value.specs.Varint.{Long}
 use Rattle.avro_value.specs.Layout.{Layout, is_bare}
 use Rattle.avro_value.specs.ValueTree.{ValueTree, value_count, total}
 use Rattle.avro_value.specs.Spelling.{Concatenated, Spells}
-use Rattle.avro_value.specs.Faults.{FaultsInMany, FaultsInValue, LacksNatural}
-use Rattle.avro_value.specs.Reading.{Item, Read, Reader, fault_at, run_at, natural_at, many_at, value_at, read_behind}
+use Rattle.avro_value.specs.Faults.{LacksNatural}
+use Rattle.avro_value.specs.Reading.{Item, Read, run_at, natural_at, many_at, value_at, read_behind}
 use Rattle.avro_value.proofs.NumberLaws.{ok_is}
 use Rattle.avro_value.proofs.ItemLaws.{natural_takes, natural_again, run_takes, run_again}
-use Rattle.avro_value.proofs.ReaderLaws.{TakenBy, TakesBy, AgainBy, many_takes, many_again}
+use Rattle.avro_value.proofs.ReaderLaws.{TakesBy, AgainBy, many_takes, many_again}
 use Rattle.avro_value.proofs.ValueLaws.{value_takes, value_again}
 use Rattle.avro_value.proofs.FaultLaws.{err_is, natural_refuses, run_refuses}
 use Rattle.avro_value.proofs.FaultAgain.{natural_refused, run_refused}
-use Rattle.avro_value.proofs.ReaderFaults.{FaultBy, FaultsBy, many_faults, mapped_err}
+use Rattle.avro_value.proofs.ReaderFaults.{FaultsBy, many_faults, mapped_err}
 use Rattle.avro_value.proofs.ReaderFaultAgain.{FaultAgainBy, same_fault, many_refused}
 use Rattle.avro_value.proofs.ValueFaults.{value_faults}
 use Rattle.avro_value.proofs.BareValues.{IdleBy, idle_value}

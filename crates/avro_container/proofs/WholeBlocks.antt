@@ -1,24 +1,22 @@
 -- What a block takes, what it is read again from, and where it is at fault.
-use Rattle.std.proofs.Common.{◌≡◌, ℕ, zero, suc, ◌+◌, ◌-◌, ◌<◌, ◌≤◌, ◌⊎◌, pos, Bool, true, false, cond, List, [], ◌∷◌, ◌++◌, length, Result, Ok, Err, refl, sym, ap, subst, ◌∙◌, append_assoc, arith, inl, inr}
+use Rattle.std.proofs.Common.{◌≡◌, ℕ, zero, suc, ◌+◌, ◌-◌, ◌<◌, ◌≤◌, pos, true, cond, List, [], ◌∷◌, ◌++◌, length, Ok, Err, refl, sym, ap, subst, ◌∙◌, append_assoc, arith, inl, inr}
 use Rattle.std.specs.Str.{bytes_eq}
 use Rattle.std.proofs.lemmas.Slice.Eq.{bytes_eq-Decides}
 use Rattle.std.proofs.lemmas.List.{length-append, append-nil}
 use Rattle.avro_value.specs.Varint.{Long}
 use Rattle.avro_value.specs.Layout.{Layout}
 use Rattle.avro_value.specs.ValueTree.{ValueTree, value_count, total}
-use Rattle.avro_value.specs.Spelling.{Concatenated, Spells}
 use Rattle.lake_basics.specs.Outcome.{◌>>=◌}
 use Rattle.avro_value.proofs.NumberLaws.{bind_ok, ok_is, guard_ok}
 use Rattle.avro_value.proofs.ReaderLaws.{TakenBy}
-use Rattle.avro_value.proofs.BlockLaws.{total-append, number_len}
-use Rattle.avro_value.proofs.FaultLaws.{bind_err, err_is, test_ok}
-use Rattle.avro_container.specs.declared.fault.Flaw.{Flaw}
+use Rattle.avro_value.proofs.BlockLaws.{total-append}
+use Rattle.avro_value.proofs.FaultLaws.{bind_err, test_ok}
 use Rattle.avro_container.specs.declared.fault.Flaw.TheVariants as flaw
 use Rattle.avro_container.specs.declared.fault.ContainerFault.{ContainerFault}
 use Rattle.avro_container.specs.Format.{Block, Blocks}
 use Rattle.avro_container.specs.Reading.{Step, flaw_at, natural_in, run_in, objects_in, block_at, blocks_at}
-use Rattle.avro_container.specs.Faults.{IsFlawAt, FaultsInNumber, FaultsInObjects, IsWholeBlock, FaultsInBlock, FaultsInBlocks}
-use Rattle.avro_container.proofs.Objects.{objects_taken, objects_again, objects_faulty, objects_refused, run_in_takes, run_in_again, run_in_faulty, run_in_refused, natural_in_takes, natural_in_again, natural_in_faulty, natural_in_refused, fault_is}
+use Rattle.avro_container.specs.Faults.{FaultsInNumber, IsWholeBlock, FaultsInBlock}
+use Rattle.avro_container.proofs.Objects.{objects_taken, objects_again, objects_faulty, run_in_takes, run_in_again, run_in_faulty, natural_in_takes, natural_in_again, natural_in_faulty}
 use Rattle.avro_container.proofs.ContainerLoops.{some_blocks, no_blocks}
 
 -- ---- what is done behind the count, the value_count, the objects and the marker

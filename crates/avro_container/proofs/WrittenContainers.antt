@@ -1,13 +1,11 @@
 -- What is written is a container.
-use Rattle.std.proofs.Common.{◌≡◌, ℕ, ◌+◌, ◌*◌, ◌-◌, ◌^◌, ◌<◌, ◌||◌, ◌&&◌, pos, not, Bool, true, false, cond, List, [], ◌∷◌, ◌++◌, length, map, Option, Some, None, Result, Ok, Err, IfOk, Vec, Global, refl, sym, ap, subst, ◌∙◌, append_assoc, arith, inl, inr, eqb, ne_eqb}
+use Rattle.std.proofs.Common.{◌≡◌, ℕ, ◌+◌, ◌*◌, ◌-◌, ◌^◌, ◌<◌, ◌||◌, ◌&&◌, not, Bool, true, false, cond, List, [], ◌∷◌, ◌++◌, length, map, Some, Result, Ok, Err, IfOk, Vec, Global, refl, sym, ap, subst, ◌∙◌, append_assoc, arith, inr, eqb, ne_eqb}
 use Rattle.std.specs.Str.{bytes_eq}
 use Rattle.std.specs.List.{AllByRecursion, list_any}
-use Rattle.std.specs.List.Sorted.{IsPermutation}
 use Rattle.std.proofs.lemmas.Slice.Eq.{bytes_eq-Decides}
-use Rattle.std.proofs.lemmas.List.{append-nil, length-append}
+use Rattle.std.proofs.lemmas.List.{append-nil}
 use Rattle.std.proofs.lemmas.List.Sorted.{list_any-IsPermutation, length_permutation}
 use Rattle.std.proofs.lemmas.Bool.{not-false}
-use Rattle.avro_value.specs.Varint.{Long}
 use Rattle.avro_schema.specs.Tree.{SchemaTree}
 use Rattle.avro_value.specs.Layout.{Layout, layout_of}
 use Rattle.avro_value.specs.ValueTree.{ValueTree, values_of, total}
@@ -16,11 +14,11 @@ use Rattle.avro_schema.specs.Reading.{schema_of}
 use Rattle.avro_schema.specs.Spelled.{IsSpelled}
 use Rattle.avro_schema.specs.Writing.{json_of}
 use Rattle.serde_json.specs.Written.{compact_text}
-use Rattle.avro_value.specs.Writing.{varint_of, length_prefixed, block_encoding, values_encoding}
-use Rattle.avro_value.specs.Fitting.{IsText, AreSound, Fits}
+use Rattle.avro_value.specs.Writing.{varint_of, length_prefixed, values_encoding}
+use Rattle.avro_value.specs.Fitting.{AreSound, Fits}
 use Rattle.avro_schema.proofs.Texts.{text_found}
 use Rattle.avro_value.proofs.WriteLaws.{natural_written, bytes_written, text_written, blocks_written, joined, written}
-use Rattle.avro_container.specs.Format.{Pairs, magic, Meta, meta_size, first_named, schema_name, codec_name, null_codec, HasSchema, IsPlain, Header, Block, Blocks, IsContainer}
+use Rattle.avro_container.specs.Format.{Pairs, magic, Meta, first_named, schema_name, codec_name, null_codec, Block, Blocks, IsContainer}
 use Rattle.avro_container.specs.Writing.{pairs_text, meta_text, block_text, objects_text, container_text, ArePairs, AreEncoded, is_named, IsFree, AreWritten, IsWritten}
 use Rattle.lake_basics.proofs.Texts.{bytes_itself}
 

@@ -1,5 +1,5 @@
 -- What is wrong with bytes that are no container: the first flaw from the left.
-use Rattle.std.specs.Prelude.{◌≡◌, ℕ, zero, suc, ◌+◌, ◌<◌, ◌≤◌, ◌⊎◌, pos, List, [], ◌∷◌, ◌++◌, length, Some, None, Err}
+use Rattle.std.specs.Prelude.{◌≡◌, ℕ, ◌+◌, ◌<◌, ◌≤◌, ◌⊎◌, pos, List, ◌++◌, length}
 use Rattle.avro_value.specs.declared.fault.Fault.{Fault}
 use Rattle.avro_value.specs.declared.fault.Fault.TheVariants.{Short, BadLength, Limit}
 use Rattle.avro_value.specs.declared.fault.FaultAt.{FaultAt}
@@ -12,7 +12,7 @@ use Rattle.avro_value.specs.Faults.{FaultRelation, FaultsAtFront, CountedAsBegun
 use Rattle.avro_container.specs.declared.fault.Flaw.{Flaw}
 use Rattle.avro_container.specs.declared.fault.Flaw.TheVariants as flaw
 use Rattle.avro_container.specs.declared.fault.ContainerFault.{ContainerFault}
-use Rattle.avro_container.specs.Format.{Pairs, magic, Meta, meta_size, Header, HasSchema, IsPlain, Block, Blocks}
+use Rattle.avro_container.specs.Format.{Pairs, magic, Meta, meta_size, Header, HasSchema, IsPlain, Blocks}
 
 -- The fault is this flaw, at the first of these bytes.
 abbrev pub IsFlawAt : Flaw → List ℕ → ContainerFault → Type 0

@@ -1,14 +1,14 @@
 -- Reading a container from left to right, with the first fault that is met.
-use Rattle.std.specs.Prelude.{◌≡◌, ℕ, zero, suc, ◌+◌, List, [], ◌∷◌, ◌++◌, length, Option, Some, None, Result, Ok, Err, if◌then◌else◌}
+use Rattle.std.specs.Prelude.{ℕ, zero, suc, ◌+◌, List, [], ◌∷◌, ◌++◌, length, Some, None, Result, Ok, Err, if◌then◌else◌}
 use Rattle.std.specs.Str.{bytes_eq}
 use Rattle.avro_value.specs.declared.fault.Fault.{Fault}
-use Rattle.avro_value.specs.declared.fault.Fault.TheVariants.{Short, BadLong, BadLength, BadIndex, BadText, BadBool, Limit}
+use Rattle.avro_value.specs.declared.fault.Fault.TheVariants.{Short, BadLength, Limit}
 use Rattle.avro_value.specs.declared.fault.FaultAt.{FaultAt}
 use Rattle.avro_schema.specs.Tree.{SchemaTree}
 use Rattle.avro_value.specs.Layout.{Layout, layout_of}
 use Rattle.avro_value.specs.ValueTree.{ValueTree}
 use Rattle.lake_basics.specs.Outcome.{◌>>=◌}
-use Rattle.avro_value.specs.Reading.{Item, Read, Reader, fault_at, item_at, run_at, natural_at, bytes_at, with_count, entry_at, all_blocks_at, many_at, value_at}
+use Rattle.avro_value.specs.Reading.{Read, Reader, fault_at, item_at, run_at, natural_at, bytes_at, with_count, entry_at, all_blocks_at, many_at, value_at}
 use Rattle.avro_schema.specs.Reading.{schema_of}
 use Rattle.avro_container.specs.declared.fault.Flaw.{Flaw}
 use Rattle.avro_container.specs.declared.fault.Flaw.TheVariants as flaw

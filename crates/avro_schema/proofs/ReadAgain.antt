@@ -1,7 +1,7 @@
 -- What a text declares can be written, and nests no deeper then.
 use Rattle.std.proofs.Common.{◌≡◌, ℕ, suc, ◌+◌, ◌≤◌, ◌⊎◌, ℤ, pos, negsuc, Bool, true, false, ◌&&◌, not, cond, length, ◌==◌, max, List, [], ◌∷◌, ◌++◌, map, Option, None, Some, Ok, option_map, is_some, refl, ap, sym, subst, ◌∙◌, inl, inr, codes, IfSome, arith, eqb, ne_eqb}
 use Rattle.std.specs.Prelude.{option_and_then, nat_le}
-use Rattle.std.specs.List.{AllByRecursion, list_any}
+use Rattle.std.specs.List.{AllByRecursion}
 use Rattle.std.specs.Str.{bytes_eq, is_utf8}
 use Rattle.std.specs.declared.cmp.Ordering.{Ordering}
 use Rattle.std.specs.declared.cmp.Ordering.TheVariants.{Less, Equal, Greater}
@@ -18,9 +18,9 @@ use Rattle.serde_json.proofs.Nesting.{depth-read}
 use Rattle.json_reading.specs.Json.{json, text_member, list_member, items, int, whole}
 use Rattle.avro_schema.specs.Tree.{SchemaTree, schema_tree, ShapeTree, BranchTrees, no_branches, branch, FieldTrees, no_fields, field}
 use Rattle.avro_schema.specs.Names.{dot, has_dot, full_name, namespace_of, primitive_of, is_name, Definition, definition_of, with_definition}
-use Rattle.avro_schema.specs.Reading.{size_member, below_2_31, id_in, id_member, needed, space_in}
-use Rattle.avro_schema.specs.Grammar.{Place, top, is_a_fault, is_any_type, inside, IsOutside, Annotates, IsPrimitive, SaysName, StandsFor, IsNamed, DefinesName, SaysType, Declares, DeclaresBranches, DeclaresFields, IsSchemaText}
-use Rattle.avro_schema.specs.Writing.{Written, put_some, id_json, size_json, with_annotations, type_members, primitive_json, is_written, definition_json, named_members, array_members, map_members, fixed_members, enum_members, record_members, schema_json, branches_json, fields_json}
+use Rattle.avro_schema.specs.Reading.{size_member, below_2_31, id_in, needed, space_in}
+use Rattle.avro_schema.specs.Grammar.{Place, top, is_a_fault, inside, IsOutside, Annotates, IsPrimitive, SaysName, StandsFor, DefinesName, Declares, DeclaresBranches, DeclaresFields, IsSchemaText}
+use Rattle.avro_schema.specs.Writing.{Written, put_some, id_json, size_json, with_annotations, type_members, primitive_json, is_written, named_members, array_members, map_members, fixed_members, enum_members, record_members, schema_json, branches_json, fields_json}
 use Rattle.avro_schema.specs.Spelled.{IsSize, IsId, IsNoUnion, IsFree, IsKnown, Stands, BranchesStand, FieldsStand, IsSpelled}
 use Rattle.avro_schema.proofs.Sound.{pick, ok_is}
 use Rattle.avro_schema.proofs.Respelled.{names_of, known_written, spelt}

@@ -1,18 +1,17 @@
 -- What blocks take, and what is read of them again.
-use Rattle.std.proofs.Common.{◌≡◌, ℕ, zero, suc, ◌+◌, ◌-◌, ◌*◌, ◌/◌, ◌%◌, ◌^◌, ◌<◌, ◌≤◌, ℤ, pos, negsuc, neg_ℤ, Bool, true, false, cond, List, [], ◌∷◌, ◌++◌, length, Option, Some, None, Result, Ok, Err, refl, sym, ap, subst, ◌∙◌, append_assoc, arith, rules, inl, inr, eqb, add-one, eq-eqb, ne_eqb}
+use Rattle.std.proofs.Common.{◌≡◌, ℕ, zero, suc, ◌+◌, ◌-◌, ◌*◌, ◌/◌, ◌%◌, ◌^◌, ◌<◌, ◌≤◌, pos, negsuc, neg_ℤ, Bool, true, false, cond, List, [], ◌∷◌, ◌++◌, length, Option, Some, None, Result, Ok, Err, refl, sym, ap, subst, ◌∙◌, append_assoc, arith, rules, inl, inr, eqb, add-one, eq-eqb, ne_eqb}
 use Rattle.std.proofs.lemmas.Bool.{eqb-true}
 use Rattle.std.proofs.lemmas.List.{length-append}
 use Rattle.avro_value.specs.declared.fault.FaultAt.{FaultAt}
-use Rattle.avro_value.specs.declared.fault.Fault.TheVariants.{Short, BadLength}
+use Rattle.avro_value.specs.declared.fault.Fault.TheVariants.{BadLength}
 use Rattle.avro_value.specs.declared.input.BlockHead.{BlockHead as Head}
 use Rattle.avro_value.specs.declared.input.BlockSize.{BlockSize}
 use Rattle.avro_value.specs.Varint.{Varint, zigzag_value, Long}
 use Rattle.avro_value.specs.ValueTree.{total}
-use Rattle.avro_value.specs.Spelling.{Spelling, Concatenated, Block, Blocks, SomeBlocks, CountedBlock, SizedBlock}
+use Rattle.avro_value.specs.Spelling.{Spelling, Block, Blocks, SomeBlocks}
 use Rattle.lake_basics.specs.Outcome.{◌>>=◌}
 use Rattle.avro_value.specs.Reading.{Read, Reader, item_at, fault_at, varint_at, many_at, block_at, sized_at, block_ends, one_block_at, blocks_at, all_blocks_at}
 use Rattle.avro_value.proofs.NumberLaws.{bind_ok, ok_is, number_takes, number_again, even_signed}
-use Rattle.avro_value.proofs.ItemLaws.{Takes, Again}
 use Rattle.avro_value.proofs.ReaderLaws.{TakenBy, TakesBy, AgainBy, item_takes, item_again, many_takes, many_again}
 
 pub eqb_false : (a b : ℕ) → eqb a b ≡ false → a ≡ b → ⊥

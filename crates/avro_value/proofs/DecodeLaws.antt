@@ -1,5 +1,5 @@
 -- From what reading gives to what is spelled between two places.
-use Rattle.std.proofs.Common.{◌≡◌, ℕ, ◌+◌, ◌-◌, ◌≤◌, List, ◌++◌, length, take, drop, Result, Ok, Err, IfOk, IfErr, ◌⊎◌, MatchResult, refl, sym, ap, subst, ◌∙◌, arith, inl, inr, slice_range}
+use Rattle.std.proofs.Common.{◌≡◌, ℕ, ◌+◌, ◌-◌, ◌≤◌, List, length, take, drop, Result, Ok, Err, IfOk, IfErr, ◌⊎◌, MatchResult, refl, sym, ap, subst, ◌∙◌, arith, inl, inr, slice_range}
 use Rattle.std.proofs.lemmas.List.{length-append, length-drop, take_at}
 use Rattle.std.proofs.lemmas.List.Folds.{drop_split}
 use Rattle.avro_value.specs.declared.value.Value.{Value}
@@ -17,7 +17,6 @@ use Rattle.avro_value.specs.Faults.{FaultsInValue}
 use Rattle.avro_value.specs.Laws.{IsSpelled, IsRefused, IsLimit, IsUnspelled}
 use Rattle.avro_value.specs.Fitting.{Fits}
 use Rattle.avro_value.proofs.NumberLaws.{ok_is}
-use Rattle.avro_value.proofs.ReaderLaws.{TakenBy}
 use Rattle.avro_value.proofs.ValueLaws.{value_takes, value_again}
 use Rattle.avro_value.proofs.ValueFaults.{value_faults}
 use Rattle.avro_value.proofs.ValueFaultAgain.{value_refused}

@@ -1,5 +1,5 @@
 -- What is encoded is a spelling, which is decoded again.
-use Rattle.std.proofs.Common.{◌≡◌, ℕ, ◌-◌, ◌≤◌, List, length, take, drop, Result, Ok, Err, IfOk, slice_range, refl, sym, subst, arith}
+use Rattle.std.proofs.Common.{◌≡◌, ℕ, ◌-◌, ◌≤◌, List, length, Result, Ok, Err, IfOk, slice_range, sym, subst, arith}
 use Rattle.std.proofs.lemmas.List.{take_all}
 use Rattle.avro_value.specs.declared.error.AvroError.{AvroError}
 use Rattle.avro_value.specs.Layout.{Layout}

@@ -1,16 +1,14 @@
 -- What is at fault is refused so: no two faults are first.
-use Rattle.std.proofs.Common.{◌≡◌, ℕ, zero, suc, ◌+◌, ◌-◌, ◌/◌, ◌%◌, ◌^◌, ◌<◌, ◌≤◌, ℤ, pos, negsuc, neg_ℤ, Bool, true, false, List, [], ◌∷◌, ◌++◌, length, take, drop, Result, Ok, Err, FitsSigned, IsUtf8, refl, sym, subst, append_assoc, arith, inl, inr, nat_lt, eqb, eq-eqb, ne_eqb, add-one}
+use Rattle.std.proofs.Common.{◌≡◌, ℕ, zero, suc, ◌+◌, ◌-◌, ◌/◌, ◌%◌, ◌^◌, ◌<◌, ◌≤◌, ℤ, pos, negsuc, Bool, true, false, List, [], ◌∷◌, ◌++◌, length, Err, FitsSigned, refl, sym, subst, arith, inl, inr, nat_lt, eqb}
 use Rattle.std.specs.Int.{w32}
 use Rattle.std.specs.Str.{is_utf8}
 use Rattle.std.specs.List.{AllByRecursion}
-use Rattle.std.proofs.lemmas.Bool.{eqb-true, false_from_ne_true, le-ltb, lt-ltb, ltb-false, ltb-true}
-use Rattle.std.proofs.lemmas.List.{length-append}
+use Rattle.std.proofs.lemmas.Bool.{false_from_ne_true, le-ltb, lt-ltb, ltb-true}
 use Rattle.std.proofs.lemmas.Str.{IsUtf8-from_is_utf8}
 use Rattle.avro_value.specs.declared.fault.Fault.{Fault}
-use Rattle.avro_value.specs.declared.fault.Fault.TheVariants.{Short, BadLong, BadLength, BadIndex, BadText, BadBool}
-use Rattle.avro_value.specs.Varint.{ContinuesToLast, Varint, varint_value, zigzag_value, Long}
-use Rattle.avro_value.specs.Spelling.{LengthPrefixed}
-use Rattle.avro_value.specs.Faults.{LacksItem, Begins, IsOverlongVarint, LacksVarint, LacksInt, LacksNatural, LacksIndex, LacksBoolean, LacksRun, LacksBytes, LacksText}
+use Rattle.avro_value.specs.declared.fault.Fault.TheVariants.{Short, BadLong, BadLength, BadIndex, BadBool}
+use Rattle.avro_value.specs.Varint.{varint_value, zigzag_value}
+use Rattle.avro_value.specs.Faults.{LacksItem, LacksVarint, LacksInt, LacksNatural, LacksIndex, LacksBoolean, LacksRun, LacksBytes, LacksText}
 use Rattle.avro_value.specs.Reading.{Item, varint_in, varint_at, long_at, int_at, natural_at, index_at, boolean_at, run_at, bytes_at, text_at}
 use Rattle.avro_value.proofs.NumberLaws.{groups_again, number_again}
 use Rattle.avro_value.proofs.ItemLaws.{fits_32, natural_again, bytes_again}

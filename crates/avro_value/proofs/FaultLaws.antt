@@ -1,20 +1,16 @@
 -- What is refused is at fault there, and all before it is spelled.
-use Rattle.std.proofs.Common.{◌≡◌, ℕ, zero, suc, ◌+◌, ◌-◌, ◌*◌, ◌/◌, ◌%◌, ◌^◌, ◌<◌, ◌≤◌, ◌⊎◌, ℤ, pos, negsuc, neg_ℤ, Bool, true, false, cond, List, [], ◌∷◌, ◌++◌, length, take, drop, Option, Some, None, Result, Ok, Err, FitsSigned, IsUtf8, refl, sym, ap, subst, ◌∙◌, append_assoc, arith, inl, inr, nat_lt, eqb, eq-eqb, add-one}
-use Rattle.std.specs.Int.{w32}
+use Rattle.std.proofs.Common.{◌≡◌, ℕ, zero, suc, ◌+◌, ◌-◌, ◌*◌, ◌/◌, ◌%◌, ◌^◌, ◌<◌, ◌≤◌, ◌⊎◌, negsuc, Bool, true, false, cond, List, [], ◌∷◌, length, take, drop, Result, Ok, Err, refl, sym, ap, arith, inl, inr, nat_lt, eqb}
 use Rattle.std.specs.Str.{is_utf8}
 use Rattle.std.specs.List.{AllByRecursion}
-use Rattle.std.proofs.lemmas.Bool.{cases_lt, ltb-true, ltb-false, lt-ltb, le-ltb, eqb-true}
-use Rattle.std.proofs.lemmas.List.{length-append}
+use Rattle.std.proofs.lemmas.Bool.{cases_lt, ltb-true, ltb-false, lt-ltb, le-ltb}
 use Rattle.std.proofs.lemmas.Str.{is_utf8-from_IsUtf8}
-use Rattle.avro_value.specs.declared.fault.FaultAt.{FaultAt}
 use Rattle.avro_value.specs.declared.fault.Fault.{Fault}
-use Rattle.avro_value.specs.declared.fault.Fault.TheVariants.{Short, BadLong, BadLength, BadIndex, BadText, BadBool, Limit}
-use Rattle.avro_value.specs.Varint.{ContinuesToLast, Varint, varint_value, zigzag_value, Long}
-use Rattle.avro_value.specs.Spelling.{Spelling, LengthPrefixed, PrefixedText}
-use Rattle.avro_value.specs.Faults.{LacksItem, Begins, IsOverlongVarint, LacksVarint, LacksInt, LacksNatural, LacksIndex, LacksCount, LacksBoolean, LacksRun, LacksBytes, LacksText}
+use Rattle.avro_value.specs.declared.fault.Fault.TheVariants.{Short, BadLong, BadLength, BadIndex, BadText}
+use Rattle.avro_value.specs.Varint.{zigzag_value}
+use Rattle.avro_value.specs.Faults.{LacksItem, Begins, LacksVarint, LacksInt, LacksNatural, LacksIndex, LacksBoolean, LacksRun, LacksBytes, LacksText}
 use Rattle.lake_basics.specs.Outcome.{◌>>=◌}
 use Rattle.avro_value.specs.Reading.{Item, varint_in, varint_at, long_at, int_at, natural_at, index_at, boolean_at, run_at, bytes_at, text_at}
-use Rattle.avro_value.proofs.NumberLaws.{groups_take, number_takes, even_signed}
+use Rattle.avro_value.proofs.NumberLaws.{groups_take, number_takes}
 use Rattle.avro_value.proofs.ItemLaws.{natural_takes, bytes_takes, small_32}
 
 pub bind_err : {A B E : Type 0} (r : Result A E) (f : A → Result B E) (d : E) → (r >>= f) ≡ Err d → (r ≡ Err d) ⊎ ((x : A) × (r ≡ Ok x) × (f x ≡ Err d))

@@ -1,8 +1,7 @@
 -- What a schema spells fits it.
-use Rattle.std.proofs.Common.{ℕ, zero, suc, List, [], ◌∷◌, sym, ap, subst, arith, inl, inr}
+use Rattle.std.proofs.Common.{ℕ, zero, suc, List, [], ◌∷◌, sym, subst, arith, inl, inr}
 use Rattle.std.specs.List.{AllByRecursion}
 use Rattle.avro_value.specs.Layout.{Layout, Layouts, no_layouts, layouts}
-use Rattle.avro_value.specs.ValueTree.{ValueTree}
 use Rattle.avro_value.specs.Spelling.{Spelling, Concatenated, Block, Blocks, SomeBlocks, KeyAndValue, Spells, SpellsBranch, SpellsParts}
 use Rattle.avro_value.specs.Fitting.{Fits, FitsBranch, FitsParts}
 use Rattle.lake_basics.proofs.Lists.{all_append}

@@ -1,5 +1,5 @@
 -- An item that is read is the one that is spelled there, and what is spelled is read, whatever follows.
-use Rattle.std.proofs.Common.{◌≡◌, ℕ, zero, suc, ◌+◌, ◌-◌, ◌*◌, ◌/◌, ◌%◌, ◌^◌, ◌<◌, ◌≤◌, ℤ, pos, negsuc, Bool, true, false, cond, List, [], ◌∷◌, ◌++◌, length, take, drop, Result, Ok, Err, IsUtf8, refl, sym, ap, subst, ◌∙◌, append_assoc, arith, rules, inl, inr, nat_lt, eqb, FitsSigned}
+use Rattle.std.proofs.Common.{◌≡◌, ℕ, zero, suc, ◌+◌, ◌-◌, ◌/◌, ◌%◌, ◌^◌, ◌<◌, ◌≤◌, ℤ, pos, negsuc, Bool, true, false, cond, List, [], ◌∷◌, ◌++◌, length, take, drop, Ok, Err, refl, sym, ap, subst, ◌∙◌, append_assoc, arith, rules, nat_lt, eqb, FitsSigned}
 use Rattle.std.specs.Int.{w32}
 use Rattle.std.specs.Str.{is_utf8}
 use Rattle.std.proofs.lemmas.Bool.{ltb-true, ltb-false, le-ltb, lt-ltb}
@@ -7,9 +7,8 @@ use Rattle.std.proofs.lemmas.List.{take_at, drop_at, take-append-drop, length-ap
 use Rattle.std.proofs.lemmas.Str.{IsUtf8-from_is_utf8, is_utf8-from_IsUtf8}
 use Rattle.avro_value.specs.declared.fault.Fault.{Fault}
 use Rattle.avro_value.specs.declared.fault.Fault.TheVariants.{Short, BadLong, BadIndex, BadLength, BadText}
-use Rattle.avro_value.specs.Varint.{Varint, zigzag_value, Long}
+use Rattle.avro_value.specs.Varint.{zigzag_value, Long}
 use Rattle.avro_value.specs.Spelling.{Spelling, LengthPrefixed, PrefixedText}
-use Rattle.lake_basics.specs.Outcome.{◌>>=◌}
 use Rattle.avro_value.specs.Reading.{Item, varint_at, long_at, int_at, natural_at, index_at, boolean_at, run_at, bytes_at, text_at}
 use Rattle.avro_value.proofs.NumberLaws.{bind_ok, ok_is, guard_ok, guard_err, number_takes, number_again, even_signed}
 

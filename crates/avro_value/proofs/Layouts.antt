@@ -1,16 +1,15 @@
 -- What a schema's layout is at each shape.
-use Rattle.std.proofs.Common.{◌≡◌, ℕ, zero, suc, ◌+◌, ◌<◌, ◌≤◌, Bool, true, false, cond, List, [], ◌∷◌, length, get_or, drop, map, Option, Result, Ok, Err, Box, Vec, Global, ℤ, refl, sym, ap, ◌∙◌, arith, rules, nat_lt, add-one, drop-cons}
+use Rattle.std.proofs.Common.{◌≡◌, ℕ, zero, suc, ◌+◌, ◌<◌, ◌≤◌, Bool, true, false, cond, List, [], ◌∷◌, length, get_or, drop, map, Option, Ok, Err, Box, Vec, Global, ℤ, refl, sym, ap, ◌∙◌, arith, rules, nat_lt, add-one, drop-cons}
 use Rattle.std.proofs.lemmas.Bool.{ltb-true}
 use Rattle.std.proofs.Math.ListN.{drop_of_length-le}
-use Rattle.avro_schema.specs.declared.schema.Schema.{Schema, out-Schema, fold_out-Schema, the_lemmas}
-use Rattle.avro_schema.specs.declared.schema.Field.{Field, out-Field, fold_out-Field}
+use Rattle.avro_schema.specs.declared.schema.Schema.{Schema, out-Schema, the_lemmas}
+use Rattle.avro_schema.specs.declared.schema.Field.{Field}
 use Rattle.avro_schema.specs.declared.schema.Shape.{Shape, Null, Boolean, Int, Long, Float, Double, Bytes, Text, Fixed, Enum, Array, Map, Union, Fields}
-use Rattle.avro_value.specs.declared.fault.Fault.{Fault}
 use Rattle.avro_value.specs.declared.fault.Fault.TheVariants.{BadIndex}
-use Rattle.avro_schema.specs.Tree.{SchemaTree, ShapeTree, FieldTree, branches_of, fields_of, tree_of, shape_of, field_of}
-use Rattle.avro_value.specs.Layout.{Layout, Layouts, no_layouts, layouts, layouts_of, count_of, layout_of, shape_layout_of, branch_layouts, field_layouts, layout, shape_layout, field_layout}
+use Rattle.avro_schema.specs.Tree.{ShapeTree, branches_of, fields_of, tree_of, shape_of, field_of}
+use Rattle.avro_value.specs.Layout.{Layout, layouts, layouts_of, count_of, shape_layout_of, branch_layouts, field_layouts, layout, shape_layout, field_layout}
 use Rattle.lake_basics.specs.Outcome.{◌>>=◌}
-use Rattle.avro_value.specs.Reading.{Item, item_reading, item_at, index_at, branch_at, value_at, with_count}
+use Rattle.avro_value.specs.Reading.{Item, item_reading, item_at, index_at, branch_at, value_at}
 
 pub layout_shape : (s : Schema) → layout s ≡ shape_layout (out-Schema s).shape
 layout_shape s = search (rules, the_lemmas)

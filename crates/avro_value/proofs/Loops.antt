@@ -1,5 +1,5 @@
 -- Reading several values one after the other, as the loops do.
-use Rattle.std.proofs.Common.{◌≡◌, ℕ, zero, suc, ◌-◌, ◌+◌, ◌≤◌, ◌<◌, Bool, true, false, List, [], ◌∷◌, ◌++◌, length, Option, Some, None, Result, Ok, Err, refl, sym, ap, ◌∙◌, append_assoc, arith, add-one}
+use Rattle.std.proofs.Common.{◌≡◌, ℕ, suc, ◌-◌, ◌+◌, ◌≤◌, ◌<◌, Bool, true, false, List, [], ◌∷◌, ◌++◌, length, Some, None, Result, Ok, Err, refl, sym, ap, ◌∙◌, append_assoc, arith}
 use Rattle.std.proofs.lemmas.List.{append-nil}
 use Rattle.avro_value.specs.declared.fault.FaultAt.{FaultAt}
 use Rattle.avro_value.specs.declared.fault.Fault.TheVariants.{Short}
@@ -8,7 +8,7 @@ use Rattle.lake_basics.specs.declared.outcome.ReadError.TheVariants as errors
 use Rattle.avro_value.specs.Layout.{Layout, layouts_of}
 use Rattle.avro_value.specs.ValueTree.{ValueTree}
 use Rattle.lake_basics.specs.Outcome.{◌>>=◌, Fails}
-use Rattle.avro_value.specs.Reading.{Read, Reader, map_reading, fault_at, read_behind, with_block, many_at, one_block_at, blocks_at, all_blocks_at, parts_at, value_at, with_count}
+use Rattle.avro_value.specs.Reading.{Read, Reader, map_reading, fault_at, read_behind, with_block, many_at, one_block_at, blocks_at, all_blocks_at, parts_at, value_at}
 
 pub read_behind-nil : {A : Type 0} (r : Read (List A)) → read_behind [] r ≡ r
 read_behind-nil (Ok x) = refl

@@ -1,12 +1,12 @@
 -- A fault other than Limit stays the first one where more values may be made.
-use Rattle.std.proofs.Common.{◌≡◌, ℕ, zero, suc, ◌+◌, ◌-◌, ◌<◌, List, ◌++◌, length, Result, Ok, Err, sym, ap, subst, ◌∙◌, arith, inl, inr}
+use Rattle.std.proofs.Common.{◌≡◌, ℕ, zero, suc, ◌+◌, ◌-◌, ◌<◌, List, ◌++◌, length, Ok, Err, sym, ap, subst, ◌∙◌, arith, inl, inr}
 use Rattle.avro_value.specs.declared.fault.FaultAt.{FaultAt}
 use Rattle.avro_value.specs.declared.fault.Fault.TheVariants.{Limit}
 use Rattle.avro_value.specs.Layout.{Layout, Layouts, no_layouts, layouts}
 use Rattle.avro_value.specs.ValueTree.{ValueTree, value_count, entry_count, total}
 use Rattle.avro_value.specs.Spelling.{Spelling, Block, Concatenated, PrefixedText, KeyAndValue, Spells}
 use Rattle.avro_value.specs.Reading.{Read, value_at}
-use Rattle.avro_value.specs.Faults.{LacksItem, LacksVarint, LacksCount, FaultRelation, FaultsAtFront, FaultsBehind, FaultsInMany, MisstatesSize, FaultsInBlock, FaultsInBlocks, FaultsInSomeBlock, CountedAsBegun, FaultsInEntry, FaultsInContent, FaultsInBranch, FaultsInParts, FaultsInValue}
+use Rattle.avro_value.specs.Faults.{FaultRelation, FaultsBehind, FaultsInMany, FaultsInBlock, FaultsInBlocks, FaultsInSomeBlock, CountedAsBegun, FaultsInEntry, FaultsInContent, FaultsInBranch, FaultsInParts, FaultsInValue}
 use Rattle.avro_value.proofs.ValueLaws.{value_again}
 use Rattle.avro_value.proofs.ValueFaultAgain.{value_refused}
 

@@ -1,16 +1,14 @@
 -- A fault behind what is spelled is the fault of the whole.
-use Rattle.std.proofs.Common.{◌≡◌, ℕ, zero, suc, ◌+◌, ◌-◌, ◌*◌, ◌/◌, ◌%◌, ◌^◌, ◌<◌, ◌≤◌, ◌⊎◌, ℤ, pos, negsuc, neg_ℤ, Bool, true, false, cond, List, [], ◌∷◌, ◌++◌, length, Option, Some, None, Result, Ok, Err, refl, sym, ap, subst, ◌∙◌, append_assoc, arith, inl, inr, eqb, eq-eqb, ne_eqb}
-use Rattle.std.proofs.lemmas.Bool.{eqb-true}
+use Rattle.std.proofs.Common.{◌≡◌, ℕ, zero, suc, ◌+◌, ◌-◌, ◌*◌, ◌/◌, ◌%◌, ◌^◌, ◌<◌, ℤ, pos, neg_ℤ, true, false, List, [], ◌∷◌, ◌++◌, length, Err, refl, sym, ap, ◌∙◌, append_assoc, arith, inl, inr, eqb, eq-eqb, ne_eqb}
 use Rattle.std.proofs.lemmas.List.{length-append}
 use Rattle.avro_value.specs.declared.fault.FaultAt.{FaultAt}
 use Rattle.avro_value.specs.declared.fault.Fault.{Fault}
 use Rattle.avro_value.specs.declared.fault.Fault.TheVariants.{BadLength}
-use Rattle.avro_value.specs.Varint.{Varint, zigzag_value, Long}
+use Rattle.avro_value.specs.Varint.{zigzag_value, Long}
 use Rattle.avro_value.specs.ValueTree.{total}
-use Rattle.avro_value.specs.Spelling.{Spelling, Concatenated, Block}
-use Rattle.avro_value.specs.Faults.{LacksItem, LacksVarint, LacksCount, FaultRelation, FaultsAtFront, FaultsBehind, FaultsInMany, Count, NegativeCount, MisstatesSize, FaultsInBlock, FaultsInBlocks, FaultsInSomeBlock}
-use Rattle.lake_basics.specs.Outcome.{◌>>=◌}
-use Rattle.avro_value.specs.Reading.{Item, Read, Reader, item_reading, item_at, fault_at, varint_at, many_at, block_at, sized_at, block_ends, one_block_at, blocks_at, all_blocks_at}
+use Rattle.avro_value.specs.Spelling.{Spelling, Concatenated}
+use Rattle.avro_value.specs.Faults.{LacksItem, LacksVarint, LacksCount, FaultRelation, FaultsAtFront, FaultsInMany, Count, NegativeCount, MisstatesSize, FaultsInBlock, FaultsInBlocks, FaultsInSomeBlock}
+use Rattle.avro_value.specs.Reading.{Item, Reader, item_reading, item_at, fault_at, varint_at, many_at, block_at, sized_at, block_ends, one_block_at, blocks_at, all_blocks_at}
 use Rattle.avro_value.proofs.NumberLaws.{even_signed}
 use Rattle.avro_value.proofs.ReaderLaws.{AgainBy, many_again}
 use Rattle.avro_value.proofs.BlockLaws.{number_item_again, eqb_false, double_signed, negative_signed, block_len, one_again}

@@ -1,21 +1,19 @@
 -- Which item is at fault where several readers in a row refuse.
-use Rattle.std.proofs.Common.{◌≡◌, ℕ, zero, suc, ◌+◌, ◌-◌, ◌*◌, ◌/◌, ◌%◌, ◌^◌, ◌<◌, ◌≤◌, ◌⊎◌, ℤ, pos, negsuc, neg_ℤ, Bool, true, false, cond, List, [], ◌∷◌, ◌++◌, length, Option, Some, None, Result, Ok, Err, refl, sym, ap, subst, ◌∙◌, append_assoc, arith, inl, inr, eqb, eq-eqb}
+use Rattle.std.proofs.Common.{◌≡◌, ℕ, zero, suc, ◌+◌, ◌-◌, ◌*◌, ◌/◌, ◌%◌, ◌^◌, ◌<◌, ◌≤◌, pos, neg_ℤ, Bool, true, false, cond, List, [], ◌∷◌, ◌++◌, length, Option, Some, None, Ok, Err, refl, sym, ap, subst, ◌∙◌, append_assoc, arith, inl, inr, eqb}
 use Rattle.std.proofs.lemmas.Bool.{eqb-true}
 use Rattle.std.proofs.lemmas.List.{length-append}
 use Rattle.avro_value.specs.declared.fault.FaultAt.{FaultAt}
-use Rattle.avro_value.specs.declared.fault.Fault.{Fault}
-use Rattle.avro_value.specs.declared.fault.Fault.TheVariants.{Short, BadLength}
+use Rattle.avro_value.specs.declared.fault.Fault.TheVariants.{BadLength}
 use Rattle.avro_value.specs.declared.input.BlockHead.{BlockHead as Head}
 use Rattle.avro_value.specs.declared.input.BlockSize.{BlockSize}
 use Rattle.avro_value.specs.Varint.{Varint, zigzag_value, Long}
-use Rattle.avro_value.specs.ValueTree.{total}
-use Rattle.avro_value.specs.Spelling.{Spelling, Concatenated, Block}
-use Rattle.avro_value.specs.Faults.{LacksItem, LacksVarint, LacksCount, FaultRelation, FaultsAtFront, FaultsBehind, FaultsInMany, Count, NegativeCount, MisstatesSize, FaultsInBlock, FaultsInBlocks, FaultsInSomeBlock}
+use Rattle.avro_value.specs.Spelling.{Spelling}
+use Rattle.avro_value.specs.Faults.{LacksItem, LacksVarint, FaultRelation, FaultsAtFront, FaultsInMany, FaultsInBlock, FaultsInBlocks, FaultsInSomeBlock}
 use Rattle.lake_basics.specs.Outcome.{◌>>=◌}
 use Rattle.avro_value.specs.Reading.{Item, Read, Reader, item_reading, item_at, fault_at, map_reading, varint_at, many_at, block_at, sized_at, block_ends, one_block_at, blocks_at, all_blocks_at}
-use Rattle.avro_value.proofs.NumberLaws.{bind_ok, ok_is, even_signed}
-use Rattle.avro_value.proofs.ReaderLaws.{TakenBy, TakesBy, many_takes}
-use Rattle.avro_value.proofs.BlockLaws.{HeadTaken, HeadTakes, after_head, after_block, OneTaken, block_takes, one_takes, eqb_false, odd_signed, number_item, block_len}
+use Rattle.avro_value.proofs.NumberLaws.{even_signed}
+use Rattle.avro_value.proofs.ReaderLaws.{TakesBy, many_takes}
+use Rattle.avro_value.proofs.BlockLaws.{HeadTaken, after_head, after_block, OneTaken, block_takes, one_takes, eqb_false, odd_signed, number_item, block_len}
 use Rattle.avro_value.proofs.FaultLaws.{bind_err, err_is, test_ok, Refuses, number_refuses}
 
 pub record FaultBy (F : FaultRelation) (bytes : List ℕ) (budget : ℕ) (f : FaultAt) : Type 0 where

@@ -1,20 +1,11 @@
 -- What several readers in a row take, and what they read again.
-use Rattle.std.proofs.Common.{◌≡◌, ℕ, zero, suc, ◌+◌, ◌-◌, ◌*◌, ◌/◌, ◌%◌, ◌^◌, ◌<◌, ◌≤◌, ℤ, pos, negsuc, neg_ℤ, Bool, true, false, cond, List, [], ◌∷◌, ◌++◌, length, Option, Some, None, Result, Ok, Err, refl, sym, ap, subst, ◌∙◌, append_assoc, arith, rules, inl, inr, eqb, add-one}
-use Rattle.std.proofs.lemmas.Bool.{eqb-true}
-use Rattle.std.proofs.Common.{eq-eqb, ne_eqb}
-use Rattle.std.proofs.lemmas.List.{length-append}
-use Rattle.avro_value.specs.declared.fault.FaultAt.{FaultAt}
-use Rattle.avro_value.specs.declared.fault.Fault.{Fault}
-use Rattle.avro_value.specs.declared.fault.Fault.TheVariants.{Short, BadLength}
-use Rattle.avro_value.specs.declared.input.BlockHead.{BlockHead as Head}
-use Rattle.avro_value.specs.declared.input.BlockSize.{BlockSize}
-use Rattle.avro_value.specs.Varint.{Varint, zigzag_value, Long}
+use Rattle.std.proofs.Common.{◌≡◌, ℕ, zero, suc, ◌+◌, List, [], ◌∷◌, ◌++◌, length, Ok, Err, refl, sym, ap, subst, ◌∙◌, append_assoc, arith, rules}
 use Rattle.avro_value.specs.ValueTree.{total}
-use Rattle.avro_value.specs.Spelling.{Spelling, Concatenated, Block, Blocks, SomeBlocks, CountedBlock, SizedBlock}
+use Rattle.avro_value.specs.Spelling.{Spelling, Concatenated}
 use Rattle.lake_basics.specs.Outcome.{◌>>=◌}
-use Rattle.avro_value.specs.Reading.{Item, Read, Reader, item_reading, item_at, fault_at, map_reading, varint_at, many_at, block_at, sized_at, block_ends, one_block_at, blocks_at, all_blocks_at}
-use Rattle.avro_value.proofs.NumberLaws.{bind_ok, ok_is, guard_ok, number_takes, number_again, even_signed}
-use Rattle.avro_value.proofs.ItemLaws.{Taken, Takes, Again}
+use Rattle.avro_value.specs.Reading.{Item, Reader, item_reading, item_at, many_at}
+use Rattle.avro_value.proofs.NumberLaws.{bind_ok, ok_is}
+use Rattle.avro_value.proofs.ItemLaws.{Takes, Again}
 
 -- What was read is spelled at the front, and takes its count of the budget, where k more were counted before.
 pub record TakenBy {A : Type 0} (P : Spelling A) (count : A → ℕ) (k : ℕ) (bytes : List ℕ) (budget : ℕ) (x : A × List ℕ × ℕ) : Type 0 where

@@ -1,8 +1,8 @@
 -- Writing a number group by group, as the loop does, and that no spelling of it is shorter.
-use Rattle.std.proofs.Common.{◌≡◌, ℕ, zero, suc, ◌+◌, ◌-◌, ◌*◌, ◌/◌, ◌%◌, ◌^◌, ◌<◌, ◌≤◌, ℤ, pos, negsuc, Bool, true, false, cond, eqb, List, [], ◌∷◌, ◌++◌, length, take, drop, set, refl, sym, ap, subst, ◌∙◌, append_assoc, arith, inl, inr, pow-suc}
+use Rattle.std.proofs.Common.{◌≡◌, ℕ, zero, suc, ◌+◌, ◌-◌, ◌*◌, ◌/◌, ◌%◌, ◌^◌, ◌<◌, ◌≤◌, ℤ, Bool, true, false, eqb, List, [], ◌∷◌, ◌++◌, length, take, set, refl, sym, ap, ◌∙◌, append_assoc, arith, inl, inr, pow-suc}
 use Rattle.std.proofs.lemmas.Bool.{cases_lt, le-ltb, lt-ltb, eqb-true}
 use Rattle.std.proofs.lemmas.List.{take_more_set, length-take, length-set}
-use Rattle.avro_value.specs.Varint.{ContinuesToLast, Varint, varint_value, zigzag_value, Long}
+use Rattle.avro_value.specs.Varint.{ContinuesToLast, varint_value, zigzag_value, Long}
 use Rattle.avro_value.specs.Writing.{varint_in_groups, varint_of, zigzag_of}
 use Rattle.avro_value.proofs.BlockLaws.{eqb_false}
 

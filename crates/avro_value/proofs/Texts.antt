@@ -1,11 +1,10 @@
 -- Text is a run of bytes that passes the test.
-use Rattle.std.proofs.Common.{◌≡◌, ℕ, List, Result, Ok, Err, IsUtf8, refl}
+use Rattle.std.proofs.Common.{◌≡◌, ℕ, List, Ok, Err, IsUtf8, refl}
 use Rattle.std.specs.Str.{is_utf8}
 use Rattle.std.proofs.lemmas.Str.{IsUtf8-from_is_utf8, is_utf8-from_IsUtf8}
 use Rattle.std.proofs.lemmas.Bool.{false_from_ne_true}
-use Rattle.avro_value.specs.declared.fault.Fault.{Fault}
 use Rattle.avro_value.specs.declared.fault.Fault.TheVariants.{BadText}
-use Rattle.avro_value.specs.Reading.{Item, bytes_at, text_at}
+use Rattle.avro_value.specs.Reading.{bytes_at, text_at}
 
 pub text_ok : (input run rest text : List ℕ) → bytes_at input ≡ Ok (run, rest) → text ≡ run → IsUtf8 run → text_at input ≡ Ok (text, rest)
 unfolding text_at

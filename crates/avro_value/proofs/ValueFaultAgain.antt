@@ -1,13 +1,12 @@
 -- The first fault of a value is what reading gives.
-use Rattle.std.proofs.Common.{◌≡◌, ℕ, zero, suc, ◌+◌, ◌-◌, ◌<◌, ◌≤◌, Bool, true, false, cond, List, [], ◌∷◌, ◌++◌, length, Result, Ok, Err, refl, sym, ap, subst, ◌∙◌, append_assoc, arith, inl, inr, eqb, ne_eqb}
+use Rattle.std.proofs.Common.{◌≡◌, ℕ, zero, suc, ◌-◌, ◌<◌, false, List, Err, refl, ap, arith, inl, inr, eqb, ne_eqb}
 use Rattle.avro_value.specs.declared.fault.FaultAt.{FaultAt}
 use Rattle.avro_value.specs.declared.fault.Fault.TheVariants.{Limit}
 use Rattle.avro_value.specs.Layout.{indices, Layout, Layouts, no_layouts, layouts, count_of}
 use Rattle.avro_value.specs.ValueTree.{ValueTree, values_of, entries_of, value_count, entry_count}
 use Rattle.avro_value.specs.Spelling.{PrefixedText, KeyAndValue, Spells}
-use Rattle.avro_value.specs.Faults.{LacksItem, LacksVarint, LacksInt, LacksIndex, LacksBoolean, LacksRun, LacksBytes, LacksText, FaultRelation, FaultsAtFront, FaultsInSomeBlock, CountedAsBegun, FaultsInEntry, FaultsInContent, FaultsInBranch, FaultsInParts, FaultsInValue}
-use Rattle.lake_basics.specs.Outcome.{◌>>=◌}
-use Rattle.avro_value.specs.Reading.{Item, Read, Reader, item_at, fault_at, map_reading, boolean_at, int_at, long_at, run_at, bytes_at, text_at, index_at, all_blocks_at, with_count, entry_at, content_at, branch_at, parts_at, value_at}
+use Rattle.avro_value.specs.Faults.{LacksItem, LacksVarint, LacksInt, LacksIndex, LacksBoolean, LacksRun, LacksBytes, LacksText, FaultRelation, FaultsAtFront, CountedAsBegun, FaultsInEntry, FaultsInContent, FaultsInBranch, FaultsInParts, FaultsInValue}
+use Rattle.avro_value.specs.Reading.{Item, Reader, item_at, map_reading, boolean_at, int_at, long_at, run_at, bytes_at, text_at, index_at, with_count, entry_at, content_at, branch_at, parts_at, value_at}
 use Rattle.avro_value.proofs.ItemLaws.{Index, text_again, index_again}
 use Rattle.avro_value.proofs.ReaderLaws.{item_again}
 use Rattle.avro_value.proofs.ValueLaws.{nothing, counted_value_again, entry_again, content_again}

@@ -1,18 +1,18 @@
 -- Which item is at fault where a value is refused.
-use Rattle.std.proofs.Common.{◌≡◌, ℕ, zero, suc, ◌+◌, ◌-◌, ◌<◌, ◌≤◌, Bool, true, false, cond, List, [], ◌∷◌, ◌++◌, length, Result, Ok, Err, refl, sym, ap, subst, ◌∙◌, append_assoc, arith, inl, inr, eqb}
+use Rattle.std.proofs.Common.{◌≡◌, ℕ, zero, suc, ◌-◌, ◌<◌, Bool, true, false, cond, List, ◌∷◌, length, Ok, Err, refl, ap, subst, arith, inl, inr, eqb}
 use Rattle.std.proofs.lemmas.Bool.{eqb-true}
 use Rattle.std.proofs.lemmas.List.{length-append}
 use Rattle.avro_value.specs.declared.fault.FaultAt.{FaultAt}
 use Rattle.avro_value.specs.declared.fault.Fault.TheVariants.{Limit}
 use Rattle.avro_value.specs.Layout.{indices, Layout, Layouts, no_layouts, layouts, count_of}
 use Rattle.avro_value.specs.ValueTree.{ValueTree, values_of, entries_of, value_count, entry_count}
-use Rattle.avro_value.specs.Spelling.{Spelling, PrefixedText, KeyAndValue, Spells, SpellsParts}
+use Rattle.avro_value.specs.Spelling.{PrefixedText, KeyAndValue, Spells}
 use Rattle.avro_value.specs.Faults.{LacksItem, LacksVarint, LacksInt, LacksIndex, LacksBoolean, LacksRun, LacksBytes, LacksText, FaultRelation, FaultsAtFront, FaultsInSomeBlock, CountedAsBegun, FaultsInEntry, FaultsInContent, FaultsInBranch, FaultsInParts, FaultsInValue}
 use Rattle.lake_basics.specs.Outcome.{◌>>=◌}
 use Rattle.avro_value.specs.Reading.{Item, Read, Reader, item_at, fault_at, map_reading, boolean_at, int_at, long_at, run_at, bytes_at, text_at, index_at, all_blocks_at, with_count, entry_at, content_at, branch_at, parts_at, value_at}
 use Rattle.avro_value.proofs.ItemLaws.{text_takes}
-use Rattle.avro_value.proofs.ReaderLaws.{TakesBy, item_takes}
-use Rattle.avro_value.proofs.ValueLaws.{nothing, counted_value_takes, entry_takes, content_takes, index_of}
+use Rattle.avro_value.proofs.ReaderLaws.{item_takes}
+use Rattle.avro_value.proofs.ValueLaws.{counted_value_takes, entry_takes, content_takes, index_of}
 use Rattle.avro_value.proofs.FaultLaws.{bind_err, err_is, Refuses, long_refuses, int_refuses, index_refuses, boolean_refuses, run_refuses, bytes_refuse, text_refuses}
 use Rattle.avro_value.proofs.ReaderFaults.{FaultBy, FaultsBy, item_faults, mapped_err, all_blocks_fault}
 

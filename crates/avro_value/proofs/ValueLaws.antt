@@ -1,15 +1,13 @@
 -- A value that is read is spelled there, and what is spelled is read, whatever follows.
-use Rattle.std.proofs.Common.{take, ◌≡◌, ℕ, zero, suc, ◌+◌, ◌-◌, ◌<◌, ◌≤◌, ℤ, pos, Bool, true, false, cond, List, [], ◌∷◌, ◌++◌, length, Result, Ok, Err, FitsSigned, refl, sym, ap, subst, ◌∙◌, append_assoc, arith, rules, eqb, ne_eqb, eq-eqb}
-use Rattle.std.proofs.lemmas.Bool.{eqb-true}
+use Rattle.std.proofs.Common.{take, ◌≡◌, ℕ, zero, suc, ◌+◌, ◌-◌, ◌<◌, ◌≤◌, Bool, true, false, cond, List, [], ◌∷◌, ◌++◌, length, Ok, Err, refl, sym, ap, subst, ◌∙◌, append_assoc, arith, rules, eqb, ne_eqb}
 use Rattle.std.proofs.lemmas.List.{take_at, length-append}
-use Rattle.avro_value.specs.declared.fault.FaultAt.{FaultAt}
 use Rattle.avro_value.specs.declared.fault.Fault.TheVariants.{Limit}
 use Rattle.avro_value.specs.Varint.{Long}
 use Rattle.avro_value.specs.Layout.{indices, Layout, Layouts, no_layouts, layouts, count_of}
-use Rattle.avro_value.specs.ValueTree.{ValueTree, ValueTrees, values_of, entries_of, value_count, value_counts, entry_counts, total, entry_count}
-use Rattle.avro_value.specs.Spelling.{Spelling, Followed, Concatenated, LengthPrefixed, PrefixedText, SomeBlocks, KeyAndValue, Spells, SpellsBranch, SpellsParts}
+use Rattle.avro_value.specs.ValueTree.{ValueTree, values_of, entries_of, value_count, value_counts, entry_counts, total, entry_count}
+use Rattle.avro_value.specs.Spelling.{Spelling, LengthPrefixed, PrefixedText, SomeBlocks, KeyAndValue, Spells, SpellsBranch, SpellsParts}
 use Rattle.lake_basics.specs.Outcome.{◌>>=◌}
-use Rattle.avro_value.specs.Reading.{Item, Read, Reader, item_reading, item_at, fault_at, map_reading, boolean_at, int_at, long_at, run_at, bytes_at, text_at, index_at, all_blocks_at, with_count, entry_at, content_at, branch_at, parts_at, value_at}
+use Rattle.avro_value.specs.Reading.{Item, Read, Reader, item_at, fault_at, map_reading, boolean_at, int_at, long_at, run_at, bytes_at, text_at, index_at, all_blocks_at, with_count, entry_at, content_at, branch_at, parts_at, value_at}
 use Rattle.avro_value.proofs.NumberLaws.{bind_ok, ok_is}
 use Rattle.avro_value.proofs.ItemLaws.{Takes, Again, Int, Boolean, Whole, Index, long_takes, long_again, int_takes, int_again, index_takes, index_again, boolean_takes, boolean_again, run_takes, run_again, bytes_takes, bytes_again, text_takes, text_again}
 use Rattle.avro_value.proofs.ReaderLaws.{TakenBy, TakesBy, AgainBy, item_takes, item_again}

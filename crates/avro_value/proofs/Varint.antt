@@ -1,9 +1,8 @@
 -- Reading a number group by group, as the loop does.
-use Rattle.std.proofs.Common.{pow-suc, inl, inr, lit<, subst, ◌≡◌, ℕ, zero, suc, ◌+◌, ◌-◌, ◌*◌, ◌/◌, ◌%◌, ◌^◌, ◌<◌, ◌≤◌, Bool, true, false, cond, List, [], ◌∷◌, length, Result, Ok, Err, refl, sym, ap, ◌∙◌, arith, add-one, nat_lt}
-use Rattle.std.proofs.lemmas.Bool.{cases_lt, ltb-false, le-ltb, lt-ltb}
+use Rattle.std.proofs.Common.{pow-suc, inl, inr, lit<, subst, ◌≡◌, ℕ, suc, ◌+◌, ◌-◌, ◌*◌, ◌%◌, ◌^◌, ◌<◌, ◌≤◌, cond, List, [], ◌∷◌, Ok, Err, refl, sym, ap, ◌∙◌, arith, add-one, nat_lt}
+use Rattle.std.proofs.lemmas.Bool.{cases_lt, le-ltb, lt-ltb}
 use Rattle.std.proofs.Math.Nat.{pow-le-pow_right, mul-le-mul_left, mul-le-mul_right}
 use Rattle.avro_value.specs.declared.fault.Fault.TheVariants.{Short, BadLong}
-use Rattle.avro_value.specs.declared.fault.Fault.{Fault}
 use Rattle.lake_basics.specs.Outcome.{◌>>=◌}
 use Rattle.avro_value.specs.Reading.{Item, varint_in, varint_at}
 

@@ -1,5 +1,5 @@
 -- What is written of a value that fits is a spelling of it.
-use Rattle.std.proofs.Common.{◌≡◌, ℕ, zero, suc, ◌+◌, ◌*◌, ◌/◌, ◌%◌, ◌^◌, ◌<◌, ◌≤◌, ℤ, pos, negsuc, Bool, true, false, cond, List, [], ◌∷◌, ◌++◌, length, FitsSigned, IsUtf8, refl, sym, ap, subst, ◌∙◌, append_assoc, arith, inl, inr, eqb, eq-eqb, ne_eqb, add-one, pow-suc}
+use Rattle.std.proofs.Common.{◌≡◌, ℕ, zero, suc, ◌+◌, ◌*◌, ◌/◌, ◌%◌, ◌^◌, ◌<◌, ◌≤◌, ℤ, pos, negsuc, false, List, [], ◌∷◌, ◌++◌, length, FitsSigned, refl, sym, ap, subst, ◌∙◌, append_assoc, arith, inl, inr, eqb, ne_eqb, add-one, pow-suc}
 use Rattle.std.specs.Int.{w32, w64}
 use Rattle.std.specs.List.{AllByRecursion}
 use Rattle.std.proofs.lemmas.Bool.{cases_lt, le-ltb, lt-ltb}
@@ -7,7 +7,7 @@ use Rattle.std.proofs.lemmas.List.{append-nil}
 use Rattle.avro_value.specs.Varint.{ContinuesToLast, Varint, varint_value, zigzag_value, Long}
 use Rattle.avro_value.specs.Layout.{Layout, Layouts, no_layouts, layouts}
 use Rattle.avro_value.specs.ValueTree.{ValueTree, values_of, entries_of, values_len, entries_len}
-use Rattle.avro_value.specs.Spelling.{Spelling, Concatenated, LengthPrefixed, PrefixedText, Block, SomeBlocks, KeyAndValue, Spells, SpellsBranch, SpellsParts}
+use Rattle.avro_value.specs.Spelling.{Spelling, Concatenated, LengthPrefixed, PrefixedText, SomeBlocks, KeyAndValue, Spells, SpellsBranch, SpellsParts}
 use Rattle.avro_value.specs.Writing.{varint_in_groups, varint_of, zigzag_of, length_prefixed, block_encoding, encoding, values_encoding, entries_encoding}
 use Rattle.avro_value.specs.Fitting.{IsText, IsSound, AreSound, EntriesAreSound, Fits, FitsBranch, FitsParts}
 use Rattle.avro_value.proofs.NumberLaws.{ContinuesToLast-cons}

@@ -1,5 +1,5 @@
 -- What is written, part by part.
-use Rattle.std.proofs.Common.{zero, suc, ◌<◌, ◌≤◌, get_or, arith, Vec, Global, ◌≡◌, ℕ, ◌+◌, ◌^◌, List, [], ◌∷◌, ◌++◌, length, map, Result, Ok, Err, OnOk, refl, sym, ap, ◌∙◌, append_assoc, add-one}
+use Rattle.std.proofs.Common.{zero, suc, ◌<◌, ◌≤◌, get_or, arith, Vec, Global, ◌≡◌, ℕ, ◌+◌, ◌^◌, List, [], ◌∷◌, ◌++◌, length, map, Result, Ok, Err, OnOk, refl, ap, ◌∙◌, append_assoc, add-one}
 use Rattle.avro_value.specs.declared.value.Value.{Value, Array, Map, Fields}
 use Rattle.avro_value.specs.ValueTree.{ValueTree, value_tree, entry_tree, values_of, entries_of, values_len, entries_len, value_count, total, entry_count}
 use Rattle.avro_value.specs.Fitting.{IsSound, AreSound, EntriesAreSound}

@@ -1,5 +1,5 @@
 -- Which item is the first at fault, and how.
-use Rattle.std.specs.Prelude.{◌≡◌, ◌≢◌, ℕ, zero, suc, ◌+◌, ◌-◌, ◌^◌, ◌<◌, ◌≤◌, ◌⊎◌, ℤ, pos, negsuc, neg_ℤ, FitsSigned, List, [], ◌∷◌, ◌++◌, length, IsUtf8}
+use Rattle.std.specs.Prelude.{◌≡◌, ℕ, zero, suc, ◌+◌, ◌-◌, ◌^◌, ◌<◌, ◌≤◌, ◌⊎◌, ℤ, pos, negsuc, neg_ℤ, FitsSigned, List, [], ◌∷◌, ◌++◌, length, IsUtf8}
 use Rattle.std.specs.Int.{w32}
 use Rattle.std.specs.List.{AllByRecursion}
 use Rattle.avro_value.specs.declared.fault.FaultAt.{FaultAt}
@@ -7,7 +7,7 @@ use Rattle.avro_value.specs.declared.fault.Fault.{Fault}
 use Rattle.avro_value.specs.declared.fault.Fault.TheVariants.{Short, BadLong, BadLength, BadIndex, BadText, BadBool, Limit}
 use Rattle.avro_value.specs.Varint.{ContinuesToLast, varint_value, Long}
 use Rattle.avro_value.specs.Layout.{indices, Layout, Layouts, no_layouts, layouts, count_of}
-use Rattle.avro_value.specs.ValueTree.{ValueTree, value_count, total, entry_count}
+use Rattle.avro_value.specs.ValueTree.{value_count, total, entry_count}
 use Rattle.avro_value.specs.Spelling.{Spelling, Concatenated, LengthPrefixed, PrefixedText, Block, KeyAndValue, Spells}
 
 -- ---- items that aren't spelled at the front of the bytes, and their refusals

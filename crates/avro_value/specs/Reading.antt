@@ -6,7 +6,6 @@ use Rattle.avro_value.specs.declared.fault.Fault.TheVariants.{Short, BadLong, Ba
 use Rattle.avro_value.specs.declared.fault.FaultAt.{FaultAt}
 use Rattle.lake_basics.specs.Outcome.{◌>>=◌}
 use Rattle.avro_value.specs.declared.input.BlockHead.{BlockHead}
-use Rattle.avro_value.specs.declared.input.BlockSize.{BlockSize}
 use Rattle.avro_value.specs.Varint.{zigzag_value}
 use Rattle.avro_value.specs.Layout.{indices, Layout, Layouts, no_layouts, layouts, count_of}
 use Rattle.avro_value.specs.ValueTree.{ValueTree, values_of, entries_of}

@@ -1,5 +1,5 @@
 -- How values are spelled.
-use Rattle.std.specs.Prelude.{◌≡◌, ℕ, zero, suc, ◌+◌, ◌^◌, ◌<◌, ◌≤◌, ◌⊎◌, ℤ, pos, neg_ℤ, FitsSigned, Bool, List, [], ◌∷◌, ◌++◌, length, IsUtf8, if◌then◌else◌}
+use Rattle.std.specs.Prelude.{◌≡◌, ℕ, zero, suc, ◌+◌, ◌^◌, ◌<◌, ◌⊎◌, ℤ, pos, neg_ℤ, FitsSigned, Bool, List, [], ◌∷◌, ◌++◌, length, IsUtf8, if◌then◌else◌}
 use Rattle.std.specs.Int.{w32}
 use Rattle.avro_value.specs.Varint.{Long}
 use Rattle.avro_value.specs.Layout.{Layout, Layouts, no_layouts, layouts, indices}

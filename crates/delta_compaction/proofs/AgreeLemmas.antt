@@ -15,7 +15,6 @@ use Rattle.lake_basics.specs.declared.limits.TheConstants.{MAX_ACTIONS}
 use Rattle.lake_basics.specs.Outcome.{each}
 use Rattle.lake_basics.proofs.Options.{same_options}
 use Rattle.delta_log.specs.declared.action.LineAction.{LineAction}
-use Rattle.delta_log.specs.declared.action.LineAction.TheVariants as action
 use Rattle.delta_log.specs.declared.commit.DeltaCommit.{DeltaCommit}
 use Rattle.delta_log.specs.Commit.{file_path, file_paths}
 use Rattle.delta_log.specs.Grammar.{line_action}

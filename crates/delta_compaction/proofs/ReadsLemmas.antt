@@ -8,7 +8,6 @@ use Rattle.std.proofs.lemmas.List.Elements.{All-head, All-tail}
 use Rattle.lake_basics.specs.Outcome.{each}
 use Rattle.partition_map.specs.UriPath.{UriPath, inside_table, too_long, outside_table, no_path, uri_path}
 use Rattle.delta_log.specs.declared.action.LineAction.{LineAction}
-use Rattle.delta_log.specs.declared.action.LineAction.TheVariants as action
 use Rattle.delta_log.specs.declared.commit.DeltaCommit.{DeltaCommit}
 use Rattle.delta_log.specs.Grammar.{line_action}
 use Rattle.delta_log.specs.Judging.{lines_of}

@@ -1,5 +1,5 @@
 -- That two commits say the same.
-use Rattle.std.proofs.Common.{◌≡◌, ◌↔◌, ℕ, ℤ, List, [], Option, Some, None, Bool, true, false, Contains, refl, sym, ap, subst, ◌∙◌, ◌+◌, ◌<◌, length, get_or, is_eq, is_lt, nat_cmp, arith}
+use Rattle.std.proofs.Common.{◌≡◌, ◌↔◌, ℕ, ℤ, List, [], Option, Some, None, Bool, false, Contains, refl, sym, ap, subst, ◌∙◌, ◌+◌, ◌<◌, length, get_or, is_eq, is_lt, nat_cmp, arith}
 use Rattle.std.specs.Prelude.{◌&&◌}
 use Rattle.std.specs.Ordering.{ordering_reverse}
 use Rattle.std.specs.Bool.{Decides}

@@ -1,4 +1,4 @@
--- Sorted rows and texts that are distinct rise.
+-- Sorted texts that are distinct rise.
 use Rattle.std.proofs.Common.{◌≡◌, ℕ, ◌+◌, Bool, false, List, [], get_or, is_lt, is_eq, nat_cmp, Contains, sym, ap, ◌∙◌, arith}
 use Rattle.std.specs.Cmp.{IsStrictWeakOrder}
 use Rattle.std.specs.Cmp.Lexicographic.{slice_cmp, texts_ties}
@@ -7,18 +7,10 @@ use Rattle.std.specs.List.Sorted.{IsSortedBy, IsPermutation}
 use Rattle.std.specs.Ordering.{ordering_reverse}
 use Rattle.std.specs.Str.{bytes_eq}
 use Rattle.std.proofs.lemmas.Cmp.{nat_list_eq_equiv, nat_list_cmp_total}
-use Rattle.std.proofs.lemmas.List.Sorted.{ranks_by, IsPermutation-map, IsPermutation-sym, Contains-permutation}
+use Rattle.std.proofs.lemmas.List.Sorted.{ranks_by, IsPermutation-sym, Contains-permutation}
 use Rattle.std.proofs.lemmas.Map.Keys.{IsDistinct-IsPermutation, apart_from_distinct, sorted_from_all_adjacent}
-use Rattle.table_history.specs.Rows.{HasDistinctPaths, IsInByteOrder, IsInPathOrder}
-use Rattle.table_history.specs.declared.row.FileRow.{FileRow}
-use Rattle.table_history.proofs.RowListLemmas.{rise}
+use Rattle.table_history.specs.Rows.{IsInByteOrder}
 use Rattle.lake_basics.proofs.Truth.{rising}
-
-abbrev pub row_below : FileRow → FileRow → Bool
-row_below x y = is_lt (slice_cmp nat_cmp x.path y.path)
-
-pub row_below-order : IsStrictWeakOrder row_below
-row_below-order = ranks_by nat_list_cmp_total (λ (r : FileRow). r.path)
 
 abbrev pub text_below : List ℕ → List ℕ → Bool
 text_below x y = is_lt (slice_cmp nat_cmp x y)
@@ -28,10 +20,6 @@ text_below-order = ranks_by nat_list_cmp_total (λ (t : List ℕ). t)
 
 pub same_members : {X : Type 0} (old new : List X) → IsPermutation old new → (x : X) → (Contains new x → Contains old x) × (Contains old x → Contains new x)
 same_members old new moved x = (Contains-permutation _ _ x (IsPermutation-sym _ _ moved), Contains-permutation _ _ x moved)
-
-pub rows_rise : (old new : List FileRow) → IsPermutation old new → HasDistinctPaths old → IsSortedBy row_below new → IsInPathOrder new
-rows_rise old new moved distinct up =
-    rise new (IsDistinct-IsPermutation bytes_eq nat_list_eq_equiv.symm _ _ (IsPermutation-map (λ (r : FileRow). r.path) _ _ moved) distinct) (λ k d within. up k d (omega arith) within)
 
 pub texts_rise : (old new : List (List ℕ)) → IsPermutation old new → IsDistinct bytes_eq old → IsSortedBy text_below new → IsInByteOrder new
 texts_rise old new moved distinct up =

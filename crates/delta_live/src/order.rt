@@ -3,23 +3,12 @@
 ghost use Rattle.std.specs.Prelude.{◌↔◌, ℕ, List, Contains, IfOk};
 ghost use Rattle.std.specs.List.{IsDistinct};
 ghost use Rattle.std.specs.Str.{bytes_eq};
-ghost use Rattle.table_history.specs.Rows.{HasDistinctPaths, IsInByteOrder, IsInPathOrder, SameRows};
+ghost use Rattle.table_history.specs.Rows.{HasDistinctPaths, IsInByteOrder};
 ghost use Rattle.delta_live.specs.Differences.{IsInOrderOf};
 
 use lake_basics::{Items, Text};
 use std::alloc::AllocError;
-use table_history::{Change, FileRow};
-
-/// The rows in byte order of their paths.
-fn sorted_rows(rows: Vec<FileRow>) -> Result<Vec<FileRow>, AllocError>
-    requires { HasDistinctPaths rows.items }
-    ensures rows { IfOk result (λ sorted. SameRows sorted.items rows.items) }
-    ensures order { IfOk result (λ sorted. IsInPathOrder sorted.items) }
-{
-    let mut sorted = rows;
-    sorted.sort_by(|a, b| a.path.cmp(&b.path))?;
-    Ok(sorted)
-}
+use table_history::{Change, sorted_rows};
 
 /// The texts in byte order.
 fn sorted_texts(texts: Vec<Text>) -> Result<Vec<Text>, AllocError>

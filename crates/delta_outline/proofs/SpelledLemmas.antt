@@ -15,8 +15,6 @@ use Rattle.table_history.specs.TypeTree as tree
 use Rattle.table_history.specs.TypeTree.{TypeTree, ColumnTrees, no_columns, column}
 use Rattle.table_history.proofs.Laws.{own_names_distinct}
 use Rattle.schema_delta.specs.DeltaSpelling.{IsDeltaType, AreDeltaColumns, IsDeltaText}
-use Rattle.schema_map.specs.declared.fault.MapError.TheVariants as map_errors
-use Rattle.delta_outline.specs.declared.fault.OutlineFault.{OutlineFault}
 use Rattle.delta_outline.specs.declared.fault.OutlineFault.TheVariants as fault
 use Rattle.delta_outline.specs.declared.form.Form.{Form}
 use Rattle.delta_outline.specs.declared.form.Form.TheVariants.{Known}

@@ -5,7 +5,6 @@ use Rattle.table_history.specs.TypeTree.{ColumnTrees, TypeTree}
 use Rattle.table_history.specs.declared.row.PartValue.{PartValue}
 use Rattle.table_history.specs.declared.row.PartValue.TheVariants as value
 use Rattle.partition_map.specs.Columns.{column_kind}
-use Rattle.partition_map.specs.declared.kind.PartKind.TheVariants as kind
 use Rattle.hudi_timeline.proofs.KindLemmas.{typed}
 
 pub typed_column : (schema : ColumnTrees) (name : List ℕ) → column_kind schema name ≢ None → (t : TypeTree) × (v : PartValue) × (column_type schema name ≡ Some t) × (v ≢ value.Null) × IsOfType t v

@@ -1,5 +1,5 @@
 -- The partition columns of a table in one of its schemas (Iceberg specification, "Partitioning").
-use Rattle.std.specs.Prelude.{ℕ, List, [], ◌∷◌, Option, Some, None, option_map, option_and_then, Result}
+use Rattle.std.specs.Prelude.{ℕ, List, [], ◌∷◌, Option, None, option_map, option_and_then, Result}
 use Rattle.lake_basics.specs.Outcome.{each, required}
 use Rattle.partition_map.specs.Columns.{column_kind}
 use Rattle.schema_map.specs.Paths.{Path}

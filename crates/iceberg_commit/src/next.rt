@@ -15,10 +15,10 @@ use crate::behind::kept_behind;
 use crate::version::new_version;
 use iceberg_manifest::ManifestInfo;
 use iceberg_metadata::{Metadata, held_schema};
-use iceberg_version::{IcebergKept, fresh_kept, mark_of, next_manifests, parts_of, sorted_rows};
+use iceberg_version::{IcebergKept, fresh_kept, mark_of, next_manifests, parts_of};
 use lake_basics::{Blob, Text};
 use std::alloc::{AllocError, Global};
-use table_history::{Commit, Kind, Schema};
+use table_history::{Commit, Kind, Schema, rows_in_order};
 use target_core::{Mark, TargetError};
 
 /// A new version of a table: its number, and the bytes of its new manifests in the order of its
@@ -62,7 +62,7 @@ fn keep_behind(
         → IsKeptBehind kept.old commit.now.change mark listed kept.new) }
 {
     let image = current_copy(alloc, &kept.metadata)?;
-    let added = sorted_rows(alloc, commit.change.added.as_slice())?;
+    let added = rows_in_order(alloc, commit.change.added.as_slice())?;
     let parts = parts_of(alloc, added.as_slice())?;
     let manifests = kept.manifests.as_slice();
     let removed = commit.change.removed.as_slice();

@@ -24,13 +24,12 @@ use iceberg_manifest::ManifestInfo;
 use iceberg_metadata::Metadata;
 use iceberg_version::{
     IcebergKept, Layout, before_of, hold_properties, hold_schema, hold_snapshot, hold_spec,
-    layout_of, mark_of, next_manifests, no_version, parts_of, snapshot_of, sorted_rows,
-    spec_fields,
+    layout_of, mark_of, next_manifests, no_version, parts_of, snapshot_of, spec_fields,
 };
 use lake_basics::limits::MAX_ICEBERG_VERSION;
 use lake_basics::{Blob, Text};
 use std::alloc::Global;
-use table_history::{Change, Commit, Kind, LimitKind, Schema, Table};
+use table_history::{Change, Commit, Kind, LimitKind, Schema, Table, rows_in_order};
 use target_core::{Mark, TargetError};
 
 /// What is written for a commit: the rows of the new list, the bytes of the new manifests among
@@ -122,7 +121,7 @@ fn list_of(
     ensures refusal { IfErr result
         (IsTextRefusal (IsNewText kept.now layout.now commit.now.change)) }
 {
-    let added = sorted_rows(alloc, commit.change.added.as_slice())?;
+    let added = rows_in_order(alloc, commit.change.added.as_slice())?;
     let manifests = kept.manifests.as_slice();
     let removed = commit.change.removed.as_slice();
     let parts = parts_of(alloc, added.as_slice())?;

@@ -5,7 +5,6 @@ use Rattle.lake_basics.specs.declared.limits.TheConstants.{MAX_ICEBERG_VERSION}
 use Rattle.schema_map.specs.declared.fault.MapError.{MapError}
 use Rattle.schema_map.specs.declared.fault.MapError.TheVariants as map_errors
 use Rattle.schema_map.specs.declared.fault.MapError.TheVariants.{Limit}
-use Rattle.lake_basics.specs.Outcome.{◌>>=◌}
 use Rattle.schema_map.specs.Paths.{Path, known_id}
 
 abbrev pub next_id : ℤ → Result ℤ MapError

@@ -24,7 +24,6 @@ use Rattle.iceberg_manifest.specs.declared.error.Flaw.TheVariants.{Malformed}
 use Rattle.iceberg_manifest.specs.declared.field.FieldKind.TheVariants as field
 use Rattle.iceberg_manifest.specs.declared.data_file.DataFile.{DataFile}
 use Rattle.iceberg_manifest.specs.declared.data_file.EntryRecord.{EntryRecord}
-use Rattle.iceberg_manifest.specs.declared.error.EntryFault.{EntryFault}
 use Rattle.iceberg_manifest.specs.declared.error.EntryFault.TheVariants as fault
 use Rattle.iceberg_manifest.specs.declared.partition.ColumnPlace.{ColumnPlace}
 use Rattle.iceberg_manifest.specs.declared.partition.PartColumn.{PartColumn}

@@ -7,7 +7,6 @@ use Rattle.avro_value.specs.ValueTree.{ValueTree, value_count, total}
 use Rattle.avro_value.specs.declared.api.TheConstants.{MAX_VALUES}
 use Rattle.avro_value.proofs.BlockLaws.{total-append}
 use Rattle.avro_container.specs.Format.{Block, Blocks}
-use Rattle.avro_container.specs.declared.fault.Flaw.TheVariants as flaw
 use Rattle.avro_container.proofs.Containers.{codec_again, schema_again}
 use Rattle.avro_container.proofs.Headers.{header_again}
 use Rattle.avro_container.proofs.WholeBlocks.{block_again, block_length}

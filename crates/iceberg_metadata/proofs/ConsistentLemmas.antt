@@ -1,5 +1,5 @@
 -- What metadata names by an id is held, and its manifest lists have paths: tests and facts.
-use Rattle.std.proofs.Common.{◌≡◌, ℕ, ℤ, List, [], ◌∷◌, Bool, true, ◌&&◌, Option, Some, None, IfSome, Contains, refl}
+use Rattle.std.proofs.Common.{◌≡◌, ℤ, List, [], ◌∷◌, Bool, true, ◌&&◌, Option, Some, None, IfSome, Contains, refl}
 use Rattle.std.specs.Bool.{Decides}
 use Rattle.std.specs.List.{list_all}
 use Rattle.std.proofs.lemmas.Bool.{and_from, and_parts}

@@ -1,5 +1,5 @@
 -- The members of table metadata by their kinds (Iceberg specification, "Table Metadata Fields", "Snapshots", "Partition Specs").
-use Rattle.std.specs.Prelude.{ℕ, ℤ, pos, negsuc, List, [], Bool, true, Option, Some, None, is_some, option_and_then, Result, Ok, Err, if◌then◌else◌, codes}
+use Rattle.std.specs.Prelude.{ℕ, ℤ, pos, negsuc, List, [], Bool, true, Option, Some, None, is_some, option_and_then, Result, Ok, if◌then◌else◌, codes}
 use Rattle.std.specs.Ordering.{int_eq}
 use Rattle.serde_json.specs.Data.{Data, Items}
 use Rattle.serde_json.specs.Find.{get, as_number, as_integer, as_array, as_object}

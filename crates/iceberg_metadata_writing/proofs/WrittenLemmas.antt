@@ -22,7 +22,7 @@ use Rattle.lake_basics.specs.Outcome.{each}
 use Rattle.lake_basics.specs.declared.limits.TheConstants.{MAX_PARTITION_COLUMNS}
 use Rattle.lake_basics.proofs.Lists.{front_two, moved_back, permuted_behind}
 use Rattle.json_reading.specs.Json as json_values
-use Rattle.json_reading.specs.Json.{json, whole, int, items, pairs, present, members_with, IsReadAgain}
+use Rattle.json_reading.specs.Json.{whole, int, items, pairs, present, members_with, IsReadAgain}
 use Rattle.table_history.specs.First.{NoneOf}
 use Rattle.iceberg_metadata.specs.declared.error.MetadataError.TheVariants.{Malformed}
 use Rattle.iceberg_metadata.specs.declared.metadata.Metadata.{Metadata}

@@ -3,35 +3,12 @@
 ghost use Rattle.std.specs.Prelude.{◌≡◌, ◌≤◌, IfOk, drop, length, map, take};
 ghost use Rattle.lake_basics.specs.declared.limits.TheConstants.{MAX_MANIFEST_ENTRIES};
 ghost use Rattle.iceberg_version.specs.Manifests.{AreParts};
-ghost use Rattle.table_history.specs.Rows.{HasDistinctPaths, IsInPathOrder, SameRows};
 
 use lake_basics::limits::MAX_MANIFEST_ENTRIES;
 use std::alloc::{AllocError, Global};
 use table_history::FileRow;
 
 const PART: usize = MAX_MANIFEST_ENTRIES as usize;
-
-fn all_rows<'a>(alloc: Global, added: &'a [FileRow]) -> Result<Vec<&'a FileRow>, AllocError>
-    ensures { IfOk result (λ rows. map (λ r. r.now) rows.items ≡ added.now) }
-{
-    let mut rows = Vec::with_capacity(alloc, added.len())?;
-    for row in added {
-        rows.push(row)?;
-    }
-    Ok(rows)
-}
-
-/// The rows in byte order of their paths.
-pub fn sorted_rows<'a>(alloc: Global, added: &'a [FileRow]) -> Result<Vec<&'a FileRow>, AllocError>
-    requires { HasDistinctPaths added.now }
-    ensures rows { IfOk result (λ rows. SameRows added.now (map (λ r. r.now) rows.items)) }
-    ensures order { IfOk result (λ rows. IsInPathOrder (map (λ r. r.now) rows.items)) }
-    ensures count { IfOk result (λ rows. length rows.items ≡ length added.now) }
-{
-    let mut rows = all_rows(alloc, added)?;
-    rows.sort_by(|a, b| a.path.cmp(&b.path))?;
-    Ok(rows)
-}
 
 /// The rows of a manifest from this place on, so many as it may have.
 fn part_from<'a>(rows: &'a [&'a FileRow], start: usize) -> &'a [&'a FileRow]

@@ -23,7 +23,7 @@ mod schemas;
 mod spec;
 mod touched;
 
-pub use added::{parts_of, sorted_rows};
+pub use added::parts_of;
 pub use advancing::advance;
 pub use before::{Before, before_of};
 pub use carrying::{Next, next_manifests};

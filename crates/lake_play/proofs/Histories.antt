@@ -42,7 +42,6 @@ use Rattle.delta_table.specs.Versions.{AreVersions, HasVersion}
 use Rattle.delta_table.specs.declared.versions.Versions.{Versions}
 use Rattle.delta_table.proofs.PathLaws.{bytes_once}
 use Rattle.lake_basics.specs.Outcome.{each}
-use Rattle.lake_basics.proofs.Options.{same_options}
 use Rattle.lake_basics.proofs.Lists.{some_at}
 use Rattle.source_delta.specs.Heads.{IsAbsent}
 use Rattle.source_delta.specs.Histories.{HoldsHistory, table_before}

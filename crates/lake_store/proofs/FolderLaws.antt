@@ -1,7 +1,5 @@
 -- Which names a folder has. For the crates above too.
-use Rattle.std.proofs.Common.{◌≡◌, ◌≢◌, ◌⊎◌, inl, inr, ⊎_elim, ℕ, Bool, true, false, ◌&&◌, ◌||◌, List, [], ◌∷◌, ◌++◌, filter_map, refl, sym, ◌∙◌, ap, subst, Option, Some, None, option_and_then, if◌then◌else◌}
-use Rattle.std.specs.Ordering.{nat_cmp, eq_by_cmp}
-use Rattle.std.specs.Cmp.Lexicographic.{slice_cmp}
+use Rattle.std.proofs.Common.{◌≡◌, ◌≢◌, ◌⊎◌, ⊎_elim, ℕ, Bool, true, false, ◌&&◌, ◌||◌, List, [], ◌∷◌, ◌++◌, filter_map, refl, sym, ◌∙◌, ap, Option, Some, None, option_and_then, if◌then◌else◌}
 use Rattle.std.specs.List.{cons_option, list_any}
 use Rattle.std.specs.FinMap as map
 use Rattle.lake_store.specs.Disk.{Files, behind, front_of, is_name, name_behind, names_in}

@@ -1,10 +1,10 @@
 -- That a call that fails is named by the script.
-use Rattle.std.proofs.Common.{◌≡◌, ◌≢◌, inl, inr, ℕ, ◌==◌, ◌||◌, Bool, true, false, List, [], ◌∷◌, refl, sym, ◌∙◌, ap, subst, Option, None, Some, is_some, Err, ◌+◌, ◌-◌, ◌^◌, ◌≤◌, min, arith, if◌then◌else◌}
+use Rattle.std.proofs.Common.{◌≡◌, ◌≢◌, inl, inr, ℕ, ◌==◌, ◌||◌, true, false, List, [], ◌∷◌, refl, sym, ◌∙◌, ap, subst, None, Some, is_some, Err, arith}
 use Rattle.std.specs.List.{list_any}
 use Rattle.lake_store.specs.declared.fuse.FuseStore.{FuseStore}
 use Rattle.lake_store.specs.declared.store.StoreError.TheVariants.{Taken}
 use Rattle.lake_store.specs.Disk.{stored}
-use Rattle.lake_store.specs.Fuse.{CanFail, PublishesByScript, contests_of, counted, fails, fuse_disk, fuse_left_since, fuse_time, inner_of, is_contested, is_stopped, next_of, others_file, script_of}
+use Rattle.lake_store.specs.Fuse.{CanFail, PublishesByScript, counted, fails, fuse_disk, fuse_left_since, fuse_time, inner_of, is_contested, is_stopped, next_of, others_file, script_of}
 use Rattle.lake_store.specs.Memory.{Memory, changed, disk_of, left_since_of, time_of}
 use Rattle.lake_store.specs.Moments.{Elapses}
 use Rattle.lake_store.proofs.MomentLaws.{elapses_inside}

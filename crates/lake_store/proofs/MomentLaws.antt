@@ -2,7 +2,7 @@
 use Rattle.std.proofs.Common.{inl, inr, ⊎_elim, ℕ, arith}
 use Rattle.lake_store.specs.Disk.{Disk, Files, MayLeave}
 use Rattle.lake_store.specs.Moments.{Elapses}
-use Rattle.lake_store.specs.Runs.{IsEachMoment, LeavesOnly}
+use Rattle.lake_store.specs.Runs.{LeavesOnly}
 use Rattle.lake_store.specs.declared.store.Store.{Ghosts}
 
 module _ {S : Type 0} (store : Ghosts S) where

@@ -1,5 +1,5 @@
 -- That a store in memory knows what it was. For the crates above too, where they crash such a store or write to it.
-use Rattle.std.proofs.Common.{◌≡◌, ◌≢◌, ◌⊎◌, ◌||◌, not, inl, inr, ⊎_elim, ℕ, suc, ◌≤◌, Bool, true, false, List, [], ◌∷◌, length, refl, sym, ◌∙◌, ap, subst, cond, if◌then◌else◌, filter, map as list_map, String, string_bytes, arith, Some, None, Option}
+use Rattle.std.proofs.Common.{◌≡◌, ◌≢◌, ◌⊎◌, ◌||◌, not, inl, inr, ⊎_elim, ℕ, ◌≤◌, Bool, true, false, List, [], ◌∷◌, length, refl, sym, ◌∙◌, ap, subst, cond, if◌then◌else◌, filter, map as list_map, String, string_bytes, arith, Some, None, Option}
 use Rattle.std.specs.declared.alloc.Global.{Global}
 use Rattle.std.specs.Ordering.{nat_cmp}
 use Rattle.std.specs.BTreeMap.{BTreeMap}
@@ -14,7 +14,7 @@ use Rattle.lake_store.specs.Moments.{Elapses}
 use Rattle.lake_store.specs.Past.{disk_before, disks_before, memory_of, put_back}
 use Rattle.lake_store.specs.Memory.{LeftBy, Memory, disk_of, left_since_of, time_of}
 use Rattle.lake_store.specs.declared.memory.Change.{Change}
-use Rattle.lake_store.specs.declared.memory.Change.TheVariants.{At, Crashed, Moved, Synced}
+use Rattle.lake_store.specs.declared.memory.Change.TheVariants.{At, Crashed, Moved}
 use Rattle.std.specs.Cmp.Lexicographic.{nat_list_cmp_total, slice_cmp}
 use Rattle.lake_store.proofs.DiskLaws.{is_path, path_here, path_other, path_cases, get-insert_here, get-insert_other, get-remove_here, get-remove_other, contains-insert_other, contains-remove_here, contains-remove_other}
 use Rattle.lake_store.proofs.TreeLaws.{same_files, same_paths}

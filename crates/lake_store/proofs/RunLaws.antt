@@ -4,7 +4,7 @@ use Rattle.std.specs.Prelude.{Result, IsErrOf, OnErr, OnOk, Some}
 use Rattle.std.specs.FinMap as map
 use Rattle.lake_store.specs.Disk.{Disk, Files, IsClean, IsPartlySynced, MayLeave, Moves, SameElsewhere, moved, removed, stored, synced, written}
 use Rattle.lake_store.specs.Moments.{Elapses}
-use Rattle.lake_store.specs.Runs.{IsEachMoment, Keeps, KeepsImage, LeavesAlone, LeavesOnly, OnlyReads}
+use Rattle.lake_store.specs.Runs.{IsEachMoment, Keeps, KeepsImage, LeavesAlone, OnlyReads}
 use Rattle.lake_store.specs.declared.store.Store.{Ghosts}
 use Rattle.lake_store.specs.declared.store.StoreError.{StoreError}
 use Rattle.lake_store.specs.declared.store.StoreError.TheVariants.{Taken}

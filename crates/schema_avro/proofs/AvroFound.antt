@@ -6,7 +6,7 @@ use Rattle.std.proofs.lemmas.Slice.Eq.{bytes_eq-Decides}
 use Rattle.avro_schema.specs.Tree as avro
 use Rattle.avro_schema.specs.Tree.{SchemaTree, schema_tree, ShapeTree, BranchTrees, no_branches, branch, FieldTrees, no_fields, field}
 use Rattle.table_history.specs.TypeTree as tree
-use Rattle.table_history.specs.TypeTree.{TypeTree, ColumnTree, ColumnTrees, no_columns, column, columns_of}
+use Rattle.table_history.specs.TypeTree.{TypeTree, ColumnTree, columns_of}
 use Rattle.schema_avro.specs.declared.fault.TypeFault.{TypeFault}
 use Rattle.schema_map.specs.Decimal.{decimal_in_range}
 use Rattle.schema_avro.specs.Avro.{is_logical, decimal_type, avro_decimal, avro_int, avro_long, avro_bytes, avro_fixed, Part, is_null, nullable_if, avro_list, avro_map, avro_struct, avro_column, avro_type, avro_shape, avro_part, avro_union, avro_columns}

@@ -5,9 +5,9 @@ use Rattle.std.specs.Str.{bytes_eq}
 use Rattle.std.proofs.lemmas.Slice.Eq.{bytes_eq-Decides}
 use Rattle.std.proofs.lemmas.Bool.{lt-ltb}
 use Rattle.avro_schema.specs.Tree as avro
-use Rattle.avro_schema.specs.Tree.{SchemaTree, schema_tree, ShapeTree, BranchTrees, no_branches, branch, FieldTrees, no_fields, field}
+use Rattle.avro_schema.specs.Tree.{SchemaTree, schema_tree, BranchTrees, FieldTrees}
 use Rattle.table_history.specs.TypeTree as tree
-use Rattle.table_history.specs.TypeTree.{TypeTree, ColumnTree, ColumnTrees, no_columns, column, columns_of}
+use Rattle.table_history.specs.TypeTree.{TypeTree, ColumnTree, ColumnTrees, no_columns, column}
 use Rattle.schema_avro.specs.declared.fault.TypeFault.{TypeFault}
 use Rattle.schema_map.specs.Decimal.{decimal_in_range}
 use Rattle.schema_avro.specs.Avro.{is_logical, avro_decimal, avro_int, avro_long, Part, is_null, nullable_if, avro_column, avro_front, avro_type, avro_part, avro_union, avro_columns}

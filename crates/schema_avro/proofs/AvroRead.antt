@@ -3,7 +3,7 @@ use Rattle.std.proofs.Common.{◌≡◌, ◌⊎◌, inl, inr, ℕ, List, [], ◌
 use Rattle.std.specs.Prelude.{IfOk, IfErr, nat_lt}
 use Rattle.std.proofs.lemmas.Bool.{ltb-false, le-ltb}
 use Rattle.avro_schema.specs.Tree as avro
-use Rattle.avro_schema.specs.Tree.{SchemaTree, schema_tree, ShapeTree, FieldTrees, no_fields, field}
+use Rattle.avro_schema.specs.Tree.{SchemaTree, schema_tree, FieldTrees, no_fields, field}
 use Rattle.avro_schema.specs.Grammar.{IsSchemaText}
 use Rattle.avro_schema.specs.Reading as reading
 use Rattle.avro_schema.specs.declared.error.SchemaError.{SchemaError}

@@ -13,7 +13,7 @@ use Rattle.serde_json.specs.View.{items_of}
 use Rattle.json_reading.specs.Json.{json, items, whole, text_member}
 use Rattle.json_reading.proofs.Laws.{items-items_of}
 use Rattle.avro_schema.specs.Tree as avro
-use Rattle.avro_schema.specs.Tree.{SchemaTree, schema_tree, ShapeTree, BranchTrees, no_branches, branch, FieldTrees, no_fields, field}
+use Rattle.avro_schema.specs.Tree.{SchemaTree, schema_tree, ShapeTree, no_branches, branch, FieldTrees, no_fields, field}
 use Rattle.avro_schema.specs.Sizes.{type_count, field_type_count, level_count, field_level_count}
 use Rattle.avro_schema.specs.Names.{has_dot, dot, namespace_of, full_name, is_name, Definition, definition_of, with_definition, are_distinct}
 use Rattle.avro_schema.specs.Reading.{id_member, below_2_31}

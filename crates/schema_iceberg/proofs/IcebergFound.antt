@@ -6,7 +6,7 @@ use Rattle.std.proofs.lemmas.Slice.Eq.{bytes_eq-Decides}
 use Rattle.serde_json.specs.Data.{Data, null, boolean, number, string, array, object, Items, no_items, item, Members}
 use Rattle.serde_json.specs.Find.{get, get_member}
 use Rattle.table_history.specs.TypeTree as tree
-use Rattle.table_history.specs.TypeTree.{TypeTree, ColumnTree, ColumnTrees, no_columns, column, columns_of}
+use Rattle.table_history.specs.TypeTree.{TypeTree, ColumnTree, ColumnTrees, columns_of}
 use Rattle.schema_map.specs.declared.fault.Fault.TheVariants.{BadSchema}
 use Rattle.lake_basics.specs.Outcome.{required}
 use Rattle.json_reading.specs.Json.{text_member, bool_member, int_member, list_member, items}

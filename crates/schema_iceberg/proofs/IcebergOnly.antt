@@ -4,7 +4,7 @@ use Rattle.std.specs.Prelude.{ℤ, Some, codes}
 use Rattle.serde_json.specs.Data.{Data, boolean, string, object, Items, Members}
 use Rattle.serde_json.specs.Find.{get_member}
 use Rattle.table_history.specs.TypeTree as tree
-use Rattle.table_history.specs.TypeTree.{TypeTree, ColumnTree, ColumnTrees, no_columns, column, columns_of}
+use Rattle.table_history.specs.TypeTree.{TypeTree, ColumnTree, ColumnTrees, no_columns, column}
 use Rattle.schema_map.specs.declared.fault.Fault.{Fault}
 use Rattle.json_reading.specs.Json.{items, int_member}
 use Rattle.table_history.specs.SchemaSize.{levels, column_levels}

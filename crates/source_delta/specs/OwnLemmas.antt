@@ -7,7 +7,7 @@ use Rattle.table_history.specs.declared.table.Table.{Table}
 use Rattle.delta_log.specs.declared.commit.DeltaCommit.{DeltaCommit}
 use Rattle.delta_table.specs.Log.{IsTaken, SaysCommit}
 use Rattle.delta_table.specs.Refusals.{IsVersionRefusal}
-use Rattle.delta_table.specs.SameVersions.{has_too, holds_too, large_too, live_rows_too, log_refusal_too, log_too, own_versions, says_too, unreadable_too}
+use Rattle.delta_table.specs.SameVersions.{has_too, large_too, live_rows_too, log_refusal_too, log_too, own_versions, says_too, unreadable_too}
 use Rattle.delta_table.specs.Versions.{HasVersion, log_folder}
 use Rattle.delta_table.specs.declared.error.LogError.{LogError}
 use Rattle.delta_table.specs.declared.error.LogError.TheVariants as log

@@ -1,6 +1,6 @@
 -- An Iceberg target without a file that no version reaches.
-use Rattle.std.proofs.Common.{◌≡◌, ◌≢◌, inl, inr, ⊎_elim, ℕ, List, Option, refl, sym, ap, subst, ◌∙◌}
-use Rattle.std.specs.Prelude.{IsSome, None, is_some}
+use Rattle.std.proofs.Common.{◌≡◌, inl, inr, ⊎_elim, ℕ, List, sym, ap, subst, ◌∙◌}
+use Rattle.std.specs.Prelude.{IsSome, is_some}
 use Rattle.std.specs.FinMap as map
 use Rattle.lake_store.specs.Disk.{Files}
 use Rattle.lake_store.proofs.DiskLaws.{get-remove_here, get-remove_other, path_cases}

@@ -10,6 +10,7 @@ mod path;
 mod row;
 mod rows;
 mod schema;
+mod sorting;
 mod table;
 
 pub use feature::Feature;
@@ -21,4 +22,5 @@ pub use path::{path_form, path_form_of_any_length};
 pub use row::{FileRow, PartValue, Values};
 pub use rows::FileRows;
 pub use schema::{Column, ColumnType, Schema};
+pub use sorting::{rows_in_order, sorted_rows};
 pub use table::{Change, Commit, Table};

@@ -1,11 +1,11 @@
 //! The file actions that a change is written as.
 
-ghost use Rattle.std.specs.Prelude.{◌≡◌, ◌↔◌, ◌<◌, ◌^◌, ℕ, List, All, Contains, IfOk, length, map};
+ghost use Rattle.std.specs.Prelude.{◌≡◌, ◌↔◌, ◌<◌, ℕ, List, All, Contains, IfOk, length, map};
 ghost use Rattle.std.specs.List.{IsDistinct};
 ghost use Rattle.std.specs.Str.{bytes_eq};
 ghost use Rattle.table_history.specs.Path.{IsPath};
 ghost use Rattle.table_history.specs.Row.{Row};
-ghost use Rattle.table_history.specs.Rows.{HasDistinctPaths, HasPath, IsInByteOrder, IsInPathOrder, SameRows};
+ghost use Rattle.table_history.specs.Rows.{HasDistinctPaths, HasPath, IsInByteOrder};
 ghost use Rattle.table_history.specs.declared.row.PartValue.{PartValue};
 ghost use Rattle.partition_map.specs.DeltaText.{HasNoDeltaText, IsDeltaText};
 ghost use Rattle.delta_log.specs.Sound.{IsSoundFile};
@@ -16,7 +16,7 @@ use delta_log::FileAction;
 use lake_basics::{Items, Text};
 use partition_map::{PartError, to_delta_text};
 use std::alloc::{AllocError, Global};
-use table_history::{Change, FileRow, FileRows, PartValue};
+use table_history::{Change, FileRow, FileRows, PartValue, rows_in_order};
 
 /// The text of a value that has one, or None for null.
 fn text_of(alloc: Global, value: &PartValue) -> Result<Option<Text>, AllocError>
@@ -109,27 +109,6 @@ fn removes_of(alloc: Global, paths: Vec<Text>) -> Result<Vec<FileAction>, AllocE
     Ok(files)
 }
 
-fn all_rows<'a>(alloc: Global, added: &'a [FileRow]) -> Result<Vec<&'a FileRow>, AllocError>
-    ensures { IfOk result (λ rows. map (λ r. r.now) rows.items ≡ added.now) }
-{
-    let mut rows = Vec::with_capacity(alloc, added.len())?;
-    for row in added {
-        rows.push(row)?;
-    }
-    Ok(rows)
-}
-
-/// The rows in byte order of their paths.
-fn sorted_rows<'a>(alloc: Global, added: &'a [FileRow]) -> Result<Vec<&'a FileRow>, AllocError>
-    requires { HasDistinctPaths added.now }
-    ensures rows { IfOk result (λ rows. SameRows added.now (map (λ r. r.now) rows.items)) }
-    ensures order { IfOk result (λ rows. IsInPathOrder (map (λ r. r.now) rows.items)) }
-{
-    let mut rows = all_rows(alloc, added)?;
-    rows.sort_by(|a, b| a.path.cmp(&b.path))?;
-    Ok(rows)
-}
-
 /// The actions that add the rows, in their order.
 fn adds_of(
     alloc: Global,
@@ -170,7 +149,7 @@ pub(crate) fn actions_of(
 {
     let lost = lost_paths(alloc, change.removed.as_slice(), after)?;
     let mut files = removes_of(alloc, lost)?;
-    let rows = sorted_rows(alloc, change.added.as_slice())?;
+    let rows = rows_in_order(alloc, change.added.as_slice())?;
     let mut adds = adds_of(alloc, partition, rows.as_slice())?;
     files.append(&mut adds)?;
     Ok(Items::from_vec(files))

@@ -1,7 +1,6 @@
 -- What is foreign or too much in a Hudi target's files depends on its own folder alone.
 use Rattle.std.proofs.Common.{◌≡◌, inl, inr, ⊎_elim, ℕ, ◌<◌, List, ◌∷◌, ◌++◌, length, Option, None, Some, Contains, codes, sym, subst, ◌∙◌}
 use Rattle.lake_basics.specs.declared.limits.TheConstants.{MAX_COMMITS, MAX_NAMES}
-use Rattle.lake_basics.proofs.Lists.{mapped_itself}
 use Rattle.lake_store.specs.Disk.{Files, front_of, names_in}
 use Rattle.lake_store.specs.Runs.{IsIn}
 use Rattle.lake_store.proofs.OrderLaws.{names_in_listed, names_in_sorted}

@@ -22,7 +22,7 @@ use Rattle.iceberg_version.specs.Names.{list_name, manifest_name, staged_name}
 use Rattle.iceberg_version.specs.Writing.{TableEnd}
 use Rattle.target_core.specs.Views.{Origin}
 use Rattle.target_iceberg.specs.Reached as reached
-use Rattle.target_iceberg.specs.Reached.{CanGoOn, HasOwnEntries, IsReached, LeavesNames, NamesList, NamesManifest}
+use Rattle.target_iceberg.specs.Reached.{IsReached, LeavesNames, NamesList, NamesManifest}
 use Rattle.target_iceberg.proofs.WrittenFiles.{reached_stays, version_stays}
 use Rattle.target_iceberg.proofs.WrittenManifests.{IsPlacedNext}
 use Rattle.target_iceberg.proofs.WrittenNames.{list_manifest, list_staged, manifest_staged, one_list, one_manifest, one_version, version_list, version_manifest, version_staged}

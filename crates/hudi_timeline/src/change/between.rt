@@ -1,12 +1,12 @@
 //! The change that the rows of an instant make of the rows before.
 
-ghost use Rattle.std.specs.Prelude.{◌≡◌, [], IfOk, IfErr, List, filter, length};
+ghost use Rattle.std.specs.Prelude.{◌≡◌, [], IfOk, IfErr, filter, length};
 ghost use Rattle.std.specs.List.{list_any};
 ghost use Rattle.std.specs.Option.{option_copied};
 ghost use Rattle.hudi_groups.specs.Files.{group_name};
 ghost use Rattle.hudi_groups.specs.GroupSets.{has_group};
 ghost use Rattle.hudi_timeline.specs.Causes.{rows_before};
-ghost use Rattle.table_history.specs.Rows.{HasDistinctPaths, IsInPathOrder, SameRows};
+ghost use Rattle.table_history.specs.Rows.{HasDistinctPaths, SameRows};
 ghost use Rattle.table_history.specs.Tables.{IsDiff};
 ghost use Rattle.hudi_timeline.specs.GroupChange.{is_long, limit_passed, row_limit, IsGroupChange, PassesLimitAfter};
 
@@ -17,7 +17,7 @@ use lake_basics::limits::{MAX_LIVE_FILES, MAX_PARTITION_COLUMNS, MAX_PATH_BYTES}
 use lake_basics::{Items, Text};
 use schema_map::schema_limit;
 use std::alloc::{AllocError, Global};
-use table_history::{Change, FileRow, LimitKind, Schema, Table};
+use table_history::{Change, FileRow, LimitKind, Schema, Table, sorted_rows};
 
 /// The first number that is passed, of so many live rows.
 fn limit_passed(
@@ -144,17 +144,6 @@ fn change_from_none(alloc: Global, rows: Vec<FileRow>) -> Result<Change, AllocEr
         removed: Items::new(alloc),
         added: Items::from_vec(sorted_rows(rows)?),
     })
-}
-
-/// The rows in byte order of their paths.
-fn sorted_rows(rows: Vec<FileRow>) -> Result<Vec<FileRow>, AllocError>
-    requires { HasDistinctPaths rows.items }
-    ensures rows { IfOk result (λ sorted. SameRows sorted.items rows.items) }
-    ensures order { IfOk result (λ sorted. IsInPathOrder sorted.items) }
-{
-    let mut sorted = rows;
-    sorted.sort_by(|a, b| a.path.cmp(&b.path))?;
-    Ok(sorted)
 }
 
 /// A table of these rows.

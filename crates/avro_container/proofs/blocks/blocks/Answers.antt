@@ -1,6 +1,6 @@
 use Rattle.avro_container.proofs.BlockRefusals
 use Rattle.avro_container.proofs.Headers
-use Rattle.std.proofs.Common.{◌≡◌, ◌<◌, Bool, true, false, map, length, arith, eqb, refl, sym, ap, ◌∙◌}
+use Rattle.std.proofs.Common.{◌≡◌, ◌<◌, true, false, map, length, arith, refl, sym, ap, ◌∙◌}
 use Rattle.std.proofs.lemmas.Bool.{eqb-true}
 use Rattle.std.proofs.lemmas.Result.{err_from_is_err_and}
 use Rattle.avro_value.specs.ValueTree.{value_tree}

@@ -1,5 +1,4 @@
-use Rattle.std.proofs.Common.{◌≡◌, ◌+◌, ◌≤◌, length, arith, refl, ap, sym}
-use Rattle.avro_value.specs.declared.fault.FaultAt.{FaultAt}
+use Rattle.std.proofs.Common.{◌≡◌, ◌+◌, arith}
 use Rattle.avro_container.proofs.Objects.{objects_within, objects_left, objects_fail}
 use Rattle.avro_container.proofs.blocks.objects.Goals as goal
 

@@ -1,6 +1,3 @@
-use Rattle.std.proofs.Common.{◌≡◌}
-use Rattle.avro_value.specs.Layout.{layout}
-use Rattle.avro_value.specs.Layout.{is_bare as is_bare_of}
 use Rattle.avro_value.proofs.Layouts.{lay, shape-Fields}
 use Rattle.avro_value.proofs.bare.+bare.Goals as goal
 

@@ -1,5 +1,4 @@
-use Rattle.std.proofs.Common.{◌≡◌, ◌+◌, ◌*◌, ◌-◌, ◌<◌, ◌≤◌, ◌^◌, ℕ, ◌∷◌, arith, rules, inl, inr, subst, sym, ap, ◌∙◌}
-use Rattle.std.proofs.Math.Nat.{mul-le-mul_right}
+use Rattle.std.proofs.Common.{◌+◌, ◌*◌, ◌-◌, ◌<◌, ◌^◌, ℕ, arith, rules, inl, inr, subst, ap, ◌∙◌}
 use Rattle.avro_value.proofs.Varint.{Goes, unit_small, Goes-none, Goes-last, Goes-more, Goes-end, Goes-past, low_fits, tenth_fits}
 use Rattle.avro_value.proofs.item.number_in_groups.Goals as goal
 use Rattle.avro_value.proofs.item.number_in_groups.Goals.{Then-group-lt128, Else-group-lt128, else-loop-i-test, then-loop-i-test+in-Some+then-i-eq9+then-group-ge2}

@@ -1,12 +1,12 @@
-use Rattle.std.proofs.Common.{◌≡◌, ◌∷◌, ◌++◌, ◌<◌, [], map, drop, length, get_or, refl, sym, ap, subst, ◌∙◌, arith, add-one, drop-cons}
+use Rattle.std.proofs.Common.{◌≡◌, ◌∷◌, ◌++◌, ◌<◌, [], map, length, refl, sym, ap, ◌∙◌, arith}
 use Rattle.std.proofs.lemmas.Result.{err_from_is_err_and}
 use Rattle.std.proofs.lemmas.List.{map_push}
-use Rattle.avro_value.specs.Layout.{Layout, layout, shape_layout, field_layout, layouts_of, count_of}
-use Rattle.avro_value.specs.ValueTree.{ValueTree, value_tree, entry_tree, values_of, entries_of}
-use Rattle.avro_value.specs.Reading.{content_at, union_at, branch_at, value_at, map_reading}
-use Rattle.avro_value.proofs.Layouts.{lay, field_layout_is, shape-Null, shape-Boolean, shape-Int, shape-Long, shape-Float, shape-Double, shape-Bytes, shape-Text, shape-Fixed, shape-Enum, shape-Array, shape-Map, shape-Union, shape-Fields, count_of_branches, branch_there, fields_from, fields_end}
+use Rattle.avro_value.specs.Layout.{layout, layouts_of, count_of}
+use Rattle.avro_value.specs.ValueTree.{value_tree, entry_tree}
+use Rattle.avro_value.specs.Reading.{content_at, union_at, branch_at, value_at}
+use Rattle.avro_value.proofs.Layouts.{lay, shape-Null, shape-Boolean, shape-Int, shape-Long, shape-Float, shape-Double, shape-Bytes, shape-Text, shape-Fixed, shape-Enum, shape-Array, shape-Map, shape-Union, shape-Fields, count_of_branches, branch_there, fields_from, fields_end}
 use Rattle.avro_schema.specs.declared.schema.Schema.{Schema}
-use Rattle.avro_value.proofs.Loops.{read_behind-nil, fails_mapped, fails_bind, many_goes, many_fails, many_done, blocks_begin, blocks_goes, blocks_done, blocks_fails, blocks_past, parts_goes, parts_fails, parts_done}
+use Rattle.avro_value.proofs.Loops.{fails_mapped, fails_bind, many_goes, many_fails, many_done, blocks_begin, blocks_goes, blocks_done, blocks_fails, blocks_past, parts_goes, parts_fails, parts_done}
 use Rattle.avro_value.proofs.Values.{value_tree-Null, value_tree-Array, value_tree-Map, value_tree-Fields}
 use Rattle.avro_value.proofs.BareValues.{idle_value, idle_behind}
 use Rattle.avro_value.proofs.reader.+decode.Goals as goal

@@ -1,5 +1,5 @@
-use Rattle.std.proofs.Common.{◌≡◌, ◌++◌, ◌*◌, ℕ, List, map, ap, arith}
-use Rattle.avro_value.specs.ValueTree.{value_tree, entry_tree, value_count, total, entry_count}
+use Rattle.std.proofs.Common.{List, map, ap, arith}
+use Rattle.avro_value.specs.ValueTree.{value_tree, value_count, total}
 use Rattle.avro_value.specs.declared.value.Value.{Value}
 use Rattle.avro_value.proofs.Values.{value_tree-Array, value_tree-Map, value_tree-Union}
 use Rattle.avro_value.proofs.Written.{data_len_of, entries_len_of, one_behind, array_size, fields_size, map_size, part_small, entry_small, items_sound, entries_sound}

@@ -2,7 +2,6 @@ use Rattle.std.proofs.Common.{◌≡◌, drop, option_and_then}
 use Rattle.lake_basics.specs.Outcome.{each, required, with_front}
 use Rattle.iceberg_columns.specs.PathMaps.{path_at}
 use Rattle.iceberg_columns.specs.SourceColumns.{top_column}
-use Rattle.iceberg_columns.specs.declared.columns.SourceColumn.{SourceColumn}
 use Rattle.iceberg_metadata.specs.declared.error.MetadataError.TheVariants.{PartitionType}
 use Rattle.iceberg_metadata.specs.declared.metadata.SpecField.{SpecField}
 use Rattle.iceberg_columns.proofs.columns.columns_at.Given as goal

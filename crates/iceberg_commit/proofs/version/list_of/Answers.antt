@@ -7,8 +7,8 @@ use Rattle.iceberg_commit.proofs.NewListLemmas.{owner_there}
 use Rattle.iceberg_commit.proofs.NextTextLemmas.{can_make, few_next, has_owners, list_refused, list_texts, list_written, these_of}
 use Rattle.iceberg_commit.proofs.version.list_of.Goals as goal
 
-pub sorted_rows-requires : goal.sorted_rows-requires
-sorted_rows-requires c = subst HasDistinctPaths (sym c.as_slice.ensures) c.requires.can.change.added_distinct
+pub rows_in_order-requires : goal.rows_in_order-requires
+rows_in_order-requires c = subst HasDistinctPaths (sym c.as_slice.ensures) c.requires.can.change.added_distinct
 
 pub next_manifests-requires : goal.next_manifests-requires
 next_manifests-requires c = λ m named. owner_there c.args.kept.now c.args.commit.now c.requires.can c.requires.kinds m (subst (λ (ms : List KeptManifest). Contains ms m) c.as_slice-manifests.ensures named)

@@ -1,6 +1,5 @@
-use Rattle.std.proofs.Common.{◌≡◌, ◌∙◌, ap, sym, subst}
+use Rattle.std.proofs.Common.{◌≡◌, ◌∙◌, sym, subst}
 use Rattle.lake_store.specs.Disk.{Disk, SameElsewhere, stored}
-use Rattle.lake_store.specs.Memory.{Memory}
 use Rattle.lake_store.proofs.DiskLaws.{stored_elsewhere}
 use Rattle.lake_store.proofs.PastLaws.{past_at, same_disk}
 use Rattle.lake_store.proofs.memory.MemoryStore.put.Goals as goal

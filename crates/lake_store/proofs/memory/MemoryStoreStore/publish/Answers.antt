@@ -1,5 +1,4 @@
 use Rattle.std.proofs.Common.{ap}
-use Rattle.lake_store.specs.Disk.{Disk}
 use Rattle.lake_store.specs.Memory.{Memory}
 use Rattle.lake_store.proofs.PastLaws.{elapses_changed}
 use Rattle.lake_store.proofs.memory.MemoryStoreStore.publish.Goals as goal
