@@ -1,5 +1,6 @@
 -- A container that comes in pieces: what has been read of it, and what a piece more makes of that.
 use Rattle.std.specs.Prelude.{ℕ, zero, suc, ◌+◌, ◌-◌, ◌^◌, min, Bool, true, false, List, [], ◌∷◌, ◌++◌, length, flat_map, fold, Option, Some, None, Result, Ok, Err, if◌then◌else◌}
+use Rattle.lake_basics.specs.Outcome.{◌>>=◌}
 use Rattle.avro_schema.specs.Tree.{SchemaTree}
 use Rattle.avro_value.specs.declared.api.TheConstants.{MAX_VALUES}
 use Rattle.avro_value.specs.Layout.{layout_of}

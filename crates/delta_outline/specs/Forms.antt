@@ -3,7 +3,7 @@ use Rattle.std.specs.Prelude.{ℕ, zero, suc, List, [], ◌∷◌, Bool, true, f
 use Rattle.std.specs.Str.{bytes_eq}
 use Rattle.serde_json.specs.Data.{Data, null, boolean, number, string, array, object, Items, no_items, item, no_members, member}
 use Rattle.serde_json.specs.Find.{get}
-use Rattle.lake_basics.specs.Outcome.{required, each}
+use Rattle.lake_basics.specs.Outcome.{◌>>=◌, required, each}
 use Rattle.json_reading.specs.Json.{text_member, bool_member, list_member, items}
 use Rattle.avro_schema.specs.Names.{are_distinct}
 use Rattle.table_history.specs.TypeTree.{ColumnTrees}

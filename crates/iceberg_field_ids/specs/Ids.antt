@@ -4,6 +4,7 @@ use Rattle.table_history.specs.declared.limit.LimitKind.TheVariants.{Versions}
 use Rattle.lake_basics.specs.declared.limits.TheConstants.{MAX_ICEBERG_VERSION}
 use Rattle.schema_map.specs.declared.fault.MapError.{MapError}
 use Rattle.schema_map.specs.declared.fault.MapError.TheVariants as map_errors
+use Rattle.lake_basics.specs.Outcome.{◌>>=◌}
 use Rattle.schema_map.specs.declared.fault.MapError.TheVariants.{Limit}
 use Rattle.schema_map.specs.Paths.{Path, known_id}
 

@@ -1,7 +1,7 @@
 -- The rows of a manifest that are live (Iceberg specification, "Scan Planning" and "Sequence Number Inheritance").
 use Rattle.std.specs.Prelude.{◌≡◌, ℕ, ℤ, ◌<◌, ◌⊎◌, ◌==◌, nat_le, List, ◌++◌, length, Option, None, Some, Result, Ok, Err, if◌then◌else◌}
 use Rattle.std.specs.List.{filter}
-use Rattle.lake_basics.specs.Outcome.{each}
+use Rattle.lake_basics.specs.Outcome.{◌>>=◌, each}
 use Rattle.lake_basics.specs.declared.limits.TheConstants.{MAX_PATH_BYTES}
 use Rattle.table_history.specs.Path.{IsPath, is_path_of_any_length}
 use Rattle.iceberg_manifest.specs.Entry.{EntryData, is_live}

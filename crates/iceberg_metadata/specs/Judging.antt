@@ -5,7 +5,7 @@ use Rattle.std.specs.List.{list_any, list_all}
 use Rattle.std.specs.Ordering.{int_eq}
 use Rattle.std.specs.Str.{bytes_eq}
 use Rattle.serde_json.specs.Data.{Data}
-use Rattle.lake_basics.specs.Outcome.{required, each}
+use Rattle.lake_basics.specs.Outcome.{◌>>=◌, required, each}
 use Rattle.lake_basics.specs.declared.limits.TheConstants.{MAX_PARTITION_COLUMNS}
 use Rattle.json_reading.specs.Json.{json, items, present}
 use Rattle.schema_map.specs.Paths.{Path, known_id}

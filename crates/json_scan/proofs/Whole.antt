@@ -9,7 +9,7 @@ use Rattle.json.proofs.Grammar.{value_is, value-begin_array, value-begin_object}
 use Rattle.serde_json.specs.Data.{Num, Data, null, boolean, number, string, array, object, Items, Members}
 use Rattle.serde_json.specs.Find.{get, get_member, as_i64, as_number, as_object}
 use Rattle.serde_json.specs.Read.{number_of, of_json, of_items, converted}
-use Rattle.lake_basics.specs.Outcome.{required, Gives}
+use Rattle.lake_basics.specs.Outcome.{◌>>=◌, required, Gives}
 use Rattle.lake_basics.specs.declared.outcome.ReadError.{ReadError}
 use Rattle.json_reading.specs.Json.{count, count_member}
 use Rattle.json_reading.specs.Json as members_of

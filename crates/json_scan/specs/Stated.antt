@@ -3,7 +3,7 @@ use Rattle.std.specs.Prelude.{ℕ, ℤ, pos, negsuc, List, Option, Some, None, o
 use Rattle.json.specs.declared.reader.Invalid.{Invalid}
 use Rattle.serde_json.specs.Find.{get, as_object}
 use Rattle.serde_json.specs.Read.{read}
-use Rattle.lake_basics.specs.Outcome.{required}
+use Rattle.lake_basics.specs.Outcome.{◌>>=◌, required}
 use Rattle.json_reading.specs.Json.{count_member}
 
 -- None where the object has no such member. A text that is no object, and a member that is no count, are this fault.

@@ -9,7 +9,7 @@ use Rattle.table_history.specs.TypeTree.{TypeTree, ColumnTree, ColumnTrees, colu
 use Rattle.schema_map.specs.declared.fault.Fault.{Fault}
 use Rattle.schema_map.specs.declared.fault.Fault.TheVariants.{BadSchema, SchemaType, Depth}
 use Rattle.schema_map.specs.declared.fault.MapError.{MapError}
-use Rattle.lake_basics.specs.Outcome.{required}
+use Rattle.lake_basics.specs.Outcome.{◌>>=◌, required}
 use Rattle.schema_map.specs.Errors.{in_column}
 use Rattle.json_reading.specs.Json.{text_member, bool_member, int_member, list_member, items}
 use Rattle.schema_map.specs.Decimal.{decimal_of}
