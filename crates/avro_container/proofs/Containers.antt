@@ -136,16 +136,17 @@ codec_refused meta none = go (codec_in meta) refl
 
 -- ---- the whole
 
-abbrev behind_codec : ℕ → Pairs × List ℕ × List ℕ → SchemaTree → Unit {0} → Step (Pairs × SchemaTree × List ValueTree)
+abbrev pub behind_codec : ℕ → Pairs × List ℕ × List ℕ → SchemaTree → Unit {0} → Step (Pairs × SchemaTree × List ValueTree)
 behind_codec limit header t plain = blocks_at (layout_of t) header.1 (length header.2 + 1) header.2 limit >>= λ vs. Ok (header.0, t, vs)
 
-abbrev behind_schema : ℕ → List ℕ → Pairs × List ℕ × List ℕ → SchemaTree → Step (Pairs × SchemaTree × List ValueTree)
+abbrev pub behind_schema : ℕ → List ℕ → Pairs × List ℕ × List ℕ → SchemaTree → Step (Pairs × SchemaTree × List ValueTree)
 behind_schema limit bytes header t = step_of (length bytes) (codec_in header.0) >>= behind_codec limit header t
 
-abbrev behind_header : ℕ → List ℕ → Pairs × List ℕ × List ℕ → Step (Pairs × SchemaTree × List ValueTree)
+abbrev pub behind_header : ℕ → List ℕ → Pairs × List ℕ × List ℕ → Step (Pairs × SchemaTree × List ValueTree)
 behind_header limit bytes header = step_of (length bytes) (schema_in header.0) >>= behind_schema limit bytes header
 
-container_is : (limit : ℕ) (bytes : List ℕ) → container_at limit bytes ≡ (header_at limit bytes >>= behind_header limit bytes)
+-- Reading a container reads its header, its schema, its codec and its blocks.
+pub container_is : (limit : ℕ) (bytes : List ℕ) → container_at limit bytes ≡ (header_at limit bytes >>= behind_header limit bytes)
 unfolding container_at
 container_is limit bytes = refl
 

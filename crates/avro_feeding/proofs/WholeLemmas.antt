@@ -11,7 +11,7 @@ use Rattle.avro_container.specs.declared.error.ContainerError.{ContainerError}
 use Rattle.avro_container.specs.Format.{Pairs, IsWithin}
 use Rattle.avro_container.specs.Laws.{error_of}
 use Rattle.avro_container.specs.Reading.{Step, step_of, header_at, schema_in, codec_in, blocks_at, container_at}
-use Rattle.avro_container.proofs.Containers.{container_takes, container_again, container_faulty, container_refused}
+use Rattle.avro_container.proofs.Containers.{behind_codec, behind_header, behind_schema, container_is, container_takes, container_again, container_faulty, container_refused}
 use Rattle.avro_container.proofs.Headers.{placed_ok}
 use Rattle.avro_feeding.specs.Feeding.{State, Fed, nothing_read, fed, fed_all, joined, ended, schema_at, schema_of_state}
 use Rattle.avro_feeding.specs.Laws.{IsWholeReading}
@@ -22,26 +22,13 @@ use Rattle.avro_feeding.proofs.PieceLemmas.{any_cut}
 abbrev Contents : Type 0
 Contents = Pairs × SchemaTree × List ValueTree
 
-abbrev behind_codec : Pairs × List ℕ × List ℕ → SchemaTree → Unit {0} → Step Contents
-behind_codec h t plain = blocks_at (layout_of t) h.1 (length h.2 + 1) h.2 MAX_VALUES >>= λ vs. Ok (h.0, t, vs)
-
-abbrev behind_schema : List ℕ → Pairs × List ℕ × List ℕ → SchemaTree → Step Contents
-behind_schema bytes h t = step_of (length bytes) (codec_in h.0) >>= behind_codec h t
-
-abbrev behind_header : List ℕ → Pairs × List ℕ × List ℕ → Step Contents
-behind_header bytes h = step_of (length bytes) (schema_in h.0) >>= behind_schema bytes h
-
-container_is : (bytes : List ℕ) → container_at MAX_VALUES bytes ≡ (header_at MAX_VALUES bytes >>= behind_header bytes)
-unfolding container_at
-container_is bytes = refl
-
 -- the schema of a container is known
 container_schema : (bytes : List ℕ) (c : Contents) → container_at MAX_VALUES bytes ≡ Ok c → schema_at bytes ≡ Some c.1
 unfolding schema_at
 container_schema bytes c e =
-    let h = bind_ok (header_at MAX_VALUES bytes) (behind_header bytes) c (sym (container_is bytes) ∙ e) in
-    let t = bind_ok (step_of (length bytes) (schema_in h.0.0)) (behind_schema bytes h.0) c h.2 in
-    let p = bind_ok (step_of (length bytes) (codec_in h.0.0)) (behind_codec h.0 t.0) c t.2 in
+    let h = bind_ok (header_at MAX_VALUES bytes) (behind_header MAX_VALUES bytes) c (sym (container_is MAX_VALUES bytes) ∙ e) in
+    let t = bind_ok (step_of (length bytes) (schema_in h.0.0)) (behind_schema MAX_VALUES bytes h.0) c h.2 in
+    let p = bind_ok (step_of (length bytes) (codec_in h.0.0)) (behind_codec MAX_VALUES h.0 t.0) c t.2 in
     let vs = bind_ok (blocks_at (layout_of t.0) h.0.1 (length h.0.2 + 1) h.0.2 MAX_VALUES) (λ vs. Ok (h.0.0, t.0, vs)) c p.2 in
     let same = ok_is (h.0.0, t.0, vs.0) c vs.2 in
     rw (h.1, placed_ok (length bytes) (schema_in h.0.0) t.0 t.1) (ap (λ (d : Contents). Some d.1) same)

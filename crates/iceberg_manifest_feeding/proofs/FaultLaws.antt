@@ -14,14 +14,13 @@ use Rattle.avro_value.specs.declared.fault.Fault.TheVariants as value
 use Rattle.avro_value.proofs.BlockLaws.{total-append}
 use Rattle.avro_value.proofs.FaultLaws.{bind_err, err_is}
 use Rattle.avro_container.specs.Faults.{FaultsInBlock, FaultsInNumber, IsFirstFlaw}
-use Rattle.avro_container.specs.Format.{Pairs}
 use Rattle.avro_container.specs.Laws.{flaw_error}
-use Rattle.avro_container.specs.Reading.{Step, blocks_at, codec_in, container_at, header_at, schema_in, step_of}
+use Rattle.avro_container.specs.Reading.{Step, blocks_at, codec_in, header_at, schema_in, step_of}
 use Rattle.avro_container.specs.declared.fault.ContainerFault.{ContainerFault}
 use Rattle.avro_container.specs.declared.fault.Flaw.{Flaw}
 use Rattle.avro_container.specs.declared.fault.Flaw.TheVariants as flaw
 use Rattle.avro_container.proofs.BlockRefusals.{block_refused, blocks_faulty}
-use Rattle.avro_container.proofs.Containers.{container_refused}
+use Rattle.avro_container.proofs.Containers.{behind_codec, behind_header, behind_schema, container_is, container_refused}
 use Rattle.avro_container.proofs.Headers.{header_takes}
 use Rattle.avro_feeding.specs.Feeding.{Behind, Fed, Place, Refusal, State, after_block, after_header, fed, fed_all, further, in_blocks, in_header, is_short, joined, nothing_read, opened, read_blocks, read_on, schema_at, stopped}
 use Rattle.avro_feeding.specs.Laws.{FaultsNext, Keeps, RefusesNext, StandsBehind, is_header_flaw}
@@ -97,22 +96,6 @@ read_stops b f next = read_step b ∙ ap (after_block b (read_on (length b.rest)
 
 -- ---- a header at fault
 
-abbrev Contents : Type 0
-Contents = Pairs × SchemaTree × List ValueTree
-
-abbrev behind_codec : Pairs × List ℕ × List ℕ → SchemaTree → Unit {0} → Step Contents
-behind_codec h t plain = blocks_at (layout_of t) h.1 (length h.2 + 1) h.2 MAX_VALUES >>= λ vs. Ok (h.0, t, vs)
-
-abbrev behind_schema : List ℕ → Pairs × List ℕ × List ℕ → SchemaTree → Step Contents
-behind_schema bytes h t = step_of (length bytes) (codec_in h.0) >>= behind_codec h t
-
-abbrev behind_header : List ℕ → Pairs × List ℕ × List ℕ → Step Contents
-behind_header bytes h = step_of (length bytes) (schema_in h.0) >>= behind_schema bytes h
-
-container_is : (bytes : List ℕ) → container_at MAX_VALUES bytes ≡ (header_at MAX_VALUES bytes >>= behind_header bytes)
-unfolding container_at
-container_is bytes = refl
-
 number_flaw : (block bytes : List ℕ) (f : ContainerFault) → FaultsInNumber block bytes f → is_header_flaw f.flaw ≡ false
 number_flaw block bytes f (r, lacks, inl (early, at)) = ap is_header_flaw at.0
 number_flaw block bytes f (r, lacks, inr (other, at)) = ap is_header_flaw at.0
@@ -126,11 +109,11 @@ block_flaw l marker bytes budget f (inr (inr (inr (inl (n, objects, sync, rest, 
 block_flaw l marker bytes budget f (inr (inr (inr (inr (vs, objects, sync, rest, w, spelled, few, other, at))))) = ap is_header_flaw at.0
 
 flaw_opens : (bytes : List ℕ) (f : ContainerFault) → IsFirstFlaw MAX_VALUES bytes f → is_header_flaw f.flaw ≡ true → opened bytes ≡ Err f
-flaw_opens bytes f first header = opened_is bytes ∙ elim (bind_err (header_at MAX_VALUES bytes) (behind_header bytes) f (sym (container_is bytes) ∙ container_refused MAX_VALUES bytes f first)) [
+flaw_opens bytes f first header = opened_is bytes ∙ elim (bind_err (header_at MAX_VALUES bytes) (behind_header MAX_VALUES bytes) f (sym (container_is MAX_VALUES bytes) ∙ container_refused MAX_VALUES bytes f first)) [
   | inl failed ↦ rw failed refl
-  | inr h ↦ elim (bind_err (step_of (length bytes) (schema_in h.0.0)) (behind_schema bytes h.0) f h.2) [
+  | inr h ↦ elim (bind_err (step_of (length bytes) (schema_in h.0.0)) (behind_schema MAX_VALUES bytes h.0) f h.2) [
     | inl failed ↦ rw (h.1, failed) refl
-    | inr t ↦ elim (bind_err (step_of (length bytes) (codec_in h.0.0)) (behind_codec h.0 t.0) f t.2) [
+    | inr t ↦ elim (bind_err (step_of (length bytes) (codec_in h.0.0)) (behind_codec MAX_VALUES h.0 t.0) f t.2) [
       | inl failed ↦ rw (h.1, t.1, failed) refl
       | inr p ↦ elim (bind_err (blocks_at (layout_of t.0) h.0.1 (length h.0.2 + 1) h.0.2 MAX_VALUES) (λ vs. Ok (h.0.0, t.0, vs)) f p.2) [
         | inl failed ↦
