@@ -2,16 +2,13 @@
 use Rattle.std.proofs.Common.{◌≡◌, ℕ, ◌-◌, ◌<◌, ◌≤◌, ℤ, List, ◌∷◌, Some, cond, drop, get_or, length, sym, ap, subst, ◌∙◌, Bor, drop-cons, is_eq, nat_cmp}
 use Rattle.std.specs.BTreeMap as tree
 use Rattle.std.specs.BTreeMap.{BTreeMap}
-use Rattle.std.specs.Cmp.Lexicographic.{slice_cmp, pointwise, lists_ties}
+use Rattle.std.specs.Cmp.Lexicographic.{slice_cmp, pointwise}
 use Rattle.std.specs.Str.{bytes_eq}
-use Rattle.std.proofs.lemmas.Map.Text.{is_eq-slice_cmp}
 use Rattle.schema_map.specs.Paths.{Path}
+use Rattle.schema_map.proofs.PathOrder.{path_ties}
 use Rattle.iceberg_metadata.specs.Paths.{PathId}
 use Rattle.iceberg_columns.specs.PathMaps.{id_at, HoldsPathIds}
 use Rattle.lake_basics.proofs.Numbers.{before_less, suc_before}
-
-path_ties : (p q : Path) → is_eq (slice_cmp (slice_cmp nat_cmp) p q) ≡ pointwise bytes_eq p q
-path_ties p q = sym (lists_ties (slice_cmp nat_cmp) (λ x y. sym (is_eq-slice_cmp x y)) p q)
 
 pub ids_here : (pairs : List PathId) (place : ℕ) (pair : PathId) (map new : BTreeMap (Bor Path) ℤ) (key : Bor Path) (id : ℤ) → pair.1 ≡ id → 0 < place → place ≤ length pairs → pair ≡ get_or pairs (place - 1) pair → key.now ≡ pair.0 → HoldsPathIds map (drop place pairs)
     → tree.UpdatesBy (λ x y. slice_cmp (slice_cmp nat_cmp) x.now y.now) (λ k. slice_cmp (slice_cmp nat_cmp) key.now k.now) map new (Some id) → HoldsPathIds new (drop (place - 1) pairs)

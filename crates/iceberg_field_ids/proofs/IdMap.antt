@@ -1,32 +1,16 @@
 -- Known ids that have been kept by their paths, from the last pair to the first.
-use Rattle.std.proofs.Common.{◌≡◌, ℕ, suc, ◌-◌, ◌<◌, ◌≤◌, List, [], ◌∷◌, ◌&&◌, cond, drop, get_or, length, refl, sym, ap, subst, ◌∙◌, Bor, drop-cons}
+use Rattle.std.proofs.Common.{◌≡◌, ℕ, suc, ◌-◌, ◌<◌, ◌≤◌, List, ◌∷◌, cond, drop, get_or, length, refl, sym, ap, subst, ◌∙◌, Bor, drop-cons}
 use Rattle.std.specs.Prelude.{ℤ, Bool, true, false, Option, Some}
 use Rattle.std.specs.Option.{option_copied}
 use Rattle.std.specs.BTreeMap as sorted
 use Rattle.std.specs.BTreeMap.{BTreeMap}
 use Rattle.std.specs.Cmp.Lexicographic.{slice_cmp, pointwise}
-use Rattle.std.specs.Ordering.{nat_cmp, is_eq, ordering_then}
-use Rattle.std.specs.declared.cmp.Ordering.{Ordering}
-use Rattle.std.specs.declared.cmp.Ordering.TheVariants.{Less, Equal, Greater}
+use Rattle.std.specs.Ordering.{nat_cmp, is_eq}
 use Rattle.std.specs.Str.{bytes_eq}
-use Rattle.std.proofs.lemmas.Map.Text.{is_eq-slice_cmp}
 use Rattle.schema_map.specs.Paths.{Path}
+use Rattle.schema_map.proofs.PathOrder.{path_ties}
 use Rattle.iceberg_field_ids.specs.IdMap.{HoldsIds}
 use Rattle.lake_basics.proofs.Numbers.{before_less, suc_before}
-
-then_eq : (a b : Ordering) → is_eq (ordering_then a b) ≡ (is_eq a && is_eq b)
-then_eq Less b = refl
-then_eq Equal b = refl
-then_eq Greater b = refl
-
-paths_eq : (p q : Path) → is_eq (slice_cmp (slice_cmp nat_cmp) p q) ≡ pointwise bytes_eq p q
-paths_eq [] [] = refl
-paths_eq [] (y ∷ q) = refl
-paths_eq (x ∷ p) [] = refl
-paths_eq (x ∷ p) (y ∷ q) =
-    then_eq (slice_cmp nat_cmp x y) (slice_cmp (slice_cmp nat_cmp) p q)
-    ∙ ap (λ b. b && is_eq (slice_cmp (slice_cmp nat_cmp) p q)) (is_eq-slice_cmp x y)
-    ∙ ap (λ b. bytes_eq x y && b) (paths_eq p q)
 
 -- The map is another with this id at this path.
 abbrev pub Keeps : BTreeMap (Bor Path) (Bor ℤ) → BTreeMap (Bor Path) (Bor ℤ) → Bor Path → Bor ℤ → Type 0
@@ -42,7 +26,7 @@ path_held m n key id known keeps held =
     let kept : Option (Bor ℤ) = sorted.get_by (λ k. slice_cmp (slice_cmp nat_cmp) path k.now) m in
     ap option_copied (keeps.0 q)
     ∙ copied (is_eq (slice_cmp (slice_cmp nat_cmp) key.now path)) id kept
-    ∙ ap (λ at. cond at (Some id.now) (option_copied kept)) (paths_eq key.now path)
+    ∙ ap (λ at. cond at (Some id.now) (option_copied kept)) (path_ties key.now path)
     ∙ ap (λ o. cond (pointwise bytes_eq key.now path) (Some id.now) o) (held path)
 
 -- one pair more, in front of those that are kept

@@ -4,6 +4,7 @@ use Rattle.std.specs.Prelude.{ℤ, pos, negsuc, neg_ℤ, ◌≤ℤ◌, nat_le, n
 use Rattle.std.proofs.lemmas.Int.{ints}
 use Rattle.std.proofs.lemmas.Bool.{le-leb, lt-ltb}
 use Rattle.schema_map.specs.IcebergFits.{IsId, AreIds}
+use Rattle.schema_map.proofs.Ids.{both_are}
 
 from_zero : (n : ℕ) → n ≤ 2147483647 → IsId (pos n)
 from_zero n small =
@@ -17,10 +18,6 @@ below_zero n small = let is : nat_le n 2147483647 ≡ true = le-leb n 2147483647
 pub id_in_range : (id : ℤ) → neg_ℤ (pos 2147483648) ≤ℤ id → id ≤ℤ pos 2147483647 → IsId id
 id_in_range (pos n) least most = from_zero n (omega (arith, ints, most))
 id_in_range (negsuc n) least most = below_zero n (omega (arith, ints, least))
-
-pub both_are : (xs ys : List ℤ) → AreIds xs → AreIds ys → AreIds (xs ++ ys)
-both_are [] ys first second = second
-both_are (x ∷ xs) ys first second = (first.0, both_are xs ys first.1 second)
 
 pub pushed_are : (xs ys : List ℤ) (id : ℤ) → neg_ℤ (pos 2147483648) ≤ℤ id → id ≤ℤ pos 2147483647 → ys ≡ xs ++ id ∷ [] → AreIds xs → AreIds ys
 pushed_are xs ys id least most is are = subst (λ (zs : List ℤ). AreIds zs) (sym is) (both_are xs (id ∷ []) are (id_in_range id least most, tt))

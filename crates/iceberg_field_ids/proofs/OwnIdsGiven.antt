@@ -55,11 +55,11 @@ not_empty_map n [] h = h
 not_empty_map n (q ∷ ps) (inl e) = absurd (cc)
 not_empty_map n (q ∷ ps) (inr h) = not_empty_map n ps h
 
-pub below_distinct : (n : List ℕ) (ps : List Path) → (IsAmong [] ps → ⊥) → AreDistinct ps → AreDistinct (below n ps)
+below_distinct : (n : List ℕ) (ps : List Path) → (IsAmong [] ps → ⊥) → AreDistinct ps → AreDistinct (below n ps)
 unfolding Tail
 below_distinct n ps full d = (λ h. let t = cons_among n (n ∷ []) ps h in let e : t.0 ≡ [] = let f : n ∷ t.0 ≡ n ∷ [] = t.2 in cc in full (subst (λ r. IsAmong r ps) e t.1), cons_distinct n ps d)
 
-pub below_full : (n : List ℕ) (ps : List Path) → IsAmong [] (below n ps) → ⊥
+below_full : (n : List ℕ) (ps : List Path) → IsAmong [] (below n ps) → ⊥
 below_full n ps (inl e) = absurd (cc)
 below_full n ps (inr h) = not_empty_map n ps h
 
@@ -143,6 +143,9 @@ mutual
       distinct_append (below n (inner_paths t)) (column_paths cs) (below_distinct n (inner_paths t) (inner_full t) (own_inner t sound.0)) (own_columns cs parts.1 sound.1)
       (λ p a c. let m = column_begins cs p c in let e = same_begin m.0 n p m.1 (below_begins n p (inner_paths t) a) in true≢false (sym (subst (λ x. is_named x cs ≡ true) e m.2) ∙ parts.0))
 
+pub own_paths : (cs : ColumnTrees) → IsSound cs → AreDistinct (column_paths cs)
+own_paths cs sound = own_columns cs sound.0 sound.1
+
 -- ---- ids
 
 known_among : (known : List (Path × ℤ)) (p : Path) (i : ℤ) → known_id known p ≡ Some i → IsAmong i (map (λ k. k.1) known)
@@ -175,22 +178,22 @@ known_within (k ∷ known) last p i all e = at (known_within known last p i all.
     at more false h = more h
 
 -- the first path's id, and what is left
-record Taken (known : List (Path × ℤ)) (last : ℤ) (path : Path) (paths : List Path) (ids : List ℤ) : Type 0 where
-  id : ℤ
-  later : ℤ
-  others : List ℤ
-  whole : id ∷ others ≡ ids
-  rest : ids_for known later paths ≡ Ok others
-  how : ((known_id known path ≡ Some id) × (later ≡ last)) ⊎ ((later ≡ last +ℤ pos 1) × (id ≡ later) × (known_id known path ≡ None))
+pub record Taken (known : List (Path × ℤ)) (last : ℤ) (path : Path) (paths : List Path) (ids : List ℤ) : Type 0 where
+  pub id : ℤ
+  pub later : ℤ
+  pub others : List ℤ
+  pub whole : id ∷ others ≡ ids
+  pub rest : ids_for known later paths ≡ Ok others
+  pub how : ((known_id known path ≡ Some id) × (later ≡ last)) ⊎ ((later ≡ last +ℤ pos 1) × (id ≡ later) × (known_id known path ≡ None))
 
-pub next_found : (last : ℤ) (b : Bool) (id : ℤ) → int_lt last (pos 2147483647) ≡ b → next_id last ≡ Ok id → last +ℤ pos 1 ≡ id
+next_found : (last : ℤ) (b : Bool) (id : ℤ) → int_lt last (pos 2147483647) ≡ b → next_id last ≡ Ok id → last +ℤ pos 1 ≡ id
 next_found last b id is e = at b id (rw is at e)
   where
     at : (b : Bool) (id : ℤ) → cond b (Ok (last +ℤ pos 1)) (Err (Limit Versions)) ≡ Ok id → last +ℤ pos 1 ≡ id
     at true id h = cc
     at false id h = absurd (cc)
 
-first_taken : (known : List (Path × ℤ)) (last : ℤ) (path : Path) (paths : List Path) (ids : List ℤ) (o : Option ℤ) → known_id known path ≡ o → ids_for known last (path ∷ paths) ≡ Ok ids → Taken known last path paths ids
+pub first_taken : (known : List (Path × ℤ)) (last : ℤ) (path : Path) (paths : List Path) (ids : List ℤ) (o : Option ℤ) → known_id known path ≡ o → ids_for known last (path ∷ paths) ≡ Ok ids → Taken known last path paths ids
 first_taken known last path paths ids (Some i) is e =
     let f : (ids_for known last paths >>= λ others. Ok (i ∷ others)) ≡ Ok ids = rw is at e in
     let others = bound (ids_for known last paths) _ ids f in

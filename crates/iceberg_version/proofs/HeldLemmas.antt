@@ -16,6 +16,7 @@ use Rattle.iceberg_field_ids.proofs.IcebergGiven.{column_paths_wide}
 use Rattle.schema_iceberg.proofs.IcebergSound.{given_fits}
 use Rattle.schema_iceberg.proofs.IcebergWritten.{iceberg_reads_back}
 use Rattle.iceberg_field_ids.proofs.IdsGiven.{are_given}
+use Rattle.iceberg_field_ids.proofs.OwnIdsGiven.{own_paths}
 use Rattle.schema_map.proofs.ImageTwice.{image_twice}
 use Rattle.table_history.specs.Sound.{IsSound}
 use Rattle.table_history.specs.TypeTree.{ColumnTrees}
@@ -29,7 +30,7 @@ use Rattle.iceberg_metadata.specs.declared.metadata.Metadata.{Metadata}
 use Rattle.iceberg_metadata.proofs.ListLemmas.{all_from}
 use Rattle.iceberg_version.specs.Schemas.{AddsSchema, AreNextSchemas, KeepsSchemas, Schemas, known_ids}
 use Rattle.iceberg_version.specs.Sound.{IsSoundMetadata, have_first_ids, is_under}
-use Rattle.iceberg_version.proofs.IdLemmas.{known_there, own_paths, still_agree}
+use Rattle.iceberg_version.proofs.IdLemmas.{known_there, still_agree}
 use Rattle.iceberg_version.proofs.Shared.{in_flat, map_push, of_flat, of_map}
 use Rattle.iceberg_table.proofs.PlanLaws.{in_schemas}
 

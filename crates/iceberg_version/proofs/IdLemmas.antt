@@ -1,156 +1,23 @@
 -- The field ids that a new schema gets beside those that are known.
 use Rattle.std.proofs.Common.{◌≡◌, ◌≢◌, ◌≤◌, ℕ, List, [], ◌∷◌, ◌++◌, map, length, Bool, true, false, Contains, Ok, refl, sym, ap, subst, ◌∙◌, arith, cond, inl, inr, ⊎_elim}
-use Rattle.std.specs.Prelude.{◌⊎◌, ◌≤ℤ◌, ◌<ℤ◌, ◌+ℤ◌, ℤ, pos, int_lt, Option, Some, None, codes, is_some}
+use Rattle.std.specs.Prelude.{◌⊎◌, ◌≤ℤ◌, ◌<ℤ◌, ℤ, Some, None, is_some}
 use Rattle.std.specs.List.{zip}
 use Rattle.std.proofs.lemmas.Int.{ints}
-use Rattle.std.proofs.lemmas.Bool.{false≢true, or_left, or_right, true≢false}
+use Rattle.std.proofs.lemmas.Bool.{false≢true}
 use Rattle.std.proofs.lemmas.List.Elements.{Contains-append_cases, Contains-append_right}
 use Rattle.std.proofs.lemmas.Slice.Eq.{bytes_eq-Decides, slice_eq-Decides}
 use Rattle.std.specs.Cmp.Lexicographic.{pointwise}
 use Rattle.std.specs.Str.{bytes_eq}
 use Rattle.table_history.specs.History.{column_type}
-use Rattle.table_history.specs.TypeTree as tree
 use Rattle.table_history.specs.TypeTree.{TypeTree, ColumnTrees, no_columns, column}
-use Rattle.table_history.specs.Sound.{is_named, have_own_names, IsSoundType, AreSound, IsSound}
 use Rattle.table_history.proofs.RowListLemmas.{Contains-cases, Contains-head, Contains-none, Contains-tail}
-use Rattle.lake_basics.specs.Outcome.{◌>>=◌}
-use Rattle.lake_basics.proofs.Truth.{false_and_true}
 use Rattle.schema_map.specs.Paths.{Path, below, inner_paths, column_paths, known_id}
-use Rattle.iceberg_field_ids.specs.Ids.{next_id, id_step, ids_for}
+use Rattle.iceberg_field_ids.specs.Ids.{ids_for}
 use Rattle.schema_map.specs.Among.{IsAmong}
 use Rattle.iceberg_field_ids.specs.OwnIds.{AreDistinct}
-use Rattle.iceberg_field_ids.proofs.OwnIdsGiven.{below_distinct, below_full, next_found, path_same}
-use Rattle.schema_map.proofs.Bound.{bound}
-
--- ---- the paths of a schema are distinct
-
-module _ {X : Type 0} where
-  among_append : (x : X) (xs ys : List X) → IsAmong x (xs ++ ys) → IsAmong x xs ⊎ IsAmong x ys
-  among_append x [] ys h = inr h
-  among_append x (y ∷ xs) ys (inl e) = inl (inl e)
-  among_append x (y ∷ xs) ys (inr h) = elim (among_append x xs ys h) as (λ _. IsAmong x (y ∷ xs) ⊎ IsAmong x ys) [ inl a ↦ inl (inr a) | inr b ↦ inr b ]
-
-  distinct_append : (xs ys : List X) → AreDistinct xs → AreDistinct ys → ((x : X) → IsAmong x xs → IsAmong x ys → ⊥) → AreDistinct (xs ++ ys)
-  distinct_append [] ys dx dy apart = dy
-  distinct_append (x ∷ xs) ys dx dy apart = (
-    λ h. elim (among_append x xs ys h) as (λ _. ⊥) [ inl a ↦ dx.0 a | inr b ↦ apart x (inl refl) b ],
-    distinct_append xs ys dx.1 dy (λ z a b. apart z (inr a) b),
-  )
-
-  among_there : (x : X) (xs : List X) → Contains xs x → IsAmong x xs
-  among_there x [] there = absurd (Contains-none x there)
-  among_there x (y ∷ xs) there = ⊎_elim (λ e. inl e) (λ later. inr (among_there x xs later)) (Contains-cases y xs x there)
-
--- the path is this name and then one of these
-abbrev Tail : List ℕ → Path → List Path → Type 0
-Tail n p ps = (q : Path) × IsAmong q ps × (n ∷ q ≡ p)
-
-cons_among : (n : List ℕ) (p : Path) (ps : List Path) → IsAmong p (map (λ q. n ∷ q) ps) → Tail n p ps
-cons_among n p [] h = absurd h
-cons_among n p (q ∷ ps) (inl e) = (q, inl refl, e)
-cons_among n p (q ∷ ps) (inr h) = let t = cons_among n p ps h in (t.0, inr t.1, t.2)
-
--- a path below a name begins with it
-abbrev Begins : List ℕ → Path → Type 0
-Begins n p = (q : Path) × (n ∷ q ≡ p)
-
-below_begins : (n : List ℕ) (p : Path) (ps : List Path) → IsAmong p (below n ps) → Begins n p
-below_begins n p ps (inl e) = ([], e)
-below_begins n p ps (inr h) = let t = cons_among n p ps h in (t.0, t.2)
-
-mutual
-  inner_full : (t : TypeTree) → IsAmong [] (inner_paths t) → ⊥
-  inner_full (tree.struct_of cs) h = column_full cs h
-  inner_full (tree.list_of t b) h = below_full _ _ h
-  inner_full (tree.map_of k v b) h = elim (among_append [] (below (codes "key") (inner_paths k)) (below (codes "value") (inner_paths v)) h) as (λ _. ⊥) [ inl a ↦ below_full _ _ a | inr c ↦ below_full _ _ c ]
-  inner_full tree.boolean h = h
-  inner_full tree.byte h = h
-  inner_full tree.short h = h
-  inner_full tree.int h = h
-  inner_full tree.long h = h
-  inner_full tree.float h = h
-  inner_full tree.double h = h
-  inner_full (tree.decimal p s) h = h
-  inner_full tree.text h = h
-  inner_full tree.binary h = h
-  inner_full tree.date h = h
-  inner_full tree.timestamp h = h
-  inner_full tree.timestamp_ntz h = h
-
-  column_full : (cs : ColumnTrees) → IsAmong [] (column_paths cs) → ⊥
-  column_full no_columns h = h
-  column_full (column n t b cs) h = elim (among_append [] (below n (inner_paths t)) (column_paths cs) h) as (λ _. ⊥) [ inl a ↦ below_full _ _ a | inr c ↦ column_full cs c ]
-
--- a path of these columns begins with the name of one
-abbrev Named : ColumnTrees → Path → Type 0
-Named cs p = (m : List ℕ) × Begins m p × (is_named m cs ≡ true)
-
-column_begins : (cs : ColumnTrees) (p : Path) → IsAmong p (column_paths cs) → Named cs p
-column_begins no_columns p h = absurd h
-column_begins (column n t b cs) p h =
-    elim (among_append p (below n (inner_paths t)) (column_paths cs) h) as (λ _. Named (column n t b cs) p) [
-      | inl a ↦ (n, below_begins n p _ a, or_left (bytes_eq n n) _ ((bytes_eq-Decides n n).1 refl))
-      | inr c ↦ let m = column_begins cs p c in (m.0, m.1, or_right (bytes_eq n m.0) _ m.2)
-    ]
-
-same_begin : (n m : List ℕ) (p : Path) → Begins n p → Begins m p → n ≡ m
-same_begin n m p a b = let e : n ∷ a.0 ≡ m ∷ b.0 = a.1 ∙ sym b.1 in cc
-
-mutual
-  own_inner : (t : TypeTree) → IsSoundType t → AreDistinct (inner_paths t)
-  own_inner (tree.struct_of cs) sound = own_columns cs sound.0 sound.1
-  own_inner (tree.list_of t b) sound = below_distinct (codes "element") (inner_paths t) (inner_full t) (own_inner t sound)
-  own_inner (tree.map_of k v b) sound =
-      distinct_append (below (codes "key") (inner_paths k)) (below (codes "value") (inner_paths v))
-      (below_distinct (codes "key") (inner_paths k) (inner_full k) (own_inner k sound.0)) (below_distinct (codes "value") (inner_paths v) (inner_full v) (own_inner v sound.1))
-      (λ p a c. let e = same_begin (codes "key") (codes "value") p (below_begins (codes "key") p (inner_paths k) a) (below_begins (codes "value") p (inner_paths v) c) in true≢false (sym ((bytes_eq-Decides (codes "key") (codes "value")).1 e)))
-  own_inner tree.boolean sound = tt
-  own_inner tree.byte sound = tt
-  own_inner tree.short sound = tt
-  own_inner tree.int sound = tt
-  own_inner tree.long sound = tt
-  own_inner tree.float sound = tt
-  own_inner tree.double sound = tt
-  own_inner (tree.decimal p s) sound = tt
-  own_inner tree.text sound = tt
-  own_inner tree.binary sound = tt
-  own_inner tree.date sound = tt
-  own_inner tree.timestamp sound = tt
-  own_inner tree.timestamp_ntz sound = tt
-
-  own_columns : (cs : ColumnTrees) → have_own_names cs ≡ true → AreSound cs → AreDistinct (column_paths cs)
-  own_columns no_columns own sound = tt
-  own_columns (column n t b cs) own sound =
-      let parts = false_and_true (is_named n cs) (have_own_names cs) own in
-      distinct_append (below n (inner_paths t)) (column_paths cs) (below_distinct n (inner_paths t) (inner_full t) (own_inner t sound.0)) (own_columns cs parts.1 sound.1)
-      (λ p a c. let m = column_begins cs p c in let e = same_begin m.0 n p m.1 (below_begins n p (inner_paths t) a) in true≢false (sym (subst (λ x. is_named x cs ≡ true) e m.2) ∙ parts.0))
-
-pub own_paths : (cs : ColumnTrees) → IsSound cs → AreDistinct (column_paths cs)
-own_paths cs sound = own_columns cs sound.0 sound.1
+use Rattle.iceberg_field_ids.proofs.OwnIdsGiven.{Taken, first_taken, path_same}
 
 -- ---- the first of the ids
-
-record Taken (known : List (Path × ℤ)) (last : ℤ) (path : Path) (paths : List Path) (ids : List ℤ) : Type 0 where
-  id : ℤ
-  later : ℤ
-  others : List ℤ
-  whole : id ∷ others ≡ ids
-  rest : ids_for known later paths ≡ Ok others
-  how : ((known_id known path ≡ Some id) × (later ≡ last)) ⊎ ((later ≡ last +ℤ pos 1) × (id ≡ later) × (known_id known path ≡ None))
-
-first_taken : (known : List (Path × ℤ)) (last : ℤ) (path : Path) (paths : List Path) (ids : List ℤ) (o : Option ℤ) → known_id known path ≡ o → ids_for known last (path ∷ paths) ≡ Ok ids → Taken known last path paths ids
-first_taken known last path paths ids (Some i) is e =
-    let f : (ids_for known last paths >>= λ others. Ok (i ∷ others)) ≡ Ok ids = rw is at e in
-    let others = bound (ids_for known last paths) _ ids f in
-    record { id = i; later = last; others = others.value; whole = let g = others.behind in cc; rest = others.first; how = inl (is, refl) }
-first_taken known last path paths ids None is e =
-    let f : (id_step last None >>= λ t. ids_for known t.1 paths >>= λ others. Ok (t.0 ∷ others)) ≡ Ok ids = rw is at e in
-    let t = bound (id_step last None) _ ids f in
-    let next = bound (next_id last) _ t.value t.first in
-    let others = bound (ids_for known t.value.1 paths) _ ids t.behind in
-    let new = next_found last (int_lt last (pos 2147483647)) next.value refl next.first in
-    let both : (next.value, next.value) ≡ t.value = let g = next.behind in cc in
-    record { id = t.value.0; later = t.value.1; others = others.value; whole = let g = others.behind in cc; rest = others.first; how = inr (sym (ap (λ p. p.1) both) ∙ sym new, sym (ap (λ p. p.0) both) ∙ ap (λ p. p.1) both, is) }
 
 later_over : (known : List (Path × ℤ)) (last : ℤ) (path : Path) (paths : List Path) (ids : List ℤ) (t : Taken known last path paths ids) → last ≤ℤ t.later
 later_over known last path paths ids t = elim t.how as (λ _. last ≤ℤ t.later) [ inl k ↦ (let l = k.1 in omega (arith, ints, l)) | inr k ↦ (let l = k.0 in omega (arith, ints, l)) ]

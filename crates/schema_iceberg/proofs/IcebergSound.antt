@@ -18,6 +18,7 @@ use Rattle.lake_basics.specs.Outcome.{GivesUnlessMemory}
 use Rattle.schema_map.specs.declared.fault.MapError.{MapError}
 use Rattle.schema_map.specs.Errors.{is_memory}
 use Rattle.schema_map.specs.Paths.{column_paths}
+use Rattle.schema_map.proofs.Ids.{both_are}
 use Rattle.schema_iceberg.specs.Iceberg.{iceberg_schema}
 use Rattle.schema_iceberg.specs.IcebergWriting.{iceberg_value}
 use Rattle.schema_iceberg.proofs.IcebergSchema.{SchemaFound, schema_found}
@@ -67,10 +68,6 @@ id_is ms name id e =
     at : (z : ℤ) → within z ≡ Some id → IsId id
     at (pos n) h = id_from_zero n _ id refl h
     at (negsuc n) h = id_below_zero n _ id refl h
-
-both_are : (xs ys : List ℤ) → AreIds xs → AreIds ys → AreIds (xs ++ ys)
-both_are [] ys first second = second
-both_are (x ∷ xs) ys first second = (first.0, both_are xs ys first.1 second)
 
 record Fits (t : TypeTree) (ids : List ℤ) : Type 0 where
   sound : IsSoundType t

@@ -3,9 +3,11 @@ pub mod Columns
 pub mod DecimalLaw
 pub mod Entries
 pub mod Failing
+pub mod Ids
 pub mod ImageTwice
 pub mod Numbers
 pub mod OwnNames
+pub mod PathOrder
 pub mod Prefixes
 pub mod Wide
 pub mod Reading
