@@ -1,6 +1,7 @@
 pub mod Steps
 pub mod Lookups
 pub mod Turns
+pub mod FieldTrees
 pub mod WrittenItems
 pub mod Flat
 pub mod Sound

@@ -1,13 +1,14 @@
 -- A loop that writes items: what it has written, before what is written of the rest.
-use Rattle.std.proofs.Common.{◌≡◌, ℕ, suc, ◌+◌, ◌<◌, ◌≤◌, List, [], ◌∷◌, ◌++◌, length, get_or, drop, map, Option, ℤ, refl, ap, sym, subst, ◌∙◌, add-one, rules, drop-cons}
+use Rattle.std.proofs.Common.{◌≡◌, ℕ, suc, ◌+◌, ◌<◌, ◌≤◌, List, [], ◌∷◌, ◌++◌, length, get_or, drop, map, Option, ℤ, refl, ap, sym, subst, ◌∙◌, add-one, drop-cons}
 use Rattle.std.proofs.Math.ListN.{drop_of_length-le}
 use Rattle.serde_json.specs.Data.{Data, Items, no_items, item}
 use Rattle.serde_json.specs.View.{view, items_view}
 use Rattle.serde_json.specs.declared.value.Value.{Value}
-use Rattle.avro_schema.specs.declared.schema.Schema.{Schema, the_lemmas}
+use Rattle.avro_schema.specs.declared.schema.Schema.{Schema}
 use Rattle.avro_schema.specs.declared.schema.Field.{Field}
-use Rattle.avro_schema.specs.Tree.{SchemaTree, BranchTrees, branch, FieldTrees, field, FieldTree, tree_of, field_of, branches_of, fields_of}
+use Rattle.avro_schema.specs.Tree.{SchemaTree, BranchTrees, branch, FieldTrees, field, tree_of, field_of, branches_of, fields_of}
 use Rattle.avro_schema.specs.Writing.{Written, written_as, schema_json, branches_json, fields_json, field_json}
+use Rattle.avro_schema.proofs.FieldTrees.{field_is}
 
 abbrev pub joined : Items → Items → Items
 joined no_items es = es
@@ -49,9 +50,6 @@ field_next : (front : Items) (name : List ℕ) (t : SchemaTree) (id : Option ℤ
 field_next front name t id fs space names behind d e =
     let P : Written Data → Type 0 = λ x. with_items (joined front (item (field_json name d id) no_items)) (fields_json fs space behind) ≡ with_items front (written_as (λ ds. item (field_json name x.0 id) ds) (fields_json fs space x.1)) in
     subst P e (ap (λ (es : Items). (es, (fields_json fs space behind).1)) (joined_item front (field_json name d id) (fields_json fs space behind).0))
-
-field_is : (f : Field) → ◌≡◌ {A = FieldTree} (field_of f) (f.name, tree_of f.schema, f.field_id)
-field_is f = search (rules, the_lemmas)
 
 pub field_step : (vs after : List Value) (v inner : Value) (fs : List Field) (i : ℕ) (f : Field) (space : List ℕ) (names behind : List (List ℕ)) → after ≡ vs ++ v ∷ [] → i < length fs → f ≡ get_or fs i f → ◌≡◌ {A = Written Data} (view inner, behind) (schema_json (tree_of f.schema) space names) → view v ≡ field_json f.name (view inner) f.field_id → with_items (items_view after) (fields_json (fields_of (map field_of (drop (i + 1) fs))) space behind) ≡ with_items (items_view vs) (fields_json (fields_of (map field_of (drop i fs))) space names)
 field_step vs after v inner fs i f space names behind put within at is whole =

@@ -2,7 +2,8 @@ use Rattle.std.proofs.Common.{◌≡◌, ℕ, ◌+◌, ◌<◌, List, [], ◌∷
 use Rattle.std.proofs.lemmas.List.{map-append, drop_more}
 use Rattle.avro_schema.specs.declared.schema.Schema.{Schema, out-Schema, the_lemmas}
 use Rattle.avro_schema.specs.declared.schema.Field.{Field}
-use Rattle.avro_schema.specs.Tree.{schema_tree, FieldTree, tree_of, shape_of, field_of}
+use Rattle.avro_schema.specs.Tree.{schema_tree, tree_of, shape_of, field_of}
+use Rattle.avro_schema.proofs.FieldTrees.{field_is}
 use Rattle.avro_schema.proofs.copy.+copy.Goals as goal
 
 schema_is : (s : Schema) → tree_of s ≡ schema_tree (shape_of (out-Schema s).shape) (out-Schema s).logical (out-Schema s).precision (out-Schema s).scale
@@ -26,9 +27,6 @@ one_more {A} {B} f copies new found items i x y all within at put same so_far =
 pub schemas-loop-one-preserved : goal.schemas-loop-one-preserved
 schemas-loop-one-preserved t c =
     one_more tree_of c.loop-one.copies.items c.push.new.self.items c.args.found.now.items c.deref-one-items.result.now c.loop-one.one-index c.in_ok-schema.field-0 c.one-item.result c.deref-one-items.ensures.value c.loop-one-test.true c.one-item.is c.in_ok-push.ensures.items c.in_ok-schema.ensures c.loop-one.invariant
-
-field_is : (f : Field) → ◌≡◌ {A = FieldTree} (field_of f) (f.name, tree_of f.schema, f.field_id)
-field_is f = search (rules, the_lemmas)
 
 same_field : (f g : Field) → f.name ≡ g.name → tree_of f.schema ≡ tree_of g.schema → f.field_id ≡ g.field_id → field_of f ≡ field_of g
 same_field f g name schema id = field_is f ∙ (λ i. (name i, schema i, id i)) ∙ sym (field_is g)

@@ -5,6 +5,7 @@ use Rattle.avro_schema.specs.declared.schema.Field.{Field}
 use Rattle.avro_schema.specs.declared.schema.Shape.{Shape, Array, Map, Union, Fields}
 use Rattle.avro_schema.specs.Tree.{FieldTree, tree_of, shape_of, field_of, branches_of, fields_of}
 use Rattle.avro_schema.specs.Sizes.{type_count, shape_type_count, branch_type_count, field_type_count}
+use Rattle.avro_schema.proofs.FieldTrees.{field_is}
 use Rattle.avro_schema.proofs.size.+count.Goals as goal
 
 -- ---- a type counts one more than its parts
@@ -77,9 +78,6 @@ pub budget_behind_branches-returns : goal.budget_behind_branches-returns
 budget_behind_branches-returns t c =
     let here = branches_end c.args.branches.now.items _ c.loop-branch.branch-index c.deref-branch-items.ensures.value c.loop-branch-test.false in
     omega (arith, here, c.loop-branch.invariant)
-
-field_is : (f : Field) → ◌≡◌ {A = FieldTree} (field_of f) (f.name, tree_of f.schema, f.field_id)
-field_is f = search (rules, the_lemmas)
 
 fields_from : (fs items : List Field) (i : ℕ) (f : Field) → items ≡ fs → i < length items → f ≡ get_or items i f → field_type_count (fields_of (map field_of (drop i fs))) ≡ type_count (tree_of f.schema) + field_type_count (fields_of (map field_of (drop (i + 1) fs)))
 fields_from fs items i f e lt at =

@@ -5,6 +5,7 @@ use Rattle.avro_schema.specs.declared.schema.Field.{Field}
 use Rattle.avro_schema.specs.declared.schema.Shape.{Shape, Array, Map, Fields}
 use Rattle.avro_schema.specs.Tree.{FieldTree, tree_of, shape_of, field_of, branches_of, fields_of}
 use Rattle.avro_schema.specs.Sizes.{level_count, shape_level_count, branch_level_count, field_level_count}
+use Rattle.avro_schema.proofs.FieldTrees.{field_is}
 use Rattle.avro_schema.proofs.size.+levels.Goals as goal
 
 -- ---- the levels of a type and of its parts
@@ -56,9 +57,6 @@ branches_within-loop-branch-preserved t c =
     let here = branches_from c.args.branches.now.items _ c.loop-branch.branch-index c.branch-item.result c.deref-branch-items.ensures.value c.loop-branch-test.true c.branch-item.is in
     let one = c.has_levels_within.ensures.0 c.if-not-has_levels_within.false in
     (λ le. c.loop-branch.invariant.0 (omega (arith, here, one, le)), λ le. let low = c.loop-branch.invariant.1 le in omega (arith, here, low))
-
-field_is : (f : Field) → ◌≡◌ {A = FieldTree} (field_of f) (f.name, tree_of f.schema, f.field_id)
-field_is f = search (rules, the_lemmas)
 
 fields_from : (fs items : List Field) (i : ℕ) (f : Field) → items ≡ fs → i < length items → f ≡ get_or items i f → field_level_count (fields_of (map field_of (drop i fs))) ≡ max (level_count (tree_of f.schema)) (field_level_count (fields_of (map field_of (drop (i + 1) fs))))
 fields_from fs items i f e lt at =

@@ -1,13 +1,10 @@
-use Rattle.std.proofs.Common.{◌≡◌, ◌∷◌, [], ◌++◌, List, Some, map, ap, arith, rules, w32, FitsSigned, to_z, of_z, ◌∙◌}
+use Rattle.std.proofs.Common.{◌≡◌, ◌∷◌, [], ◌++◌, List, Some, map, ap, arith, w32, FitsSigned, to_z, of_z, ◌∙◌}
 use Rattle.std.proofs.lemmas.Int.{ints}
 use Rattle.std.proofs.lemmas.List.{map-append}
 use Rattle.avro_schema.specs.Tree.{FieldTree, field_of, tree_of}
 use Rattle.avro_schema.specs.declared.schema.Field.{Field}
-use Rattle.avro_schema.specs.declared.schema.Schema.{the_lemmas}
+use Rattle.avro_schema.proofs.FieldTrees.{field_is}
 use Rattle.iceberg_manifest_writing.proofs.schema.with_field.Goals as goal
-
-field_is : (f : Field) → ◌≡◌ {A = FieldTree} (field_of f) (f.name, tree_of f.schema, f.field_id)
-field_is f = search (rules, the_lemmas)
 
 one_more : (front new : List Field) (f : Field) (t : FieldTree) → new ≡ front ++ f ∷ [] → field_of f ≡ t → map field_of new ≡ map field_of front ++ t ∷ []
 one_more front new f t put same = ap (map field_of) put ∙ map-append field_of front (f ∷ []) ∙ ap (λ (u : FieldTree). map field_of front ++ u ∷ []) same
