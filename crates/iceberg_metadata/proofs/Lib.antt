@@ -5,6 +5,7 @@ pub mod JudgedLemmas
 pub mod ListLemmas
 pub mod LocationLemmas
 pub mod NameLemmas
+pub mod OnceLemmas
 pub mod PathLemmas
 pub mod StepLemmas
 pub mod LoopLemmas

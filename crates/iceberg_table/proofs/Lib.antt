@@ -9,6 +9,7 @@ pub mod CountLaws
 pub mod ContentLaws
 pub mod ListLaws
 pub mod LiveLaws
+pub mod OnceLaws
 pub mod SnapshotLaws
 pub mod PlanLaws
 pub mod PieceLaws

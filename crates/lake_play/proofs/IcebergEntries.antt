@@ -21,6 +21,7 @@ use Rattle.iceberg_table.specs.Plan.{IsPlanOf}
 use Rattle.iceberg_table.specs.Once.{entry_count}
 use Rattle.iceberg_table.specs.Snapshots.{IsTableOfSnapshot}
 use Rattle.iceberg_table.specs.declared.plan.Plan.{Plan}
+use Rattle.iceberg_table.proofs.OnceLaws.{newest_once}
 use Rattle.iceberg_version.specs.KeptEnd.{end_of, view_of}
 use Rattle.iceberg_version.specs.Writing.{TableEnd, stated_behind}
 use Rattle.iceberg_version.specs.declared.kept.IcebergKept.{IcebergKept}
@@ -36,7 +37,7 @@ use Rattle.target_iceberg.proofs.WrittenStart.{HasEnd, IsFirstEnd, starts}
 use Rattle.target_iceberg.proofs.WrittenVersion.{HasCommitted}
 use Rattle.target_iceberg.specs.Fitting.{kinds_of}
 use Rattle.target_iceberg.specs.Kept.{StandsFor}
-use Rattle.target_iceberg.specs.OnceLemmas.{current_in, current_once, newest_once, says_once}
+use Rattle.target_iceberg.specs.OnceLemmas.{current_in, current_once, says_once}
 use Rattle.target_iceberg.specs.Reading.{IsAbsent, IsCurrent, IsOurs, Reads, SaysCurrent}
 use Rattle.target_iceberg.specs.Writes.{Writes}
 use Rattle.lake_play.proofs.DrillGrowth.{few_new}

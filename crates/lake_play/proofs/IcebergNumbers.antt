@@ -53,6 +53,7 @@ use Rattle.iceberg_table.specs.declared.plan.Plan.{Plan}
 use Rattle.iceberg_table.proofs.CountLaws.{count_one, once_more}
 use Rattle.iceberg_table.proofs.EachLaws.{each_of}
 use Rattle.iceberg_table.proofs.ManifestLaws.{held_once}
+use Rattle.iceberg_table.proofs.OnceLaws.{newest_once, rows_once}
 use Rattle.iceberg_table.proofs.PieceLaws.{as_file_fault}
 use Rattle.target_core.specs.Views.{View}
 use Rattle.target_iceberg.specs.FaultLemmas.{plan_or_fault, row_or_fault, stop_in}
@@ -278,7 +279,7 @@ module _ (files : Files) (m : Metadata) (current : SaysCurrent files m) (which :
       by (Tells.is_large is at large) = inl (is, at, inl large)
       by (Tells.is_shown limit is at (inl (e, refused_too, told))) = absurd (once.stands_or_refused MAX_VALUES infos_of says.bytes says.infos e says.rows refused_too)
       by (Tells.is_shown limit is at (inr (others, are, stops))) =
-          let same : others ≡ says.infos = once.rows_once says.bytes others says.infos are says.rows in
+          let same : others ≡ says.infos = rows_once says.bytes others says.infos are says.rows in
           let there = subst (λ (infos : List ManifestInfo). Contains infos stops.item) same (stop_in (IsListed m) (λ found. IsRowFault m) others (fault.Limit limit) stops) in
           let found_row = each_of (IsListed m) says.infos current.list stops.item says.listed there in
           absurd (row_or_fault m stops.item found_row.0 (fault.Limit limit) found_row.2 stops.refused)
@@ -306,7 +307,7 @@ module _ (files : Files) (m : Metadata) (current : SaysCurrent files m) (which :
 
 module _ (source : Kind) (files : Files) (v : View) (which : LimitKind) (number : ℕ) (few : length v.table.rows ≤ MAX_LIVE_FILES) (ours : IsOurs files v) where
   says_at : (version : ℕ) → IsNewest (HasVersion files) version → SaysMetadata files version ours.metadata
-  says_at version newest = subst (λ (n : ℕ). SaysMetadata files n ours.metadata) (once.newest_once (HasVersion files) v.commits version ours.newest newest) ours.says
+  says_at version newest = subst (λ (n : ℕ). SaysMetadata files n ours.metadata) (newest_once (HasVersion files) v.commits version ours.newest newest) ours.says
 
   past_version : (version : ℕ) (e : IcebergError) → IsRefusedVersion files version e → TellsNumber e which number → ⊥
   past_version version e refused tells = version_number files version ours.metadata which number e (says_at version refused.0) refused.1 tells

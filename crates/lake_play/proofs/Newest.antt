@@ -19,6 +19,7 @@ use Rattle.iceberg_table.specs.Files.{SaysMetadata}
 use Rattle.iceberg_table.specs.Folder.{HasVersion, IsNewest, version_path}
 use Rattle.iceberg_table.specs.Plan.{snapshot_schema}
 use Rattle.iceberg_table.specs.declared.error.Fault.TheVariants as fault
+use Rattle.iceberg_table.proofs.OnceLaws.{newest_once}
 use Rattle.iceberg_table.proofs.PlanLaws.{in_schemas}
 use Rattle.iceberg_version.specs.KeptEnd.{end_of, view_of}
 use Rattle.iceberg_version.specs.Writing.{no_version}
@@ -33,7 +34,7 @@ use Rattle.target_iceberg.specs.AlikeLemmas.{held_ours}
 use Rattle.target_iceberg.specs.CountLemmas.{commits_read}
 use Rattle.target_iceberg.specs.Kept.{HoldsEnd, IsFirst, StandsFor}
 use Rattle.target_iceberg.specs.KeptLemmas.{kept_counted}
-use Rattle.target_iceberg.specs.OnceLemmas.{newest_once, read_once}
+use Rattle.target_iceberg.specs.OnceLemmas.{read_once}
 use Rattle.target_iceberg.specs.Publishing.{IsAside, IsOther}
 use Rattle.target_iceberg.specs.Reached.{IsReached}
 use Rattle.target_iceberg.specs.Reading.{IsAbsent, IsOurs, Reads}

@@ -7,7 +7,6 @@ mod SweepLaws
 mod PickLaws
 mod ClaimLaws
 mod SetLaws
-mod OnceLaws
 mod ReadingLaws
 mod VersionLaws
 mod ReachLaws

@@ -12,12 +12,14 @@ use Rattle.iceberg_manifest.specs.declared.info.ManifestInfo.{ManifestInfo}
 use Rattle.iceberg_metadata.specs.Grammar.{IsMetadataText}
 use Rattle.iceberg_metadata.specs.declared.metadata.Metadata.{Metadata}
 use Rattle.iceberg_metadata.specs.declared.metadata.Snapshot.{Snapshot}
+use Rattle.iceberg_metadata.proofs.OnceLemmas.{text_once}
 use Rattle.iceberg_table.specs.Folder.{HasVersion, metadata_folder, path_of, version_path}
 use Rattle.iceberg_table.specs.Lists.{AreRows, IsListed, SaysList}
 use Rattle.iceberg_table.specs.declared.list.ManifestFile.{ManifestFile}
 use Rattle.iceberg_table.proofs.EachLaws.{each_back, each_of}
 use Rattle.iceberg_table.proofs.ListLaws.{path_once}
 use Rattle.iceberg_table.proofs.ManifestLaws.{held_once}
+use Rattle.iceberg_table.proofs.OnceLaws.{rows_once}
 use Rattle.target_leftovers.specs.Leftovers.{IsLeftover}
 use Rattle.target_leftovers.specs.Names.{IsIcebergName}
 use Rattle.target_leftovers.specs.Reached.{IsReached, NamesList, NamesManifest}
@@ -28,7 +30,6 @@ use Rattle.lake_sweep.specs.Reading.{HasReadVersions, IsFree, IsNamedIn, IsWhole
 use Rattle.lake_sweep.specs.Refusals.{AreAllVersionsRead}
 use Rattle.lake_sweep.specs.Versions.{CountsReached, CountsVersions, SaysLists}
 use Rattle.lake_sweep.specs.declared.reached.Reached.{Reached}
-use Rattle.lake_sweep.proofs.OnceLaws.{rows_once, text_once}
 use Rattle.lake_sweep.proofs.ReadingLaws.{version_read}
 
 module _ (files : Files) (versions : List ℕ) (r : Reached) (has : HasReadVersions files versions r) (all : (v : ℕ) → Contains versions v ↔ HasVersion files v) where

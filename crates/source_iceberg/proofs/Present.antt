@@ -15,6 +15,7 @@ use Rattle.iceberg_metadata.specs.declared.error.MetadataError.{MetadataError}
 use Rattle.iceberg_metadata.specs.declared.error.MetadataError.TheVariants as metadata
 use Rattle.iceberg_metadata.specs.declared.metadata.Metadata.{Metadata}
 use Rattle.iceberg_metadata.specs.declared.metadata.Snapshot.{Snapshot}
+use Rattle.iceberg_metadata.proofs.OnceLemmas.{text_once}
 use Rattle.iceberg_table.specs.Errors.{IsFileFault, metadata_fault}
 use Rattle.iceberg_table.specs.Files.{HoldsFile, SaysMetadata}
 use Rattle.iceberg_table.specs.Folder.{HasVersion, IsNewest, version_path}
@@ -23,11 +24,12 @@ use Rattle.iceberg_table.specs.declared.error.Fault.{Fault}
 use Rattle.iceberg_table.specs.declared.error.Fault.TheVariants as fault
 use Rattle.iceberg_table.specs.declared.error.IcebergError.{IcebergError}
 use Rattle.iceberg_table.specs.declared.error.IcebergError.TheVariants as error
+use Rattle.iceberg_table.proofs.OnceLaws.{newest_once}
 use Rattle.source_core.specs.Answers.{IsHeadRefusal, IsReadRefusal}
 use Rattle.source_core.specs.declared.error.SourceError.{SourceError}
 use Rattle.source_core.specs.declared.error.SourceError.TheVariants as source
 use Rattle.source_core.specs.declared.head.Head.{Head}
-use Rattle.source_iceberg.specs.HeadLemmas.{not_absent, one_text, one_version}
+use Rattle.source_iceberg.specs.HeadLemmas.{not_absent}
 use Rattle.source_iceberg.specs.Heads.{IsAbsent, IsIcebergHead, StandsForMetadata, metadata_features}
 use Rattle.source_iceberg.specs.Reading.{HasFewNames, IsRefusedVersion, ShowsAtHead, Tells, TellsFault}
 
@@ -74,7 +76,7 @@ module _ (bytes : List ℕ) (readings : List SchemaReading) (n : Metadata) (text
   fault_limit : (f : Fault) → IsMetadataFault bytes f → IsLimit f
   fault_limit f (inl (e, first, is)) = limit_only e f (first_in (HasCause bytes) causes e first) is
   fault_limit f (inr (m, is, other, cycle, told)) =
-      let same : m ≡ n = one_text bytes is.readings readings m n is.text text in
+      let same : m ≡ n = text_once bytes is.readings readings m n is.text text in
       absurd (acyclic m (ap (λ (x : Metadata). x.current_snapshot) same ∙ none) cycle)
 
 -- a refusal that isn't for a number
@@ -98,7 +100,7 @@ module _ (files : Files) (version : ℕ) (newest : IsNewest (HasVersion files) v
 
   there : (e : SourceError) → (IsForNumber e → ⊥) → IsRefusedVersion files version e → IsAbsent files → ⊥
   there e other refused (inl none) = none.versions version newest.there
-  there e other refused (inr (w, n, stands, none)) = other (stands_number w n stands none (one_version (HasVersion files) w version stands.states.newest newest) refused.0 e refused.1 refused.2)
+  there e other refused (inr (w, n, stands, none)) = other (stands_number w n stands none (newest_once (HasVersion files) w version stands.states.newest newest) refused.0 e refused.1 refused.2)
 
   pub version_told : HasFewNames files → (e : SourceError) → IsReadRefusal (IsRefusedVersion files version) e → IsHeadRefusal (IsAbsent files) (ShowsAtHead files) e
   version_told few source.Memory h = tt
@@ -116,7 +118,7 @@ module _ (files : Files) (version : ℕ) (m : Metadata) (says : SaysMetadata fil
 
   faultless : (f : Fault) → IsMetadataFault says.bytes f → ⊥
   faultless f (inl (e, first, is)) = none_first (HasCause says.bytes) causes e says.supported first
-  faultless f (inr (n, is, other, cycle, told)) = says.acyclic (subst (λ (x : Metadata). FormsCycle x) (one_text says.bytes is.readings says.read.readings n m is.text says.read.text) cycle)
+  faultless f (inr (n, is, other, cycle, told)) = says.acyclic (subst (λ (x : Metadata). FormsCycle x) (text_once says.bytes is.readings says.read.readings n m is.text says.read.text) cycle)
 
   unrefused : (cause : IcebergError) → IsFileFault files (version_path version) IsMetadataFault cause → ⊥
   unrefused error.Memory h = h
@@ -135,7 +137,7 @@ module _ (files : Files) (head : Head) (is : IsIcebergHead files head) where
       let few = is.few in absurd (omega (arith, long, few))
   shows_nothing e (inr (few, inl other)) = other.0 is.version is.current.metadata.newest.there
   shows_nothing e (inr (few, inr (version, newest, refused))) =
-      let same = one_version (HasVersion files) version is.version newest is.current.metadata.newest in
+      let same = newest_once (HasVersion files) version is.version newest is.current.metadata.newest in
       unrefused files is.version is.metadata is.current.metadata.says refused.0 (subst (λ (v : ℕ). IsFileFault files (version_path v) IsMetadataFault refused.0) same refused.1)
 
   read_again : (e : SourceError) → IsHeadRefusal (IsAbsent files) (ShowsAtHead files) e → IsReadRefusal (λ _. ⊥) e

@@ -1,5 +1,5 @@
 -- The newest metadata of a table is one, and so is its head.
-use Rattle.std.proofs.Common.{◌≡◌, inl, inr, ⊎_elim, ℕ, ℤ, List, [], ◌∷◌, Contains, Bool, true, false, cond, Option, Some, None, Result, Ok, refl, sym, ap, subst, ◌∙◌, arith}
+use Rattle.std.proofs.Common.{◌≡◌, inl, inr, ⊎_elim, ℕ, ℤ, List, [], ◌∷◌, Contains, Bool, true, false, cond, Option, Some, None, refl, sym, ap, subst, ◌∙◌}
 use Rattle.std.specs.Prelude.{IfSome, find, map}
 use Rattle.std.specs.Fmt.{signed_decimal}
 use Rattle.std.specs.Ordering.{int_eq}
@@ -11,51 +11,30 @@ use Rattle.table_history.proofs.RowListLemmas.{Contains-cases, Contains-none}
 use Rattle.iceberg_ancestry.specs.Ancestry.{held, held_at}
 use Rattle.iceberg_ancestry.specs.ById.{has_id}
 use Rattle.iceberg_metadata.specs.Grammar.{IsConsistent, IsMetadataText}
-use Rattle.iceberg_metadata.specs.Judging.{contents}
 use Rattle.iceberg_metadata.specs.Reading.{HasCause, causes}
-use Rattle.iceberg_metadata.specs.Schemas.{HeldUnread, SchemaReading, schema_ids, unread}
-use Rattle.iceberg_metadata.specs.declared.error.MetadataError.{MetadataError}
+use Rattle.iceberg_metadata.specs.Schemas.{SchemaReading}
 use Rattle.iceberg_metadata.specs.declared.metadata.Metadata.{Metadata}
 use Rattle.iceberg_metadata.specs.declared.metadata.Snapshot.{Snapshot}
-use Rattle.iceberg_metadata.proofs.ConsistentLemmas.{consistent_Decides}
-use Rattle.iceberg_metadata.proofs.ContentLemmas.{contents_are}
+use Rattle.iceberg_metadata.proofs.OnceLemmas.{text_once}
 use Rattle.iceberg_table.specs.Files.{HoldsFile}
-use Rattle.iceberg_table.specs.Folder.{HasVersion, IsNewest, version_path}
+use Rattle.iceberg_table.specs.Folder.{HasVersion, version_path}
+use Rattle.iceberg_table.proofs.OnceLaws.{newest_once}
 use Rattle.source_core.specs.declared.head.Head.{Head}
 use Rattle.source_core.proofs.Heads.{same_parts}
 use Rattle.source_iceberg.specs.Heads.{IsAbsent, IsCurrent, IsIcebergHead, IsNewestMetadata, StandsForMetadata, StatesMetadata, metadata_features}
 
 -- ---- what the newest metadata says
 
-pub one_version : (Held : ℕ → Type 0) (v w : ℕ) → IsNewest Held v → IsNewest Held w → v ≡ w
-one_version Held v w a b =
-    let up = b.last v a.there in
-    let down = a.last w b.there in omega (arith, up, down)
-
-pair_is : (p q : Metadata × List HeldUnread) (r : Result (Metadata × List HeldUnread) MetadataError) → r ≡ Ok p → r ≡ Ok q → p ≡ q
-pair_is p q r a b = cc
-
-first_is : (m n : Metadata) (es fs : List HeldUnread) (r : Result (Metadata × List HeldUnread) MetadataError) → r ≡ Ok (m, es) → r ≡ Ok (n, fs) → m ≡ n
-first_is m n es fs r a b = ap (λ (p : Metadata × List HeldUnread). p.0) (pair_is (m, es) (n, fs) r a b)
-
--- a text says one thing
-pub one_text : (bytes : List ℕ) (rs qs : List SchemaReading) (m n : Metadata) → IsMetadataText bytes rs m → IsMetadataText bytes qs n → m ≡ n
-one_text bytes rs qs m n a b =
-    let value : a.value ≡ b.value = same_Some a.value b.value (sym a.is ∙ b.is) in
-    let one : contents a.value ≡ Ok (m, unread rs) = contents_are a.value rs m a.says ((consistent_Decides m (schema_ids rs)).1 a.consistent) in
-    let two : contents b.value ≡ Ok (n, unread qs) = contents_are b.value qs n b.says ((consistent_Decides n (schema_ids qs)).1 b.consistent) in
-    first_is m n (unread rs) (unread qs) (contents a.value) one (ap contents value ∙ two)
-
 module _ (files : Files) (v w : ℕ) (m n : Metadata) (same : v ≡ w) where
   pub one_said : (b c : List ℕ) (rs qs : List SchemaReading) → HoldsFile files (version_path v) b → HoldsFile files (version_path w) c → IsMetadataText b rs m → IsMetadataText c qs n → m ≡ n
   one_said b c rs qs hb hc tb tc =
       let held = subst (λ (k : ℕ). HoldsFile files (version_path k) b) same hb in
       let bytes : b ≡ c = same_Some b c (sym held ∙ hc) in
-      one_text c rs qs m n (subst (λ (x : List ℕ). IsMetadataText x rs m) bytes tb) tc
+      text_once c rs qs m n (subst (λ (x : List ℕ). IsMetadataText x rs m) bytes tb) tc
 
 pub one_metadata : (files : Files) (v w : ℕ) (m n : Metadata) → IsNewestMetadata files v m → IsNewestMetadata files w n → (v ≡ w) × (m ≡ n)
 one_metadata files v w m n a b =
-    let same = one_version (HasVersion files) v w a.newest b.newest in
+    let same = newest_once (HasVersion files) v w a.newest b.newest in
     (same, one_said files v w m n same a.says.bytes b.says.bytes a.says.read.readings b.says.read.readings a.says.holds b.says.holds a.says.read.text b.says.read.text)
 
 pub metadata_once : (files : Files) (v w : ℕ) (m n : Metadata) → IsNewestMetadata files v m → IsNewestMetadata files w n → m ≡ n
@@ -76,7 +55,7 @@ stands_for files v m is = record { states = states_of files v m is; supported = 
 -- Newest metadata states one thing, whatever it shows.
 pub stated_once : (files : Files) (v w : ℕ) (m n : Metadata) → StatesMetadata files v m → IsNewestMetadata files w n → m ≡ n
 stated_once files v w m n a b =
-    let same = one_version (HasVersion files) v w a.newest b.newest in
+    let same = newest_once (HasVersion files) v w a.newest b.newest in
     one_said files v w m n same a.bytes b.says.bytes a.readings b.says.read.readings a.holds b.says.holds a.text b.says.read.text
 
 -- ---- its current snapshot

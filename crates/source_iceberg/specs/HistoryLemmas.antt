@@ -9,15 +9,12 @@ use Rattle.table_history.specs.declared.table.Commit.{Commit}
 use Rattle.table_history.specs.declared.table.Table.{Table}
 use Rattle.table_history.proofs.Laws.{change_of_same_rows}
 use Rattle.iceberg_ancestry.specs.Ancestry.{IsAncestry}
-use Rattle.iceberg_metadata.specs.Schemas.{HeldSchema}
-use Rattle.iceberg_columns.specs.declared.columns.SourceColumn.{SourceColumn}
 use Rattle.iceberg_metadata.specs.declared.metadata.Metadata.{Metadata}
 use Rattle.iceberg_metadata.specs.declared.metadata.Snapshot.{Snapshot}
-use Rattle.iceberg_table.specs.Plan.{names_of, snapshot_schema}
 use Rattle.iceberg_table.specs.Snapshots.{IsReadAs, IsTableOfSnapshot}
 use Rattle.iceberg_table.specs.declared.manifest.Manifest.{Manifest}
 use Rattle.iceberg_table.specs.declared.snapshot.SnapshotTable.{SnapshotTable}
-use Rattle.iceberg_table.proofs.LiveLaws.{columns_same}
+use Rattle.iceberg_table.proofs.OnceLaws.{table_once}
 use Rattle.source_core.specs.Histories.{IsLast, IsLike, LeadAlong, LeadsTo}
 use Rattle.table_history.specs.Tables.{SameTable}
 use Rattle.source_core.specs.declared.head.Head.{Head}
@@ -27,21 +24,6 @@ use Rattle.source_iceberg.specs.ListLemmas.{in_positions, same_behind}
 use Rattle.source_iceberg.specs.HeadLemmas.{one_current, stated_once}
 use Rattle.source_iceberg.specs.Since.{AreCommits, IsReached, IsSince, Reaches}
 use Rattle.source_iceberg.specs.SinceLemmas.{ancestors_once, last_ancestor}
-use Rattle.lake_basics.proofs.Options.{ok_once}
-
--- ---- a snapshot has one table
-
-schema_same : (files : Files) (m : Metadata) (s : Snapshot) (a b : Table) (x : IsTableOfSnapshot files m s a) (y : IsTableOfSnapshot files m s b) → x.plan.schema ≡ y.plan.schema
-schema_same files m s a b x y =
-    let held : x.planned.held ≡ y.planned.held = ok_once (snapshot_schema m s) x.planned.held y.planned.held x.planned.named y.planned.named in
-    x.planned.schema ∙ ap (λ (h : HeldSchema). h.1) held ∙ sym y.planned.schema
-
-pub table_once : (files : Files) (m : Metadata) (s : Snapshot) (a b : Table) → IsTableOfSnapshot files m s a → IsTableOfSnapshot files m s b → SameTable a b
-table_once files m s a b x y = record {
-  rows = λ row. ((λ there. (y.rows row).1 ((x.rows row).0 there)), (λ there. (x.rows row).1 ((y.rows row).0 there)));
-  partition = x.partition ∙ ap (λ (cs : List SourceColumn). names_of cs) (columns_same m s x.plan y.plan x.planned y.planned) ∙ sym y.partition;
-  schema = x.schema ∙ schema_same files m s a b x y ∙ sym y.schema;
-}
 
 -- ---- the entries of the kept snapshots
 

@@ -10,6 +10,7 @@ use Rattle.iceberg_manifest.specs.declared.info.ManifestInfo.{ManifestInfo}
 use Rattle.iceberg_metadata.specs.Grammar.{IsMetadataText}
 use Rattle.iceberg_metadata.specs.declared.metadata.Metadata.{Metadata}
 use Rattle.iceberg_metadata.specs.declared.metadata.Snapshot.{Snapshot}
+use Rattle.iceberg_metadata.proofs.OnceLemmas.{text_once}
 use Rattle.iceberg_table.specs.Files.{HoldsFile}
 use Rattle.iceberg_table.specs.Folder.{HasVersion, path_of, version_path}
 use Rattle.iceberg_table.specs.Lists.{AreRows, IsListed}
@@ -17,6 +18,7 @@ use Rattle.iceberg_table.specs.declared.list.ManifestFile.{ManifestFile}
 use Rattle.iceberg_table.proofs.EachLaws.{each_of}
 use Rattle.iceberg_table.proofs.ListLaws.{path_once}
 use Rattle.iceberg_table.proofs.ManifestLaws.{held_once}
+use Rattle.iceberg_table.proofs.OnceLaws.{rows_once}
 use Rattle.iceberg_version.specs.Manifests.{LiveManifest, NextManifest, new, stays}
 use Rattle.iceberg_version.specs.Names.{list_name, manifest_name, staged_name}
 use Rattle.iceberg_version.specs.Writing.{TableEnd}
@@ -27,7 +29,6 @@ use Rattle.target_iceberg.proofs.WrittenFiles.{reached_stays, version_stays}
 use Rattle.target_iceberg.proofs.WrittenManifests.{IsPlacedNext}
 use Rattle.target_iceberg.proofs.WrittenNames.{list_manifest, list_staged, manifest_staged, one_list, one_manifest, one_version, version_list, version_manifest, version_staged}
 use Rattle.target_iceberg.proofs.WrittenNew.{new_cases}
-use Rattle.target_iceberg.specs.OnceLemmas.{rows_once, text_once}
 use Rattle.target_iceberg.proofs.WrittenStart.{HasEnd, IsFirstEnd}
 use Rattle.target_iceberg.proofs.WrittenCurrent as written
 use Rattle.target_iceberg.proofs.WrittenVersion as version

@@ -49,10 +49,11 @@ use Rattle.iceberg_table.specs.declared.manifest.Manifest.{Manifest}
 use Rattle.iceberg_table.specs.declared.plan.Plan.{Plan}
 use Rattle.iceberg_table.proofs.EachLaws.{each_of}
 use Rattle.iceberg_table.proofs.ManifestLaws.{held_once}
+use Rattle.iceberg_table.proofs.OnceLaws.{rows_once}
 use Rattle.iceberg_table.proofs.PieceLaws.{as_file_fault}
 use Rattle.iceberg_table.proofs.RowLaws.{distinct_front}
 use Rattle.target_iceberg.specs.Inspecting.{faulty_path}
-use Rattle.target_iceberg.specs.OnceLemmas.{entries_once, ok_or_err, read_once, rows_once, stands_or_refused}
+use Rattle.target_iceberg.specs.OnceLemmas.{entries_once, ok_or_err, read_once, stands_or_refused}
 use Rattle.lake_basics.proofs.Options.{none_or_some, ok_once, some_once}
 
 -- ---- what is told of a refusal

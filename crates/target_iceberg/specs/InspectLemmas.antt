@@ -23,12 +23,13 @@ use Rattle.iceberg_table.specs.declared.error.IcebergError.{IcebergError}
 use Rattle.iceberg_table.specs.declared.list.ManifestFile.{ManifestFile}
 use Rattle.iceberg_table.specs.declared.manifest.Manifest.{Manifest}
 use Rattle.iceberg_table.specs.declared.plan.Plan.{Plan}
+use Rattle.iceberg_table.proofs.OnceLaws.{newest_once}
 use Rattle.target_core.specs.Views.{IsOfSource, IsUnpublished, Standing, View}
 use Rattle.target_core.proofs.Texts.{less_or_more}
 use Rattle.target_iceberg.specs.Inspecting.{HasForm, IsFirstStray, IsForeign, IsNewestRead, IsNotOurs, IsOfThis, IsRefusedSnapshot, IsRefusedVersion, faulty_path}
 use Rattle.target_iceberg.specs.Reading.{IsAbsent, IsCurrent, IsOurs, Reads, SaysSnapshot}
 use Rattle.target_iceberg.specs.FaultLemmas.{IsOfFile, file_told, list_or_fault, manifest_or_fault, manifest_told, plan_or_fault, shares_none, told_at, told_none, version_or_fault}
-use Rattle.target_iceberg.specs.OnceLemmas.{current_once, list_once, manifest_once, manifests_once, metadata_once, newest_once, plan_once}
+use Rattle.target_iceberg.specs.OnceLemmas.{current_once, list_once, manifest_once, manifests_once, metadata_once, plan_once}
 use Rattle.target_iceberg.specs.ViewLemmas.{never_ours}
 use Rattle.lake_basics.proofs.Options.{some_once}
 

@@ -1,5 +1,5 @@
 -- What the files of an Iceberg target say, they say once: reading is a function of the bytes.
-use Rattle.std.proofs.Common.{◌≡◌, inl, inr, ℕ, ℤ, List, [], ◌∷◌, length, Contains, Option, Some, None, Result, Ok, Err, Bool, true, false, cond, refl, sym, ap, subst, ◌∙◌, arith}
+use Rattle.std.proofs.Common.{◌≡◌, inl, inr, ℕ, ℤ, List, [], ◌∷◌, length, Contains, Option, Some, None, Result, Ok, Err, Bool, true, false, cond, refl, sym, ap, subst, ◌∙◌}
 use Rattle.std.specs.Ordering.{int_eq}
 use Rattle.avro_schema.specs.Tree.{SchemaTree}
 use Rattle.avro_value.specs.ValueTree.{ValueTree}
@@ -8,37 +8,30 @@ use Rattle.avro_container.specs.Format.{IsWithin, Pairs}
 use Rattle.avro_container.specs.Reading.{container_at}
 use Rattle.avro_container.proofs.Containers.{container_again, container_refused}
 use Rattle.lake_store.specs.Disk.{Files}
-use Rattle.table_history.specs.declared.table.Table.{Table}
 use Rattle.table_history.proofs.RowListLemmas.{Contains-head, Contains-tail}
-use Rattle.table_history.specs.Tables.{SameTable}
 use Rattle.iceberg_manifest.specs.Containers.{IsRefusedBy, Scan, StandsFor}
 use Rattle.iceberg_manifest.specs.Entry.{EntryData}
 use Rattle.iceberg_manifest.specs.Lists.{AreEach}
 use Rattle.iceberg_live.specs.Live.{rows_in}
 use Rattle.iceberg_live.specs.LiveRows.{AreLiveRows}
 use Rattle.iceberg_metadata.specs.Location.{front_of}
-use Rattle.iceberg_manifest.specs.Scans.{entries_of, infos_of}
+use Rattle.iceberg_manifest.specs.Scans.{entries_of}
 use Rattle.iceberg_manifest.specs.declared.error.ManifestError.{ManifestError}
 use Rattle.iceberg_manifest.specs.declared.info.ManifestInfo.{ManifestInfo}
 use Rattle.iceberg_live.specs.declared.live.LiveRow.{LiveRow}
 use Rattle.iceberg_manifest.specs.declared.partition.PartColumn.{PartColumn}
 use Rattle.iceberg_live.proofs.LiveLaws.{rows_given}
 use Rattle.iceberg_ancestry.specs.Ancestry.{held, held_at}
-use Rattle.iceberg_metadata.specs.Grammar.{IsMetadataText}
-use Rattle.iceberg_metadata.specs.Judging.{contents}
 use Rattle.iceberg_metadata.specs.Reading.{IsRead}
-use Rattle.iceberg_metadata.specs.Schemas.{HeldSchema, HeldUnread, SchemaReading, schema_ids, unread}
-use Rattle.iceberg_metadata.specs.declared.error.MetadataError.{MetadataError}
+use Rattle.iceberg_metadata.specs.Schemas.{HeldSchema}
 use Rattle.iceberg_metadata.specs.declared.metadata.Metadata.{Metadata}
 use Rattle.iceberg_metadata.specs.declared.metadata.Snapshot.{Snapshot}
-use Rattle.iceberg_metadata.proofs.ConsistentLemmas.{consistent_Decides}
-use Rattle.iceberg_metadata.proofs.ContentLemmas.{contents_are}
+use Rattle.iceberg_metadata.proofs.OnceLemmas.{text_once}
 use Rattle.iceberg_table.specs.Files.{HoldsFile, SaysMetadata}
-use Rattle.iceberg_table.specs.Folder.{IsNewest, version_path}
-use Rattle.iceberg_table.specs.Lists.{AreRows, SaysList}
+use Rattle.iceberg_table.specs.Folder.{version_path}
+use Rattle.iceberg_table.specs.Lists.{SaysList}
 use Rattle.iceberg_table.specs.Manifests.{AreEntries, HasEntries, IsManifestOf, SaysManifest}
-use Rattle.iceberg_table.specs.Plan.{IsPlanOf, names_of, part_columns, snapshot_schema}
-use Rattle.iceberg_table.specs.Snapshots.{IsTableOfSnapshot}
+use Rattle.iceberg_table.specs.Plan.{IsPlanOf, part_columns, snapshot_schema}
 use Rattle.iceberg_table.specs.declared.list.ManifestFile.{ManifestFile}
 use Rattle.iceberg_table.specs.declared.manifest.Manifest.{Manifest}
 use Rattle.iceberg_table.specs.declared.plan.Plan.{Plan}
@@ -46,6 +39,7 @@ use Rattle.iceberg_table.proofs.EachLaws.{each_once}
 use Rattle.iceberg_table.proofs.ListLaws as lists
 use Rattle.iceberg_table.proofs.LiveLaws.{columns_same, list_same}
 use Rattle.iceberg_table.proofs.ManifestLaws.{held_once}
+use Rattle.iceberg_table.proofs.OnceLaws.{rows_once}
 use Rattle.target_core.specs.Mark.{IsMarkText}
 use Rattle.target_core.specs.Views.{Standing, standing_of}
 use Rattle.target_core.specs.declared.mark.Mark.{Mark}
@@ -81,23 +75,10 @@ module _ {B : Type 0} (limit : ℕ) (scan : Scan B) (bytes : List ℕ) where
       let same : scan h.schema h.values ≡ scan k.schema k.values = whole_once (h.meta, h.schema, h.values) (k.meta, k.schema, k.values) h.container k.container in
       ok_or_err (scan k.schema k.values) x e (sym same ∙ h.read) k.read
 
-pub rows_once : (bytes : List ℕ) (a b : List ManifestInfo) → AreRows bytes a → AreRows bytes b → a ≡ b
-rows_once bytes a b h k = stands_once MAX_VALUES infos_of bytes a b h k
-
 pub entries_once : (columns : List PartColumn) (bytes : List ℕ) (a b : List EntryData) → AreEntries columns bytes a → AreEntries columns bytes b → a ≡ b
 entries_once columns bytes a b h k = stands_once MAX_VALUES (entries_of columns) bytes a b h k
 
 -- ---- metadata
-
-first_once : (m n : Metadata) (es fs : List HeldUnread) (r : Result (Metadata × List HeldUnread) MetadataError) → r ≡ Ok (m, es) → r ≡ Ok (n, fs) → m ≡ n
-first_once m n es fs r a b = ap (λ (p : Metadata × List HeldUnread). p.0) (ok_once r (m, es) (n, fs) a b)
-
-pub text_once : (bytes : List ℕ) (rs qs : List SchemaReading) (m n : Metadata) → IsMetadataText bytes rs m → IsMetadataText bytes qs n → m ≡ n
-text_once bytes rs qs m n a b =
-    let value : a.value ≡ b.value = some_once _ a.value b.value a.is b.is in
-    let one : contents a.value ≡ Ok (m, unread rs) = contents_are a.value rs m a.says ((consistent_Decides m (schema_ids rs)).1 a.consistent) in
-    let two : contents b.value ≡ Ok (n, unread qs) = contents_are b.value qs n b.says ((consistent_Decides n (schema_ids qs)).1 b.consistent) in
-    first_once m n (unread rs) (unread qs) (contents a.value) one (ap contents value ∙ two)
 
 pub read_once : (bytes : List ℕ) (m n : Metadata) → IsRead bytes m → IsRead bytes n → m ≡ n
 read_once bytes m n a b = text_once bytes a.readings b.readings m n a.text b.text
@@ -107,11 +88,6 @@ held_metadata_once files path a b m n ha hb ra rb = read_once b m n (subst (λ (
 
 pub metadata_once : (files : Files) (version : ℕ) (m n : Metadata) → SaysMetadata files version m → SaysMetadata files version n → m ≡ n
 metadata_once files version m n a b = held_metadata_once files (version_path version) a.bytes b.bytes m n a.holds b.holds a.read b.read
-
-pub newest_once : (Held : ℕ → Type 0) (v w : ℕ) → IsNewest Held v → IsNewest Held w → v ≡ w
-newest_once Held v w a b =
-    let up = b.last v a.there in
-    let down = a.last w b.there in omega (arith, up, down)
 
 -- ---- snapshots
 
@@ -200,15 +176,6 @@ says_once files m a b =
     let manifests : a.manifests ≡ b.manifests = manifests_once files m.location (part_columns b.plan.columns) b.list a.manifests b.manifests
     (subst (λ (l : List ManifestFile). AreEach (IsManifestOf files m.location (part_columns b.plan.columns)) l a.manifests) list (subst (λ (p : Plan). AreEach (IsManifestOf files m.location (part_columns p.columns)) a.list a.manifests) plan a.says.are)) b.says.are in
     record { snapshot = snapshot; plan = plan; list = list; manifests = manifests }
-
-pub table_once : (files : Files) (m : Metadata) (s : Snapshot) (a b : Table) → IsTableOfSnapshot files m s a → IsTableOfSnapshot files m s b → SameTable a b
-table_once files m s a b h k =
-    let plan : h.plan ≡ k.plan = plan_once m s h.plan k.plan h.planned k.planned in
-    record {
-      rows = λ row. (λ there. (k.rows row).1 ((h.rows row).0 there), λ there. (h.rows row).1 ((k.rows row).0 there));
-      schema = h.schema ∙ ap (λ (p : Plan). p.schema) plan ∙ sym k.schema;
-      partition = h.partition ∙ ap (λ (p : Plan). names_of p.columns) plan ∙ sym k.partition;
-    }
 
 -- ---- marks
 

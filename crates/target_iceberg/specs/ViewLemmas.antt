@@ -14,11 +14,12 @@ use Rattle.iceberg_table.specs.Folder.{HasVersion}
 use Rattle.iceberg_table.specs.Snapshots.{IsTableOfSnapshot}
 use Rattle.iceberg_table.specs.declared.list.ManifestFile.{ManifestFile}
 use Rattle.iceberg_table.specs.declared.plan.Plan.{Plan}
+use Rattle.iceberg_table.proofs.OnceLaws.{newest_once, table_once}
 use Rattle.target_core.specs.Changes.{IsGone, SameRowChange}
 use Rattle.target_core.specs.Views.{IsPublished, IsUnpublished, SameView, Standing, View, absent}
 use Rattle.target_core.proofs.Unpublished.{no_commits}
 use Rattle.target_iceberg.specs.Reading.{Adds, Deletes, IsAbsent, IsCarried, IsCurrent, IsEntryIn, IsMarked, IsOurs, Reads, SaysCurrent, SaysSnapshot}
-use Rattle.target_iceberg.specs.OnceLemmas.{current_once, metadata_once, newest_once, says_once, standing_once, table_once}
+use Rattle.target_iceberg.specs.OnceLemmas.{current_once, metadata_once, says_once, standing_once}
 
 -- ---- absent
 
