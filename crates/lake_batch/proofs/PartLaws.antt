@@ -6,9 +6,11 @@ use Rattle.std.specs.Cmp.Lexicographic.{slice_cmp, nat_list_cmp_total}
 use Rattle.std.specs.FinMap as map
 use Rattle.std.specs.FinSet as set
 use Rattle.lake_store.specs.Disk.{AddsShort, Disk, Files, IsPartlySynced, Moves, Paths, SameElsewhere, behind, front_of, moved, removed, stored, synced, written}
+use Rattle.lake_store.proofs.NameLaws.{behind_front}
+use Rattle.lake_store.proofs.TreeLaws.{same_paths}
 use Rattle.source_core.proofs.Files.{same_files}
 use Rattle.lake_batch.specs.Part.{part_disk, part_files, part_paths, path_in}
-use Rattle.lake_batch.specs.PartAt.{behind_front, clean-part, contains-part, get-part, here, part-clean, same_paths}
+use Rattle.lake_batch.specs.PartAt.{clean-part, contains-part, get-part, here, part-clean}
 
 module _ (folder : List ℕ) where
   pub part-insert : (files : Files) (p b : List ℕ) → part_files folder (map.insert files (path_in folder p) b) ≡ map.insert (part_files folder files) p b

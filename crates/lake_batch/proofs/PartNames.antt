@@ -10,10 +10,11 @@ use Rattle.std.specs.FinMap.Entries.{below_all, is_sorted}
 use Rattle.std.specs.declared.cmp.Ordering.{Ordering}
 use Rattle.std.proofs.lemmas.List.{append-nil}
 use Rattle.lake_store.specs.Disk.{Files, behind, front_of, is_name, name_behind, names_in}
+use Rattle.lake_store.proofs.NameLaws.{behind_splits}
 use Rattle.lake_store.proofs.OrderLaws.{same_front}
 use Rattle.source_core.proofs.Files.{same_files}
 use Rattle.lake_batch.specs.Part.{folder_in, part_files}
-use Rattle.lake_batch.specs.PartAt.{behind_splits, taken}
+use Rattle.lake_batch.specs.PartAt.{taken}
 use Rattle.lake_basics.proofs.Truth.{T_left, T_right}
 
 abbrev Entry : Type 0

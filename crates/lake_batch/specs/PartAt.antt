@@ -1,32 +1,18 @@
 -- What the part of a store has at a path.
-use Rattle.std.proofs.Common.{◌≡◌, ℕ, false, ◌||◌, cond, List, [], ◌∷◌, ◌++◌, filter_map, refl, sym, ◌∙◌, ap, arith}
+use Rattle.std.proofs.Common.{◌≡◌, ℕ, false, ◌||◌, cond, List, [], ◌∷◌, ◌++◌, filter_map, refl, sym, ◌∙◌, ap}
 use Rattle.std.specs.Prelude.{Option, Some, None}
 use Rattle.std.specs.Option.{option_map}
 use Rattle.std.specs.List.{cons_option, list_any}
 use Rattle.std.specs.Ordering.{nat_cmp, is_eq}
 use Rattle.std.specs.Cmp.Lexicographic.{slice_cmp, nat_list_cmp_total}
 use Rattle.std.specs.FinMap as map
-use Rattle.std.specs.FinMap.{slice_cmp-IsAntisymmetric, nat_cmp-IsAntisymmetric}
 use Rattle.std.specs.FinMap.Entries.{find}
 use Rattle.std.specs.FinSet as set
-use Rattle.std.proofs.lemmas.Bool.Decides.{nat_tests}
 use Rattle.lake_store.specs.Disk.{Disk, Files, IsClean, MayLeave, Paths, behind, front_of}
 use Rattle.lake_store.proofs.DiskLaws.{is_path, path_other}
+use Rattle.lake_store.proofs.NameLaws.{behind_front, behind_splits}
 use Rattle.lake_store.proofs.OrderLaws.{same_front}
 use Rattle.lake_batch.specs.Part.{part_disk, part_files, part_paths, path_in}
-
-pub behind_front : (front rest : List ℕ) → behind front (front ++ rest) ≡ Some rest
-behind_front [] rest = refl
-behind_front (c ∷ front) rest = let more = behind_front front rest in grind (arith, nat_tests, more)
-
-pub behind_splits : (front text rest : List ℕ) → behind front text ≡ Some rest → text ≡ front ++ rest
-behind_splits [] text rest is = cc
-behind_splits (c ∷ front) [] rest is = cc
-behind_splits (c ∷ front) (d ∷ text) rest is = let more = behind_splits front text rest in grind (arith, nat_tests, more)
-
--- sets that answer alike are one
-pub same_paths : (s t : Paths) → ((q : List ℕ) → set.contains s q ≡ set.contains t q) → s ≡ t
-same_paths s t is = set.same_set nat_list_cmp_total (slice_cmp-IsAntisymmetric nat_cmp-IsAntisymmetric) s t is
 
 module _ (front : List ℕ) where
   abbrev pub taken : List ℕ × List ℕ → Option (List ℕ × List ℕ)

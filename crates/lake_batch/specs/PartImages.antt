@@ -10,9 +10,10 @@ use Rattle.std.specs.declared.cmp.Ordering.TheVariants.{Equal}
 use Rattle.lake_store.specs.Disk.{Disk, Files, IsClean, MayLeave, behind, front_of}
 use Rattle.lake_store.specs.Moments.{Elapses}
 use Rattle.lake_store.proofs.DiskLaws.{path_other}
+use Rattle.lake_store.proofs.NameLaws.{behind_front, behind_splits}
 use Rattle.source_core.proofs.Files.{same_files}
 use Rattle.lake_batch.specs.Part.{IsBeside, part_disk, part_files, part_left_since, path_in}
-use Rattle.lake_batch.specs.PartAt.{behind_front, behind_splits, get-part, here, part-clean, part-may}
+use Rattle.lake_batch.specs.PartAt.{get-part, here, part-clean, part-may}
 
 module _ (folder : List ℕ) where
   -- a path is one of the part, or it isn't
