@@ -53,7 +53,3 @@ KeepsImage Kept old image = (path : List ℕ) → Kept path → IsClean old path
 pub record LeavesAlone {S : Type 0} (store : Ghosts S) (Kept : List ℕ → Type 0) (old new : S) : Type 0 where
   pub disk : Keeps Kept (store.disk old) (store.disk new)
   pub moments : IsEachMoment store old new (KeepsImage Kept (store.disk old))
-
--- Files change in this folder alone.
-abbrev pub ChangesOnlyIn : {S : Type 0} → Ghosts S → List ℕ → S → S → Type 0
-ChangesOnlyIn store folder old new = LeavesAlone store (IsOutside folder) old new
