@@ -9,11 +9,12 @@ use Rattle.std.proofs.lemmas.Bool.{and_parts, false≢true}
 use Rattle.std.proofs.lemmas.Bool.Decides.{nat_tests}
 use Rattle.std.proofs.lemmas.List.{append-nil, length-append}
 use Rattle.std.proofs.lemmas.List.Elements.{All-append, All-nil}
-use Rattle.std.proofs.lemmas.List.Sorted.{Contains-permutation, length_permutation}
+use Rattle.std.proofs.lemmas.List.Sorted.{length_permutation}
 use Rattle.std.proofs.lemmas.Map.Keys.{IsDistinct-cons}
-use Rattle.table_history.proofs.RowListLemmas.{Contains-head, Contains-none, Contains-one}
+use Rattle.table_history.proofs.RowListLemmas.{Contains-none, one_of_one}
 use Rattle.delta_live.proofs.BehindLemmas.{distinct_nothing}
 use Rattle.delta_log.specs.Commit.{file_path, file_paths}
+use Rattle.delta_log.proofs.FilePathLemmas.{paths_append}
 use Rattle.delta_log.specs.Sound.{HasNeededFeatures, HaveDistinctNames, IsSoundFile, IsWritable}
 use Rattle.delta_log.specs.declared.commit.DeltaCommit.{DeltaCommit}
 use Rattle.delta_log.specs.declared.commit.FileAction.{FileAction}
@@ -60,10 +61,6 @@ sound_files number i small =
     (removed_by number i (All IsSoundFile) (λ late. all_map IsSoundFile (removed_file number (i - 10)) 50 (sound_removed number (i - 10) (omega (arith, small))) 50 (omega arith)) (All-nil IsSoundFile))
 
 -- ---- paths
-
-paths_append : (fs gs : List FileAction) → file_paths (fs ++ gs) ≡ file_paths fs ++ file_paths gs
-paths_append [] gs = refl
-paths_append (f ∷ fs) gs = ap (λ (l : List (List ℕ)). file_path f ∷ l) (paths_append fs gs)
 
 pub paths_added : (number i : ℕ) (ns : List ℕ) → file_paths (map (added_file number i) ns) ≡ map (path_at number i) ns
 paths_added number i [] = refl
@@ -124,11 +121,6 @@ writable number i small = record {
 }
 
 -- ---- what is read of it
-
-one_of_one : {X : Type 0} (x : X) (ys : List X) → IsPermutation (x ∷ []) ys → ys ≡ x ∷ []
-one_of_one x [] moves = absurd (let len = length_permutation (x ∷ []) [] moves in omega (arith, len))
-one_of_one x (y ∷ []) moves = ap (λ z. z ∷ []) (Contains-one y x (Contains-permutation (x ∷ []) (y ∷ []) x moves (Contains-head x [])))
-one_of_one x (y ∷ (z ∷ ys)) moves = absurd (let len = length_permutation (x ∷ []) (y ∷ (z ∷ ys)) moves in omega (arith, len))
 
 none_of_none : {X : Type 0} (ys : List X) → IsPermutation [] ys → ys ≡ []
 none_of_none [] moves = refl

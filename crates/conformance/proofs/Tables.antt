@@ -25,6 +25,7 @@ use Rattle.delta_change.specs.TableBehind.{IsSchemaBehind, rows_before, partitio
 use Rattle.delta_live.proofs.BehindLemmas.{on_path, path_on, distinct_nothing}
 use Rattle.delta_live.specs.Live.{ActsOn, AddsRow, AreRowsBehind, AreValues, PartColumns, ArePartColumns, SpellsNoValue}
 use Rattle.delta_log.specs.Commit.{file_path, file_paths}
+use Rattle.delta_log.proofs.FilePathLemmas.{action_named}
 use Rattle.delta_log.specs.Judging.{acts_on}
 use Rattle.delta_log.specs.declared.commit.FileAction.{FileAction}
 use Rattle.delta_log.specs.declared.commit.MetaData.{MetaData}
@@ -114,14 +115,6 @@ paths_of_new : (number i : ℕ) (ns : List ℕ) → paths_of (map (row_at number
 paths_of_new number i [] = refl
 paths_of_new number i (n ∷ ns) = ap (λ (l : List (List ℕ)). path_at number i n ∷ l) (paths_of_new number i ns)
 
-path_acts : (files : List FileAction) (f : FileAction) → Contains files f → Contains (file_paths files) (file_path f)
-path_acts [] f there = absurd (Contains-none f there)
-path_acts (x ∷ files) f there =
-    ⊎_elim
-    (λ (here : x ≡ f). subst (λ (p : List ℕ). Contains (file_path x ∷ file_paths files) p) (ap file_path here) (Contains-head (file_path x) (file_paths files)))
-    (λ later. Contains-tail (file_path x) (file_paths files) (file_path f) (path_acts files f later))
-    (Contains-cases x files f there)
-
 pub row_of_path : (rows : List Row) (path : List ℕ) → Contains (paths_of rows) path → (row : Row) × Contains rows row × (row.path ≡ path)
 row_of_path [] path there = absurd (Contains-none path there)
 row_of_path (r ∷ rows) path there =
@@ -149,7 +142,7 @@ module _ (number i : ℕ) where
 
 module _ (number i : ℕ) (small : i < 200) (before : List Row) (distinct : HasDistinctPaths before) where
   acts_on_new : (j : ℕ) → j < 50 → acts_on (path_at number i j) (drill_files number i) ≡ true
-  acts_on_new j lt = path_on (path_at number i j) (drill_files number i) (path_acts (drill_files number i) (added_file number i j) (added_there number i j lt))
+  acts_on_new j lt = path_on (path_at number i j) (drill_files number i) (action_named (drill_files number i) (added_file number i j) (added_there number i j lt))
 
   apart : (j : ℕ) → j < 50 → Contains (paths_of (kept_rows number i before)) (path_at number i j) → ⊥
   apart j lt there =

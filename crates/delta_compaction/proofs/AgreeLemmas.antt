@@ -30,7 +30,8 @@ use Rattle.delta_compaction.specs.Reconciled.{AreNewest, IsReconciled, text_of}
 use Rattle.delta_compaction.specs.Taken.{AreTaken}
 use Rattle.delta_compaction.proofs.JoinLemmas.{joins_by}
 use Rattle.delta_compaction.proofs.KeyLemmas.{key_total}
-use Rattle.delta_compaction.proofs.LawLemmas.{action_named, named_action, stands_for}
+use Rattle.delta_compaction.proofs.LawLemmas.{named_action, stands_for}
+use Rattle.delta_log.proofs.FilePathLemmas.{action_named}
 use Rattle.delta_compaction.proofs.ReadsLemmas.{reads_each}
 use Rattle.delta_compaction.proofs.SortedLemmas.{same_rising}
 use Rattle.delta_compaction.proofs.TextLemmas.{HasTold, told_of}

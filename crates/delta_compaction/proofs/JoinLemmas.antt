@@ -26,7 +26,8 @@ use Rattle.delta_compaction.specs.Reconciled.{AreNewest}
 use Rattle.delta_compaction.specs.Taken.{AreTaken}
 use Rattle.delta_compaction.proofs.ActionLemmas.{about_meta, about_path, about_protocol, meta_about, path_about, protocol_about}
 use Rattle.delta_compaction.proofs.LastLemmas.{AllTell, GiveLast, GiveNone, HasLast, LackAll, Matches, Tells, given, given_back, has_last, last_given, last_has, last_told, nothing_given, none_given, only_given, told_last}
-use Rattle.delta_compaction.proofs.LawLemmas.{action_named, named_action}
+use Rattle.delta_compaction.proofs.LawLemmas.{named_action}
+use Rattle.delta_log.proofs.FilePathLemmas.{action_named}
 use Rattle.delta_compaction.proofs.ReadsLemmas.{AllRead, Reads, all_actions, all_exact, all_reads, groups_of}
 use Rattle.lake_basics.proofs.Texts.{bytes_itself}
 

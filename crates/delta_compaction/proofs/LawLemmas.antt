@@ -10,6 +10,7 @@ use Rattle.delta_log.specs.declared.commit.DeltaCommit.{DeltaCommit}
 use Rattle.delta_log.specs.declared.commit.FileAction.{FileAction}
 use Rattle.delta_log.specs.declared.commit.FileAction.TheVariants as file
 use Rattle.delta_log.specs.Commit.{file_path, file_paths}
+use Rattle.delta_log.proofs.FilePathLemmas.{action_named}
 use Rattle.delta_live.specs.Live.{ActsOn, AddsRow, IsLive, IsLiveOver, PartColumns}
 use Rattle.delta_compaction.specs.Law.{IsNewestAction, IsNewestPart, Joins, StandsFor}
 use Rattle.lake_basics.proofs.Lists.{none_longer}
@@ -133,13 +134,6 @@ named_action path (f ∷ files) there = ⊎_elim
     (λ here. (f, Contains-head f files, here))
     (λ later. let h = named_action path files later in (h.0, Contains-tail f files h.0 h.1, h.2))
     (Contains-cases (file_path f) (file_paths files) path there)
-
-pub action_named : (files : List FileAction) (f : FileAction) → Contains files f → Contains (file_paths files) (file_path f)
-action_named [] f there = absurd (Contains-none f there)
-action_named (g ∷ files) f there = ⊎_elim
-    (λ here. subst (λ x. Contains (file_paths (g ∷ files)) (file_path x)) here (Contains-head (file_path g) (file_paths files)))
-    (λ later. Contains-tail (file_path g) (file_paths files) (file_path f) (action_named files f later))
-    (Contains-cases g files f there)
 
 acts_or_not : (path : List ℕ) (files : List FileAction) → HasAction path files ⊎ (Contains (file_paths files) path → ⊥)
 acts_or_not path [] = inr (λ there. Contains-none path there)

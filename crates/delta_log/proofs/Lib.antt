@@ -3,6 +3,7 @@ pub mod NameLemmas
 pub mod LineLemmas
 pub mod SoundLemmas
 pub mod EachLemmas
+pub mod FilePathLemmas
 pub mod SaysLemmas
 pub mod StepLemmas
 pub mod FaultLemmas

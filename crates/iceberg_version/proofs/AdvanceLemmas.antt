@@ -14,7 +14,7 @@ use Rattle.std.proofs.lemmas.Map.Keys.{IsDistinct-cons, IsDistinct-head, IsDisti
 use Rattle.std.proofs.lemmas.Slice.Eq.{bytes_eq-Decides}
 use Rattle.table_history.specs.Row.{Row}
 use Rattle.table_history.specs.Rows.{HasDistinctPaths, paths_of}
-use Rattle.table_history.proofs.RowListLemmas.{Contains-cases, Contains-head, Contains-none, Contains-paths, Contains-tail, all_at}
+use Rattle.table_history.proofs.RowListLemmas.{Contains-cases, Contains-head, Contains-none, Contains-paths, Contains-tail, all_at, filter_whole}
 use Rattle.file_links.specs.Rows.{AddsOwner, DropsOwner, Entry, Finds, FindsEach, Holds, HoldsJust, HoldsPath, Inserts, IsFirstOf, OwnedRows, Reserves, Unlinks, rows_of, without_slot}
 use Rattle.file_links.specs.declared.slots.Held.{Held}
 use Rattle.file_links.proofs.SlotLemmas.{the_rows}
@@ -104,11 +104,6 @@ filter_same p q [] same = refl
 filter_same p q (x ∷ xs) same =
     let rest = filter_same p q xs (λ y c. same y (Contains-tail x xs y c)) in
     λ i. cond (same x (Contains-head x xs) i) (x ∷ rest i) (rest i)
-
-filter_whole : {X : Type 0} (p : X → Bool) (xs : List X) → ((x : X) → Contains xs x → p x ≡ true) → filter p xs ≡ xs
-filter_whole p [] all = refl
-filter_whole p (x ∷ xs) all =
-    cond-true (p x) (x ∷ filter p xs) (filter p xs) (all x (Contains-head x xs)) ∙ ap (λ ys. x ∷ ys) (filter_whole p xs (λ y c. all y (Contains-tail x xs y c)))
 
 twice_by : {X : Type 0} (q : X → Bool) (x : X) (b : Bool) (some whole : List X) → filter q some ≡ whole → filter q (cond b (x ∷ some) some) ≡ cond (b && q x) (x ∷ whole) whole
 twice_by q x true some whole same = ap (λ r. cond (q x) (x ∷ r) r) same

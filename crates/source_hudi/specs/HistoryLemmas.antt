@@ -14,7 +14,7 @@ use Rattle.lake_store.specs.Runs.{IsIn}
 use Rattle.table_history.specs.History.{History, IsHistory, positions_of}
 use Rattle.table_history.specs.declared.table.Commit.{Commit}
 use Rattle.table_history.specs.declared.table.Table.{Table}
-use Rattle.table_history.proofs.RowListLemmas.{Contains-cases, Contains-filter, Contains-head, Contains-none, Contains-tail, all_at}
+use Rattle.table_history.proofs.RowListLemmas.{Contains-cases, Contains-filter, Contains-head, Contains-none, Contains-tail, all_at, filter_whole}
 use Rattle.hudi_timeline.specs.Change.{LeadsThrough}
 use Rattle.hudi_timeline.specs.Live.{Timeline, completed}
 use Rattle.hudi_groups.specs.declared.form.Form.TheVariants.{Base}
@@ -38,7 +38,7 @@ use Rattle.source_hudi.specs.Heads.{IsHudiHead, IsTableAtHead}
 use Rattle.source_hudi.specs.Histories.{HoldsHistory, IsFromFirst, IsMadeBy, IsReadable, LeaveTables, LeavesFirst, LeavesTable, times_of}
 use Rattle.source_hudi.specs.Instants.{IsArchiveEmpty, archive_folder, reached_in}
 use Rattle.source_hudi.specs.LikeLemmas.{first_same, leads_like, step_same}
-use Rattle.source_hudi.specs.ListLemmas.{all_kept, end_front, end_map, in_map, last_distinct, map_in, split_last}
+use Rattle.source_hudi.specs.ListLemmas.{end_front, end_map, in_map, last_distinct, map_in, split_last}
 use Rattle.source_hudi.specs.OwnLemmas.{properties_too, reached_same, says_too}
 use Rattle.source_hudi.specs.Since.{AreCommits, IsSince, is_later, later_in}
 use Rattle.source_hudi.specs.SinceLemmas.{not_later, same_time}
@@ -72,7 +72,7 @@ later_times [] p ys (c ∷ cs) order e distinct =
     is_up p d.time
     (subst (λ (t : List ℕ). IsUpTo t d.time) first (all_at (λ (e : CompletedInstant). IsUpTo c.time e.time) cs d order.0 there))
     (first_apart p d.time ys distinct (subst (λ (l : List (List ℕ)). Contains l d.time) rest (map_in (λ (e : CompletedInstant). e.time) cs d there))) in
-    ap times_of (later_passed p c cs (up_to_same c.time p first) ∙ all_kept (λ (d : CompletedInstant). is_later p d.time) cs later) ∙ rest
+    ap times_of (later_passed p c cs (up_to_same c.time p first) ∙ filter_whole (λ (d : CompletedInstant). is_later p d.time) cs later) ∙ rest
 later_times (w ∷ ws) p ys (c ∷ cs) order e distinct =
     let rest : times_of cs ≡ ws ++ p ∷ ys = cc in
     let of = in_map (λ (d : CompletedInstant). d.time) cs p (subst (λ (l : List (List ℕ)). Contains l p) (sym rest) (Contains-append_right ws (p ∷ ys) p (Contains-head p ys))) in

@@ -24,10 +24,6 @@ map_in f (z ∷ zs) x there =
     (λ later. Contains-tail (f z) (map f zs) (f x) (map_in f zs x later))
     (Contains-cases z zs x there)
 
-pub all_kept : {X : Type 0} (p : X → Bool) (xs : List X) → ((x : X) → Contains xs x → p x ≡ true) → filter p xs ≡ xs
-all_kept p [] all = refl
-all_kept p (x ∷ xs) all = ap (λ b. cond b (x ∷ filter p xs) (filter p xs)) (all x (Contains-head x xs)) ∙ ap (λ ys. x ∷ ys) (all_kept p xs (λ y there. all y (Contains-tail x xs y there)))
-
 pub last_distinct : (xs ys : List (List ℕ)) → IsDistinct bytes_eq (xs ++ ys) → IsDistinct bytes_eq ys
 last_distinct [] ys distinct = distinct
 last_distinct (x ∷ xs) ys distinct = last_distinct xs ys (behind_distinct x (xs ++ ys) distinct)

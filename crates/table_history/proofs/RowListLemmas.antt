@@ -6,7 +6,7 @@ use Rattle.std.proofs.lemmas.List.{length-map, get_or-map}
 use Rattle.std.specs.List.{IsDistinct, AllByRecursion, list_any}
 use Rattle.std.specs.List.Sorted.{IsSortedBy, IsPermutation}
 use Rattle.std.specs.Cmp.{IsStrictWeakOrder}
-use Rattle.std.proofs.lemmas.List.Sorted.{ranks_by, IsPermutation-map, IsPermutation-sym, Contains-permutation}
+use Rattle.std.proofs.lemmas.List.Sorted.{ranks_by, IsPermutation-map, IsPermutation-sym, Contains-permutation, length_permutation}
 use Rattle.std.specs.Ordering.{ordering_reverse}
 use Rattle.std.specs.Option.{option_or}
 use Rattle.std.specs.Str.{bytes_eq}
@@ -40,6 +40,12 @@ Contains-one x y (suc k, l, e) = absurd (omega arith)
 pub Contains-cases : {X : Type 0} (x : X) (xs : List X) (y : X) → Contains (x ∷ xs) y → (x ≡ y) ⊎ Contains xs y
 Contains-cases x xs y h =
     elim (Contains-append_cases (x ∷ []) xs y h) as (λ _. (x ≡ y) ⊎ Contains xs y) [ inl a ↦ inl (Contains-one x y a) | inr b ↦ inr b ]
+
+-- a list that has the items of one item alone
+pub one_of_one : {X : Type 0} (x : X) (ys : List X) → IsPermutation (x ∷ []) ys → ys ≡ x ∷ []
+one_of_one x [] moves = absurd (let len = length_permutation (x ∷ []) [] moves in omega (arith, len))
+one_of_one x (y ∷ []) moves = ap (λ z. z ∷ []) (Contains-one y x (Contains-permutation (x ∷ []) (y ∷ []) x moves (Contains-head x [])))
+one_of_one x (y ∷ (z ∷ ys)) moves = absurd (let len = length_permutation (x ∷ []) (y ∷ (z ∷ ys)) moves in omega (arith, len))
 
 -- ---- the row of a path
 
@@ -159,6 +165,11 @@ module _ {X : Type 0} (p : X → Bool) where
       (λ no. subst (λ l. Contains l x) (sym (cond-false (p y) (y ∷ filter p ys) (filter p ys) no)) rest)
       (cases_Bool (p y)))
       (Contains-cases y ys x h)
+
+pub filter_whole : {X : Type 0} (p : X → Bool) (xs : List X) → ((x : X) → Contains xs x → p x ≡ true) → filter p xs ≡ xs
+filter_whole p [] all = refl
+filter_whole p (x ∷ xs) all =
+    cond-true (p x) (x ∷ filter p xs) (filter p xs) (all x (Contains-head x xs)) ∙ ap (λ ys. x ∷ ys) (filter_whole p xs (λ y c. all y (Contains-tail x xs y c)))
 
 all_paths_filter : (P : List ℕ → Type 0) (p : FileRow → Bool) (rows : List FileRow) → AllByRecursion P (paths_of rows) → AllByRecursion P (paths_of (filter p rows))
 all_paths_filter P p [] all = all

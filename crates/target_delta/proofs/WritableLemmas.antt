@@ -13,6 +13,7 @@ use Rattle.table_history.specs.declared.table.Change.{Change}
 use Rattle.table_history.proofs.RowListLemmas.{Contains-paths}
 use Rattle.table_history.proofs.TableLemmas.{distinct_order}
 use Rattle.delta_log.specs.Commit.{file_path, file_paths}
+use Rattle.delta_log.proofs.FilePathLemmas.{paths_append}
 use Rattle.delta_log.specs.Sound.{HasNeededFeatures, HaveDistinctNames, IsSoundFile, IsWritable}
 use Rattle.delta_log.specs.declared.commit.DeltaCommit.{DeltaCommit}
 use Rattle.delta_log.specs.declared.commit.FileAction.{FileAction}
@@ -31,10 +32,6 @@ use Rattle.target_delta.proofs.StepLemmas.{due_is, path_from}
 use Rattle.delta_live.proofs.BehindLemmas.{distinct_both}
 
 -- ---- the actions
-
-paths_append : (fs gs : List FileAction) → file_paths (fs ++ gs) ≡ file_paths fs ++ file_paths gs
-paths_append [] gs = refl
-paths_append (f ∷ fs) gs = ap (λ (l : List (List ℕ)). file_path f ∷ l) (paths_append fs gs)
 
 paths_length : (fs : List FileAction) → length (file_paths fs) ≡ length fs
 paths_length [] = refl

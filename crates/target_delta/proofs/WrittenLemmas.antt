@@ -5,7 +5,7 @@ use Rattle.std.specs.List.{IsDistinct}
 use Rattle.std.specs.List.Sorted.{IsPermutation}
 use Rattle.std.specs.Str.{bytes_eq}
 use Rattle.std.proofs.lemmas.Cmp.{nat_list_eq_equiv}
-use Rattle.std.proofs.lemmas.List.Sorted.{Contains-permutation, IsPermutation-map, length_permutation}
+use Rattle.std.proofs.lemmas.List.Sorted.{Contains-permutation, IsPermutation-map}
 use Rattle.std.proofs.lemmas.Map.Keys.{IsDistinct-IsPermutation, IsDistinct-head, IsDistinct-tail}
 use Rattle.std.proofs.lemmas.Slice.Eq.{bytes_eq-Decides}
 use Rattle.table_history.specs.History.{FitColumns, FitsColumn, IsOfType, column_type}
@@ -13,7 +13,7 @@ use Rattle.table_history.specs.Row.{Row}
 use Rattle.table_history.specs.TypeTree.{TypeTree, ColumnTrees}
 use Rattle.table_history.specs.declared.row.PartValue.{PartValue}
 use Rattle.table_history.specs.declared.row.PartValue.TheVariants as value
-use Rattle.table_history.proofs.RowListLemmas.{Contains-none, Contains-head, Contains-tail, Contains-cases, all_at}
+use Rattle.table_history.proofs.RowListLemmas.{Contains-none, Contains-head, Contains-tail, Contains-cases, all_at, one_of_one}
 use Rattle.partition_map.specs.Columns.{column_kind}
 use Rattle.partition_map.specs.Kind.{IsOfKind, part_kind_of}
 use Rattle.partition_map.specs.Stands.{DeltaStands}
@@ -47,13 +47,6 @@ pub record MetaAgain (m : MetaData) (o : Option MetaData) : Type 0 where
 pub meta_again : (m : MetaData) (o : Option MetaData) → SameMeta (Some m) o → MetaAgain m o
 meta_again m None same = absurd same
 meta_again m (Some n) same = record { again = n; is = refl; id = same.0; schema = same.1; partition = same.2; settings = same.3 }
-
-one_of_one : {X : Type 0} (x : X) (ys : List X) → IsPermutation (x ∷ []) ys → ys ≡ x ∷ []
-one_of_one x [] moves = absurd (let len = length_permutation (x ∷ []) [] moves in omega (arith, len))
-one_of_one x (y ∷ []) moves =
-    let same : y ≡ x = ⊎_elim (λ (is : y ≡ x). is) (λ none. absurd (Contains-none x none)) (Contains-cases y [] x (Contains-permutation (x ∷ []) (y ∷ []) x moves (Contains-head x []))) in
-    ap (λ z. z ∷ []) same
-one_of_one x (y ∷ (z ∷ ys)) moves = absurd (let len = length_permutation (x ∷ []) (y ∷ (z ∷ ys)) moves in omega (arith, len))
 
 pub only_setting : (p : List ℕ × List ℕ) (settings : List (List ℕ × List ℕ)) → IsPermutation (p ∷ []) settings → settings ≡ p ∷ []
 only_setting p settings moves = one_of_one p settings moves
