@@ -1,2 +1,3 @@
 pub mod ContainerLaws
 pub mod KindLaws
+pub mod SplitLaws

@@ -37,31 +37,20 @@ use Rattle.target_hudi.specs.Inspecting.{IsCrowded, IsLarge, IsReadUpTo, PassesI
 use Rattle.target_hudi.specs.OnceLemmas.{leads_schema, one_instant, one_kinds, one_table_of, one_timeline}
 use Rattle.target_hudi.specs.Reading.{IsAbsent, IsOurs, Reads, completed_in}
 use Rattle.target_hudi.specs.ReadingLemmas.{in_middle}
-use Rattle.target_hudi.specs.FaultLemmas.{none_first, unreadable_or_read}
+use Rattle.target_hudi.specs.FaultLemmas.{Ends, EndsAt, ends_of, in_force_too, none_first, schema_in, unreadable_or_read}
 
 -- ---- a number over a table of the same schema and rows
 
-abbrev schema_in : Option Table → Option ColumnTrees
-schema_in base = option_map (λ (t : Table). t.schema) base
-
-after_too : (a b : Option Table) (stated : Result (Option ColumnTrees) MapError) → schema_in a ≡ schema_in b → schema_after stated a ≡ schema_after stated b
-after_too a b (Err e) same = refl
-after_too a b (Ok None) same = same
-after_too a b (Ok (Some schema)) same = refl
-
 module _ (u : Completed) (table : HudiTable) where
-  in_force_too : (a b : Option Table) (schema : ColumnTrees) → schema_in a ≡ schema_in b → IsInForce u a schema → IsInForce u b schema
-  in_force_too a b schema same is = sym (after_too a b (stated_schema u.instant.schema) same) ∙ is
-
   live_too : (a b : Option Table) → SameRows (rows_before a) (rows_before b) → (kinds : List PartKind) (row : Row) → IsLiveAfter table kinds u (rows_before a) row → IsLiveAfter table kinds u (rows_before b) row
   live_too a b rows kinds row (inl written) = inl written
   live_too a b rows kinds row (inr stays) = inr ((rows row).0 stays.0, stays.1)
 
   passes_too : (a b : Option Table) → schema_in a ≡ schema_in b → SameRows (rows_before a) (rows_before b) → (which : LimitKind) → Passes u table a which → Passes u table b which
-  passes_too a b same rows limit.Columns h = (h.0, in_force_too a b h.0 same h.1, h.2)
-  passes_too a b same rows limit.Depth h = (h.0, in_force_too a b h.0 same h.1, h.2)
+  passes_too a b same rows limit.Columns h = (h.0, in_force_too u table a b h.0 same h.1, h.2)
+  passes_too a b same rows limit.Depth h = (h.0, in_force_too u table a b h.0 same h.1, h.2)
   passes_too a b same rows limit.LiveFiles h =
-      (h.0, record { schema = h.1.schema; in_force = in_force_too a b h.1.schema same h.1.in_force; are = h.1.are }, h.2, h.3, λ row there. live_too a b rows h.0 row (h.4 row there), h.5)
+      (h.0, record { schema = h.1.schema; in_force = in_force_too u table a b h.1.schema same h.1.in_force; are = h.1.are }, h.2, h.3, λ row there. live_too a b rows h.0 row (h.4 row there), h.5)
   passes_too a b same rows _ h = h
 
 -- What makes a change of one table passes no number over another one of the same schema and rows.
@@ -70,29 +59,6 @@ change_or_limit u table a b change which same rows is refused =
     none_first (Passes u table a) (Passes u table b) change_limits which (passes_too u table b a (sym same) (λ row. ((rows row).1, (rows row).0))) is.numbers refused.2
 
 -- ---- along a timeline
-
--- The timeline leads from the one table to the other one.
-abbrev EndsAt : HudiTable → Option Table → Timeline → Option Table → Type 0
-EndsAt table base [] end = end ≡ base
-EndsAt table base (u ∷ timeline) end = (change : Change) × (next : Table) × IsChangeOf u table base change × IsAfter (table_before table base) change next × EndsAt table (Some next) timeline end
-
-ends_some : (table : HudiTable) (base : Table) (timeline : Timeline) (after : Table) → LeadsThrough table (Some base) timeline after → EndsAt table (Some base) timeline (Some after)
-ends_some table base [] after leads = ap Some leads
-ends_some table base (u ∷ timeline) after leads = (leads.0, leads.1, leads.2, leads.3, ends_some table leads.1 timeline after leads.4)
-
-ends_any : (table : HudiTable) (base : Option Table) (front : Timeline) (u : Completed) (after : Table) → LeadsThrough table base (front ++ u ∷ []) after → EndsAt table base (front ++ u ∷ []) (Some after)
-ends_any table base [] u after leads = (leads.0, leads.1, leads.2, leads.3, ends_some table leads.1 [] after leads.4)
-ends_any table base (v ∷ front) u after leads = (leads.0, leads.1, leads.2, leads.3, ends_some table leads.1 (front ++ u ∷ []) after leads.4)
-
--- The instants' files say what leads to the table that is read of them.
-record Ends (files : Files) (table : HudiTable) (cs : List CompletedInstant) (end : Option Table) : Type 0 where
-  timeline : Timeline
-  say : SayTimeline files External cs timeline
-  ends : EndsAt table None timeline end
-
-ends_of : (files : Files) (table : HudiTable) (cs : List CompletedInstant) (latest : Option Latest) → IsReadingOf files External table cs latest → Ends files table cs (table_in latest)
-ends_of files table cs None none = record { timeline = []; say = subst (λ (l : List CompletedInstant). SayTimeline files External l []) (sym none) refl; ends = refl }
-ends_of files table cs (Some latest) read = record { timeline = read.before ++ read.newest ∷ []; say = read.say; ends = ends_any table None read.before read.newest latest.table read.leads }
 
 -- An instant of a timeline is taken over the table to which those before it lead.
 record IsStepIn (table : HudiTable) (base : Option Table) (front : Timeline) (u : Completed) : Type 0 where

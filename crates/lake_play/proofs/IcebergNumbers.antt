@@ -24,6 +24,7 @@ use Rattle.iceberg_manifest.specs.declared.error.ManifestError.{ManifestError}
 use Rattle.iceberg_manifest.specs.declared.error.ManifestError.TheVariants as manifest
 use Rattle.iceberg_manifest.specs.declared.info.ManifestInfo.{ManifestInfo}
 use Rattle.iceberg_manifest.specs.declared.partition.PartColumn.{PartColumn}
+use Rattle.iceberg_manifest.proofs.SplitLaws.{Split, split_each}
 use Rattle.iceberg_manifest_feeding.proofs.OrderLaws.{read_or_refused}
 use Rattle.iceberg_live.specs.Live.{IsRowOf}
 use Rattle.iceberg_live.specs.LiveRows.{HasFault, IsFirstFault}
@@ -167,23 +168,6 @@ module _ (files : Files) (location : List ℕ) (columns : List PartColumn) (file
       by : IsManifestOf files location columns file r → (MAX_ACTIONS < before + r.entries) × (limit ≡ Actions)
       by (same, inl (zero, h)) = of_entries r.rows (subst (λ (m : ManifestFile). HasEntries files location columns (record { file = m; entries = r.entries; rows = r.rows })) same h)
       by (same, inr (other, h, none)) = of_entries h.0 (subst (λ (m : ManifestFile). HasEntries files location columns (record { file = m; entries = r.entries; rows = h.0 })) same h.1)
-
--- what is found of a front of a list, and of the item behind it
-record Split {A B : Type 0} (P : A → B → Type 0) (front : List A) (item : A) (ys : List B) : Type 0 where
-  found : List B
-  one : B
-  rest : List B
-  is : ys ≡ found ++ one ∷ rest
-  are : AreEach P front found
-  here : P item one
-
-split_each : {A B : Type 0} (P : A → B → Type 0) (front : List A) (item : A) (behind : List A) (ys : List B) → AreEach P (front ++ item ∷ behind) ys → Split P front item ys
-split_each P [] item behind [] are = absurd are
-split_each P [] item behind (y ∷ ys) are = record { found = []; one = y; rest = ys; is = refl; are = tt; here = are.0 }
-split_each P (x ∷ front) item behind [] are = absurd are
-split_each {A} {B} P (x ∷ front) item behind (y ∷ ys) are =
-    let s = split_each P front item behind ys are.1 in
-    record { found = y ∷ s.found; one = s.one; rest = s.rest; is = ap (λ (l : List B). y ∷ l) s.is; are = (are.0, s.are); here = s.here }
 
 -- ---- the newest version
 

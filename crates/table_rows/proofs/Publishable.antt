@@ -16,28 +16,7 @@ use Rattle.table_history.proofs.Laws.{same_rows_length}
 use Rattle.table_history.specs.declared.table.Commit.{Commit}
 use Rattle.target_core.specs.Conditions.{CanPublish, HasKind, IsPublishable}
 use Rattle.target_core.specs.Views.{View}
-
--- What leads to a table that may be published may be published.
-pub publishable_after : (before after t : Table) (change : Change) → IsPublishable after → LeadsTo before.rows change.removed change.added after.rows → change.schema ≡ Some after.schema → before.partition ≡ after.partition → IsAfter before change t
-    → IsPublishable t
-publishable_after before after t change may leads states columns is =
-    let schema : t.schema ≡ after.schema = is.schema ∙ ap (λ (s : Option ColumnTrees). unwrap_or s before.schema) states in
-    let partition : t.partition ≡ after.partition = is.partition ∙ columns in
-    let same : SameRows t.rows after.rows = λ row. (λ there. (leads row).0 ((is.rows row).0 there), λ there. (is.rows row).1 ((leads row).1 there)) in
-    record {
-      sound = record {
-        distinct = is.distinct;
-        values = λ row there. subst (λ (s : ColumnTrees). FitColumns s t.partition row.values) (sym schema)
-            (subst (λ (names : List (List ℕ)). FitColumns after.schema names row.values) (sym partition) (may.sound.values row ((same row).0 there)));
-      };
-      paths = λ row there. may.paths row ((same row).0 there);
-      live_files = subst (λ (n : ℕ). n ≤ MAX_LIVE_FILES) (sym (same_rows_length t.rows after.rows is.distinct may.sound.distinct same)) may.live_files;
-      partition_columns = subst (λ (names : List (List ℕ)). length names ≤ MAX_PARTITION_COLUMNS) (sym partition) may.partition_columns;
-      partition_distinct = subst (λ (names : List (List ℕ)). IsDistinct bytes_eq names) (sym partition) may.partition_distinct;
-      partition_kinds = λ name there. subst (λ (s : ColumnTrees). HasKind s name) (sym schema) (may.partition_kinds name (subst (λ (names : List (List ℕ)). Contains names name) partition there));
-      schema = subst IsSound (sym schema) may.schema;
-      size = subst IsWithinLimits (sym schema) may.size;
-    }
+use Rattle.target_core.proofs.Publishable.{publishable_after}
 
 pub not_none : (commit : Commit) → commit ∷ [] ≡ [] → ⊥
 not_none commit is = cc is

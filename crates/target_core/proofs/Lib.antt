@@ -8,6 +8,7 @@ pub mod Along
 pub mod SameStart
 pub mod HeldRows
 pub mod Writing
+pub mod Publishable
 pub mod Come
 pub mod StoreAnswers
 pub mod Unpublished

@@ -36,7 +36,7 @@ use Rattle.target_hudi.specs.OnceLemmas.{one_instant}
 
 -- ---- a table of the same schema
 
-abbrev schema_in : Option Table → Option ColumnTrees
+abbrev pub schema_in : Option Table → Option ColumnTrees
 schema_in base = option_map (λ (t : Table). t.schema) base
 
 schema_before : (table : HudiTable) (a b : Option Table) → schema_in a ≡ schema_in b → (table_before table a).schema ≡ (table_before table b).schema
@@ -56,7 +56,7 @@ after_too a b (Ok None) same = same
 after_too a b (Ok (Some schema)) same = refl
 
 module _ (u : Completed) (table : HudiTable) where
-  in_force_too : (a b : Option Table) (schema : ColumnTrees) → schema_in a ≡ schema_in b → IsInForce u a schema → IsInForce u b schema
+  pub in_force_too : (a b : Option Table) (schema : ColumnTrees) → schema_in a ≡ schema_in b → IsInForce u a schema → IsInForce u b schema
   in_force_too a b schema same is = sym (after_too a b (stated_schema u.instant.schema) same) ∙ is
 
   kinds_too : (a b : Option Table) → schema_in a ≡ schema_in b → (schema : ColumnTrees) → (before : Table) × (a ≡ Some before) × HasOtherKind before.schema schema table.partition
@@ -89,7 +89,7 @@ change_or_refusal u table a b change (errors.Limit which) same fault is refused 
 -- ---- along a timeline
 
 -- The timeline leads from the one table to the other one.
-abbrev EndsAt : HudiTable → Option Table → Timeline → Option Table → Type 0
+abbrev pub EndsAt : HudiTable → Option Table → Timeline → Option Table → Type 0
 EndsAt table base [] end = end ≡ base
 EndsAt table base (u ∷ timeline) end = (change : Change) × (next : Table) × IsChangeOf u table base change × IsAfter (table_before table base) change next × EndsAt table (Some next) timeline end
 
@@ -102,12 +102,12 @@ ends_any table base [] u after leads = (leads.0, leads.1, leads.2, leads.3, ends
 ends_any table base (v ∷ front) u after leads = (leads.0, leads.1, leads.2, leads.3, ends_some table leads.1 (front ++ u ∷ []) after leads.4)
 
 -- The instants' files say what leads to the table that is read of them.
-record Ends (files : Files) (table : HudiTable) (cs : List CompletedInstant) (end : Option Table) : Type 0 where
-  timeline : Timeline
-  say : SayTimeline files External cs timeline
-  ends : EndsAt table None timeline end
+pub record Ends (files : Files) (table : HudiTable) (cs : List CompletedInstant) (end : Option Table) : Type 0 where
+  pub timeline : Timeline
+  pub say : SayTimeline files External cs timeline
+  pub ends : EndsAt table None timeline end
 
-ends_of : (files : Files) (table : HudiTable) (cs : List CompletedInstant) (latest : Option Latest) → IsReadingOf files External table cs latest → Ends files table cs (table_in latest)
+pub ends_of : (files : Files) (table : HudiTable) (cs : List CompletedInstant) (latest : Option Latest) → IsReadingOf files External table cs latest → Ends files table cs (table_in latest)
 ends_of files table cs None none = record { timeline = []; say = subst (λ (l : List CompletedInstant). SayTimeline files External l []) (sym none) refl; ends = refl }
 ends_of files table cs (Some latest) read = record { timeline = read.before ++ read.newest ∷ []; say = read.say; ends = ends_any table None read.before read.newest latest.table read.leads }
 

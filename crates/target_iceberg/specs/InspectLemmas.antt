@@ -8,6 +8,7 @@ use Rattle.table_history.specs.Rows.{HasDistinctPaths}
 use Rattle.table_history.specs.declared.kind.Kind.{Kind}
 use Rattle.iceberg_manifest.specs.Lists.{AreEach}
 use Rattle.iceberg_manifest.specs.declared.partition.PartColumn.{PartColumn}
+use Rattle.iceberg_manifest.proofs.SplitLaws.{Split, split_each}
 use Rattle.iceberg_metadata.specs.declared.metadata.Metadata.{Metadata}
 use Rattle.iceberg_metadata.specs.declared.metadata.Snapshot.{Snapshot}
 use Rattle.iceberg_table.specs.Files.{SaysMetadata}
@@ -60,23 +61,6 @@ places {A} (x ∷ front) item behind [] item' behind' is =
 places {A} (x ∷ front) item behind (y ∷ front') item' behind' is =
     let one = head_is x y (front ++ item ∷ behind) (front' ++ item' ∷ behind') is in
     subst (λ (z : A). Places (x ∷ front) item behind (z ∷ front') item' behind') one.0 (further x front item behind front' item' behind' (places front item behind front' item' behind' one.1))
-
--- what is found of a front of a list, and of the item behind it
-record Split {A B : Type 0} (P : A → B → Type 0) (front : List A) (item : A) (ys : List B) : Type 0 where
-  found : List B
-  one : B
-  rest : List B
-  is : ys ≡ found ++ one ∷ rest
-  are : AreEach P front found
-  here : P item one
-
-split_each : {A B : Type 0} (P : A → B → Type 0) (front : List A) (item : A) (behind : List A) (ys : List B) → AreEach P (front ++ item ∷ behind) ys → Split P front item ys
-split_each P [] item behind [] are = absurd are
-split_each P [] item behind (y ∷ ys) are = record { found = []; one = y; rest = ys; is = refl; are = tt; here = are.0 }
-split_each P (x ∷ front) item behind [] are = absurd are
-split_each {A} {B} P (x ∷ front) item behind (y ∷ ys) are =
-    let s = split_each P front item behind ys are.1 in
-    record { found = y ∷ s.found; one = s.one; rest = s.rest; is = ap (λ (l : List B). y ∷ l) s.is; are = (are.0, s.are); here = s.here }
 
 -- ---- manifests that are read or refused
 

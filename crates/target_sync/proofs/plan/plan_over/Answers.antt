@@ -3,7 +3,7 @@ use Rattle.table_history.specs.Tables.{CanApply, LeadsTo}
 use Rattle.table_history.specs.declared.table.Commit.{Commit}
 use Rattle.table_history.specs.declared.table.Table.{Table}
 use Rattle.target_sync.specs.Dues.{IsChangeTo}
-use Rattle.target_sync.proofs.Planning.{publishable_after}
+use Rattle.target_core.proofs.Publishable.{publishable_after}
 use Rattle.target_sync.proofs.plan.plan_over.Goals as goal
 
 pub returns : goal.returns
