@@ -13,7 +13,7 @@ use Rattle.std.proofs.lemmas.List.Sorted.{length_permutation}
 use Rattle.std.proofs.lemmas.Map.Keys.{IsDistinct-cons}
 use Rattle.table_history.proofs.RowListLemmas.{Contains-none, one_of_one}
 use Rattle.delta_live.proofs.BehindLemmas.{distinct_nothing}
-use Rattle.delta_log.specs.Commit.{file_path, file_paths}
+use Rattle.delta_log.specs.Commit.{file_paths}
 use Rattle.delta_log.proofs.FilePathLemmas.{paths_append}
 use Rattle.delta_log.specs.Sound.{HasNeededFeatures, HaveDistinctNames, IsSoundFile, IsWritable}
 use Rattle.delta_log.specs.declared.commit.DeltaCommit.{DeltaCommit}

@@ -24,7 +24,6 @@ use Rattle.delta_change.specs.Change.{ChangesPartition, HasOtherPartition, HasOt
 use Rattle.delta_change.specs.TableBehind.{IsSchemaBehind, rows_before, partition_behind}
 use Rattle.delta_live.proofs.BehindLemmas.{on_path, path_on, distinct_nothing}
 use Rattle.delta_live.specs.Live.{ActsOn, AddsRow, AreRowsBehind, AreValues, PartColumns, ArePartColumns, SpellsNoValue}
-use Rattle.delta_log.specs.Commit.{file_path, file_paths}
 use Rattle.delta_log.proofs.FilePathLemmas.{action_named}
 use Rattle.delta_log.specs.Judging.{acts_on}
 use Rattle.delta_log.specs.declared.commit.FileAction.{FileAction}

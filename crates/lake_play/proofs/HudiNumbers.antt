@@ -1,12 +1,10 @@
 -- Reading a Hudi target that is absent or ours passes no number but those of names, of a file's bytes and of completed instants.
-use Rattle.std.proofs.Common.{◌≡◌, ◌⊎◌, inl, inr, ℕ, ◌≤◌, ◌<◌, List, [], ◌∷◌, ◌++◌, length, Contains, Option, None, Some, Result, refl, sym, ap, subst, ◌∙◌, codes, arith}
-use Rattle.std.specs.Prelude.{Err, Ok, option_map}
+use Rattle.std.proofs.Common.{◌≡◌, ◌⊎◌, inl, inr, ℕ, ◌≤◌, ◌<◌, List, [], ◌∷◌, ◌++◌, length, Contains, Option, None, Some, refl, sym, ap, subst, ◌∙◌, codes, arith}
 use Rattle.lake_basics.specs.declared.limits.TheConstants.{MAX_COMMITS, MAX_FILE_BYTES, MAX_NAMES}
 use Rattle.lake_basics.proofs.Lists.{none_longer}
 use Rattle.lake_store.specs.Disk.{Files, names_in}
 use Rattle.table_history.specs.Row.{Row}
 use Rattle.table_history.specs.Rows.{SameRows}
-use Rattle.table_history.specs.Tables.{IsAfter}
 use Rattle.table_history.specs.TypeTree.{ColumnTrees}
 use Rattle.table_history.specs.declared.kind.Kind.{Kind}
 use Rattle.table_history.specs.declared.limit.LimitKind.{LimitKind}
@@ -15,14 +13,12 @@ use Rattle.table_history.specs.declared.limit.LimitKind.TheVariants.{File, Names
 use Rattle.table_history.specs.declared.table.Change.{Change}
 use Rattle.table_history.specs.declared.table.Table.{Table}
 use Rattle.partition_map.specs.declared.kind.PartKind.{PartKind}
-use Rattle.schema_map.specs.declared.fault.MapError.{MapError}
 use Rattle.hudi_names.specs.declared.error.HudiError.TheVariants as errors
 use Rattle.hudi_instant.specs.declared.instant.Instant.{Instant}
 use Rattle.hudi_properties.specs.declared.table.HudiTable.{HudiTable}
-use Rattle.hudi_timeline.specs.Causes.{IsInForce, IsRefusalOf, Passes, change_limits, rows_before, table_before}
+use Rattle.hudi_timeline.specs.Causes.{IsRefusalOf, Passes, change_limits, rows_before}
 use Rattle.hudi_timeline.specs.Change.{IsChangeOf, LeadsThrough}
 use Rattle.hudi_timeline.specs.Live.{Completed, IsLiveAfter, IsLiveOver, Timeline, completed}
-use Rattle.hudi_timeline.specs.Schemas.{schema_after, stated_schema}
 use Rattle.hudi_timeline.proofs.TimelineLaws.{timeline_kinds, timeline_rows}
 use Rattle.hudi_table.specs.Files.{SaysInstant}
 use Rattle.hudi_table.specs.Reading.{IsLatestOf, IsReadingOf, SayTimeline, form_of, table_in}
@@ -37,7 +33,7 @@ use Rattle.target_hudi.specs.Inspecting.{IsCrowded, IsLarge, IsReadUpTo, PassesI
 use Rattle.target_hudi.specs.OnceLemmas.{leads_schema, one_instant, one_kinds, one_table_of, one_timeline}
 use Rattle.target_hudi.specs.Reading.{IsAbsent, IsOurs, Reads, completed_in}
 use Rattle.target_hudi.specs.ReadingLemmas.{in_middle}
-use Rattle.target_hudi.specs.FaultLemmas.{Ends, EndsAt, ends_of, in_force_too, none_first, schema_in, unreadable_or_read}
+use Rattle.target_hudi.specs.FaultLemmas.{EndsAt, ends_of, in_force_too, none_first, schema_in, unreadable_or_read}
 
 -- ---- a number over a table of the same schema and rows
 

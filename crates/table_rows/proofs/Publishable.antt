@@ -1,20 +1,9 @@
 -- Commits that lead to a table that may be published.
-use Rattle.std.proofs.Common.{◌≡◌, ◌⊎◌, ◌<◌, ◌≤◌, ℕ, List, [], ◌∷◌, length, Contains, Option, Some, ⊎_elim, sym, ap, subst, ◌∙◌}
-use Rattle.std.specs.Prelude.{unwrap_or}
-use Rattle.std.specs.List.{IsDistinct}
-use Rattle.std.specs.Str.{bytes_eq}
-use Rattle.lake_basics.specs.declared.limits.TheConstants.{MAX_LIVE_FILES, MAX_PARTITION_COLUMNS}
-use Rattle.table_history.specs.History.{FitColumns}
-use Rattle.table_history.specs.Rows.{SameRows}
-use Rattle.table_history.specs.SchemaSize.{IsWithinLimits}
-use Rattle.table_history.specs.Sound.{IsSound}
-use Rattle.table_history.specs.Tables.{CanApply, IsAfter, LeadsTo}
-use Rattle.table_history.specs.TypeTree.{ColumnTrees}
-use Rattle.table_history.specs.declared.table.Change.{Change}
+use Rattle.std.proofs.Common.{◌≡◌, ◌⊎◌, ◌<◌, ℕ, List, [], ◌∷◌, Some, ⊎_elim}
+use Rattle.table_history.specs.Tables.{CanApply, LeadsTo}
 use Rattle.table_history.specs.declared.table.Table.{Table}
-use Rattle.table_history.proofs.Laws.{same_rows_length}
 use Rattle.table_history.specs.declared.table.Commit.{Commit}
-use Rattle.target_core.specs.Conditions.{CanPublish, HasKind, IsPublishable}
+use Rattle.target_core.specs.Conditions.{CanPublish, IsPublishable}
 use Rattle.target_core.specs.Views.{View}
 use Rattle.target_core.proofs.Publishable.{publishable_after}
 

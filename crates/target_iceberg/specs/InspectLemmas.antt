@@ -8,7 +8,7 @@ use Rattle.table_history.specs.Rows.{HasDistinctPaths}
 use Rattle.table_history.specs.declared.kind.Kind.{Kind}
 use Rattle.iceberg_manifest.specs.Lists.{AreEach}
 use Rattle.iceberg_manifest.specs.declared.partition.PartColumn.{PartColumn}
-use Rattle.iceberg_manifest.proofs.SplitLaws.{Split, split_each}
+use Rattle.iceberg_manifest.proofs.SplitLaws.{split_each}
 use Rattle.iceberg_metadata.specs.declared.metadata.Metadata.{Metadata}
 use Rattle.iceberg_metadata.specs.declared.metadata.Snapshot.{Snapshot}
 use Rattle.iceberg_table.specs.Files.{SaysMetadata}

@@ -1,28 +1,19 @@
 -- A plan of what is due to a target.
-use Rattle.std.proofs.Common.{◌≡◌, inl, inr, ◌<◌, ◌≤◌, ℕ, true, false, List, [], ◌∷◌, length, Contains, Option, Some, None, refl, sym, ap, subst, ◌∙◌}
-use Rattle.std.specs.Prelude.{IfErr, Result, Ok, Err, unwrap_or}
-use Rattle.std.specs.List.{IsDistinct}
-use Rattle.std.specs.Str.{bytes_eq}
-use Rattle.lake_basics.specs.declared.limits.TheConstants.{MAX_LIVE_FILES, MAX_PARTITION_COLUMNS}
+use Rattle.std.proofs.Common.{◌≡◌, inl, inr, ◌<◌, ℕ, true, false, List, [], ◌∷◌, length, Option, Some, None, refl, sym, ap, subst, ◌∙◌}
+use Rattle.std.specs.Prelude.{IfErr, Result, Ok, Err}
 use Rattle.lake_store.specs.Disk.{Files}
 use Rattle.source_core.specs.Answers.{IsReadRefusal}
 use Rattle.source_core.specs.Since.{CanApplyAll}
 use Rattle.source_core.specs.declared.error.SourceError.{SourceError}
 use Rattle.source_core.specs.declared.head.Head.{Head}
 use Rattle.source_core.specs.declared.since.Since.TheVariants.{Commits}
-use Rattle.table_history.specs.History.{FitColumns}
-use Rattle.table_history.specs.Rows.{SameRows}
-use Rattle.table_history.specs.SchemaSize.{IsWithinLimits}
-use Rattle.table_history.specs.Sound.{IsSound}
-use Rattle.table_history.specs.Tables.{IsAfter, LeadsTo, SameTable}
+use Rattle.table_history.specs.Tables.{SameTable}
 use Rattle.table_history.specs.TypeTree.{ColumnTrees}
 use Rattle.table_history.specs.declared.kind.Kind.{Kind}
-use Rattle.table_history.specs.declared.table.Change.{Change}
 use Rattle.table_history.specs.declared.table.Commit.{Commit}
 use Rattle.table_history.specs.declared.table.Table.{Table}
-use Rattle.table_history.proofs.Laws.{same_rows_length}
 use Rattle.table_history.proofs.SameTableLemmas.{same_itself}
-use Rattle.target_core.specs.Conditions.{CanPublishAll, GoesOn, HasKind, IsPublishable}
+use Rattle.target_core.specs.Conditions.{CanPublishAll, GoesOn, IsPublishable}
 use Rattle.target_core.specs.Views.{IsOfSource, IsUnpublished, Origin, View, absent}
 use Rattle.target_sync.specs.Answered.{IsPlanRefusal, IsReadFault}
 use Rattle.target_sync.specs.Applied.{answer_of_source}
