@@ -3,21 +3,19 @@ use Rattle.std.proofs.Common.{◌≡◌, ℕ, suc, ◌+◌, ◌<◌, ◌^◌, Li
 use Rattle.std.specs.Prelude.{option_to_list}
 use Rattle.std.specs.Str.{bytes_eq}
 use Rattle.std.proofs.lemmas.List.{append-nil}
-use Rattle.table_history.specs.History.{column_type, FitsColumn, FitColumns}
+use Rattle.table_history.specs.History.{column_type, FitColumns}
 use Rattle.table_history.specs.Path.{IsPath}
 use Rattle.table_history.specs.Rows.{paths_of}
-use Rattle.table_history.specs.TypeTree.{TypeTree, ColumnTrees}
+use Rattle.table_history.specs.TypeTree.{ColumnTrees}
 use Rattle.table_history.specs.declared.row.FileRow.{FileRow}
 use Rattle.table_history.specs.declared.row.PartValue.{PartValue}
 use Rattle.table_history.specs.declared.feature.Feature.{Feature}
 use Rattle.table_history.proofs.RowListLemmas.{Contains-none, Contains-head, Contains-tail, Contains-cases}
-use Rattle.partition_map.specs.Kind.{part_kind_of, IsOfKind}
 use Rattle.partition_map.specs.Stands.{DeltaStands}
 use Rattle.partition_map.specs.declared.kind.PartKind.{PartKind}
-use Rattle.partition_map.proofs.Laws.{delta_of_kind, kind_of_type}
+use Rattle.partition_map.proofs.KindLemmas.{fits_kind}
+use Rattle.partition_map.proofs.Laws.{delta_of_kind}
 use Rattle.partition_map.proofs.StandsLemmas.{delta_same}
-use Rattle.std.specs.Option.{option_and_then}
-use Rattle.std.proofs.lemmas.Option.{none-some}
 use Rattle.delta_log.specs.declared.commit.FileAction.{FileAction}
 use Rattle.delta_log.specs.declared.commit.FileAction.TheVariants as file
 use Rattle.delta_log.specs.declared.error.DeltaError.{DeltaError}
@@ -164,10 +162,6 @@ has_values columns (file.Remove p ∷ files) rows f c h there column none =
     (Contains-cases (file.Remove p) files f there)
 
 -- ---- values and their columns
-
-pub fits_kind : (o : Option TypeTree) (k : PartKind) (v : PartValue) → option_and_then part_kind_of o ≡ Some k → IsOfKind k v → FitsColumn o v
-fits_kind None k v e h = absurd (none-some k e)
-fits_kind (Some t) k v e h = (kind_of_type t k e v).0 h
 
 pub values_fit : (schema : ColumnTrees) (names : List (List ℕ)) (columns : PartColumns) (texts : Texts) (vs : List PartValue) → ArePartColumns schema names columns → AreValues columns texts vs → FitColumns schema names vs
 values_fit schema [] [] texts [] are h = tt

@@ -6,4 +6,3 @@ pub mod Gathered
 pub mod ReadingLaws
 pub mod FileLaws
 pub mod Runs
-pub mod TypedLemmas

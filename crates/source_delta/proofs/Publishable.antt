@@ -1,7 +1,7 @@
 -- A table that a Delta log makes may be published, and one that may be published is one that commits may leave.
 use Rattle.table_history.specs.declared.table.Table.{Table}
 use Rattle.delta_change.specs.Change.{IsTableOfLog}
-use Rattle.delta_change.proofs.KindLemmas.{has_kind_by_value, has_value}
+use Rattle.partition_map.proofs.KindLemmas.{kind_exactly}
 use Rattle.target_core.specs.Conditions.{IsPublishable}
 
 pub publishable_of_log : (t : Table) → IsTableOfLog t → IsPublishable t
@@ -11,7 +11,7 @@ publishable_of_log t is = record {
   live_files = is.live_files;
   partition_columns = is.partition_columns;
   partition_distinct = is.partition_distinct;
-  partition_kinds = λ name there. has_value t.schema name (is.partition_kinds name there);
+  partition_kinds = λ name there. (kind_exactly t.schema name).0 (is.partition_kinds name there);
   schema = is.schema;
   size = is.size;
 }
@@ -19,7 +19,7 @@ publishable_of_log t is = record {
 pub log_of_publishable : (t : Table) → IsPublishable t → IsTableOfLog t
 log_of_publishable t is = record {
   partition_distinct = is.partition_distinct;
-  partition_kinds = λ name there. has_kind_by_value t.schema name (is.partition_kinds name there);
+  partition_kinds = λ name there. (kind_exactly t.schema name).1 (is.partition_kinds name there);
   sound = is.sound;
   paths = is.paths;
   partition_columns = is.partition_columns;

@@ -1,10 +1,9 @@
 -- A table that instants make may be published, and one that may be published is one that instants may leave.
 use Rattle.std.proofs.Common.{◌≡◌, sym}
 use Rattle.table_history.specs.declared.table.Table.{Table}
-use Rattle.hudi_table.proofs.TypedLemmas.{typed_column}
+use Rattle.partition_map.proofs.KindLemmas.{kind_exactly}
 use Rattle.hudi_timeline.specs.Change.{IsTableOf}
 use Rattle.hudi_properties.specs.declared.table.HudiTable.{HudiTable}
-use Rattle.hudi_timeline.proofs.KindLemmas.{kind_exactly}
 use Rattle.target_core.specs.Conditions.{IsPublishable}
 
 pub publishable_of : (table : HudiTable) (t : Table) → IsTableOf table t → IsPublishable t
@@ -14,7 +13,7 @@ publishable_of table t is = record {
   live_files = is.live_files;
   partition_columns = is.partition_columns;
   partition_distinct = is.partition_distinct;
-  partition_kinds = λ name there. typed_column t.schema name (is.partition_kinds name there);
+  partition_kinds = λ name there. (kind_exactly t.schema name).0 (is.partition_kinds name there);
   schema = is.schema;
   size = is.size;
 }

@@ -1,20 +1,13 @@
 -- What a Delta log that was read up to its newest version stands at.
-use Rattle.std.proofs.Common.{◌≡◌, ◌≢◌, inl, inr, ℕ, suc, pos, true, ◌+◌, ◌≤◌, List, [], Option, Some, None, refl, sym, ap, subst, ◌∙◌, arith}
+use Rattle.std.proofs.Common.{◌≡◌, ◌≢◌, inl, inr, ℕ, suc, ◌+◌, ◌≤◌, List, Option, Some, None, refl, sym, ap, subst, ◌∙◌, arith}
 use Rattle.std.specs.Prelude.{IfOk, Result, Ok, Err}
-use Rattle.std.specs.Option.{option_and_then, option_map}
+use Rattle.std.specs.Option.{option_map}
 use Rattle.std.proofs.lemmas.Bool.{cases_lt}
 use Rattle.lake_basics.specs.declared.limits.TheConstants.{MAX_DELTA_VERSION}
 use Rattle.lake_store.specs.Disk.{Files}
-use Rattle.table_history.specs.History.{IsOfType, column_type}
-use Rattle.table_history.specs.TypeTree.{TypeTree}
 use Rattle.table_history.specs.declared.kind.Kind.{Kind}
-use Rattle.table_history.specs.declared.row.PartValue.{PartValue}
-use Rattle.table_history.specs.declared.row.PartValue.TheVariants as value
 use Rattle.table_history.specs.declared.table.Table.{Table}
-use Rattle.partition_map.specs.Kind.{IsOfKind, part_kind_of}
-use Rattle.partition_map.specs.declared.kind.PartKind.{PartKind}
-use Rattle.partition_map.specs.declared.kind.PartKind.TheVariants as kind
-use Rattle.partition_map.proofs.Laws.{kind_of_type}
+use Rattle.partition_map.proofs.KindLemmas.{kind_exactly}
 use Rattle.delta_change.specs.Change.{IsTableOfLog}
 use Rattle.delta_log.specs.declared.commit.DeltaCommit.{DeltaCommit}
 use Rattle.delta_log.specs.declared.commit.MetaData.{MetaData}
@@ -41,24 +34,6 @@ use Rattle.target_delta.specs.LogLemmas.{log_front}
 
 -- ---- the table may be published
 
-value_of : (k : PartKind) → (v : PartValue) × (v ≢ value.Null) × IsOfKind k v
-value_of kind.Boolean = (value.Boolean true, λ e. absurd cc, tt)
-value_of kind.Int = (value.Int (pos 0), λ e. absurd cc, tt)
-value_of kind.Long = (value.Long (pos 0), λ e. absurd cc, tt)
-value_of kind.Text = (value.Text [], λ e. absurd cc, tt)
-value_of kind.Date = (value.Date (pos 0), λ e. absurd cc, tt)
-
-some_kind : (o : Option PartKind) → o ≢ None → (k : PartKind) × (o ≡ Some k)
-some_kind None h = absurd (h refl)
-some_kind (Some k) h = (k, refl)
-
-typed : (o : Option TypeTree) → option_and_then part_kind_of o ≢ None → (t : TypeTree) × (v : PartValue) × (o ≡ Some t) × (v ≢ value.Null) × IsOfType t v
-typed None h = absurd (h refl)
-typed (Some t) h =
-    let is = some_kind (part_kind_of t) h in
-    let v = value_of is.0 in
-    (t, v.0, refl, v.1, (kind_of_type t is.0 is.1 v.0).0 v.2)
-
 pub publishable : (table : Table) → IsTableOfLog table → IsPublishable table
 publishable table is = record {
   sound = is.sound;
@@ -66,7 +41,7 @@ publishable table is = record {
   live_files = is.live_files;
   partition_columns = is.partition_columns;
   partition_distinct = is.partition_distinct;
-  partition_kinds = λ name there. typed (column_type table.schema name) (is.partition_kinds name there);
+  partition_kinds = λ name there. (kind_exactly table.schema name).0 (is.partition_kinds name there);
   schema = is.schema;
   size = is.size;
 }

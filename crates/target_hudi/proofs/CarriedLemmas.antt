@@ -17,10 +17,10 @@ use Rattle.partition_map.specs.Stands.{HiveStands}
 use Rattle.partition_map.specs.declared.folder.FolderStyle.{FolderStyle}
 use Rattle.partition_map.specs.declared.kind.PartKind.{PartKind}
 use Rattle.partition_map.proofs.FolderLemmas.{value_part_says}
+use Rattle.partition_map.proofs.KindLemmas.{kind_exactly, some_kind}
 use Rattle.partition_map.proofs.Laws.{kind_of_type}
 use Rattle.hudi_timeline.specs.Schemas.{AreKindsOf}
 use Rattle.hudi_files.specs.Values.{HasValues, PartStands, PartsStand, component_parts, value_parts}
-use Rattle.hudi_timeline.proofs.KindLemmas.{kind_exactly, some_kind}
 use Rattle.hudi_files.proofs.ValueLemmas.{value_parts-length}
 use Rattle.target_core.specs.Conditions.{HasKind}
 use Rattle.target_hudi.proofs.KnownLemmas.{Known, known_as, known_both, not_false, stands, stands_so}

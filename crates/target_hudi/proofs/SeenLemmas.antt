@@ -14,6 +14,7 @@ use Rattle.table_history.specs.declared.kind.Kind.{Kind}
 use Rattle.table_history.specs.declared.limit.LimitKind.{LimitKind}
 use Rattle.table_history.specs.declared.table.Table.{Table}
 use Rattle.table_history.proofs.RowListLemmas.{Contains-head, Contains-one}
+use Rattle.partition_map.proofs.KindLemmas.{kind_exactly}
 use Rattle.hudi_names.specs.Time.{IsSomeTime}
 use Rattle.hudi_timeline.specs.Change.{IsTableOf}
 use Rattle.hudi_properties.specs.Pairs.{in_order, is_filled, pair_at, pair_of, properties_of, required_at}
@@ -37,7 +38,6 @@ use Rattle.hudi_table.specs.declared.reading.Latest.{Latest}
 use Rattle.hudi_table.specs.declared.reading.Naming.TheVariants.{External}
 use Rattle.hudi_table.specs.declared.timeline.Timeline.{Timeline}
 use Rattle.hudi_table.proofs.FolderLaws.{SaysOf, instant_says}
-use Rattle.hudi_table.proofs.TypedLemmas.{typed_column}
 use Rattle.hudi_table.proofs.ReadingLaws.{reading_further}
 use Rattle.hudi_table.proofs.UpLists.{picked_from}
 use Rattle.hudi_commit.specs.Names.{IsThere, properties_path, timeline_folder, timeline_path}
@@ -284,7 +284,7 @@ publishable table t is = record {
   live_files = is.live_files;
   partition_columns = is.partition_columns;
   partition_distinct = is.partition_distinct;
-  partition_kinds = λ name there. typed_column t.schema name (is.partition_kinds name there);
+  partition_kinds = λ name there. (kind_exactly t.schema name).0 (is.partition_kinds name there);
   schema = is.schema;
   size = is.size;
 }

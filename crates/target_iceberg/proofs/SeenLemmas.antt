@@ -1,12 +1,12 @@
 -- What an Iceberg target stands at, by its names and its newest version.
-use Rattle.std.proofs.Common.{◌≡◌, ◌≢◌, ◌<◌, inl, inr, ⊎_elim, ℕ, pos, true, List, [], ◌∷◌, ◌++◌, Contains, Option, Some, None, refl, sym, ap, subst, ◌∙◌, arith}
+use Rattle.std.proofs.Common.{◌≡◌, ◌≢◌, ◌<◌, inl, inr, ⊎_elim, ℕ, List, [], ◌∷◌, ◌++◌, Contains, Option, Some, None, refl, sym, ap, subst, ◌∙◌, arith}
 use Rattle.std.specs.declared.alloc.AllocError.{AllocError}
 use Rattle.std.specs.Prelude.{IfErr, IfOk, IsErrOf, MatchOption, Result, Ok, Err}
 use Rattle.std.specs.Cmp.Lexicographic.{slice_cmp}
 use Rattle.std.specs.Fmt.{decimal}
 use Rattle.std.specs.List.{AllByRecursion}
 use Rattle.std.specs.List.Sorted.{IsStrictlySortedBy}
-use Rattle.std.specs.Option.{option_and_then, option_map}
+use Rattle.std.specs.Option.{option_map}
 use Rattle.std.specs.Ordering.{nat_cmp}
 use Rattle.std.specs.declared.cmp.Ordering.{Ordering}
 use Rattle.std.specs.declared.cmp.Ordering.TheVariants.{Less}
@@ -17,19 +17,12 @@ use Rattle.lake_basics.specs.declared.limits.TheConstants.{MAX_NAMES}
 use Rattle.lake_store.specs.Cause.{HasFault, HasNoContest}
 use Rattle.lake_store.specs.Disk.{Files, ListsFolder, names_in}
 use Rattle.lake_store.proofs.OrderLaws.{names_in_listed}
-use Rattle.table_history.specs.History.{IsOfType, column_type}
-use Rattle.table_history.specs.TypeTree.{TypeTree}
 use Rattle.table_history.specs.declared.kind.Kind.{Kind}
 use Rattle.table_history.specs.declared.limit.LimitKind.{LimitKind}
 use Rattle.table_history.specs.declared.limit.LimitKind.TheVariants.{File, Names}
-use Rattle.table_history.specs.declared.row.PartValue.{PartValue}
-use Rattle.table_history.specs.declared.row.PartValue.TheVariants as value
 use Rattle.table_history.specs.declared.table.Table.{Table}
 use Rattle.table_history.proofs.RowListLemmas.{Contains-cases, Contains-head, all_at}
-use Rattle.partition_map.specs.Kind.{IsOfKind, part_kind_of}
-use Rattle.partition_map.specs.declared.kind.PartKind.{PartKind}
-use Rattle.partition_map.specs.declared.kind.PartKind.TheVariants as kind
-use Rattle.partition_map.proofs.Laws.{kind_of_type}
+use Rattle.partition_map.proofs.KindLemmas.{kind_exactly}
 use Rattle.iceberg_ancestry.specs.Ancestry.{held_at}
 use Rattle.iceberg_metadata.specs.Writing.{SameMetadata}
 use Rattle.iceberg_metadata.specs.declared.metadata.Metadata.{Metadata}
@@ -229,24 +222,6 @@ module _ (files : Files) (source : Kind) (version : ℕ) (m : Metadata) (newest 
 
 -- ---- what may be published
 
-value_of : (k : PartKind) → (v : PartValue) × (v ≢ value.Null) × IsOfKind k v
-value_of kind.Boolean = (value.Boolean true, λ e. absurd cc, tt)
-value_of kind.Int = (value.Int (pos 0), λ e. absurd cc, tt)
-value_of kind.Long = (value.Long (pos 0), λ e. absurd cc, tt)
-value_of kind.Text = (value.Text [], λ e. absurd cc, tt)
-value_of kind.Date = (value.Date (pos 0), λ e. absurd cc, tt)
-
-some_kind : (o : Option PartKind) → o ≢ None → (k : PartKind) × (o ≡ Some k)
-some_kind None h = absurd (h refl)
-some_kind (Some k) h = (k, refl)
-
-typed : (o : Option TypeTree) → option_and_then part_kind_of o ≢ None → (t : TypeTree) × (v : PartValue) × (o ≡ Some t) × (v ≢ value.Null) × IsOfType t v
-typed None h = absurd (h refl)
-typed (Some t) h =
-    let is = some_kind (part_kind_of t) h in
-    let v = value_of is.0 in
-    (t, v.0, refl, v.1, (kind_of_type t is.0 is.1 v.0).0 v.2)
-
 publishable : (table : Table) → IsTableOfSnapshots table → IsPublishable table
 publishable table is = record {
   sound = is.sound;
@@ -254,7 +229,7 @@ publishable table is = record {
   live_files = is.live_files;
   partition_columns = is.partition_columns;
   partition_distinct = is.partition_distinct;
-  partition_kinds = λ name there. typed (column_type table.schema name) (is.partition_kinds name there);
+  partition_kinds = λ name there. (kind_exactly table.schema name).0 (is.partition_kinds name there);
   schema = is.schema;
   size = is.size;
 }
