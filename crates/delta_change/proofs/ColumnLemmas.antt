@@ -219,9 +219,6 @@ not_named names name h there = false≢true (sym h ∙ list_any-from_Contains na
 pub names_same : (xs ys : List (List ℕ)) → (pointwise bytes_eq xs ys ≡ true → xs ≡ ys) × (xs ≡ ys → pointwise bytes_eq xs ys ≡ true)
 names_same xs ys = slice_eq-Decides bytes_eq-Decides xs ys (pointwise bytes_eq xs ys) refl
 
-some_other : (old new : ColumnTrees) (names : List (List ℕ)) → has_other_kind old new names ≡ true → HasOtherKind old new names
-some_other old new names h = (has_other_exactly old new names).0 h
-
 no_other : (old new : ColumnTrees) (names : List (List ℕ)) → has_other_kind old new names ≡ false → HasOtherKind old new names → ⊥
 no_other old new names h other = false≢true (sym h ∙ (has_other_exactly old new names).1 other)
 
@@ -353,7 +350,7 @@ module _ (c : DeltaCommit) (m : MetaData) (base : Option Table) (is : c.meta ≡
         table : (t : Table) → base ≡ Some t → changes_partition t m schema ≡ true → (t : Table) × (base ≡ Some t) × (((m.partition ≡ t.partition) → ⊥) ⊎ HasOtherKind t.schema schema m.partition)
         table t is e =
             ⊎_elim
-            (λ same. (t, is, inr (some_other t.schema schema m.partition (subst (λ b. (not b || has_other_kind t.schema schema m.partition) ≡ true) same e))))
+            (λ same. (t, is, inr ((has_other_exactly t.schema schema m.partition).0 (subst (λ b. (not b || has_other_kind t.schema schema m.partition) ≡ true) same e))))
             (λ other. (t, is, inl (λ names. false≢true (sym other ∙ (names_same m.partition t.partition).1 names))))
             (cases_Bool (pointwise bytes_eq m.partition t.partition))
 
