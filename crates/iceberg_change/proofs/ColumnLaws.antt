@@ -1,18 +1,12 @@
 -- The derived `==` of columns decides whether two are one.
-use Rattle.std.proofs.Common.{◌≡◌, ◌⊎◌, Bool, true, List, Option, Some, Decides, rules, refl, ap, subst, ◌∙◌, ⊎_elim}
+use Rattle.std.proofs.Common.{◌≡◌, Bool, true, List, Option, Some, Decides, refl, ap, subst, ◌∙◌}
 use Rattle.std.specs.Cmp.Lexicographic.{pointwise}
-use Rattle.std.proofs.lemmas.Bool.{and_parts, cases_Bool}
+use Rattle.std.proofs.lemmas.Bool.{and_parts}
 use Rattle.std.proofs.lemmas.Bool.Decides.{Decides-int_eq}
 use Rattle.std.proofs.lemmas.Slice.Eq.{slice_eq-Decides}
-use denote.Enum.Bare.{same_false, same_true}
-use Rattle.partition_map.specs.contracts.kind.PartKind.{the_type}
-use Rattle.partition_map.specs.contracts.kind.PartKindPartialEq.TheImpl as kind
-use Rattle.partition_map.specs.declared.kind.PartKind.{PartKind}
+use Rattle.partition_map.proofs.EqualKinds.{kind_decides}
 use Rattle.iceberg_manifest.specs.contracts.partition.PartColumnPartialEq.TheImpl as column
 use Rattle.iceberg_manifest.specs.declared.partition.PartColumn.{PartColumn}
-
-kind_decides : (a b : PartKind) → Decides (kind.eq-value.it a b) (a ≡ b)
-kind_decides a b = (λ is. same_true the_type (search rules) a b is, λ same. ⊎_elim (λ is. is) (λ is. absurd (same_false the_type a b is same)) (cases_Bool (kind.eq-value.it a b)))
 
 column_same : (a b : PartColumn) → column.eq-value.it a b ≡ true → a ≡ b
 column_same a b h =

@@ -9,3 +9,4 @@ pub mod AvroLemmas
 pub mod Laws
 pub mod ColumnLemmas
 pub mod KindLemmas
+pub mod EqualKinds

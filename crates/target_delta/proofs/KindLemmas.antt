@@ -1,14 +1,6 @@
 -- Whether the kinds of partition columns change along commits.
 use Rattle.std.proofs.Common.{◌≡◌, ◌≢◌, ⊎_elim, inl, inr, ℕ, ◌<◌, List, [], ◌∷◌, Bool, true, Contains, Option, Some, None, refl, sym, ap, subst, ◌∙◌, arith}
-use Rattle.std.proofs.Common.{Decides, rules}
-use lib.Pointwise.{pointwise}
 use Rattle.std.specs.Prelude.{IsTrue}
-use Rattle.std.specs.Option.{option_eq}
-use Rattle.std.proofs.lemmas.Bool.{cases_Bool}
-use Rattle.std.proofs.lemmas.Slice.Eq.{slice_eq-Decides}
-use denote.Enum.Bare.{same_false, same_true}
-use Rattle.partition_map.specs.contracts.kind.PartKind.{the_type}
-use Rattle.partition_map.specs.contracts.kind.PartKindPartialEq.TheImpl.{eq-value}
 use Rattle.table_history.specs.TypeTree.{ColumnTrees}
 use Rattle.table_history.specs.declared.table.Commit.{Commit}
 use Rattle.table_history.proofs.RowListLemmas.{Contains-none, Contains-cases}
@@ -16,7 +8,7 @@ use Rattle.partition_map.specs.Columns.{HasOtherKind, column_kind}
 use Rattle.partition_map.specs.declared.kind.PartKind.{PartKind}
 use Rattle.target_delta.specs.Fitting.{ChangesKinds, EndsWith, kinds_of}
 use Rattle.target_delta.specs.Writing.{LogEnd, end_behind, schema_behind}
-use Rattle.lake_basics.proofs.Options.{none_or_some, option_decides, some_once}
+use Rattle.lake_basics.proofs.Options.{none_or_some, some_once}
 
 -- ---- a column of another kind
 
@@ -82,11 +74,3 @@ module _ (names : List (List ℕ)) (kinds : List (Option PartKind)) (has : Bool)
 
     pub step_found : IsTrue has → kinds ≢ new → ChangesKinds end commits
     step_found published apart = s.back (inl (s.ends.commit.0 published, (schema, stated, λ same. apart (sym s.ends.kinds_are ∙ same ∙ here_kinds))))
-
--- ---- equal kinds
-
-kind_decides : (a b : PartKind) → Decides (eq-value.it a b) (a ≡ b)
-kind_decides a b = (λ is. same_true the_type (search rules) a b is, λ same. ⊎_elim (λ is. is) (λ is. absurd (same_false the_type a b is same)) (cases_Bool (eq-value.it a b)))
-
-pub kinds_decide : (a b : List (Option PartKind)) (r : Bool) → r ≡ pointwise (option_eq eq-value.it) a b → Decides r (a ≡ b)
-kinds_decide a b r is = slice_eq-Decides (option_decides kind_decides) a b r is

@@ -1,15 +1,13 @@
 -- Whether commits fit what is kept: the kinds of partition columns along the commits, and the first commit with a fault.
-use Rattle.std.proofs.Common.{◌≡◌, ◌≢◌, ◌⊎◌, ⊎_elim, inl, inr, ℕ, ◌+◌, ◌<◌, List, ◌∷◌, length, get_or, take, drop, Bool, Contains, Decides, Option, Some, None, Result, Err, Ok, refl, sym, ap, subst, ◌∙◌, rules}
+use Rattle.std.proofs.Common.{◌≡◌, ◌≢◌, ◌⊎◌, ⊎_elim, inl, inr, ℕ, ◌+◌, ◌<◌, List, ◌∷◌, length, get_or, take, drop, Contains, Option, Some, None, Result, Err, Ok, refl, sym, ap, subst, ◌∙◌}
 use lib.Pointwise.{pointwise}
 use Rattle.std.specs.Prelude.{IfErr, OnOk, option_map}
 use Rattle.std.specs.Option.{option_eq}
 use Rattle.std.proofs.lemmas.Bool.{cases_Bool, false≢true}
 use Rattle.std.proofs.lemmas.List.Elements.{Contains-append_right}
-use Rattle.std.proofs.lemmas.Slice.Eq.{slice_eq-Decides}
-use denote.Enum.Bare.{same_false, same_true}
-use Rattle.partition_map.specs.contracts.kind.PartKind.{the_type}
 use Rattle.partition_map.specs.contracts.kind.PartKindPartialEq.TheImpl.{eq-value}
 use Rattle.partition_map.specs.declared.kind.PartKind.{PartKind}
+use Rattle.partition_map.proofs.EqualKinds.{kinds_decide}
 use Rattle.table_history.specs.Row.{Row}
 use Rattle.table_history.specs.TypeTree.{ColumnTrees}
 use Rattle.table_history.specs.declared.feature.Feature.{Feature}
@@ -21,7 +19,7 @@ use Rattle.partition_map.specs.Folder.{CarriesValues}
 use Rattle.lake_basics.specs.declared.limits.TheConstants.{MAX_PUBLISHED_COMMITS}
 use Rattle.lake_basics.specs.Outcome.{GivesUnlessMemory}
 use Rattle.lake_basics.proofs.Lists.{split_of}
-use Rattle.lake_basics.proofs.Options.{none_or_some, option_decides, some_once}
+use Rattle.lake_basics.proofs.Options.{none_or_some, some_once}
 use Rattle.table_history.specs.declared.limit.LimitKind.{LimitKind}
 use Rattle.schema_avro.specs.AvroWriting.{avro_schema_text}
 use Rattle.schema_map.specs.Errors.{is_memory}
@@ -37,12 +35,6 @@ use Rattle.target_hudi.specs.FitLemmas.{fits_by}
 use Rattle.target_hudi.specs.WideLemmas.{schema_faults}
 
 -- ---- equal kinds
-
-kind_decides : (a b : PartKind) → Decides (eq-value.it a b) (a ≡ b)
-kind_decides a b = (λ is. same_true the_type (search rules) a b is, λ same. ⊎_elim (λ is. is) (λ is. absurd (same_false the_type a b is same)) (cases_Bool (eq-value.it a b)))
-
-pub kinds_decide : (a b : List (Option PartKind)) (r : Bool) → r ≡ pointwise (option_eq eq-value.it) a b → Decides r (a ≡ b)
-kinds_decide a b r is = slice_eq-Decides (option_decides kind_decides) a b r is
 
 pub kinds_cases : (a b : List (Option PartKind)) → (a ≡ b) ⊎ (a ≢ b)
 kinds_cases a b =

@@ -1,14 +1,6 @@
 -- Whether the kinds of partition columns change along commits.
 use Rattle.std.proofs.Common.{◌≡◌, ◌≢◌, ⊎_elim, inl, inr, ℕ, ◌<◌, List, [], ◌∷◌, Bool, true, Option, Some, None, refl, sym, ap, ◌∙◌, arith}
-use Rattle.std.proofs.Common.{Decides, rules}
-use lib.Pointwise.{pointwise}
 use Rattle.std.specs.Prelude.{IsTrue, unwrap_or}
-use Rattle.std.specs.Option.{option_eq}
-use Rattle.std.proofs.lemmas.Bool.{cases_Bool}
-use Rattle.std.proofs.lemmas.Slice.Eq.{slice_eq-Decides}
-use denote.Enum.Bare.{same_false, same_true}
-use Rattle.partition_map.specs.contracts.kind.PartKind.{the_type}
-use Rattle.partition_map.specs.contracts.kind.PartKindPartialEq.TheImpl.{eq-value}
 use Rattle.partition_map.specs.declared.kind.PartKind.{PartKind}
 use Rattle.schema_map.specs.Image.{wide_columns}
 use Rattle.table_history.specs.TypeTree.{ColumnTrees}
@@ -16,7 +8,7 @@ use Rattle.table_history.specs.declared.table.Commit.{Commit}
 use Rattle.iceberg_version.proofs.BehindLemmas.{wide_kind}
 use Rattle.target_iceberg.specs.Fitting.{ChangesKinds, HeldState, kinds_of, state_behind}
 use Rattle.target_iceberg.specs.Following.{AreKindsOf}
-use Rattle.lake_basics.proofs.Options.{none_or_some, option_decides, some_once}
+use Rattle.lake_basics.proofs.Options.{none_or_some, some_once}
 
 -- ---- Iceberg's types change no kind
 
@@ -60,11 +52,3 @@ module _ (names : List (List ℕ)) (kinds : List (Option PartKind)) (has : Bool)
 
     pub kinds_found : IsTrue has → kinds ≢ new → ChangesKinds state names commits
     kinds_found published apart = s.back (inl (s.are.commit.0 published, (schema, stated, λ same. apart (sym s.are.are ∙ same ∙ sym are))))
-
--- ---- equal kinds
-
-kind_decides : (a b : PartKind) → Decides (eq-value.it a b) (a ≡ b)
-kind_decides a b = (λ is. same_true the_type (search rules) a b is, λ same. ⊎_elim (λ is. is) (λ is. absurd (same_false the_type a b is same)) (cases_Bool (eq-value.it a b)))
-
-pub kinds_decide : (a b : List (Option PartKind)) (r : Bool) → r ≡ pointwise (option_eq eq-value.it) a b → Decides r (a ≡ b)
-kinds_decide a b r is = slice_eq-Decides (option_decides kind_decides) a b r is

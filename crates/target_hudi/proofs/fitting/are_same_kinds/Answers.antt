@@ -1,4 +1,4 @@
-use Rattle.target_hudi.proofs.FittingLemmas.{kinds_decide}
+use Rattle.partition_map.proofs.EqualKinds.{kinds_decide}
 use Rattle.target_hudi.proofs.fitting.are_same_kinds.Goals as goal
 
 pub returns : goal.returns
