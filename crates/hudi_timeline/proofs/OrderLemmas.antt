@@ -1,10 +1,14 @@
--- The change that puts rows in that were sorted.
-use Rattle.std.proofs.Common.{◌≡◌, ℕ, List, [], Contains, sym, subst, arith}
-use Rattle.std.specs.List.Sorted.{IsStrictlySortedBy}
+-- Rows that are sorted by their paths, and the change that puts them all in.
+use Rattle.std.proofs.Common.{◌≡◌, ℕ, List, [], Contains, sym, subst}
+use Rattle.std.specs.List.Sorted.{IsStrictlySortedBy, IsPermutation}
+use Rattle.std.proofs.lemmas.List.Sorted.{IsPermutation-sym, Contains-permutation}
 use Rattle.table_history.specs.Rows.{IsInByteOrder, IsInPathOrder, SameRows}
 use Rattle.table_history.specs.Tables.{IsDiff}
 use Rattle.table_history.specs.declared.row.FileRow.{FileRow}
 use Rattle.table_history.proofs.RowListLemmas.{Contains-none}
+
+pub same_rows : (old new : List FileRow) → IsPermutation old new → SameRows new old
+same_rows old new moved row = (Contains-permutation _ _ row (IsPermutation-sym _ _ moved), Contains-permutation _ _ row moved)
 
 none_rises : IsInByteOrder []
 unfolding IsStrictlySortedBy

@@ -257,6 +257,17 @@ filter_step p rows i row b within here answer =
     let same : get_or rows i row ≡ row = get_or_from_slice_get rows i row row here in
     filter_more p rows i row within ∙ ap (λ r. filter p (take i rows) ++ cond (p r) (r ∷ []) []) same ∙ ap (λ c. filter p (take i rows) ++ cond c (row ∷ []) []) answer
 
+-- ---- a sort of rows by their paths
+abbrev pub row_below : FileRow → FileRow → Bool
+row_below x y = is_lt (slice_cmp nat_cmp x.path y.path)
+
+pub row_below-order : IsStrictWeakOrder row_below
+row_below-order = ranks_by nat_list_cmp_total (λ (r : FileRow). r.path)
+
+pub rows_rise : (old new : List FileRow) → IsPermutation old new → HasDistinctPaths old → IsSortedBy row_below new → IsInPathOrder new
+rows_rise old new moved distinct up =
+    rise new (IsDistinct-IsPermutation bytes_eq nat_list_eq_equiv.symm _ _ (IsPermutation-map (λ (r : FileRow). r.path) _ _ moved) distinct) (λ k d within. up k d (omega arith) within)
+
 -- ---- a sort of references to rows by their paths
 abbrev pub path_below : Bor FileRow → Bor FileRow → Bool
 path_below x y = is_lt (slice_cmp nat_cmp x.now.path y.now.path)
