@@ -105,7 +105,8 @@ row_from columns (file.Add p vs size count ∷ files) rows row h there =
     (Contains-cases h.0 h.1 row (subst (λ l. Contains l row) h.4 there))
 row_from columns (file.Remove p ∷ files) rows row h there = let rest = row_from columns files rows row h there in (rest.0, Contains-tail (file.Remove p) files rest.0 rest.1, rest.2)
 
-values_same : (columns : PartColumns) (texts : Texts) (vs ws : List PartValue) → AreValues columns texts vs → AreValues columns texts ws → vs ≡ ws
+-- the texts stand for one list of values
+pub values_same : (columns : PartColumns) (texts : Texts) (vs ws : List PartValue) → AreValues columns texts vs → AreValues columns texts ws → vs ≡ ws
 values_same [] texts [] [] h k = refl
 values_same [] texts [] (w ∷ ws) h k = absurd k
 values_same [] texts (v ∷ vs) ws h k = absurd h

@@ -20,9 +20,9 @@ use Rattle.partition_map.specs.Stands.{DeltaStands}
 use Rattle.partition_map.specs.declared.kind.PartKind.{PartKind}
 use Rattle.partition_map.specs.declared.kind.PartKind.TheVariants as kind
 use Rattle.partition_map.proofs.Laws.{kind_of_type}
-use Rattle.partition_map.proofs.StandsLemmas.{delta_same}
 use Rattle.delta_log.specs.Commit.{file_path, file_paths}
 use Rattle.delta_live.specs.Live.{AddsRow, AreValues, PartColumns, text_of, ArePartColumns}
+use Rattle.delta_live.proofs.ValueLemmas.{values_same}
 use Rattle.delta_text.specs.Writing.{SameFile, SameFiles, SameMeta}
 use Rattle.delta_log.specs.declared.commit.FileAction.{FileAction}
 use Rattle.delta_log.specs.declared.commit.FileAction.TheVariants as file
@@ -119,17 +119,6 @@ values_stand schema (n ∷ names) (c ∷ columns) (v ∷ values) (p ∷ own) tex
       values_stand schema names columns values own texts are.2 fit.1 h.2 (λ q there. all q (Contains-tail p own q there)),
     )
 
--- the texts stand for one list of values
-pub one_values : (columns : PartColumns) (texts : Texts) (vs ws : List PartValue) → AreValues columns texts vs → AreValues columns texts ws → vs ≡ ws
-one_values [] texts [] [] h k = refl
-one_values [] texts [] (w ∷ ws) h k = absurd k
-one_values [] texts (v ∷ vs) ws h k = absurd h
-one_values (c ∷ columns) texts [] ws h k = absurd h
-one_values (c ∷ columns) texts (v ∷ vs) [] h k = absurd k
-one_values (c ∷ columns) texts (v ∷ vs) (w ∷ ws) h k =
-    let first : v ≡ w = delta_same c.1 (text_of c.0 texts) v w h.0 k.0 in
-    λ i. first i ∷ one_values columns texts vs ws h.1 k.1 i
-
 -- ---- the action of a row, read again
 
 module _ (schema : ColumnTrees) (partition : List (List ℕ)) (columns : PartColumns) (are : ArePartColumns schema partition columns) (distinct : IsDistinct bytes_eq partition) (row : Row) (fit : FitColumns schema partition row.values) where
@@ -157,7 +146,7 @@ module _ (schema : ColumnTrees) (partition : List (List ℕ)) (columns : PartCol
   pub only_row : (g : FileAction) (other : Row) → AddsRow columns g row → AddsRow columns g other → other ≡ row
   only_row (file.Remove q) other h k = absurd h
   only_row (file.Add q ws bytes records) other h k =
-      let values = one_values columns ws other.values row.values k.1 h.1 in
+      let values = values_same columns ws other.values row.values k.1 h.1 in
       λ i. record { path = (k.0 ∙ sym h.0) i; values = values i; count = (k.3 ∙ sym h.3) i; size = (k.2 ∙ sym h.2) i }
 
 -- ---- the actions, read again
