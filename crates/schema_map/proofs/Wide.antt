@@ -1,6 +1,8 @@
--- The Image in wider types keeps names and sizes.
-use Rattle.std.proofs.Common.{◌≡◌, ℕ, ◌+◌, List, not, ◌&&◌, ◌||◌, refl, ap, ◌∙◌, max}
+-- The Image in wider types keeps names and sizes, and widens the type of each column.
+use Rattle.std.proofs.Common.{◌≡◌, ℕ, ◌+◌, Bool, true, false, cond, List, not, ◌&&◌, ◌||◌, Option, Some, refl, ap, ◌∙◌, max}
+use Rattle.std.specs.Prelude.{option_map}
 use Rattle.std.specs.Str.{bytes_eq}
+use Rattle.table_history.specs.History.{column_type}
 use Rattle.table_history.specs.TypeTree as tree
 use Rattle.table_history.specs.TypeTree.{TypeTree, ColumnTrees, no_columns, column}
 use Rattle.schema_map.specs.Image.{wide_type, wide_columns}
@@ -64,3 +66,13 @@ own_wide (column n t b cs) = ap (λ c. not c && have_own_names (wide_columns cs)
 -- The Image is within the limits where the schema is.
 pub wide_limits : (cs : ColumnTrees) → IsWithinLimits cs → IsWithinLimits (wide_columns cs)
 wide_limits cs limits = record { levels = rw (column_levels_wide cs) limits.levels; columns = rw (column_count_wide cs) limits.columns }
+
+-- ---- the type of a column
+
+found_by : (b : Bool) (t : TypeTree) (wide o : Option TypeTree) → wide ≡ option_map wide_type o → cond b (Some (wide_type t)) wide ≡ option_map wide_type (cond b (Some t) o)
+found_by true t wide o same = refl
+found_by false t wide o same = same
+
+pub wide_column : (schema : ColumnTrees) (name : List ℕ) → column_type (wide_columns schema) name ≡ option_map wide_type (column_type schema name)
+wide_column no_columns name = refl
+wide_column (column n t b cs) name = found_by (bytes_eq n name) t (column_type (wide_columns cs) name) (column_type cs name) (wide_column cs name)

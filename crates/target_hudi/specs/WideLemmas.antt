@@ -1,8 +1,6 @@
 -- A schema in Hudi's types: its partition columns have the same kinds, it has the same text in Avro, and it may be published as well.
-use Rattle.std.proofs.Common.{◌≡◌, ◌⊎◌, ⊎_elim, inl, inr, ℕ, ◌+◌, Bool, true, false, ◌&&◌, List, [], ◌∷◌, Option, Some, None, Result, Ok, Err, refl, sym, ap, subst, ◌∙◌, cond}
+use Rattle.std.proofs.Common.{◌≡◌, ◌⊎◌, inl, inr, ℕ, ◌+◌, Bool, false, ◌&&◌, List, [], ◌∷◌, Option, Some, None, Result, Ok, Err, refl, sym, ap, subst, ◌∙◌, cond}
 use Rattle.std.specs.Prelude.{◌↔◌, option_and_then, option_map}
-use Rattle.std.specs.Str.{bytes_eq}
-use Rattle.std.proofs.lemmas.Option.{none-some}
 use Rattle.serde_json.specs.Data.{Data, array}
 use Rattle.serde_json.specs.View.{items_of}
 use Rattle.serde_json.specs.Written.{compact_text}
@@ -13,13 +11,10 @@ use Rattle.table_history.specs.Sound.{AreSound, IsSoundType}
 use Rattle.table_history.specs.TypeTree as tree
 use Rattle.table_history.specs.TypeTree.{TypeTree, ColumnTrees, no_columns, column}
 use Rattle.table_history.specs.declared.row.PartValue.{PartValue}
-use Rattle.table_history.specs.declared.row.PartValue.TheVariants as value
 use Rattle.table_history.specs.declared.table.Table.{Table}
 use Rattle.partition_map.specs.Columns.{column_kind}
 use Rattle.partition_map.specs.Kind.{part_kind_of}
-use Rattle.partition_map.specs.declared.kind.PartKind.{PartKind}
-use Rattle.partition_map.specs.declared.kind.PartKind.TheVariants as kinds
-use Rattle.partition_map.proofs.Laws.{kind_of_type}
+use Rattle.partition_map.proofs.KindLemmas.{of_same}
 use Rattle.schema_avro.specs.Avro.{avro_schema_of}
 use Rattle.schema_avro.specs.AvroSpelling.{AreAvroColumns, IsAvroType}
 use Rattle.schema_avro.specs.AvroWriting.{avro_data, avro_fields, avro_field_data, avro_schema_text, avro_text, items_data, key_fault, name_fault, nullable_data, record_data, values_data}
@@ -29,7 +24,7 @@ use Rattle.schema_map.specs.declared.fault.MapError.{MapError}
 use Rattle.schema_map.specs.declared.fault.MapError.TheVariants.{SchemaType, AvroName}
 use Rattle.schema_avro.proofs.AvroRead.{avro_text_found}
 use Rattle.schema_avro.proofs.AvroRefused.{avro_defined, avro_undefined}
-use Rattle.schema_map.proofs.Wide.{own_wide, wide_limits}
+use Rattle.schema_map.proofs.Wide.{own_wide, wide_column, wide_limits}
 use Rattle.schema_map.proofs.ImageTwice.{columns_twice}
 use Rattle.target_core.specs.Conditions.{HasKind, IsPublishable}
 use Rattle.target_hudi.specs.HudiMeaning.{image}
@@ -122,14 +117,6 @@ mutual
       }
 
 -- ---- kinds
-
-found_by : (b : Bool) (t : TypeTree) (wide o : Option TypeTree) → wide ≡ option_map wide_type o → cond b (Some (wide_type t)) wide ≡ option_map wide_type (cond b (Some t) o)
-found_by true t wide o same = refl
-found_by false t wide o same = same
-
-wide_column : (schema : ColumnTrees) (name : List ℕ) → column_type (wide_columns schema) name ≡ option_map wide_type (column_type schema name)
-wide_column no_columns name = refl
-wide_column (column n t b cs) name = found_by (bytes_eq n name) t (column_type (wide_columns cs) name) (column_type cs name) (wide_column cs name)
 
 kind_kept : (o : Option TypeTree) → option_and_then part_kind_of (option_map wide_type o) ≡ option_and_then part_kind_of o
 kind_kept None = refl
@@ -247,20 +234,6 @@ read_wide text schema is =
     cc
 
 -- ---- what may be published
-
--- A type without a kind takes null alone.
-only_null : (t : TypeTree) (v : PartValue) → part_kind_of t ≡ None → IsOfType t v → v ≡ value.Null
-only_null t value.Null none of = refl
-only_null t (value.Boolean b) none of = absurd (none-some kinds.Boolean (sym none ∙ ap part_kind_of of))
-only_null t (value.Int n) none of = absurd (none-some kinds.Int (sym none ∙ ⊎_elim (λ e. ap part_kind_of e) (λ (other : (t ≡ tree.short) ⊎ (t ≡ tree.int)). ⊎_elim (λ e. ap part_kind_of e) (λ e. ap part_kind_of e) other) of))
-only_null t (value.Long n) none of = absurd (none-some kinds.Long (sym none ∙ ap part_kind_of of))
-only_null t (value.Text s) none of = absurd (none-some kinds.Text (sym none ∙ ap part_kind_of of))
-only_null t (value.Date days) none of = absurd (none-some kinds.Date (sym none ∙ ap part_kind_of of))
-
--- Types of one kind, or both without a kind, take the same values.
-of_same : (t u : TypeTree) (o : Option PartKind) → part_kind_of t ≡ o → part_kind_of u ≡ o → (v : PartValue) → IsOfType t v → IsOfType u v
-of_same t u None is also v of = subst (IsOfType u) (sym (only_null t v is of)) tt
-of_same t u (Some k) is also v of = (kind_of_type u k also v).0 ((kind_of_type t k is v).1 of)
 
 of_wide : (t : TypeTree) (v : PartValue) → IsOfType t v ↔ IsOfType (wide_type t) v
 of_wide t v = (of_same t (wide_type t) (part_kind_of t) refl (alike t).kind v, of_same (wide_type t) t (part_kind_of t) (alike t).kind refl v)

@@ -8,10 +8,11 @@ use Rattle.table_history.specs.TypeTree.{ColumnTrees, TypeTree, column, no_colum
 use Rattle.table_history.specs.declared.row.PartValue.{PartValue}
 use Rattle.table_history.specs.declared.table.Table.{Table}
 use Rattle.partition_map.specs.Kind.{part_kind_of}
+use Rattle.partition_map.proofs.KindLemmas.{of_same}
 use Rattle.schema_map.specs.Image.{wide_columns, wide_type}
-use Rattle.schema_map.proofs.Wide.{own_wide, wide_limits}
+use Rattle.schema_map.proofs.Wide.{own_wide, wide_column, wide_limits}
 use Rattle.iceberg_commit.specs.NextVersion.{image}
-use Rattle.iceberg_commit.proofs.WideLemmas.{of_same, values_fit, wide_column}
+use Rattle.iceberg_commit.proofs.WideLemmas.{values_fit}
 use Rattle.target_core.specs.Conditions.{HasKind, IsPublishable}
 use Rattle.iceberg_version.proofs.BehindLemmas.{wide_part}
 
