@@ -13,10 +13,10 @@ use Rattle.lake_basics.specs.Outcome.{◌>>=◌, required, Gives}
 use Rattle.lake_basics.specs.declared.outcome.ReadError.{ReadError}
 use Rattle.json_reading.specs.Json.{count, count_member}
 use Rattle.json_reading.specs.Json as members_of
+use Rattle.json_reading.proofs.Turns.{converted_some, converted-object, refused}
 use Rattle.json_scan.specs.Passing.{passed, passed_members, begins_object, whole_object, named_whole, kept}
 use Rattle.json_scan.specs.Stated.{told}
 use Rattle.json_scan.proofs.Named.{kept_some}
-use Rattle.json_scan.proofs.Turns.{converted_some, converted-object, refused}
 
 abbrev pub whole : Option (json.Json × List Token) → Option Data
 whole o = option_and_then of_json (option_and_then (λ p. if_last p.0 p.1) o)

@@ -5,10 +5,11 @@ use Rattle.json.specs.Reads.{token_of}
 use Rattle.json.proofs.Grammar.{value_is, value-begin_array, value-begin_object, read_key-shorter}
 use Rattle.serde_json.specs.Data.{null, boolean, number, string, array, object}
 use Rattle.serde_json.specs.Read.{of_json, of_items, of_members, converted}
+use Rattle.json_reading.proofs.Turns.{converted-array, converted-object, item_refused, items_over, member_read, member_refused, key_refused, members_over}
 use Rattle.json_outline.specs.View.{view, number_view, members_view}
 use Rattle.json_outline.specs.declared.node.Node.{Text, Number, Bool, Null, the_lemmas}
 use Rattle.json_outline.proofs.Nodes.{view-Array, view-Object, items_before, items_before-no_items, one_more_item, none_before, one_more_member}
-use Rattle.json_outline.proofs.Turns.{converted-array, converted-object, item_read, item_refused, items_over, member_read, member_refused, key_refused, members_over}
+use Rattle.json_outline.proofs.Turns.{item_read}
 use Rattle.json_outline.proofs.reading.+read.Goals as goal
 
 pub read-returns-in_err-token-clause-err : goal.read-returns-in_err-token-clause-err

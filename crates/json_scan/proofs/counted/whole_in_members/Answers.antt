@@ -5,7 +5,7 @@ use Rattle.json_reading.specs.Json.{whole}
 use Rattle.json_scan.specs.Passing.{passed, passed_members, named_whole, kept}
 use Rattle.json.proofs.Grammar.{read_key-shorter}
 use Rattle.json_scan.proofs.Named.{kept_some, named_after}
-use Rattle.json_scan.proofs.Turns.{member_read, member_refused, key_refused, members_over}
+use Rattle.json_reading.proofs.Turns.{member_read, member_refused, key_refused, members_over}
 use Rattle.json_scan.proofs.counted.whole_in_members.Goals as goal
 
 pub members-init : goal.members-init
