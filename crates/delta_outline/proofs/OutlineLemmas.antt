@@ -15,6 +15,7 @@ use Rattle.schema_map.specs.Among.{IsAmong}
 use Rattle.schema_map.specs.Places.{IsWithin, IsNamed}
 use Rattle.schema_map.specs.declared.fault.MapError.TheVariants as map_errors
 use Rattle.schema_map.proofs.Failing.{each_failed, not_word}
+use Rattle.schema_map.proofs.Places.{named_word, two_words, struct_map}
 use Rattle.delta_outline.specs.declared.fault.OutlineFault.{OutlineFault}
 use Rattle.delta_outline.specs.declared.fault.OutlineFault.TheVariants as fault
 use Rattle.delta_outline.specs.declared.form.Form.{Form}
@@ -23,7 +24,7 @@ use Rattle.delta_outline.specs.declared.outline.Outline.{Outline}
 use Rattle.delta_outline.specs.Forms.{worse, field_name, own_form, parts_form, form}
 use Rattle.delta_outline.specs.Outlines.{outlined, outline_by, outline_of, outline_of_text, IsOutline, IsNoOutline}
 use Rattle.delta_outline.proofs.WorseLemmas.{worse_known, one_of, Below, below_self, below_left, below_right, below_trans, bad_below, other_below}
-use Rattle.delta_outline.proofs.OwnLemmas.{named_word, field_fails, own_bad, bad_own, own_other, other_own, names_are, name_among}
+use Rattle.delta_outline.proofs.OwnLemmas.{field_fails, own_bad, bad_own, own_other, other_own, names_are, name_among}
 use Rattle.delta_outline.proofs.PartLemmas.{parts_at, parts_below, part_depth}
 
 -- ---- the form of a place and of those inside it
@@ -119,14 +120,8 @@ text_refused text e h = by (json text) refl h
 
 -- ---- with one
 
-two_words : (d : Data) (v w : List ℕ) → IsNamed v d → IsNamed w d → Some v ≡ Some w
-two_words d v w a b = sym a ∙ b
-
 no_array : (d : Data) → IsNamed (codes "struct") d → IsNamed (codes "array") d → ⊥
 no_array d a b = not_word (codes "struct") (codes "array") refl (two_words d (codes "struct") (codes "array") a b)
-
-no_map : (d : Data) → IsNamed (codes "struct") d → IsNamed (codes "map") d → ⊥
-no_map d a b = not_word (codes "struct") (codes "map") refl (two_words d (codes "struct") (codes "map") a b)
 
 struct_known : (d : Data) → IsNamed (codes "struct") d → IsOtherDeltaType d → ⊥
 struct_known d named (inl word) = by d word.0 word.1 named
@@ -145,7 +140,7 @@ module _ (d : Data) (named : IsNamed (codes "struct") d) (ds : Items) (lists : l
       let name = name_among (items ds) names s.1 reads among in
       (name.0, (ds, s.1, part, n, p, lists, among, name.1, s.5, within, other))
   other_part part n p (inr (inl l)) within other = absurd (no_array d named l.0)
-  other_part part n p (inr (inr m)) within other = absurd (no_map d named m.0)
+  other_part part n p (inr (inr m)) within other = absurd (struct_map d named m.0)
 
   has_other_at : At d Other → (name : List ℕ) × DeltaColumnHasOther d name
   unfolding IsWithin

@@ -19,6 +19,7 @@ use Rattle.schema_delta.specs.DeltaSpelling.{IsDeltaType}
 use Rattle.schema_map.specs.Places.{IsNamed, field_names}
 use Rattle.schema_map.specs.Shared.{column_name}
 use Rattle.schema_map.proofs.Failing.{each_failed, not_word}
+use Rattle.schema_map.proofs.Places.{named_word}
 use Rattle.delta_outline.specs.declared.fault.OutlineFault.{OutlineFault}
 use Rattle.delta_outline.specs.declared.fault.OutlineFault.TheVariants as fault
 use Rattle.delta_outline.specs.declared.form.Form.TheVariants.{Known, Other, Malformed}
@@ -63,9 +64,6 @@ some_gone None b c h = refl
 some_gone (Some x) None c h = refl
 some_gone (Some x) (Some y) None h = refl
 some_gone (Some x) (Some y) (Some z) h = absurd (⊎_elim (λ e. some_or_none (Some x) x refl e) (λ more. ⊎_elim (λ e. some_or_none (Some y) y refl e) (λ e. some_or_none (Some z) z refl e) more) h)
-
-pub named_word : (d : Data) (w name : List ℕ) → text_member (codes "type") d ≡ Some w → bytes_eq w name ≡ true → IsNamed name d
-named_word d w name is same = is ∙ ap Some ((bytes_eq-Decides w name).0 same)
 
 other_word : (w name : List ℕ) → (Some w ≡ Some name → ⊥) → bytes_eq w name ≡ false
 other_word w name other = ⊎_elim (λ t. absurd (other (ap Some ((bytes_eq-Decides w name).0 t)))) (λ f. f) (cases_Bool (bytes_eq w name))

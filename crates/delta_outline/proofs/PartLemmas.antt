@@ -1,22 +1,19 @@
 -- The worst form in the parts of a type, and how deep its parts are.
 use Rattle.std.proofs.Common.{◌≡◌, ◌⊎◌, ℕ, suc, ◌≤◌, Bool, true, false, cond, List, [], ◌∷◌, Option, Some, None, codes, refl, sym, ap, subst, ◌∙◌, inl, inr, ⊎_elim, arith}
-use Rattle.std.specs.declared.cmp.Ordering.{Ordering}
-use Rattle.std.specs.declared.cmp.Ordering.TheVariants.{Less, Equal, Greater}
-use Rattle.std.specs.Ordering.{nat_cmp, match_ordering}
-use Rattle.std.specs.Cmp.Lexicographic.{slice_cmp}
 use Rattle.std.specs.Str.{bytes_eq}
-use Rattle.serde_json.specs.Data.{Data, null, boolean, number, string, array, object, Items, no_items, item, Members, no_members, member, depth, items_depth, members_depth}
-use Rattle.serde_json.specs.Find.{get, get_member}
+use Rattle.serde_json.specs.Data.{Data, array, Items, depth, items_depth}
+use Rattle.serde_json.specs.Find.{get}
 use Rattle.json_reading.specs.Json.{text_member, list_member, items}
+use Rattle.json_reading.proofs.Depth.{get_depth}
 use Rattle.schema_delta.specs.DeltaRefusal.{IsDeltaPart}
 use Rattle.schema_map.specs.Among.{IsAmong}
 use Rattle.schema_map.specs.Places.{IsNamed}
 use Rattle.schema_map.proofs.Bound.{was_array}
+use Rattle.schema_map.proofs.Places.{named_word, among_depth}
 use Rattle.delta_outline.specs.declared.form.Form.{Form}
 use Rattle.delta_outline.specs.declared.form.Form.TheVariants.{Known}
 use Rattle.delta_outline.specs.Forms.{worse, form_at, member_form, types_form, listed_types, named_parts, parts_form}
 use Rattle.delta_outline.proofs.WorseLemmas.{one_of, Below, below_self, below_left, below_right, below_trans}
-use Rattle.delta_outline.proofs.OwnLemmas.{named_word}
 
 module _ (part : Data → Form) where
   -- ---- the worst form is that of some part
@@ -99,28 +96,6 @@ module _ (part : Data → Form) where
       (λ is. below_trans (part p) value (worse key value) (below_member (codes "valueType") d p is) (below_right key value)) m.1)
 
 -- ---- depth
-
-member_depth : (k : List ℕ) (ms : Members) (p : Data) → get_member k ms ≡ Some p → depth p ≤ members_depth ms
-member_depth k no_members p h = absurd cc
-member_depth k (member l e ms) p h = by (slice_cmp nat_cmp k l) (λ more. member_depth k ms p more) h
-  where
-    by : (r : Ordering) → (get_member k ms ≡ Some p → depth p ≤ members_depth ms) → match_ordering r (get_member k ms) (Some e) (get_member k ms) ≡ Some p → depth p ≤ members_depth (member l e ms)
-    by Less rest f = let below = rest f in omega (arith, below)
-    by Equal rest f = let same : e ≡ p = cc in subst (λ x. depth x ≤ members_depth (member l e ms)) same (omega arith)
-    by Greater rest f = let below = rest f in omega (arith, below)
-
-pub get_depth : (k : List ℕ) (d p : Data) → get k d ≡ Some p → suc (depth p) ≤ depth d
-get_depth k null p h = absurd cc
-get_depth k (boolean b) p h = absurd cc
-get_depth k (number n) p h = absurd cc
-get_depth k (string s) p h = absurd cc
-get_depth k (array ds) p h = absurd cc
-get_depth k (object ms) p h = let below = member_depth k ms p h in omega (arith, below)
-
-among_depth : (ds : Items) (x : Data) → IsAmong x (items ds) → depth x ≤ items_depth ds
-among_depth no_items x among = absurd among
-among_depth (item d ds) x (inl same) = subst (λ y. depth y ≤ items_depth (item d ds)) same (omega arith)
-among_depth (item d ds) x (inr later) = let below = among_depth ds x later in omega (arith, below)
 
 pub part_depth : (d p : Data) → IsDeltaPart d p → suc (depth p) ≤ depth d
 part_depth d p (inl s) =

@@ -2,6 +2,7 @@
 use Rattle.std.proofs.Common.{◌≡◌, ℕ, List, true, Some, Result, Ok, Err, codes, refl, sym, ap, subst, ◌∙◌, arith}
 use Rattle.serde_json.specs.Find.{get_member}
 use Rattle.serde_json.specs.Data.{Data, boolean, string, array, object, Items, no_items, item, Members, no_members, member}
+use Rattle.json_reading.proofs.Laws.{one_not_none}
 use Rattle.table_history.specs.SchemaSize.{IsWithinLimits}
 use Rattle.table_history.specs.TypeTree as tree
 use Rattle.table_history.specs.TypeTree.{TypeTree, ColumnTrees, no_columns, column}
@@ -28,9 +29,6 @@ fields_are w ms ds whole fields =
     let found : Some (array (fields_of w)) ≡ Some (array ds) = ap (get_member (codes "fields")) same ∙ fields in
     cc
 
-no_fields : (d : Data) → item d no_items ≡ no_items → ⊥
-no_fields d e = absurd cc
-
 field_is : (w : List ℕ) (ms : Members) (rest : Items) → fields_of w ≡ item (object ms) rest → field_of w ≡ ms
 field_is w ms rest e = cc
 
@@ -38,7 +36,7 @@ type_is : (w : List ℕ) (ms : Members) (d : Data) → field_of w ≡ ms → get
 type_is w ms d same type = let found : Some (string w) ≡ Some d = ap (get_member (codes "type")) same ∙ type in cc
 
 type_in : (w : List ℕ) (s : ColumnTrees) → IsDeltaType (tree.struct_of s) (one_column w) → (t : TypeTree) × IsDeltaType t (string w)
-type_in w no_columns is = absurd (no_fields (object (field_of w)) (fields_are w is.0 is.1 is.2 is.4 ∙ is.6))
+type_in w no_columns is = absurd (one_not_none (object (field_of w)) (fields_are w is.0 is.1 is.2 is.4 ∙ is.6))
 type_in w (column n t b cs) is =
     let c = is.6 in
     let field : field_of w ≡ c.0 = field_is w c.0 c.2 (fields_are w is.0 is.1 is.2 is.4 ∙ c.3) in

@@ -15,6 +15,7 @@ use Rattle.schema_map.specs.Among.{IsAmong}
 use Rattle.schema_map.specs.Paths.{Path}
 use Rattle.schema_map.specs.Places.{IsNamed, field_names}
 use Rattle.schema_map.proofs.Failing.{each_failed, not_word}
+use Rattle.schema_map.proofs.Places.{named_word}
 use Rattle.schema_iceberg.specs.IcebergRefusal.{IsBadIcebergField, IsBadIcebergSchema}
 use Rattle.iceberg_metadata.specs.declared.error.MetadataError.{MetadataError}
 use Rattle.iceberg_metadata.specs.Errors.{Gives}
@@ -27,7 +28,7 @@ use Rattle.iceberg_schemas.specs.SchemaOutlines.{IsNoIcebergOutline}
 use Rattle.iceberg_schemas.proofs.OutlineLemmas.{outline_fault}
 use Rattle.iceberg_schemas.proofs.DepthLemmas.{field_depth, part_depth}
 use Rattle.iceberg_schemas.proofs.PlaceLemmas.{HasBad, bad_here, bad_part}
-use Rattle.iceberg_schemas.proofs.WalkLemmas.{named_word, names_there}
+use Rattle.iceberg_schemas.proofs.WalkLemmas.{names_there}
 
 -- What must be there isn't, or what comes behind it fails.
 pub lacks : {A B : Type 0} (o : Option A) (f : A → Result B MetadataError) (e : MetadataError) → (required Malformed o >>= f) ≡ Err e → (o ≡ None) ⊎ ((x : A) × (o ≡ Some x) × (f x ≡ Err e))

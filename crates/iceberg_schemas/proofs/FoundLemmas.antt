@@ -9,6 +9,7 @@ use Rattle.json_reading.specs.Json.{text_member, list_member, items}
 use Rattle.schema_map.specs.Among.{IsAmong}
 use Rattle.schema_map.specs.Paths.{Path}
 use Rattle.schema_map.specs.Places.{IsNamed}
+use Rattle.schema_map.proofs.Places.{named_word, struct_map}
 use Rattle.schema_iceberg.specs.IcebergRefusal.{IsIcebergPart, IsBadIcebergSchema, IcebergColumnHasOther}
 use Rattle.iceberg_metadata.specs.Errors.{Gives}
 use Rattle.iceberg_metadata.specs.declared.error.MetadataError.{MetadataError}
@@ -18,9 +19,9 @@ use Rattle.iceberg_metadata.specs.Members.{text_in}
 use Rattle.iceberg_metadata.specs.Outlines.{struct_outline, type_outline, schema_outline, nothing_met}
 use Rattle.iceberg_metadata.proofs.StepLemmas.{bind_ok, required_some}
 use Rattle.iceberg_schemas.specs.SchemaOutlines.{HasColumn, IsIcebergOutline}
-use Rattle.iceberg_schemas.proofs.PlaceLemmas.{struct_list, struct_map, HasOther, bad_here, other_part, other_inside, Facts, IsGood, Walked}
+use Rattle.iceberg_schemas.proofs.PlaceLemmas.{struct_list, HasOther, bad_here, other_part, other_inside, Facts, IsGood, Walked}
 use Rattle.iceberg_schemas.proofs.PartLemmas.{struct_known}
-use Rattle.iceberg_schemas.proofs.WalkLemmas.{named_word, struct_walked, type_walked}
+use Rattle.iceberg_schemas.proofs.WalkLemmas.{struct_walked, type_walked}
 
 module _ (d : Data) (named : IsNamed (codes "struct") d) where
   -- a field that has no name isn't in the grammar

@@ -13,8 +13,9 @@ use Rattle.iceberg_metadata.specs.declared.outline.Outline.{Outline}
 use Rattle.iceberg_metadata.specs.Outlines.{with_other}
 use Rattle.iceberg_schemas.specs.SchemaOutlines.{IsNamedPart}
 use Rattle.iceberg_schemas.proofs.FactLemmas.{Fact, Adds, adds_other, adds_none, adds_as}
-use Rattle.iceberg_schemas.proofs.PlaceLemmas.{struct_list, struct_map, list_map, no_string, bad_inside, other_here, Facts, PartFacts, InParts, AreNamed, from_facts, IsGood, Walked, walked_parts, same_part}
+use Rattle.iceberg_schemas.proofs.PlaceLemmas.{struct_list, list_map, no_string, bad_inside, other_here, Facts, PartFacts, InParts, AreNamed, from_facts, IsGood, Walked, walked_parts, same_part}
 use Rattle.lake_basics.proofs.Options.{some_once, some_or_none}
+use Rattle.schema_map.proofs.Places.{struct_map}
 
 -- ---- fields
 

@@ -4,6 +4,7 @@ use Rattle.serde_json.specs.Data.{Data, string}
 use Rattle.schema_map.specs.Paths.{Path}
 use Rattle.schema_map.specs.Places.{IsWithin, IsNamed}
 use Rattle.schema_map.proofs.Failing.{not_word}
+use Rattle.schema_map.proofs.Places.{two_words}
 use Rattle.schema_iceberg.specs.IcebergRefusal.{IsIcebergPart, IsBadIcebergType, IsOtherIcebergType}
 use Rattle.iceberg_metadata.specs.declared.outline.Outline.{Outline}
 use Rattle.iceberg_schemas.specs.SchemaOutlines.{IsNamedPart, HasColumn}
@@ -11,14 +12,8 @@ use Rattle.iceberg_schemas.proofs.FactLemmas.{Fact, Adds, adds_as}
 
 -- ---- words apart
 
-pub two_words : (d : Data) (v w : List ℕ) → IsNamed v d → IsNamed w d → Some v ≡ Some w
-two_words d v w a b = sym a ∙ b
-
 pub struct_list : (d : Data) → IsNamed (codes "struct") d → IsNamed (codes "list") d → ⊥
 struct_list d a b = not_word (codes "struct") (codes "list") refl (two_words d (codes "struct") (codes "list") a b)
-
-pub struct_map : (d : Data) → IsNamed (codes "struct") d → IsNamed (codes "map") d → ⊥
-struct_map d a b = not_word (codes "struct") (codes "map") refl (two_words d (codes "struct") (codes "map") a b)
 
 pub list_map : (d : Data) → IsNamed (codes "list") d → IsNamed (codes "map") d → ⊥
 list_map d a b = not_word (codes "list") (codes "map") refl (two_words d (codes "list") (codes "map") a b)

@@ -12,6 +12,7 @@ use Rattle.schema_map.specs.Among.{IsAmong}
 use Rattle.schema_map.specs.declared.fault.MapError.{MapError}
 use Rattle.schema_map.specs.declared.fault.MapError.TheVariants as map_errors
 use Rattle.schema_map.proofs.Failing.{each_failed, not_word}
+use Rattle.schema_map.proofs.Places.{named_word, among_depth}
 use Rattle.schema_iceberg.specs.Iceberg.{iceberg_schema}
 use Rattle.schema_iceberg.specs.IcebergRefusal.{IsBadIcebergSchema, IcebergColumnHasOther}
 use Rattle.schema_iceberg.proofs.IcebergRefused.{given_refused}
@@ -28,9 +29,7 @@ use Rattle.iceberg_schemas.specs.declared.schemas.HeldSchemas.{HeldSchemas}
 use Rattle.iceberg_schemas.specs.SchemaLists.{held_schemas, each_schema}
 use Rattle.iceberg_schemas.specs.SchemaOutlines.{IsIcebergOutline, IsToldOf, IsNoSchemaList}
 use Rattle.iceberg_schemas.proofs.FactLemmas.{among_cases}
-use Rattle.iceberg_schemas.proofs.DepthLemmas.{among_depth}
 use Rattle.iceberg_schemas.proofs.PlaceLemmas.{bad_here}
-use Rattle.iceberg_schemas.proofs.WalkLemmas.{named_word}
 use Rattle.iceberg_schemas.proofs.FoundLemmas.{outline_found}
 use Rattle.iceberg_schemas.proofs.BadLemmas.{lacks, outline_bad}
 use Rattle.iceberg_schemas.proofs.ToldLemmas.{reading_fault}

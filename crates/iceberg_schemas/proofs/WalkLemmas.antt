@@ -3,7 +3,6 @@ use Rattle.std.proofs.Common.{◌≡◌, ◌⊎◌, ℕ, zero, suc, ◌++◌, �
 use Rattle.std.specs.Prelude.{unwrap_or}
 use Rattle.std.specs.List.{IsDistinct}
 use Rattle.std.specs.Str.{bytes_eq}
-use Rattle.std.proofs.lemmas.Slice.Eq.{bytes_eq-Decides}
 use Rattle.avro_schema.specs.Names.{are_distinct}
 use Rattle.partition_map.proofs.ColumnLemmas.{distinct_exactly}
 use Rattle.serde_json.specs.Data.{Data, null, boolean, number, string, array, object, Items}
@@ -16,6 +15,7 @@ use Rattle.schema_map.specs.Paths.{Path}
 use Rattle.schema_map.specs.Places.{IsNamed, field_names}
 use Rattle.schema_map.specs.Shared.{column_name}
 use Rattle.schema_map.proofs.Failing.{not_word}
+use Rattle.schema_map.proofs.Places.{named_word}
 use Rattle.schema_iceberg.specs.IcebergRefusal.{IsBadIcebergList, IsBadIcebergMap, IsOtherIcebergType}
 use Rattle.iceberg_metadata.specs.declared.error.MetadataError.{MetadataError}
 use Rattle.iceberg_metadata.specs.declared.error.MetadataError.TheVariants.{Malformed}
@@ -30,9 +30,6 @@ use Rattle.iceberg_schemas.proofs.PartLemmas.{FieldFacts, IsGoodField, ListFacts
 
 abbrev pub Walks : Walk → Type 0
 Walks part = (prefix : Path) (d : Data) (o p : Outline) → part prefix d o ≡ Ok p → Walked prefix d o p
-
-pub named_word : (d : Data) (w name : List ℕ) → text_member (codes "type") d ≡ Some w → bytes_eq w name ≡ true → IsNamed name d
-named_word d w name is same = is ∙ ap Some ((bytes_eq-Decides w name).0 same)
 
 -- ---- names
 

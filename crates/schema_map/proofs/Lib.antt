@@ -7,7 +7,7 @@ pub mod Ids
 pub mod ImageTwice
 pub mod Numbers
 pub mod OwnNames
-pub mod PathOrder
+pub mod Places
 pub mod Prefixes
 pub mod Wide
 pub mod Reading
