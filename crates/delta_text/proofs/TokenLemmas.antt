@@ -4,7 +4,7 @@ use Rattle.std.proofs.lemmas.Cmp.{nat_list_cmp_total}
 use Rattle.std.specs.Prelude.{codes}
 use Rattle.std.specs.BTreeMap.{insert_entry}
 use Rattle.std.specs.Cmp.Lexicographic.{slice_cmp}
-use Rattle.std.specs.Ordering.{match_ordering, ordering_reverse}
+use Rattle.std.specs.Ordering.{match_ordering}
 use Rattle.std.specs.Str.{IsUtf8}
 use Rattle.json.specs.Json as json
 use Rattle.json.specs.Lex.{tokens}
@@ -20,6 +20,7 @@ use Rattle.serde_json.specs.Read.{of_json, of_members, read, max_depth}
 use Rattle.serde_json.specs.Written.{outline, items_outline, members_outline, compact_text}
 use Rattle.serde_json.proofs.Numbers.{number_of-decimal}
 use Rattle.serde_json.proofs.Texts.{print-outline}
+use Rattle.lake_basics.proofs.Texts.{IsBelow, above, greater_turned}
 use Rattle.json_reading.proofs.Laws.{json_read}
 use Rattle.json_reading.specs.Json.{text_or_null_data, members_with, IsReadAgain}
 use Rattle.delta_log.specs.declared.commit.FileAction.{FileAction}
@@ -46,9 +47,6 @@ values_members-insert_entry (e ∷ es) k v = values_members-match_ordering (slic
 
 -- ---- members in the order of their names are put in one after another
 
-abbrev IsBelow : List ℕ → List ℕ → Type 0
-IsBelow k l = slice_cmp nat_cmp k l ≡ Less
-
 -- all names are above this one
 abbrev AreAbove : List ℕ → Members → Type 0
 AreAbove k no_members = Unit {0}
@@ -63,12 +61,6 @@ record IsRead (d : Data) : Type 0 where
 abbrev AreRead : Members → Type 0
 AreRead no_members = Unit {0}
 AreRead (member k d ms) = IsRead d × AreAbove k ms × AreRead ms
-
-above : (k l : List ℕ) → IsBelow k l → slice_cmp nat_cmp l k ≡ Greater
-above k l h = nat_list_cmp_total.antisymm l k ∙ ap ordering_reverse h
-
-below : (k l : List ℕ) → slice_cmp nat_cmp k l ≡ Greater → IsBelow l k
-below k l h = nat_list_cmp_total.antisymm l k ∙ ap ordering_reverse h
 
 above_all : (k l : List ℕ) (ms : Members) → IsBelow k l → AreAbove l ms → AreAbove k ms
 above_all k l no_members h all = tt
@@ -87,7 +79,7 @@ read_at : (o : Ordering) (k l : List ℕ) (d e : Data) (ms : Members) → slice_
     → AreRead (match_ordering o (member k d (member l e ms)) (member l d ms) (member l e (put k d ms)))
 read_at Less k l d e ms is one all later = (one, (is, above_all k l ms is all.1), all)
 read_at Equal k l d e ms is one all later = (one, all.1, all.2)
-read_at Greater k l d e ms is one all later = (all.0, above_put l k d ms (below k l is) all.1, later)
+read_at Greater k l d e ms is one all later = (all.0, above_put l k d ms (greater_turned k l is) all.1, later)
 
 read_put : (k : List ℕ) (d : Data) (ms : Members) → IsRead d → AreRead ms → AreRead (put k d ms)
 read_put k d no_members one all = (one, tt, tt)
@@ -192,16 +184,6 @@ pub printed_text : (ts : List Token) (d : Data) → ts ≡ json_tokens (outline 
 printed_text ts d is = ap print is ∙ print-outline d
 
 -- ---- one after another
-
--- tokens that stand at the end of others
-pub record Grew (a b ts : List Token) : Type 0 where
-  pub is : b ≡ a ++ ts
-
-pub first : (a b ts : List Token) → b ≡ a ++ ts → Grew a b ts
-first a b ts is = record { is = is }
-
-pub more : (a b c us ts : List Token) → Grew a b us → c ≡ b ++ ts → Grew a c (us ++ ts)
-more a b c us ts before is = record { is = is ∙ ap (λ l. l ++ ts) before.is ∙ append_assoc a us ts }
 
 pub regrouped : (values path size stats one other : List Token) → ((((values ++ path) ++ size) ++ stats) ++ one) ++ other ≡ (values ++ (path ++ (size ++ (stats ++ one)))) ++ other
 regrouped values path size stats one other = simp append_assoc

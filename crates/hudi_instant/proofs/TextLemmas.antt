@@ -17,6 +17,7 @@ use Rattle.serde_json.specs.View.{items_of}
 use Rattle.json_reading.specs.Json.{json, items, pairs, members_with}
 use Rattle.lake_basics.specs.declared.limits.TheConstants.{MAX_ACTIONS}
 use Rattle.lake_basics.proofs.Numbers.{natural_test}
+use Rattle.lake_basics.proofs.Texts.{IsBelow, above}
 use Rattle.hudi_instant.specs.declared.instant.Instant.{Instant}
 use Rattle.hudi_instant.specs.declared.instant.Stat.{Stat}
 use Rattle.hudi_instant.proofs.PathForms.{is_path_of_any_length-true}
@@ -110,9 +111,6 @@ module _ {A : Type 0} (key : A → List ℕ) where
         subst (λ (n : ℕ). is_lt (cmp (get_or (a ∷ b ∷ bs) n d) (get_or (b ∷ bs) k d)) ≡ false) more (sorted (suc k) d (omega arith) (omega (arith, within)))),
   )
 
-abbrev pub IsBelow : List ℕ → List ℕ → Type 0
-IsBelow k l = slice_cmp nat_cmp k l ≡ Less
-
 -- each key is below all later ones
 abbrev pub Ascends : {B : Type 0} → List (List ℕ × B) → Type 0
 Ascends [] = Unit {0}
@@ -125,9 +123,6 @@ below_by Greater late apart = refl
 
 below_from : (k l : List ℕ) → is_lt (slice_cmp nat_cmp l k) ≡ false → bytes_eq l k ≡ false → IsBelow k l
 below_from k l late apart = nat_list_cmp_total.antisymm k l ∙ below_by (slice_cmp nat_cmp l k) late (is_eq-slice_cmp l k ∙ apart)
-
-above : (k l : List ℕ) → IsBelow k l → slice_cmp nat_cmp l k ≡ Greater
-above k l h = nat_list_cmp_total.antisymm l k ∙ ap ordering_reverse h
 
 below_all : {B : Type 0} (k l : List ℕ) (gs : List (List ℕ × B)) → IsBelow k l → AllByRecursion (λ h. IsBelow l h.0) gs → AllByRecursion (λ h. IsBelow k h.0) gs
 below_all k l [] h all = tt

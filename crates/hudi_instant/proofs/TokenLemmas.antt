@@ -18,6 +18,7 @@ use Rattle.serde_json.proofs.Texts.{print-outline}
 use Rattle.json_reading.proofs.Laws.{json_read}
 use Rattle.json_reading.specs.Json as reading
 use Rattle.json_reading.specs.Json.{pairs, members_with}
+use Rattle.json_reading.proofs.Grown.{Grew, more}
 use Rattle.hudi_instant.specs.declared.instant.Instant.{Instant}
 use Rattle.hudi_instant.specs.declared.instant.Stat.{Stat}
 use Rattle.hudi_instant.specs.InstantText.{stat_data, runs_by, arrays_by, partition_of, replaced_partition, id_data, extra_data, whole_data, instant_data, instant_text, stat_cmp, replaced_cmp, IsSoundStat, IsWritable}
@@ -120,16 +121,6 @@ pub printed_json : (bytes : List ℕ) (ts : List Token) (i : Instant) → ts ≡
 printed_json bytes ts i is lexed utf8 h = json_read bytes (instant_data i) utf8 (tokens_read bytes (outline (written_data i)) (instant_data i) (lexed ∙ is) (written_read i h))
 
 -- ---- one after another
-
--- tokens that stand at the end of others
-pub record Grew (a b ts : List Token) : Type 0 where
-  pub is : b ≡ a ++ ts
-
-pub first : (a b ts : List Token) → b ≡ a ++ ts → Grew a b ts
-first a b ts is = record { is = is }
-
-pub more : (a b c us ts : List Token) → Grew a b us → c ≡ b ++ ts → Grew a c (us ++ ts)
-more a b c us ts before is = record { is = is ∙ ap (λ l. l ++ ts) before.is ∙ append_assoc a us ts }
 
 -- a member more, whose text is this
 pub more_text : (a b c us : List Token) (name s t : List ℕ) → Grew a b us → c ≡ b ++ Token.key name ∷ Token.string s ∷ [] → s ≡ t → Grew a c (us ++ Token.key name ∷ Token.string t ∷ [])

@@ -1,3 +1,4 @@
 pub mod Laws
 pub mod Depth
+pub mod Grown
 pub mod Turns

@@ -92,6 +92,12 @@ distinct_filter p (x ∷ xs) distinct =
       | false ↦ rest
     ]
 
+abbrev pub IsBelow : List ℕ → List ℕ → Type 0
+IsBelow k l = slice_cmp nat_cmp k l ≡ Less
+
+pub above : (k l : List ℕ) → IsBelow k l → slice_cmp nat_cmp l k ≡ Greater
+above k l h = nat_list_cmp_total.antisymm l k ∙ ap ordering_reverse h
+
 pub greater_turned : (a b : List ℕ) → slice_cmp nat_cmp a b ≡ Greater → slice_cmp nat_cmp b a ≡ Less
 greater_turned a b is = nat_list_cmp_total.antisymm b a ∙ ap ordering_reverse is
 

@@ -5,8 +5,9 @@ use Rattle.json.specs.Token.{begin_object, end_object, key, string, number, bool
 use Rattle.json.specs.Tree.{json_tokens}
 use Rattle.serde_json.specs.Data.{object}
 use Rattle.serde_json.specs.Written.{outline}
+use Rattle.json_reading.proofs.Grown.{first, more}
 use Rattle.delta_text.specs.Tokens.{values_members}
-use Rattle.delta_text.proofs.TokenLemmas.{first, more, regrouped}
+use Rattle.delta_text.proofs.TokenLemmas.{regrouped}
 use Rattle.delta_text.proofs.file_text.write_add.Goals as goal
 
 pub returns-clause-tokens : goal.returns-clause-tokens

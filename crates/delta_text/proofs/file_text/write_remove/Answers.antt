@@ -1,7 +1,7 @@
 use Rattle.std.proofs.Common.{◌∷◌, []}
 use Rattle.std.proofs.lemmas.Result.{on_ok_weaker}
 use Rattle.json.specs.Token.{begin_object}
-use Rattle.delta_text.proofs.TokenLemmas.{first, more}
+use Rattle.json_reading.proofs.Grown.{first, more}
 use Rattle.delta_text.proofs.file_text.write_remove.Goals as goal
 
 pub returns-clause-tokens : goal.returns-clause-tokens

@@ -1,7 +1,8 @@
 use Rattle.std.proofs.Common.{◌++◌, ◌∷◌, [], ap, ◌∙◌, rules}
 use Rattle.std.proofs.lemmas.Result.{on_ok_weaker}
 use Rattle.json.specs.Token.{begin_object}
-use Rattle.hudi_instant.proofs.TokenLemmas.{first, more, extra_tokens}
+use Rattle.json_reading.proofs.Grown.{first, more}
+use Rattle.hudi_instant.proofs.TokenLemmas.{extra_tokens}
 use Rattle.hudi_instant.proofs.write.write_extra.Goals as goal
 
 pub returns-clause-tokens : goal.returns-clause-tokens

@@ -5,10 +5,11 @@ use Rattle.json.specs.Token.{Token, begin_object, end_object, key, string, boole
 use Rattle.json.specs.Tree.{json_tokens}
 use Rattle.serde_json.specs.Data.{object}
 use Rattle.serde_json.specs.Written.{outline}
+use Rattle.json_reading.proofs.Grown.{first, more}
 use Rattle.hudi_instant.specs.declared.instant.Stat.{Stat}
 use Rattle.hudi_instant.specs.InstantText.{stat_data, id_data, partition_of, replaced_partition, runs_by, extra_data}
 use Rattle.hudi_instant.specs.InstantTokens.{run_members}
-use Rattle.hudi_instant.proofs.TokenLemmas.{first, more, regrouped}
+use Rattle.hudi_instant.proofs.TokenLemmas.{regrouped}
 use Rattle.hudi_instant.proofs.write.write_instant.Goals as goal
 
 abbrev id_tokens : List (List ℕ × List ℕ) → List Token
