@@ -8,12 +8,13 @@ use Rattle.serde_json.specs.Find.{get, get_member, as_array}
 use Rattle.serde_json.specs.View.{items_of}
 use Rattle.indexmap.specs.IndexSet.{insert_key}
 use Rattle.json_reading.specs.Json.{text_member, items}
+use Rattle.json_reading.proofs.Laws.{items-items_of}
 use Rattle.avro_schema.specs.Tree.{SchemaTree, schema_tree, ShapeTree, BranchTrees, no_branches, branch, FieldTrees, no_fields, field}
 use Rattle.avro_schema.specs.Names.{namespace_of, Definition, definition_of, with_definition}
 use Rattle.avro_schema.specs.Grammar.{Place, inside, Annotates, StandsFor, SaysType, Declares, DeclaresBranches, DeclaresFields}
 use Rattle.avro_schema.specs.Writing.{Written, put_some, size_json, id_json, with_annotations, type_members, primitive_json, no_namespace, named_members, is_written, definition_json, array_members, map_members, field_json, fixed_members, enum_members, record_members, written_as, schema_json, shape_json, branches_json, fields_json}
 use Rattle.avro_schema.specs.Spelled.{IsSize, IsId, IsNoUnion, IsKnown, Stands, ShapeStands, BranchesStand, FieldsStand}
-use Rattle.avro_schema.proofs.WrittenMembers.{at_put, past_put, at_some, past_some, past_notes, text_of_member, size_again, notes, id_again, primitive_again, named_other, named_type, named_name, named_space, full_again, items_again}
+use Rattle.avro_schema.proofs.WrittenMembers.{at_put, past_put, at_some, past_some, past_notes, text_of_member, size_again, notes, id_again, primitive_again, named_other, named_type, named_name, named_space, full_again}
 
 -- ---- the names that are defined
 
@@ -181,7 +182,7 @@ mutual
       let list = items_of (map string symbols) in
       let b = begins (codes "symbols") (codes "enum") at.space name (array list) l p s (refl, refl, refl, refl, refl, refl, refl, refl, refl) sp ss in
       let d = object (with_annotations l p s (enum_members at.space name symbols)) in
-      new_spelt at before before after name (ShapeTree.enum_of name symbols) l p s (d, names_of before) free.2 (inr (inr (b.says, b.annotates, ((name, b.named, free.0, full_again at.space name d b.spaced), free.1, free.2), (list, ap (option_and_then as_array) b.there, items_again (map string symbols)), distinct, put))) refl put
+      new_spelt at before before after name (ShapeTree.enum_of name symbols) l p s (d, names_of before) free.2 (inr (inr (b.says, b.annotates, ((name, b.named, free.0, full_again at.space name d b.spaced), free.1, free.2), (list, ap (option_and_then as_array) b.there, items-items_of (map string symbols)), distinct, put))) refl put
   shape_spelt at before (ShapeTree.array_of inner id) l p s after sp ss (si, h) = array_spelt at before inner id l p s after (schema_json inner at.space (names_of before)) sp ss si (spelt at before inner after h)
   shape_spelt at before (ShapeTree.map_of inner key value) l p s after sp ss (sk, sv, h) = map_spelt at before inner key value l p s after (schema_json inner at.space (names_of before)) sp ss sk sv (spelt at before inner after h)
   shape_spelt at before (ShapeTree.union_of ts) l p s after sp ss (el, ep, es, h) =

@@ -1,13 +1,12 @@
 -- What is found in the JSON that is written of a schema.
-use Rattle.std.proofs.Common.{◌≡◌, ℕ, ◌^◌, ℤ, pos, negsuc, Bool, true, false, ◌||◌, cond, List, [], ◌∷◌, length, Option, None, Some, Ok, option_map, refl, ap, sym, ◌∙◌, inl, inr, arith, codes, IfSome}
+use Rattle.std.proofs.Common.{◌≡◌, ℕ, ◌^◌, ℤ, pos, negsuc, Bool, true, false, ◌||◌, cond, List, [], length, Option, None, Some, Ok, option_map, refl, ap, sym, ◌∙◌, inl, inr, arith, codes, IfSome}
 use Rattle.std.specs.Prelude.{◌==◌, option_and_then, nat_lt, nat_le}
 use Rattle.std.specs.Str.{bytes_eq}
 use Rattle.std.proofs.lemmas.Bool.{lt-ltb, le-leb}
 use Rattle.serde_json.specs.Data.{Data, string, object, Members, no_members, put}
 use Rattle.serde_json.specs.Find.{get, get_member, as_str}
-use Rattle.serde_json.specs.View.{items_of}
 use Rattle.serde_json.proofs.Views.{get_member-put, get_member-put_other}
-use Rattle.json_reading.specs.Json.{text_member, items, int, whole}
+use Rattle.json_reading.specs.Json.{text_member, int, whole}
 use Rattle.avro_schema.specs.Tree.{schema_tree, ShapeTree}
 use Rattle.avro_schema.specs.Names.{has_dot, full_name, primitive_of}
 use Rattle.avro_schema.specs.Reading.{size_member, id_in, id_member, space_in}
@@ -120,7 +119,3 @@ full_by space name false false dotted empty = rw dotted refl
 pub full_again : (space name : List ℕ) (d : Data) → get (codes "namespace") d ≡ no_namespace space name → name ≡ full_name (space_in (text_member (codes "namespace") d) space) name
 full_again space name d e =
     full_by space name (has_dot name) (length space == 0) refl refl ∙ ap (λ (o : Option Data). full_name (space_in (option_and_then as_str o) space) name) (sym e)
-
-pub items_again : (ds : List Data) → items (items_of ds) ≡ ds
-items_again [] = refl
-items_again (d ∷ ds) = ap (λ (xs : List Data). d ∷ xs) (items_again ds)
