@@ -14,6 +14,7 @@ use Rattle.table_history.specs.declared.row.FileRow.{FileRow}
 use Rattle.table_history.specs.declared.table.Change.{Change}
 use Rattle.table_history.specs.declared.table.Table.{Table}
 use Rattle.table_history.proofs.Laws.{same_rows_length}
+use Rattle.table_history.proofs.FirstLemmas.{none_first}
 use Rattle.partition_map.specs.declared.kind.PartKind.{PartKind}
 use Rattle.schema_map.specs.declared.fault.MapError.TheVariants as map_errors
 use Rattle.delta_log.specs.declared.commit.DeltaCommit.{DeltaCommit}
@@ -31,7 +32,6 @@ use Rattle.delta_change.specs.TableBehind.{rows_before, schema_before, partition
 use Rattle.delta_live.proofs.DifferenceLemmas.{unordered_leads, unordered_fits, ordered_diff, ordered_leads, ordered_fits, after_ordered}
 use Rattle.delta_live.proofs.RowLemmas.{are_behind}
 use Rattle.delta_change.proofs.KindLemmas.{KeepKinds, same_columns}
-use Rattle.delta_log.proofs.ReadableLemmas.{none_first}
 use Rattle.delta_change.proofs.TableLemmas.{before_rows, names_distinct, goes_on}
 use Rattle.delta_live.proofs.TextLemmas.{columns_distinct}
 use Rattle.delta_live.proofs.ValueLemmas.{has_values, sound_row, columns_length}

@@ -1,5 +1,5 @@
--- Lines that are left, and paths that are held.
-use Rattle.std.proofs.Common.{◌≡◌, ℕ, ◌+◌, ◌<◌, ◌≤◌, List, [], ◌∷◌, ◌++◌, length, take, drop, Option, Some, None, option_map, IfSome, Bool, true, false, cond, not, nat_lt, Result, Ok, Err, Bor, refl, sym, ap, subst, ◌∙◌, arith, le_refl}
+-- Lines one after another, and paths that are held.
+use Rattle.std.proofs.Common.{◌≡◌, ℕ, ◌+◌, ◌<◌, List, [], ◌∷◌, ◌++◌, length, take, drop, Option, Some, None, Bool, true, false, cond, not, nat_lt, Result, Ok, Err, refl, sym, ap, subst, ◌∙◌, arith, le_refl}
 use Rattle.std.proofs.lemmas.Bool.{cond-false, cond-true, false_from_ne_true, le-ltb, lt-ltb}
 use Rattle.std.proofs.lemmas.Cmp.{nat_list_eq_equiv}
 use Rattle.std.proofs.lemmas.List.Folds.{list_any-append}
@@ -22,15 +22,6 @@ use Rattle.delta_log.specs.declared.error.Fault.TheVariants.{Malformed, Unsuppor
 use Rattle.delta_log.specs.Commit.{file_path, file_paths}
 use Rattle.delta_log.specs.Judging.{acts_on, with_line, with_lines, error_at, IsErrorAt, is_memory, is_newline}
 use borrow.Author.Tests.{ltb-true}
-
--- at least as many as the lines that are left
-abbrev pub left : Option (List ℕ) → ℕ
-left None = 0
-left (Some bytes) = length bytes + 1
-
-pub left_shorter : (o : Option (Bor (List ℕ))) (n : ℕ) → IfSome o (λ s. length s.now < n) → left (option_map (λ s. s.now) o) ≤ n
-left_shorter None n h = omega arith
-left_shorter (Some s) n h = omega arith
 
 -- ---- the first line
 

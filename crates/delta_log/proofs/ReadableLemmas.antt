@@ -26,6 +26,7 @@ use Rattle.delta_log.specs.Commit.{file_path, file_paths}
 use Rattle.delta_log.specs.Grammar.{line_action}
 use Rattle.delta_log.specs.Judging.{acts_on, with_action, with_line, with_lines, judged, at_line, error_at, no_lines, lines_of, commit_of, Answers}
 use Rattle.table_history.specs.First.{IsFirst, NoneOf}
+use Rattle.table_history.proofs.FirstLemmas.{none_first, first_in}
 use Rattle.delta_log.specs.Readable.{States, protocol_in, meta_in, path_in, file_in, protocols, metas, paths, files, NamesNoPath, ShowsOnLine, line_features, HasLongPath, PassesOnLine, line_limits, AreLinesInGrammar, AreReadable, IsReadableCommit, IsMisplaced, ActsAgain, IsAtFault, IsFirstFault, IsRefusal, IsGrammarError}
 use Rattle.delta_log.proofs.EachLemmas.{each_push, cut_each, Cuts}
 use Rattle.delta_log.proofs.SaysLemmas.{says_action, reads_action, says_each, reads_each}
@@ -188,10 +189,6 @@ ends_whole bytes = ends_of [] (lines_of bytes) [] no_lines 1 holds_nothing refl
 abbrev flat_map_of : {B : Type 0} → (LineAction → Option B) → List LineAction → List B
 flat_map_of f actions = flat_map (λ x. option_to_list (f x)) actions
 
-pub none_first : {X : Type 0} (P : X → Type 0) (xs : List X) (x : X) → NoneOf P xs → IsFirst P xs x → ⊥
-none_first P [] x none first = first
-none_first P (y ∷ ys) x none first = ⊎_elim (λ h. none.0 h.1) (λ h. none_first P ys x none.1 h.1) first
-
 apart_front : (x : List ℕ) (xs ys : List (List ℕ)) → AllByRecursion (λ z. bytes_eq x z ≡ false) (xs ++ ys) → AllByRecursion (λ z. bytes_eq x z ≡ false) xs
 apart_front x [] ys all = tt
 apart_front x (z ∷ xs) ys all = (all.0, apart_front x xs ys all.1)
@@ -250,10 +247,6 @@ limit_excluded lines before a rest limits.Actions readable none passes =
     let whole : length (files (before ++ a ∷ rest)) ≡ length (files before) + (length (option_to_list (file_in a)) + length (files rest)) = ap length (cut_of file_in before a rest) ∙ rw (length-append, length-append) in
     omega (arith, few, over, one, whole)
 limit_excluded lines before a rest _ readable none passes = passes
-
-first_in : {X : Type 0} (P : X → Type 0) (xs : List X) (x : X) → IsFirst P xs x → P x
-first_in P [] x first = absurd first
-first_in P (y ∷ ys) x first = ⊎_elim (λ h. subst P (sym h.0) h.1) (λ h. first_in P ys x h.1) first
 
 grammar_fault : (lines : List (List ℕ)) (line : List ℕ) (before : List LineAction) (a : LineAction) (rest : List LineAction) (n : ℕ) (e : DeltaError) → line_action line ≡ Ok a → AreLinesInGrammar lines (before ++ a ∷ rest) → IsGrammarError e → IsAtFault before line n e → ⊥
 grammar_fault lines line before a rest n errors.Memory is grammar kind fault = fault

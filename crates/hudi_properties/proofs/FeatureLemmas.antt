@@ -15,6 +15,7 @@ use Rattle.table_history.proofs.RowListLemmas.{Contains-one, Contains-cases}
 use Rattle.table_history.specs.First.{IsFirst, NoneOf}
 use Rattle.table_history.specs.declared.feature.Feature.{Feature}
 use Rattle.table_history.specs.declared.feature.Feature.TheVariants.{HudiType, HudiVersion, FileFormat, KeyGenerator}
+use Rattle.table_history.proofs.FirstLemmas.{none_first}
 use Rattle.hudi_names.specs.declared.error.HudiError.{HudiError}
 use Rattle.hudi_names.specs.declared.error.HudiError.TheVariants as errors
 use Rattle.hudi_names.specs.Errors.{Gives}
@@ -171,10 +172,6 @@ first_told pairs =
     (word_decides (codes "hoodie.table.version") (codes "5") pairs) (word_decides (codes "hoodie.table.version") (codes "6") pairs))
     (case_by (property (codes "hoodie.table.base.file.format") pairs) (codes "hoodie.table.base.file.format") pairs refl)
     (generator_by (property (codes "hoodie.table.keygenerator.class") pairs) (codes "hoodie.table.keygenerator.class") pairs refl)
-
-none_first : {X : Type 0} (P : X → Type 0) (xs : List X) (x : X) → NoneOf P xs → IsFirst P xs x → ⊥
-none_first P [] x none first = first
-none_first P (y ∷ ys) x none first = ⊎_elim (λ h. none.0 h.1) (λ h. none_first P ys x none.1 h.1) first
 
 -- ---- answers
 

@@ -1,5 +1,5 @@
 -- Lines, one after another.
-use Rattle.std.proofs.Common.{◌≡◌, ◌≢◌, ℕ, suc, ◌+◌, ◌<◌, ◌≤◌, List, [], ◌∷◌, ◌++◌, length, get_or, take, drop, Option, Some, None, option_map, IfSome, Bool, true, false, Bor, refl, sym, ap, subst, ◌∙◌, append_assoc, arith}
+use Rattle.std.proofs.Common.{◌≡◌, ◌≢◌, ℕ, suc, ◌+◌, ◌<◌, List, [], ◌∷◌, ◌++◌, length, get_or, take, drop, Option, Bool, true, false, refl, sym, ap, subst, ◌∙◌, append_assoc, arith}
 use Rattle.std.specs.Prelude.{◌==◌, take_while, option_to_list}
 use Rattle.std.proofs.lemmas.Bool.Decides.{nat_tests}
 use Rattle.std.proofs.lemmas.List.Sums.{take_while-cons}
@@ -59,14 +59,6 @@ fresh e [] other = refl
 fresh e (c ∷ cs) other = fresh_by (e == 13) c cs (λ is. other c cs refl (grind (arith, nat_tests)))
 
 -- ---- lines that are left
-
-abbrev pub left : Option (List ℕ) → ℕ
-left None = 0
-left (Some bytes) = length bytes + 1
-
-pub left_shorter : (o : Option (Bor (List ℕ))) (n : ℕ) → IfSome o (λ s. length s.now < n) → left (option_map (λ s. s.now) o) ≤ n
-left_shorter None n h = omega arith
-left_shorter (Some s) n h = omega arith
 
 pub lines_step : (n : ℕ) (front : Option LogicalLine) (line : List ℕ) (all more : List (List ℕ)) (before after r : List LogicalLine) (s : LineStep) → all ≡ line ∷ more → s ≡ stepped n front line → after ≡ before ++ option_to_list s.whole
     → before ++ logical_from n front all ≡ r → after ++ logical_from (n + 1) s.front more ≡ r

@@ -3,4 +3,5 @@ pub mod Numbers
 pub mod Options
 pub mod Lists
 pub mod Texts
+pub mod Lines
 pub mod Each

@@ -42,7 +42,7 @@ use Rattle.delta_log.specs.declared.commit.FileAction.{FileAction}
 use Rattle.delta_log.specs.declared.commit.MetaData.{MetaData}
 use Rattle.delta_log.specs.declared.error.DeltaError.{DeltaError}
 use Rattle.delta_log.specs.declared.error.DeltaError.TheVariants as errors
-use Rattle.delta_log.proofs.ReadableLemmas.{fault_excluded, is_read, none_first}
+use Rattle.delta_log.proofs.ReadableLemmas.{fault_excluded, is_read}
 use Rattle.delta_table.specs.Log.{IsReadLog, IsStep, SaysCommit}
 use Rattle.delta_table.specs.Refusals.{IsLogRefusal, IsUnfit, IsUnreadable, IsVersionRefusal}
 use Rattle.delta_table.specs.Versions.{HasVersion, HoldsVersion, IsVersionPath, log_folder}
@@ -51,6 +51,7 @@ use Rattle.delta_table.specs.declared.error.LogError.TheVariants as log
 use Rattle.delta_table.proofs.LogLaws.{step_made}
 use Rattle.delta_table.proofs.PathLaws.{bytes_once, ok_once, path_once}
 use Rattle.table_history.specs.Tables.{SameTable}
+use Rattle.table_history.proofs.FirstLemmas.{none_first}
 use Rattle.source_core.specs.declared.error.SourceError.TheVariants as source
 use Rattle.source_delta.specs.LikeLemmas.{LikeBefore, SameBefore, like_before, next_like, next_same}
 use Rattle.source_delta.specs.Reading.{HasEach, IsRefusedLog, LacksVersion, ShowsAtHead, ShowsFromScratch, Tells, TellsCommit}

@@ -15,11 +15,12 @@ use Rattle.table_history.specs.declared.limit.LimitKind.{LimitKind}
 use Rattle.table_history.specs.declared.table.Commit.{Commit}
 use Rattle.table_history.specs.declared.table.Table.{Table}
 use Rattle.table_history.specs.TypeTree.{ColumnTrees}
+use Rattle.table_history.proofs.FirstLemmas.{none_first}
 use Rattle.conformance.specs.Histories.{IsExtension, IsHistoryFrom}
 use Rattle.delta_change.specs.Change.{HasLargeSchema, IsChangeRefusal, Shows, commit_features}
 use Rattle.delta_change.specs.TableBehind.{IsSchemaBehind}
 use Rattle.delta_log.proofs.EachLemmas.{Cuts, cut_each}
-use Rattle.delta_log.proofs.ReadableLemmas.{again_excluded, misplaced_excluded, none_first}
+use Rattle.delta_log.proofs.ReadableLemmas.{again_excluded, misplaced_excluded}
 use Rattle.delta_log.proofs.SaysLemmas.{says_action, reads_action, reads_each}
 use Rattle.delta_log.specs.Grammar.{line_action}
 use Rattle.delta_log.specs.Judging.{lines_of}

@@ -5,8 +5,9 @@ use Rattle.std.proofs.lemmas.Option.{none-some, same_Some}
 use Rattle.lake_basics.specs.declared.limits.TheConstants.{MAX_FILE_BYTES}
 use Rattle.lake_basics.specs.declared.outcome.ReadError.TheVariants as read
 use Rattle.lake_store.specs.Disk.{Files}
-use Rattle.table_history.specs.First.{IsFirst, NoneOf}
+use Rattle.table_history.specs.First.{NoneOf}
 use Rattle.table_history.specs.declared.limit.LimitKind.{LimitKind}
+use Rattle.table_history.proofs.FirstLemmas.{none_first, first_in}
 use Rattle.iceberg_ancestry.specs.Ancestry.{FormsCycle, LeadsTo, held_at}
 use Rattle.iceberg_metadata.specs.Grammar.{IsMetadataText}
 use Rattle.iceberg_metadata.specs.Reading.{HasCause, causes}
@@ -32,16 +33,6 @@ use Rattle.source_core.specs.declared.head.Head.{Head}
 use Rattle.source_iceberg.specs.HeadLemmas.{not_absent}
 use Rattle.source_iceberg.specs.Heads.{IsAbsent, IsIcebergHead, StandsForMetadata, metadata_features}
 use Rattle.source_iceberg.specs.Reading.{HasFewNames, IsRefusedVersion, ShowsAtHead, Tells, TellsFault}
-
-first_in : {A : Type 0} (P : A → Type 0) (xs : List A) (x : A) → IsFirst P xs x → P x
-first_in P [] x first = absurd first
-first_in P (y ∷ ys) x (inl h) = subst P (sym h.0) h.1
-first_in P (y ∷ ys) x (inr h) = first_in P ys x h.1
-
-none_first : {A : Type 0} (P : A → Type 0) (xs : List A) (x : A) → NoneOf P xs → IsFirst P xs x → ⊥
-none_first P [] x none first = first
-none_first P (y ∷ ys) x none (inl h) = none.0 h.1
-none_first P (y ∷ ys) x none (inr h) = none_first P ys x none.1 h.1
 
 -- ---- metadata without a current snapshot is refused for a number alone
 

@@ -6,12 +6,13 @@ use Rattle.std.specs.Ordering.{nat_cmp}
 use Rattle.lake_store.specs.Disk.{Files}
 use Rattle.table_history.specs.declared.kind.Kind.{Kind}
 use Rattle.table_history.specs.declared.table.Table.{Table}
+use Rattle.table_history.proofs.FirstLemmas.{none_first}
 use Rattle.delta_change.specs.Change.{IsChangeRefusal, Shows, commit_features}
 use Rattle.delta_log.specs.Readable.{IsReadableCommit}
 use Rattle.delta_log.specs.declared.commit.DeltaCommit.{DeltaCommit}
 use Rattle.delta_log.specs.declared.error.DeltaError.{DeltaError}
 use Rattle.delta_log.specs.declared.error.DeltaError.TheVariants as errors
-use Rattle.delta_log.proofs.ReadableLemmas.{fault_excluded, none_first}
+use Rattle.delta_log.proofs.ReadableLemmas.{fault_excluded}
 use Rattle.delta_table.specs.Log.{IsLog, IsStep}
 use Rattle.delta_table.specs.Versions.{IsVersionPath}
 use Rattle.delta_table.proofs.PathLaws.{bytes_once, path_once, says_once}

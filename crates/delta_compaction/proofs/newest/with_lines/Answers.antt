@@ -1,5 +1,5 @@
 use Rattle.std.proofs.Common.{sym, ◌∙◌, arith}
-use Rattle.delta_log.proofs.LineLemmas.{left_shorter}
+use Rattle.lake_basics.proofs.Lines.{left_shorter}
 use Rattle.delta_compaction.proofs.NewestLemmas.{all_lines_put, so_far_more, so_far_none, strays, within}
 use Rattle.delta_compaction.proofs.newest.with_lines.Goals as goal
 

@@ -1,5 +1,5 @@
 use Rattle.std.proofs.Common.{ℕ, ◌+◌, ◌≤◌, List, length, option_map, Bor}
-use Rattle.delta_log.proofs.LineLemmas.{left}
+use Rattle.lake_basics.proofs.Lines.{left}
 use Rattle.delta_compaction.proofs.NewestLemmas.{SoFar}
 use Rattle.delta_compaction.proofs.newest.with_lines.Given as goal
 

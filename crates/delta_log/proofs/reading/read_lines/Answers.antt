@@ -1,5 +1,6 @@
 use Rattle.std.proofs.Common.{arith}
-use Rattle.delta_log.proofs.LineLemmas.{lines_step, lines_refused, lines_end, left_shorter}
+use Rattle.lake_basics.proofs.Lines.{left_shorter}
+use Rattle.delta_log.proofs.LineLemmas.{lines_step, lines_refused, lines_end}
 use Rattle.delta_log.proofs.reading.read_lines.Goals as goal
 
 pub returns-in-Err-clause-read : goal.returns-in-Err-clause-read

@@ -1,7 +1,7 @@
 use Rattle.std.proofs.Common.{◌≡◌, ℕ, ◌+◌, ◌≤◌, List, length, option_map, Bor}
+use Rattle.lake_basics.proofs.Lines.{left}
 use Rattle.delta_log.specs.Judging.{with_lines, lines_in, commit_of}
 use Rattle.delta_log.specs.Sound.{IsWritable}
-use Rattle.delta_log.proofs.LineLemmas.{left}
 use Rattle.delta_log.proofs.reading.read_lines.Given as goal
 
 abbrev pub invariant-lines : goal.invariant-lines

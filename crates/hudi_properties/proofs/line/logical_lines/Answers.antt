@@ -1,5 +1,6 @@
 use Rattle.std.proofs.Common.{arith}
-use Rattle.hudi_properties.proofs.LineLemmas.{lines_step, lines_end, left_shorter}
+use Rattle.lake_basics.proofs.Lines.{left_shorter}
+use Rattle.hudi_properties.proofs.LineLemmas.{lines_step, lines_end}
 use Rattle.hudi_properties.proofs.line.logical_lines.Goals as goal
 
 pub lines-preserved : goal.lines-preserved

@@ -1,6 +1,6 @@
 use Rattle.std.proofs.Common.{◌≡◌, ℕ, ◌+◌, ◌≤◌, ◌++◌, List, length, option_map, Bor}
+use Rattle.lake_basics.proofs.Lines.{left}
 use Rattle.hudi_properties.specs.Lines.{logical_from, logical_lines, lines_in}
-use Rattle.hudi_properties.proofs.LineLemmas.{left}
 use Rattle.hudi_properties.proofs.line.logical_lines.Given as goal
 
 abbrev pub invariant-lines : goal.invariant-lines
