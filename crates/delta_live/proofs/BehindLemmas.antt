@@ -1,7 +1,7 @@
 -- The rows behind a commit, and what differs between them and the rows before.
 use Rattle.std.proofs.Common.{◌≡◌, ◌↔◌, ℕ, suc, ◌+◌, Bool, true, false, not, cond, ◌||◌, List, [], ◌∷◌, ◌++◌, length, filter, reverse, Option, None, Some, Contains, refl, sym, ap, subst, ◌∙◌, ◌⊎◌, inl, inr, ⊎_elim, arith}
 use Rattle.std.specs.Prelude.{is_some}
-use Rattle.std.specs.List.{count_by, IsDistinct, AllByRecursion}
+use Rattle.std.specs.List.{count_by, IsDistinct}
 use Rattle.std.specs.Str.{bytes_eq}
 use Rattle.std.proofs.lemmas.Bool.{cases_Bool, false≢true, false_from_ne_true}
 use Rattle.std.proofs.lemmas.Cmp.{nat_list_eq_equiv}
@@ -15,7 +15,7 @@ use Rattle.std.proofs.lemmas.Map.Views.{Contains-from_any, list_any-from_Contain
 use Rattle.std.proofs.lemmas.Slice.Eq.{bytes_eq-Decides}
 use Rattle.table_history.specs.Rows.{row_at, paths_of, HasPath, HasDistinctPaths}
 use Rattle.table_history.specs.declared.row.FileRow.{FileRow}
-use Rattle.table_history.proofs.RowListLemmas.{Contains-cases, Contains-filter, Contains-head, Contains-lacking, Contains-none, Contains-paths, Contains-tail, all_at, distinct_filter, filter_contains, lacks, row_at-found, row_at-itself, is_in-Decides}
+use Rattle.table_history.proofs.RowListLemmas.{Contains-cases, Contains-filter, Contains-head, Contains-lacking, Contains-none, Contains-paths, Contains-tail, all_at, distinct_filter, filter_contains, lacks, row_at-found, row_at-itself, is_in-Decides, all_from}
 use Rattle.table_history.proofs.TableLemmas.{Contains-paths_cases, same_path, there_or_not}
 use Rattle.delta_log.specs.declared.commit.FileAction.{FileAction}
 use Rattle.delta_log.specs.declared.commit.FileAction.TheVariants as file
@@ -24,12 +24,9 @@ use Rattle.delta_log.specs.Judging.{acts_on}
 use Rattle.delta_live.specs.Differences.{IsUnorderedDiff}
 use Rattle.delta_live.specs.RowSteps.{has_path, removed_paths, added_paths, lost_paths, is_kept, rows_behind}
 use Rattle.lake_basics.proofs.Lists.{empty_of}
+use Rattle.lake_basics.proofs.Texts.{distinct_filter as distinct_some}
 
 -- ---- lists of texts
-
-all_from : {X : Type 0} (P : X → Type 0) (xs : List X) → ((x : X) → Contains xs x → P x) → AllByRecursion P xs
-all_from P [] h = tt
-all_from P (x ∷ xs) h = (h x (Contains-head x xs), all_from P xs (λ y there. h y (Contains-tail x xs y there)))
 
 not_later : (x : List ℕ) (xs : List (List ℕ)) → IsDistinct bytes_eq (x ∷ xs) → Contains xs x → ⊥
 not_later x xs distinct there = false≢true (sym (all_at (λ y. bytes_eq x y ≡ false) xs x (IsDistinct-head bytes_eq x xs distinct) there) ∙ (bytes_eq-Decides x x).1 refl)
@@ -50,14 +47,6 @@ distinct_both (x ∷ xs) ys d e apart =
     distinct_one_more x (xs ++ ys)
     (λ there. ⊎_elim (λ a. not_later x xs d a) (λ b. apart x (Contains-head x xs) b) (Contains-append_cases xs ys x there))
     (distinct_both xs ys (IsDistinct-tail bytes_eq x xs d) e (λ y a b. apart y (Contains-tail x xs y a) b))
-
-distinct_choice : (b : Bool) (x : List ℕ) (xs : List (List ℕ)) → (Contains xs x → ⊥) → IsDistinct bytes_eq xs → IsDistinct bytes_eq (cond b (x ∷ xs) xs)
-distinct_choice true x xs new d = distinct_one_more x xs new d
-distinct_choice false x xs new d = d
-
-distinct_some : (p : List ℕ → Bool) (xs : List (List ℕ)) → IsDistinct bytes_eq xs → IsDistinct bytes_eq (filter p xs)
-distinct_some p [] d = d
-distinct_some p (x ∷ xs) d = distinct_choice (p x) x (filter p xs) (λ there. not_later x xs d (Contains-filter p xs x there).0) (distinct_some p xs (IsDistinct-tail bytes_eq x xs d))
 
 -- ---- the paths of a commit
 

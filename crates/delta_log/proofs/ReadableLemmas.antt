@@ -4,14 +4,15 @@ use Rattle.std.proofs.lemmas.Cmp.{nat_list_eq_equiv}
 use Rattle.std.proofs.lemmas.Grind.{flat_map-append}
 use Rattle.std.proofs.lemmas.List.{append-nil, map-append}
 use Rattle.std.proofs.lemmas.List.Elements.{All-push, All-nil}
-use Rattle.std.proofs.lemmas.Map.Keys.{IsDistinct-push, IsDistinct-head, IsDistinct-tail, IsDistinct-cons, IsDistinct-from_apart}
+use Rattle.std.proofs.lemmas.Map.Keys.{IsDistinct-push, IsDistinct-from_apart}
 use Rattle.std.specs.Prelude.{option_to_list, flat_map, IfOk, IfErr}
-use Rattle.std.specs.List.{AllByRecursion, IsDistinct}
+use Rattle.std.specs.List.{IsDistinct}
 use Rattle.std.specs.Str.{bytes_eq}
 use Rattle.lake_basics.specs.declared.limits.TheConstants.{MAX_ACTIONS}
 use Rattle.lake_basics.specs.Outcome.{◌>>=◌, with_fault, each}
 use Rattle.lake_basics.proofs.Lists.{all_middle}
 use Rattle.lake_basics.proofs.Options.{same_options}
+use Rattle.lake_basics.proofs.Texts.{front_distinct}
 use Rattle.table_history.specs.declared.limit.LimitKind.{LimitKind}
 use Rattle.table_history.specs.declared.limit.LimitKind.TheVariants as limits
 use Rattle.delta_log.specs.declared.action.LineAction.{LineAction}
@@ -189,15 +190,6 @@ ends_whole bytes = ends_of [] (lines_of bytes) [] no_lines 1 holds_nothing refl
 abbrev flat_map_of : {B : Type 0} → (LineAction → Option B) → List LineAction → List B
 flat_map_of f actions = flat_map (λ x. option_to_list (f x)) actions
 
-apart_front : (x : List ℕ) (xs ys : List (List ℕ)) → AllByRecursion (λ z. bytes_eq x z ≡ false) (xs ++ ys) → AllByRecursion (λ z. bytes_eq x z ≡ false) xs
-apart_front x [] ys all = tt
-apart_front x (z ∷ xs) ys all = (all.0, apart_front x xs ys all.1)
-
-pub distinct_front : (xs ys : List (List ℕ)) → IsDistinct bytes_eq (xs ++ ys) → IsDistinct bytes_eq xs
-distinct_front [] ys distinct = IsDistinct-from_apart bytes_eq [] (λ i j d _ within. absurd (omega arith))
-distinct_front (x ∷ xs) ys distinct =
-    IsDistinct-cons bytes_eq x xs (apart_front x xs ys (IsDistinct-head bytes_eq x (xs ++ ys) distinct)) (distinct_front xs ys (IsDistinct-tail bytes_eq x (xs ++ ys) distinct))
-
 -- the actions of a list that has this one behind those
 cut_of : {B : Type 0} (f : LineAction → Option B) (before : List LineAction) (a : LineAction) (rest : List LineAction)
     → flat_map_of f (before ++ a ∷ rest) ≡ flat_map_of f before ++ (option_to_list (f a) ++ flat_map_of f rest)
@@ -218,7 +210,7 @@ pub again_excluded : (lines : List (List ℕ)) (before : List LineAction) (a : L
 again_excluded lines before a rest grammar again =
     let whole : paths (before ++ a ∷ rest) ≡ paths (before ++ a ∷ []) ++ paths rest =
     ap paths (sym (append_assoc before (a ∷ []) rest)) ∙ flat_map-append (λ x. option_to_list (path_in x)) (before ++ a ∷ []) rest in
-    again (distinct_front (paths (before ++ a ∷ [])) (paths rest) (subst (IsDistinct bytes_eq) whole grammar.distinct))
+    again (front_distinct (paths (before ++ a ∷ [])) (paths rest) (subst (IsDistinct bytes_eq) whole grammar.distinct))
 
 -- the actions of lines that have a line at fault
 Found : List LineAction → List LineAction → List ℕ → Type 0

@@ -21,6 +21,7 @@ use Rattle.lake_basics.specs.declared.limits.TheConstants.{MAX_ACTIONS}
 use Rattle.lake_basics.specs.Outcome.{each}
 use Rattle.lake_basics.proofs.Numbers.{natural_test}
 use Rattle.lake_basics.proofs.Truth.{and_false}
+use Rattle.lake_basics.proofs.Texts.{front_distinct}
 use Rattle.json_reading.specs.Json.{json, text, text_or_null_data, texts_data, members_with, items, pairs, IsReadAgain}
 use Rattle.partition_map.specs.UriPath.{inside_table, uri_path}
 use Rattle.partition_map.specs.Uri.{escaped_path}
@@ -39,7 +40,6 @@ use Rattle.delta_log.specs.Sound.{HaveDistinctNames, HasNeededFeatures, IsSoundF
 use Rattle.delta_text.specs.Writing.{add_data, protocol_data, meta_data_data, stats_data, file_data, line_text, commit_text, sorted_pairs, sorted_file, sorted_meta, sorted_commit, SameMeta, SameFile, SameFiles, SameCommit}
 use Rattle.delta_text.specs.Again.{HasReadableStats, HasReadableUri, IsFileAgain, IsProtocolAgain, HasReadableParts}
 use Rattle.delta_log.proofs.FaultLemmas.{distinct_last}
-use Rattle.delta_log.proofs.ReadableLemmas.{distinct_front}
 use Rattle.delta_log.proofs.SaysLemmas.{reads_text_or_null}
 use Rattle.delta_text.proofs.SortedLemmas.{sorted_pairs_same}
 use Rattle.delta_text.proofs.WrittenLemmas.{is_line, is_line-compact_text, each-members_with}
@@ -184,7 +184,7 @@ one_file now c (file.Remove path) sound again few new =
 new_path : (before more : List FileAction) (f : FileAction) → IsDistinct bytes_eq (file_paths (before ++ f ∷ more)) → acts_on (file_path f) (map sorted_file before) ≡ false
 new_path before more f distinct =
     let whole : file_paths (before ++ f ∷ more) ≡ (file_paths before ++ file_path f ∷ []) ++ file_paths more = map-append file_path before (f ∷ more) ∙ sym (append_assoc (file_paths before) (file_path f ∷ []) (file_paths more)) in
-    let front = distinct_front (file_paths before ++ file_path f ∷ []) (file_paths more) (subst (IsDistinct bytes_eq) whole distinct) in
+    let front = front_distinct (file_paths before ++ file_path f ∷ []) (file_paths more) (subst (IsDistinct bytes_eq) whole distinct) in
     ap (list_any (bytes_eq (file_path f))) (same_paths before) ∙ distinct_last (file_paths before) (file_path f) front
 
 on_files : (now : ℕ) (p : Option Protocol) (m : Option MetaData) (before more : List FileAction) (out : List ℕ) → GoesOn out (with_files p m before) → All IsSoundFile more → AllByRecursion (IsFileAgain now) more

@@ -1,6 +1,5 @@
 -- Tables that share rows, from what each has besides.
 use Rattle.std.proofs.Common.{◌≡◌, ◌+◌, ℕ, List, [], ◌∷◌, ◌++◌, Contains, length, false, refl, sym, ap, subst, ◌∙◌, ⊎_elim, append_assoc, arith}
-use Rattle.std.specs.List.{AllByRecursion}
 use Rattle.std.specs.List.Sorted.{IsPermutation}
 use Rattle.std.specs.Str.{bytes_eq}
 use Rattle.std.proofs.lemmas.Bool.{false≢true}
@@ -14,7 +13,7 @@ use Rattle.table_history.specs.Rows.{HasDistinctPaths, HasPath, SameRows, paths_
 use Rattle.table_history.specs.Tables.{IsDiff}
 use Rattle.table_history.specs.declared.row.FileRow.{FileRow}
 use Rattle.table_history.proofs.Laws.{change_of_same_rows, same_rows_length}
-use Rattle.table_history.proofs.RowListLemmas.{Contains-cases, Contains-head, Contains-none, Contains-paths, Contains-tail, all_at}
+use Rattle.table_history.proofs.RowListLemmas.{Contains-cases, Contains-head, Contains-none, Contains-paths, Contains-tail, all_at, all_from}
 use Rattle.table_history.proofs.TableLemmas.{Contains-paths_cases}
 use Rattle.table_history.proofs.SameTableLemmas.{rows_back}
 use Rattle.iceberg_change.specs.Behind.{AreApart}
@@ -46,15 +45,11 @@ distinct_moved xs ys moved distinct = IsDistinct-IsPermutation bytes_eq nat_list
 pub same_moved : (xs ys : List FileRow) → IsPermutation xs ys → SameRows xs ys
 same_moved xs ys moved row = (λ h. Contains-permutation xs ys row moved h, λ h. Contains-permutation ys xs row (IsPermutation-sym xs ys moved) h)
 
-all_of : {X : Type 0} (P : X → Type 0) (xs : List X) → ((x : X) → Contains xs x → P x) → AllByRecursion P xs
-all_of P [] each = tt
-all_of P (x ∷ xs) each = (each x (Contains-head x xs), all_of P xs (λ y there. each y (Contains-tail x xs y there)))
-
 pub distinct_both : (xs ys : List FileRow) → HasDistinctPaths xs → HasDistinctPaths ys → AreApart xs ys → HasDistinctPaths (xs ++ ys)
 distinct_both [] ys dx dy apart = dy
 distinct_both (x ∷ xs) ys dx dy apart =
     IsDistinct-cons bytes_eq x.path (paths_of (xs ++ ys))
-    (all_of (λ p. bytes_eq x.path p ≡ false) (paths_of (xs ++ ys)) (λ p there.
+    (all_from (λ p. bytes_eq x.path p ≡ false) (paths_of (xs ++ ys)) (λ p there.
     let found = Contains-paths_cases (xs ++ ys) p there in
     bytes_differ x.path p (λ is. ⊎_elim (λ one. head_apart x xs found.0 dx one (is ∙ sym found.2)) (λ other. apart x found.0 (Contains-head x xs) other (is ∙ sym found.2)) (Contains-append_cases xs ys found.0 found.1))))
     (distinct_both xs ys (IsDistinct-tail bytes_eq x.path (paths_of xs) dx) dy (λ a b ha hb same. apart a b (Contains-tail x xs a ha) hb same))

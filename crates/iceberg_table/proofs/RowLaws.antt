@@ -8,7 +8,7 @@ use Rattle.std.proofs.lemmas.Cmp.{nat_list_eq_equiv}
 use Rattle.std.proofs.lemmas.Grind.{flat_map-append}
 use Rattle.std.proofs.lemmas.List.{map-append}
 use Rattle.std.proofs.lemmas.List.Elements.{Contains-append_left, Contains-append_right, Contains-append_cases, Contains-push, Contains-push_cases}
-use Rattle.std.proofs.lemmas.Map.Keys.{IsDistinct-cons, IsDistinct-head, IsDistinct-push, IsDistinct-tail, IsDistinct-from_apart}
+use Rattle.std.proofs.lemmas.Map.Keys.{IsDistinct-head, IsDistinct-push, IsDistinct-tail, IsDistinct-from_apart}
 use Rattle.std.proofs.lemmas.Slice.Eq.{bytes_eq-Decides}
 use Rattle.iceberg_metadata.proofs.ListLemmas.{any_to}
 use Rattle.table_history.specs.Rows.{HasDistinctPaths, HasPath, SameRows, paths_of}
@@ -20,7 +20,7 @@ use Rattle.table_history.proofs.TableLemmas.{Contains-paths_cases}
 use Rattle.iceberg_live.specs.declared.live.LiveRow.{LiveRow}
 use Rattle.iceberg_table.specs.Tables.{IsTableOfRows, rows_in, rows_of}
 use Rattle.iceberg_table.specs.declared.manifest.Manifest.{Manifest}
-use Rattle.lake_basics.proofs.Lists.{all_front}
+use Rattle.lake_basics.proofs.Texts.{front_distinct}
 
 -- ---- distinct paths
 
@@ -55,10 +55,6 @@ shared (r ∷ rows) row rest there distinct =
   where
     cases : Contains (r ∷ rows) there.0 → (r ≡ there.0) ⊎ Contains rows there.0
     cases h = ⊎_elim (λ one. inl (Contains-one r there.0 one)) (λ later. inr later) (Contains-append_cases (r ∷ []) rows there.0 h)
-
-front_distinct : (xs ys : List (List ℕ)) → IsDistinct bytes_eq (xs ++ ys) → IsDistinct bytes_eq xs
-front_distinct [] ys distinct = no_paths
-front_distinct (x ∷ xs) ys distinct = IsDistinct-cons bytes_eq x xs (all_front (λ y. bytes_eq x y ≡ false) xs ys (IsDistinct-head bytes_eq x (xs ++ ys) distinct)) (front_distinct xs ys (IsDistinct-tail bytes_eq x (xs ++ ys) distinct))
 
 pub distinct_front : (rows rest : List FileRow) → HasDistinctPaths (rows ++ rest) → HasDistinctPaths rows
 distinct_front rows rest distinct = front_distinct (paths_of rows) (paths_of rest) (subst (IsDistinct bytes_eq) (map-append (λ (r : FileRow). r.path) rows rest) distinct)

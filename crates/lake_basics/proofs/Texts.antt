@@ -5,7 +5,7 @@ use Rattle.std.proofs.lemmas.Cmp.{nat_list_cmp_total, nat_list_eq_equiv}
 use Rattle.std.proofs.lemmas.Fmt.{length-decimal-le}
 use Rattle.std.proofs.lemmas.List.{append_cancel_left, append_cancel_right}
 use Rattle.std.proofs.lemmas.List.Folds.{list_any-append, list_any_at}
-use Rattle.std.proofs.lemmas.Map.Keys.{IsDistinct-cons, IsDistinct-head, IsDistinct-tail}
+use Rattle.std.proofs.lemmas.Map.Keys.{IsDistinct-cons, IsDistinct-from_apart, IsDistinct-head, IsDistinct-tail}
 use Rattle.std.proofs.lemmas.Map.Made.{is_member-Decides, length-le_from_is_member}
 use Rattle.std.proofs.lemmas.Map.Views.{Contains-from_any}
 use Rattle.std.proofs.lemmas.Slice.Eq.{bytes_eq-Decides}
@@ -18,6 +18,7 @@ use Rattle.std.specs.Prelude.{MatchOption, decimal}
 use Rattle.std.specs.Str.{all_ascii_digits, bytes_eq}
 use Rattle.std.specs.Str.Parse.{AllDigits, IsNumeral, digits_value}
 use Rattle.std.specs.declared.cmp.Ordering.TheVariants.{Greater, Less}
+use Rattle.lake_basics.proofs.Lists.{all_front}
 use Rattle.lake_basics.proofs.Truth.{or_nothing}
 
 pub contains_from_any : (path : List ℕ) (paths : List (List ℕ)) → list_any (bytes_eq path) paths ≡ true → Contains paths path
@@ -97,6 +98,10 @@ IsBelow k l = slice_cmp nat_cmp k l ≡ Less
 
 pub above : (k l : List ℕ) → IsBelow k l → slice_cmp nat_cmp l k ≡ Greater
 above k l h = nat_list_cmp_total.antisymm l k ∙ ap ordering_reverse h
+
+pub front_distinct : (xs ys : List (List ℕ)) → IsDistinct bytes_eq (xs ++ ys) → IsDistinct bytes_eq xs
+front_distinct [] ys distinct = IsDistinct-from_apart bytes_eq [] (λ i j d _ within. absurd (omega arith))
+front_distinct (x ∷ xs) ys distinct = IsDistinct-cons bytes_eq x xs (all_front (λ y. bytes_eq x y ≡ false) xs ys (IsDistinct-head bytes_eq x (xs ++ ys) distinct)) (front_distinct xs ys (IsDistinct-tail bytes_eq x (xs ++ ys) distinct))
 
 pub greater_turned : (a b : List ℕ) → slice_cmp nat_cmp a b ≡ Greater → slice_cmp nat_cmp b a ≡ Less
 greater_turned a b is = nat_list_cmp_total.antisymm b a ∙ ap ordering_reverse is

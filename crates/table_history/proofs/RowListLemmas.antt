@@ -79,6 +79,10 @@ pub all_at : {X : Type 0} (P : X → Type 0) (xs : List X) (x : X) → AllByRecu
 all_at P [] x all h = absurd (Contains-none x h)
 all_at P (y ∷ ys) x all h = ⊎_elim (λ e. subst P e all.0) (λ later. all_at P ys x all.1 later) (Contains-cases y ys x h)
 
+pub all_from : {X : Type 0} (P : X → Type 0) (xs : List X) → ((x : X) → Contains xs x → P x) → AllByRecursion P xs
+all_from P [] h = tt
+all_from P (x ∷ xs) h = (h x (Contains-head x xs), all_from P xs (λ y there. h y (Contains-tail x xs y there)))
+
 pub Contains-paths : (rows : List FileRow) (row : FileRow) → Contains rows row → Contains (paths_of rows) row.path
 Contains-paths [] row h = absurd (Contains-none row h)
 Contains-paths (r ∷ rows) row h =

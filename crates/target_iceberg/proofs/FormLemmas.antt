@@ -9,7 +9,7 @@ use Rattle.schema_map.specs.Paths.{Path, known_id}
 use Rattle.std.proofs.lemmas.Bool.{false≢true}
 use Rattle.std.proofs.lemmas.List.{drop-drop, drop_all, get_or-map}
 use Rattle.std.proofs.lemmas.List.Elements.{Contains-append_cases, Contains-append_left, Contains-append_right}
-use Rattle.table_history.proofs.RowListLemmas.{Contains-head, Contains-none, Contains-tail, all_at}
+use Rattle.table_history.proofs.RowListLemmas.{Contains-none, all_at, all_from}
 use Rattle.iceberg_metadata.specs.Paths.{PathId, current_schema, default_fields, path_ids}
 use Rattle.iceberg_metadata.specs.Schemas.{HeldSchema}
 use Rattle.iceberg_metadata.specs.declared.metadata.Metadata.{Metadata}
@@ -84,10 +84,6 @@ slash_by bytes location same (Some x) some test is = (λ _. (x.now, sym same ∙
 
 -- ---- the whole
 
-all_in : {X : Type 0} (P : X → Type 0) (xs : List X) → ((x : X) → Contains xs x → P x) → AllByRecursion P xs
-all_in P [] all = tt
-all_in P (x ∷ xs) all = (all x (Contains-head x xs), all_in P xs (λ y there. all y (Contains-tail x xs y there)))
-
 given_to : (last : ℤ) (ss : List HeldSchema) → AllByRecursion (IsGiven last) ss → (id : ℤ) → Contains (flat_map (λ (s : HeldSchema). s.2) ss) id → id ≤ℤ last
 given_to last [] all id there = absurd (Contains-none id there)
 given_to last (s ∷ ss) all id there =
@@ -99,7 +95,7 @@ given_to last (s ∷ ss) all id there =
 given_from : (last : ℤ) (ss : List HeldSchema) → ((id : ℤ) → Contains (flat_map (λ (s : HeldSchema). s.2) ss) id → id ≤ℤ last) → AllByRecursion (IsGiven last) ss
 given_from last [] all = tt
 given_from last (s ∷ ss) all = (
-  all_in (λ (i : ℤ). i ≤ℤ last) s.2 (λ id there. all id (Contains-append_left s.2 (flat_map (λ (t : HeldSchema). t.2) ss) id there)),
+  all_from (λ (i : ℤ). i ≤ℤ last) s.2 (λ id there. all id (Contains-append_left s.2 (flat_map (λ (t : HeldSchema). t.2) ss) id there)),
   given_from last ss (λ id there. all id (Contains-append_right s.2 (flat_map (λ (t : HeldSchema). t.2) ss) id there)),
 )
 
@@ -108,7 +104,7 @@ module _ (version : ℕ) (m : Metadata) where
   plain_of own = record {
     location = own.location;
     given = given_from m.last_column_id m.schemas own.field_ids;
-    snapshots = all_in (IsUpTo version) m.snapshots (λ s there. record { id = own.snapshots s there; parent = λ parent is. own.parents s parent there is });
+    snapshots = all_from (IsUpTo version) m.snapshots (λ s there. record { id = own.snapshots s there; parent = λ parent is. own.parents s parent there is });
   }
 
   form_of : IsPlain version m → have_first_ids m.schemas ≡ true → HasOwnSpec m → HasOwnForm version m
