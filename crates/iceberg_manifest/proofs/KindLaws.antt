@@ -1,8 +1,9 @@
 -- The values of a manifest's entries are of the kinds of its columns.
-use Rattle.std.proofs.Common.{◌≡◌, ℕ, ℤ, pos, List, [], ◌∷◌, Bool, true, false, cond, Option, None, Some, Result, Ok, Err, refl, sym, ap, subst, ◌∙◌}
+use Rattle.std.proofs.Common.{◌≡◌, ℕ, ℤ, pos, List, [], ◌∷◌, Bool, true, false, cond, Option, None, Some, Result, Ok, Err, sym, ap, subst, ◌∙◌}
 use Rattle.std.specs.List.{AllByRecursion}
 use Rattle.std.specs.Ordering.{int_eq}
 use Rattle.lake_basics.specs.Outcome.{◌>>=◌, each, required, with_fault}
+use Rattle.lake_basics.proofs.Steps.{bind_ok, ok_is}
 use Rattle.avro_schema.specs.Tree.{FieldTrees, SchemaTree}
 use Rattle.avro_value.specs.ValueTree.{ValueTree, ValueTrees}
 use Rattle.partition_map.specs.Avro.{branch_of}
@@ -31,16 +32,6 @@ use Rattle.iceberg_manifest.specs.declared.plan.EntryPlan.{EntryPlan}
 use Rattle.iceberg_manifest.specs.declared.plan.FilePlan.{FilePlan}
 
 -- ---- readings
-
-abbrev gave : (A E : Type 0) → A → Result A E
-gave A E x = Ok x
-
-ok_is : {A E : Type 0} (x y : A) → gave A E x ≡ Ok y → x ≡ y
-ok_is x y is = cc is
-
-bind_ok : {A B E : Type 0} (r : Result A E) (f : A → Result B E) (b : B) → (r >>= f) ≡ Ok b → (a : A) × (r ≡ Ok a) × (f a ≡ Ok b)
-bind_ok (Ok a) f b is = (a, refl, is)
-bind_ok (Err e) f b is = absurd (cc)
 
 pub fault_ok : {A E F : Type 0} (name : E → F) (r : Result A E) (a : A) → with_fault name r ≡ Ok a → r ≡ Ok a
 fault_ok name (Ok x) a is = ap Ok (ok_is x a is)

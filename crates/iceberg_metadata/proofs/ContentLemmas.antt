@@ -4,6 +4,7 @@ use Rattle.std.specs.Ordering.{int_eq}
 use Rattle.std.proofs.lemmas.Bool.Decides.{Decides-int_eq}
 use Rattle.serde_json.specs.Data.{Data, Items}
 use Rattle.lake_basics.specs.Outcome.{each}
+use Rattle.lake_basics.proofs.Steps.{bind_ok, bind_by, ok_is}
 use Rattle.json_reading.specs.Json.{items, present}
 use Rattle.iceberg_metadata.specs.declared.error.MetadataError.{MetadataError}
 use Rattle.iceberg_metadata.specs.declared.error.MetadataError.TheVariants.{FormatVersion, Malformed}
@@ -12,7 +13,6 @@ use Rattle.iceberg_metadata.specs.Members.{format_version, text_in, whole_in, in
 use Rattle.iceberg_metadata.specs.Schemas.{HeldSchema, HeldUnread, SchemaReading, schema_reading, readable, unread, schema_ids}
 use Rattle.iceberg_metadata.specs.Judging.{is_consistent, members, unkept, consistent, version_two, contents}
 use Rattle.iceberg_metadata.specs.Grammar.{Says}
-use Rattle.iceberg_metadata.proofs.StepLemmas.{bind_ok, bind_by, ok_is}
 
 abbrev pub done : Result (Unit {0}) MetadataError
 done = Ok tt

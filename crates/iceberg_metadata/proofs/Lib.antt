@@ -7,5 +7,4 @@ pub mod LocationLemmas
 pub mod NameLemmas
 pub mod OnceLemmas
 pub mod PathLemmas
-pub mod StepLemmas
 pub mod LoopLemmas

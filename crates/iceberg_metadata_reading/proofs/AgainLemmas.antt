@@ -16,6 +16,7 @@ use Rattle.serde_json.specs.View.{view, members_view}
 use Rattle.serde_json.specs.declared.value.Value.{Value}
 use Rattle.lake_basics.specs.Outcome.{each, required, with_fault, with_front}
 use Rattle.lake_basics.proofs.Each.{with_front-push}
+use Rattle.lake_basics.proofs.Steps.{bind_ok, ok_is}
 use Rattle.json_reading.specs.Json.{whole, items, pairs, text, present}
 use Rattle.schema_iceberg.specs.Iceberg.{iceberg_schema}
 use Rattle.schema_map.specs.declared.fault.MapError.{MapError}
@@ -31,7 +32,6 @@ use Rattle.iceberg_metadata.specs.Members.{int_in, property, current_snapshot, u
 use Rattle.iceberg_metadata.specs.Schemas.{HeldSchema, HeldUnread, SchemaReading, ReadColumns, size_limit, refusal_of, kept_unread, unread_reading, columns_by, columns_reading, schema_reading, readable, unread, schema_ids}
 use Rattle.iceberg_metadata.specs.Reading.{Shows, SaysThat, HasCause, causes, IsRead}
 use Rattle.iceberg_metadata.specs.Writing.{CanBeHeld, HaveOwnNames, IsWritable}
-use Rattle.iceberg_metadata.proofs.StepLemmas.{bind_ok, ok_is}
 
 -- ---- schemas
 

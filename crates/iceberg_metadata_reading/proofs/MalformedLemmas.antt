@@ -6,6 +6,7 @@ use Rattle.std.proofs.lemmas.Bool.Decides.{Decides-int_eq}
 use Rattle.serde_json.specs.Data.{Data}
 use Rattle.serde_json.specs.Find.{as_object, as_array, as_str}
 use Rattle.lake_basics.specs.Outcome.{◌>>=◌, required, each}
+use Rattle.lake_basics.proofs.Steps.{gave, given, bind_err, err_is, Refuses, refuses_ok, refuses_err, refuses_bind, refuses_required, refuses_each}
 use Rattle.json_reading.specs.Json.{whole_member, whole, int, text, items, pairs, present}
 use Rattle.iceberg_metadata.specs.declared.error.MetadataError.{MetadataError}
 use Rattle.iceberg_metadata.specs.declared.error.MetadataError.TheVariants.{FormatVersion, Malformed}
@@ -14,7 +15,6 @@ use Rattle.iceberg_metadata.specs.Members.{format_version, text_in, whole_in, in
 use Rattle.iceberg_metadata.specs.Schemas.{HeldSchema, HeldUnread, schema_reading, readable, unread, schema_ids}
 use Rattle.iceberg_metadata.specs.Judging.{is_consistent, members, unkept, consistent, version_two, contents}
 use Rattle.iceberg_metadata.proofs.ContentLemmas.{done, fails}
-use Rattle.iceberg_metadata.proofs.StepLemmas.{gave, given, bind_err, err_is, Refuses, refuses_ok, refuses_err, refuses_bind, refuses_required, refuses_each}
 use Rattle.iceberg_schemas.proofs.ToldLemmas.{IsFault, reading_fault}
 
 abbrev Faulty : {A : Type 0} → Result A MetadataError → Type 0

@@ -8,6 +8,7 @@ use Rattle.std.proofs.lemmas.Bool.Decides.{Decides-ltb}
 use Rattle.serde_json.specs.Data.{Data}
 use Rattle.lake_basics.specs.Outcome.{◌>>=◌, required, FailsUnlessMemory}
 use Rattle.lake_basics.specs.declared.limits.TheConstants.{MAX_PARTITION_COLUMNS}
+use Rattle.lake_basics.proofs.Steps.{bind_ok, bind_err, ok_is, err_is, required_some}
 use Rattle.json_reading.specs.Json.{json, items}
 use Rattle.table_history.specs.First.{IsFirst, NoneOf}
 use Rattle.table_history.specs.declared.limit.LimitKind.{LimitKind}
@@ -28,7 +29,6 @@ use Rattle.iceberg_metadata.proofs.ContentLemmas.{done, IsFound, contents_found,
 use Rattle.iceberg_metadata.proofs.JudgedLemmas.{AllDecide, first_told, none_told, refusal_Decides, type_is, columns_is, depth_is, transform_Decides, partition_Decides}
 use Rattle.iceberg_metadata_reading.proofs.MalformedLemmas.{contents_malformed}
 use Rattle.iceberg_metadata.proofs.PathLemmas.{renamed_Decides}
-use Rattle.iceberg_metadata.proofs.StepLemmas.{bind_ok, bind_err, ok_is, err_is, required_some}
 use Rattle.iceberg_schemas.proofs.ToldLemmas.{IsKept, IsFault, readings_kept}
 
 -- ---- one reading of a text

@@ -21,6 +21,7 @@ use Rattle.serde_json.specs.View.{items_of}
 use Rattle.lake_basics.specs.Outcome.{each}
 use Rattle.lake_basics.specs.declared.limits.TheConstants.{MAX_PARTITION_COLUMNS}
 use Rattle.lake_basics.proofs.Lists.{front_two, moved_back, permuted_behind}
+use Rattle.lake_basics.proofs.Steps.{bind_ok, ok_is}
 use Rattle.json_reading.specs.Json as json_values
 use Rattle.json_reading.specs.Json.{whole, int, items, pairs, present, members_with, IsReadAgain}
 use Rattle.table_history.specs.First.{NoneOf}
@@ -40,7 +41,6 @@ use Rattle.iceberg_metadata.proofs.ConsistentLemmas.{consistent_Decides}
 use Rattle.iceberg_metadata.proofs.ContentLemmas.{contents_are}
 use Rattle.iceberg_metadata.proofs.JudgedLemmas.{transform_Decides, partition_Decides}
 use Rattle.iceberg_metadata.proofs.PathLemmas.{renamed_Decides}
-use Rattle.iceberg_metadata.proofs.StepLemmas.{bind_ok, ok_is}
 
 -- ---- numbers
 

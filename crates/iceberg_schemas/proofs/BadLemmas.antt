@@ -10,6 +10,7 @@ use Rattle.serde_json.specs.Data.{Data, null, boolean, number, string, array, ob
 use Rattle.serde_json.specs.Find.{get}
 use Rattle.serde_json.specs.Read.{max_depth}
 use Rattle.lake_basics.specs.Outcome.{◌>>=◌, required, each}
+use Rattle.lake_basics.proofs.Steps.{bind_err}
 use Rattle.json_reading.specs.Json.{text_member, bool_member, int_member, list_member, items}
 use Rattle.schema_map.specs.Among.{IsAmong}
 use Rattle.schema_map.specs.Paths.{Path}
@@ -23,7 +24,6 @@ use Rattle.iceberg_metadata.specs.declared.error.MetadataError.TheVariants.{Memo
 use Rattle.iceberg_metadata.specs.declared.outline.Outline.{Outline}
 use Rattle.iceberg_metadata.specs.Members.{text_in}
 use Rattle.iceberg_metadata.specs.Outlines.{Walk, part_outline, field_outline, fields_outline, if_distinct, own_names, struct_outline, list_outline, map_outline, nested_outline, shape_outline, type_outline, schema_outline, nothing_met, with_other}
-use Rattle.iceberg_metadata.proofs.StepLemmas.{bind_err}
 use Rattle.iceberg_schemas.specs.SchemaOutlines.{IsNoIcebergOutline}
 use Rattle.iceberg_schemas.proofs.OutlineLemmas.{outline_fault}
 use Rattle.iceberg_schemas.proofs.DepthLemmas.{field_depth, part_depth}

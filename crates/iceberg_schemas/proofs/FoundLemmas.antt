@@ -5,6 +5,7 @@ use Rattle.std.specs.Str.{bytes_eq}
 use Rattle.std.proofs.lemmas.Bool.{false≢true}
 use Rattle.serde_json.specs.Data.{Data, Items}
 use Rattle.serde_json.specs.Read.{max_depth}
+use Rattle.lake_basics.proofs.Steps.{bind_ok, required_some}
 use Rattle.json_reading.specs.Json.{text_member, list_member, items}
 use Rattle.schema_map.specs.Among.{IsAmong}
 use Rattle.schema_map.specs.Paths.{Path}
@@ -17,7 +18,6 @@ use Rattle.iceberg_metadata.specs.declared.error.MetadataError.TheVariants.{Malf
 use Rattle.iceberg_metadata.specs.declared.outline.Outline.{Outline}
 use Rattle.iceberg_metadata.specs.Members.{text_in}
 use Rattle.iceberg_metadata.specs.Outlines.{struct_outline, type_outline, schema_outline, nothing_met}
-use Rattle.iceberg_metadata.proofs.StepLemmas.{bind_ok, required_some}
 use Rattle.iceberg_schemas.specs.SchemaOutlines.{HasColumn, IsIcebergOutline}
 use Rattle.iceberg_schemas.proofs.PlaceLemmas.{struct_list, HasOther, bad_here, other_part, other_inside, Facts, IsGood, Walked}
 use Rattle.iceberg_schemas.proofs.PartLemmas.{struct_known}

@@ -5,6 +5,7 @@ use Rattle.avro_schema.specs.Names.{are_distinct}
 use Rattle.serde_json.specs.Data.{Data, null, boolean, number, string, array, object}
 use Rattle.serde_json.specs.Read.{max_depth}
 use Rattle.lake_basics.specs.Outcome.{◌>>=◌, required, each}
+use Rattle.lake_basics.proofs.Steps.{Refuses, refuses_ok, refuses_err, refuses_bind, refuses_required, refuses_each}
 use Rattle.json_reading.specs.Json.{items}
 use Rattle.schema_map.specs.Paths.{Path}
 use Rattle.iceberg_metadata.specs.declared.error.MetadataError.{MetadataError}
@@ -12,7 +13,6 @@ use Rattle.iceberg_metadata.specs.declared.error.MetadataError.TheVariants.{Malf
 use Rattle.iceberg_metadata.specs.declared.outline.Outline.{Outline}
 use Rattle.iceberg_metadata.specs.Members.{text_in, int_in, bool_in, list_in, member_in}
 use Rattle.iceberg_metadata.specs.Outlines.{Walk, part_outline, field_outline, fields_outline, own_names, struct_outline, list_outline, map_outline, nested_outline, shape_outline, type_outline, schema_outline, with_other, with_word, column_of_word, nothing_met}
-use Rattle.iceberg_metadata.proofs.StepLemmas.{Refuses, refuses_ok, refuses_err, refuses_bind, refuses_required, refuses_each}
 
 abbrev pub IsMalformed : MetadataError → Type 0
 IsMalformed e = e ≡ Malformed

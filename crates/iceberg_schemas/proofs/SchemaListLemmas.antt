@@ -11,8 +11,8 @@ use Rattle.iceberg_metadata.specs.Errors.{is_memory}
 use Rattle.iceberg_metadata.specs.Members.{format_version, list_in}
 use Rattle.iceberg_metadata.specs.Judging.{members, unkept, consistent, version_two, contents}
 use Rattle.iceberg_metadata.proofs.ContentLemmas.{done, fails}
-use Rattle.iceberg_metadata.proofs.StepLemmas.{bind_ok, bind_by, ok_is}
 use Rattle.lake_basics.specs.Outcome.{◌>>=◌, each, FailsUnlessMemory}
+use Rattle.lake_basics.proofs.Steps.{bind_ok, bind_by, ok_is}
 use Rattle.iceberg_metadata.specs.declared.error.MetadataError.{MetadataError}
 use Rattle.iceberg_schemas.specs.declared.schemas.HeldSchemas.{HeldSchemas}
 use Rattle.iceberg_metadata.specs.Schemas.{SchemaReading, ReadColumns, schema_reading, held_as, readable, unread_as, unread, schema_ids}

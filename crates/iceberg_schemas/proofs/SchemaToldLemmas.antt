@@ -5,6 +5,7 @@ use Rattle.std.specs.Str.{bytes_eq}
 use Rattle.serde_json.specs.Data.{Data, Items, depth, items_depth}
 use Rattle.serde_json.specs.Read.{max_depth}
 use Rattle.lake_basics.specs.Outcome.{with_fault, each}
+use Rattle.lake_basics.proofs.Steps.{bind_ok, bind_err, ok_is, required_some}
 use Rattle.json_reading.specs.Json.{text_member, int_member, list_member, items}
 use Rattle.table_history.specs.TypeTree.{ColumnTrees}
 use Rattle.table_history.specs.declared.limit.LimitKind.{LimitKind}
@@ -24,7 +25,6 @@ use Rattle.iceberg_metadata.specs.declared.unread.Unread.{Unread}
 use Rattle.iceberg_metadata.specs.Members.{int_in, list_in}
 use Rattle.iceberg_metadata.specs.Outlines.{schema_outline}
 use Rattle.iceberg_metadata.specs.Schemas.{ReadColumns, SchemaReading, HeldUnread, size_limit, refusal_of, unread_reading, kept_unread, columns_by, columns_reading, schema_reading, unread_as, unread}
-use Rattle.iceberg_metadata.proofs.StepLemmas.{bind_ok, bind_err, ok_is, required_some}
 use Rattle.iceberg_schemas.specs.declared.schemas.HeldSchemas.{HeldSchemas}
 use Rattle.iceberg_schemas.specs.SchemaLists.{held_schemas, each_schema}
 use Rattle.iceberg_schemas.specs.SchemaOutlines.{IsIcebergOutline, IsToldOf, IsNoSchemaList}

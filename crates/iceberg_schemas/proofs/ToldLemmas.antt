@@ -4,6 +4,7 @@ use Rattle.std.proofs.lemmas.List.{map-append}
 use Rattle.std.proofs.lemmas.List.Elements.{Contains-append_cases}
 use Rattle.serde_json.specs.Data.{Data}
 use Rattle.lake_basics.specs.Outcome.{with_fault, each}
+use Rattle.lake_basics.proofs.Steps.{bind_ok, ok_is, Refuses, refuses_ok, refuses_err, refuses_bind, refuses_required}
 use Rattle.table_history.proofs.RowListLemmas.{Contains-none, Contains-one}
 use Rattle.table_history.specs.TypeTree.{ColumnTrees}
 use Rattle.table_history.specs.declared.limit.LimitKind.{LimitKind}
@@ -18,7 +19,6 @@ use Rattle.iceberg_metadata.specs.Outlines.{schema_outline}
 use Rattle.iceberg_metadata.specs.declared.unread.Unread.{Unread}
 use Rattle.iceberg_metadata.specs.Schemas.{ReadColumns, SchemaReading, HeldUnread, size_limit, refusal_of, unread_reading, kept_unread, columns_by, columns_reading, schema_reading, unread_as, unread, refusals}
 use Rattle.iceberg_schemas.proofs.OutlineLemmas.{outline_fault}
-use Rattle.iceberg_metadata.proofs.StepLemmas.{bind_ok, ok_is, Refuses, refuses_ok, refuses_err, refuses_bind, refuses_required}
 
 -- ---- what is kept
 

@@ -9,6 +9,7 @@ use Rattle.serde_json.specs.Data.{Data, null, boolean, number, string, array, ob
 use Rattle.serde_json.specs.Find.{get}
 use Rattle.lake_basics.specs.Outcome.{each}
 use Rattle.lake_basics.proofs.Options.{some_once, some_or_none}
+use Rattle.lake_basics.proofs.Steps.{bind_ok, ok_is, required_some}
 use Rattle.json_reading.specs.Json.{text_member, bool_member, int_member, list_member, items}
 use Rattle.table_history.specs.TypeTree.{ColumnTrees}
 use Rattle.schema_map.specs.Paths.{Path}
@@ -22,7 +23,6 @@ use Rattle.iceberg_metadata.specs.declared.error.MetadataError.TheVariants.{Malf
 use Rattle.iceberg_metadata.specs.declared.outline.Outline.{Outline}
 use Rattle.iceberg_metadata.specs.Members.{text_in, int_in, bool_in, list_in, member_in}
 use Rattle.iceberg_metadata.specs.Outlines.{Walk, part_outline, field_outline, fields_outline, if_distinct, own_names, struct_outline, list_outline, map_outline, nested_outline, shape_outline, type_outline, with_column, with_other, with_word, column_of_word}
-use Rattle.iceberg_metadata.proofs.StepLemmas.{bind_ok, ok_is, required_some}
 use Rattle.iceberg_schemas.proofs.WordLemmas.{known_type, type_not_unknown}
 use Rattle.iceberg_schemas.proofs.FactLemmas.{Adds, adds_column, adds_none, adds_then, adds_as}
 use Rattle.iceberg_schemas.proofs.PlaceLemmas.{no_string, Facts, PartFacts, IsGood, Walked, same_part}

@@ -2,6 +2,7 @@
 use Rattle.std.proofs.Common.{◌≡◌, ◌⊎◌, ◌+◌, ℕ, ℤ, pos, Bool, true, false, List, [], ◌∷◌, Contains, Ok, sym, subst, inl, inr, ⊎_elim}
 use Rattle.std.specs.Prelude.{if◌then◌else◌}
 use Rattle.std.specs.Ordering.{int_eq}
+use Rattle.lake_basics.proofs.Steps.{bind_ok, gave, given, ok_is}
 use Rattle.avro_schema.specs.Tree.{SchemaTree}
 use Rattle.avro_value.specs.ValueTree.{ValueTree}
 use Rattle.table_history.proofs.RowListLemmas.{Contains-cases, Contains-none}
@@ -13,7 +14,6 @@ use Rattle.iceberg_manifest.specs.Values.{record_value, required_text, whole_or_
 use Rattle.iceberg_manifest.specs.declared.info.ManifestInfo.{ManifestInfo}
 use Rattle.iceberg_manifest.proofs.KindLaws.{fault_ok}
 use Rattle.iceberg_metadata.specs.declared.metadata.Metadata.{Metadata}
-use Rattle.iceberg_metadata.proofs.StepLemmas.{bind_ok, gave, given, ok_is}
 use Rattle.iceberg_table.specs.Lists.{AreRows, HaveContents, IsListed}
 use Rattle.iceberg_table.specs.declared.list.ManifestFile.{ManifestFile}
 use Rattle.iceberg_table.proofs.EachLaws.{each_back}

@@ -11,6 +11,7 @@ use Rattle.std.proofs.lemmas.Map.Keys.{IsDistinct-cons, IsDistinct-from_apart, I
 use Rattle.std.proofs.lemmas.Slice.Eq.{bytes_eq-Decides}
 use Rattle.lake_basics.specs.Outcome.{◌>>=◌, each, required}
 use Rattle.lake_basics.specs.declared.limits.TheConstants.{MAX_PARTITION_COLUMNS}
+use Rattle.lake_basics.proofs.Steps.{bind_ok, ok_is, required_some}
 use Rattle.partition_map.specs.Columns.{column_kind}
 use Rattle.partition_map.specs.declared.kind.PartKind.{PartKind}
 use Rattle.schema_map.specs.Paths.{Path}
@@ -29,7 +30,6 @@ use Rattle.iceberg_metadata.specs.declared.error.MetadataError.TheVariants.{Part
 use Rattle.iceberg_metadata.specs.declared.metadata.Metadata.{Metadata}
 use Rattle.iceberg_metadata.specs.declared.metadata.Snapshot.{Snapshot}
 use Rattle.iceberg_metadata.specs.declared.metadata.SpecField.{SpecField}
-use Rattle.iceberg_metadata.proofs.StepLemmas.{bind_ok, ok_is, required_some}
 use Rattle.iceberg_metadata.proofs.ListLemmas.{distinct_Decides}
 use Rattle.iceberg_metadata.specs.Judging.{are_distinct}
 use Rattle.iceberg_table.specs.Plan.{IsPlanOf, IsSoundPlan, names_of}

@@ -5,3 +5,4 @@ pub mod Lists
 pub mod Texts
 pub mod Lines
 pub mod Each
+pub mod Steps

@@ -4,10 +4,10 @@ use Rattle.std.specs.FinMap as map
 use Rattle.std.proofs.lemmas.Option.{same_Some}
 use Rattle.lake_basics.specs.Outcome.{required}
 use Rattle.lake_basics.specs.declared.limits.TheConstants.{MAX_ICEBERG_VERSION}
+use Rattle.lake_basics.proofs.Steps.{bind_ok, required_some}
 use Rattle.lake_store.specs.Disk.{Files}
 use Rattle.table_history.specs.declared.feature.Feature.TheVariants as feature
 use Rattle.table_history.specs.declared.table.Commit.{Commit}
-use Rattle.iceberg_metadata.proofs.StepLemmas.{bind_ok, required_some}
 use Rattle.iceberg_metadata.specs.Paths.{held_schema}
 use Rattle.iceberg_metadata.specs.Reading.{IsRead}
 use Rattle.iceberg_metadata.specs.Schemas.{HeldSchema}

@@ -12,6 +12,7 @@ use Rattle.lake_basics.specs.Outcome.{required}
 use Rattle.lake_basics.specs.declared.limits.TheConstants.{MAX_LIVE_FILES}
 use Rattle.lake_basics.proofs.Texts.{bytes_itself}
 use Rattle.lake_basics.proofs.Numbers.{le_test}
+use Rattle.lake_basics.proofs.Steps.{bind_ok, required_some}
 use Rattle.table_history.specs.Row.{Row}
 use Rattle.table_history.specs.TypeEqLaws.{columns_eq-Decides}
 use Rattle.table_history.specs.TypeTree.{ColumnTrees}
@@ -29,7 +30,6 @@ use Rattle.iceberg_metadata.specs.Writing.{CanBeHeld, IsWritable}
 use Rattle.iceberg_metadata.specs.declared.metadata.Metadata.{Metadata}
 use Rattle.iceberg_metadata.specs.declared.metadata.Snapshot.{Snapshot}
 use Rattle.iceberg_metadata.proofs.ListLemmas.{any_from}
-use Rattle.iceberg_metadata.proofs.StepLemmas.{bind_ok, required_some}
 use Rattle.iceberg_table.specs.Snapshots.{HasColumnsOf, HasManifestRows}
 use Rattle.iceberg_table.specs.Tables.{IsTableOfSnapshots, rows_in, rows_of}
 use Rattle.iceberg_table.proofs.EachLaws.{each_back}

@@ -3,6 +3,7 @@ use Rattle.std.proofs.Common.{◌≡◌, ◌≢◌, inl, inr, ℕ, pos, ◌+◌,
 use Rattle.std.specs.Prelude.{flat_map, nat_lt}
 use Rattle.std.specs.List.{AllByRecursion, filter, list_any}
 use Rattle.lake_basics.specs.Outcome.{◌>>=◌}
+use Rattle.lake_basics.proofs.Steps.{bind_ok, ok_is}
 use Rattle.table_history.specs.Path.{IsPath}
 use Rattle.table_history.specs.Row.{Row}
 use Rattle.table_history.proofs.RowListLemmas.{Contains-head, Contains-tail}
@@ -20,7 +21,6 @@ use Rattle.iceberg_manifest.specs.Scans.{flaw_error}
 use Rattle.iceberg_manifest.specs.declared.info.ManifestInfo.{ManifestInfo}
 use Rattle.iceberg_manifest.proofs.KindLaws.{fault_ok}
 use Rattle.iceberg_live.specs.declared.live.LiveRow.{LiveRow}
-use Rattle.iceberg_metadata.proofs.StepLemmas.{bind_ok, ok_is}
 use Rattle.iceberg_table.specs.Lists.{AreRows}
 use Rattle.iceberg_version.specs.Manifests.{AreListed, LiveManifest, NextManifest, added_entry, added_manifest, born_at, carried, deleted_entry, existing_entry, has_rows, is_lost, left, new, rewritten_entries, stays}
 use Rattle.iceberg_version.proofs.Shared.{in_flat}

@@ -3,6 +3,7 @@ use Rattle.std.proofs.Common.{◌≡◌, ◌≢◌, ◌⊎◌, ⊎_elim, ℕ, po
 use Rattle.std.specs.Prelude.{option_and_then, option_map}
 use Rattle.lake_basics.specs.Outcome.{◌>>=◌, each}
 use Rattle.lake_basics.specs.declared.limits.TheConstants.{MAX_FILE_BYTES, MAX_ICEBERG_VERSION}
+use Rattle.lake_basics.proofs.Steps.{bind_ok, ok_is, required_some}
 use Rattle.lake_store.specs.Disk.{Files}
 use Rattle.partition_map.specs.Columns.{column_kind}
 use Rattle.partition_map.specs.declared.kind.PartKind.{PartKind}
@@ -26,7 +27,6 @@ use Rattle.iceberg_metadata.specs.declared.metadata.Snapshot.{Snapshot}
 use Rattle.iceberg_metadata.specs.declared.metadata.SpecField.{SpecField}
 use Rattle.iceberg_metadata.specs.declared.error.MetadataError.TheVariants.{PartitionType}
 use Rattle.iceberg_metadata_reading.proofs.ReadLemmas.{read_found, read_supported}
-use Rattle.iceberg_metadata.proofs.StepLemmas.{bind_ok, ok_is, required_some}
 use Rattle.iceberg_table.specs.Files.{SaysMetadata}
 use Rattle.iceberg_table.specs.Folder.{HasVersion, IsNewest, path_of}
 use Rattle.iceberg_table.specs.Plan.{IsPlanOf, names_of, part_columns, snapshot_schema}
