@@ -6,6 +6,7 @@ use Rattle.json.proofs.Grammar.{value_is, value-begin_array, value-begin_object,
 use Rattle.serde_json.specs.Data.{array, object, no_members, put}
 use Rattle.serde_json.specs.Read.{number_of, of_json, converted}
 use Rattle.json_reading.specs.Json.{whole}
+use Rattle.json_reading.proofs.Turns.{converted-array, converted-object, item_refused, items_over, member_read, member_refused, key_refused, members_over}
 use Rattle.json_scan.specs.Passing.{passed, passed_items, passed_members, kept, behind}
 use Rattle.json_scan.proofs.Named.{kept_some, number_kept, number_refused, array_kept, object_kept}
 use Rattle.json_scan.proofs.Turns.{behind_none, item_read}
