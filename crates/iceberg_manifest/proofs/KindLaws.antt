@@ -2,8 +2,8 @@
 use Rattle.std.proofs.Common.{◌≡◌, ℕ, ℤ, pos, List, [], ◌∷◌, Bool, true, false, cond, Option, None, Some, Result, Ok, Err, sym, ap, subst, ◌∙◌}
 use Rattle.std.specs.List.{AllByRecursion}
 use Rattle.std.specs.Ordering.{int_eq}
-use Rattle.lake_basics.specs.Outcome.{◌>>=◌, each, required, with_fault}
-use Rattle.lake_basics.proofs.Steps.{bind_ok, ok_is}
+use Rattle.lake_basics.specs.Outcome.{each, required, with_fault}
+use Rattle.lake_basics.proofs.Steps.{bind_ok, ok_is, each_cons}
 use Rattle.avro_schema.specs.Tree.{FieldTrees, SchemaTree}
 use Rattle.avro_value.specs.ValueTree.{ValueTree, ValueTrees}
 use Rattle.partition_map.specs.Avro.{branch_of}
@@ -36,12 +36,6 @@ use Rattle.iceberg_manifest.specs.declared.plan.FilePlan.{FilePlan}
 pub fault_ok : {A E F : Type 0} (name : E → F) (r : Result A E) (a : A) → with_fault name r ≡ Ok a → r ≡ Ok a
 fault_ok name (Ok x) a is = ap Ok (ok_is x a is)
 fault_ok name (Err d) a is = absurd (cc)
-
-each_cons : {A B E : Type 0} (f : A → Result B E) (x : A) (xs : List A) (ys : List B) → each f (x ∷ xs) ≡ Ok ys → (y : B) × (rest : List B) × (f x ≡ Ok y) × (each f xs ≡ Ok rest) × (y ∷ rest ≡ ys)
-each_cons f x xs ys is =
-    let first = bind_ok (f x) (λ y. each f xs >>= λ others. Ok (y ∷ others)) ys is in
-    let others = bind_ok (each f xs) (λ rest. Ok (first.0 ∷ rest)) ys first.2 in
-    (first.0, others.0, first.1, others.1, ok_is (first.0 ∷ others.0) ys others.2)
 
 -- ---- one value
 

@@ -9,9 +9,9 @@ use Rattle.std.proofs.lemmas.Bool.Decides.{Decides-int_eq, nat_tests}
 use Rattle.std.proofs.lemmas.List.Elements.{All-contains, Contains-append_left, Contains-append_right}
 use Rattle.std.proofs.lemmas.Map.Keys.{IsDistinct-cons, IsDistinct-from_apart, IsDistinct-head, IsDistinct-tail}
 use Rattle.std.proofs.lemmas.Slice.Eq.{bytes_eq-Decides}
-use Rattle.lake_basics.specs.Outcome.{◌>>=◌, each, required}
+use Rattle.lake_basics.specs.Outcome.{each, required}
 use Rattle.lake_basics.specs.declared.limits.TheConstants.{MAX_PARTITION_COLUMNS}
-use Rattle.lake_basics.proofs.Steps.{bind_ok, ok_is, required_some}
+use Rattle.lake_basics.proofs.Steps.{bind_ok, ok_is, required_some, each_cons}
 use Rattle.partition_map.specs.Columns.{column_kind}
 use Rattle.partition_map.specs.declared.kind.PartKind.{PartKind}
 use Rattle.schema_map.specs.Paths.{Path}
@@ -59,12 +59,6 @@ pub column_is : (s : HeldSchema) (f : SpecField) (c : SourceColumn) → column_o
 column_is s f c is = by_path s f (path_of (path_ids s) f.source_id) c refl (required_some PartitionType (option_and_then (top_column s.1 f) (path_of (path_ids s) f.source_id)) c is)
 
 -- ---- columns
-
-pub each_cons : {A B E : Type 0} (f : A → Result B E) (x : A) (xs : List A) (ys : List B) → each f (x ∷ xs) ≡ Ok ys → (y : B) × (rest : List B) × (f x ≡ Ok y) × (each f xs ≡ Ok rest) × (y ∷ rest ≡ ys)
-each_cons f x xs ys is =
-    let first = bind_ok (f x) (λ y. each f xs >>= λ others. Ok (y ∷ others)) ys is in
-    let others = bind_ok (each f xs) (λ rest. Ok (first.0 ∷ rest)) ys first.2 in
-    (first.0, others.0, first.1, others.1, ok_is (first.0 ∷ others.0) ys others.2)
 
 each_length : {A B E : Type 0} (f : A → Result B E) (xs : List A) (ys : List B) → each f xs ≡ Ok ys → length ys ≡ length xs
 each_length f [] ys is = let none : [] ≡ ys = ok_is [] ys is in ap length (sym none)

@@ -7,11 +7,8 @@ use Rattle.serde_json.specs.Data.{Num, Data, number, array, object, Items, Membe
 use Rattle.serde_json.specs.Find.{get_member}
 use Rattle.serde_json.proofs.Views.{get_member-put, get_member-put_other}
 use Rattle.json_reading.specs.Json.{whole}
+use Rattle.json_reading.proofs.Turns.{pick}
 use Rattle.json_scan.specs.Passing.{named_whole, kept, behind}
-
-abbrev pick : {A : Type 0} → A → Option A → A
-pick d None = d
-pick d (Some a) = a
 
 -- what was kept, of a value that was read
 pub kept_some : {A B : Type 0} (f : A → B) (o : Option (A × List Token)) (b : B) (r : List Token) → kept f o ≡ Some (b, r) → (a : A) × (o ≡ Some (a, r)) × (f a ≡ b)

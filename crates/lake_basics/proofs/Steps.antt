@@ -29,6 +29,12 @@ pub required_some : {A E : Type 0} (fault : E) (o : Option A) (a : A) → requir
 required_some fault None a is = absurd (cc)
 required_some fault (Some x) a is = ap Some (ok_is x a is)
 
+pub each_cons : {A B E : Type 0} (f : A → Result B E) (x : A) (xs : List A) (ys : List B) → each f (x ∷ xs) ≡ Ok ys → (y : B) × (rest : List B) × (f x ≡ Ok y) × (each f xs ≡ Ok rest) × (y ∷ rest ≡ ys)
+each_cons f x xs ys is =
+    let first = bind_ok (f x) (λ y. each f xs >>= λ others. Ok (y ∷ others)) ys is in
+    let others = bind_ok (each f xs) (λ rest. Ok (first.0 ∷ rest)) ys first.2 in
+    (first.0, others.0, first.1, others.1, ok_is (first.0 ∷ others.0) ys others.2)
+
 -- ---- refusals
 
 -- Each refusal is one of these.
