@@ -1,4 +1,4 @@
--- Rows that are sorted by their paths, and the change that puts them all in.
+-- The change that puts rows in that were sorted.
 use Rattle.std.proofs.Common.{◌≡◌, ℕ, List, [], Contains, sym, subst}
 use Rattle.std.specs.List.Sorted.{IsStrictlySortedBy, IsPermutation}
 use Rattle.std.proofs.lemmas.List.Sorted.{IsPermutation-sym, Contains-permutation}
@@ -6,9 +6,6 @@ use Rattle.table_history.specs.Rows.{IsInByteOrder, IsInPathOrder, SameRows}
 use Rattle.table_history.specs.Tables.{IsDiff}
 use Rattle.table_history.specs.declared.row.FileRow.{FileRow}
 use Rattle.table_history.proofs.RowListLemmas.{Contains-none}
-
-pub same_rows : (old new : List FileRow) → IsPermutation old new → SameRows new old
-same_rows old new moved row = (Contains-permutation _ _ row (IsPermutation-sym _ _ moved), Contains-permutation _ _ row moved)
 
 none_rises : IsInByteOrder []
 unfolding IsStrictlySortedBy

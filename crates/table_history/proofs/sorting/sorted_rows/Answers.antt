@@ -1,8 +1,7 @@
 use Rattle.std.proofs.Common.{rules}
 use Rattle.std.proofs.lemmas.List.Sorted.{answers_always}
-use Rattle.table_history.proofs.RowListLemmas.{row_below, row_below-order, rows_rise}
-use Rattle.hudi_timeline.proofs.OrderLemmas.{same_rows}
-use Rattle.hudi_timeline.proofs.change.between.sorted_rows.Goals as goal
+use Rattle.table_history.proofs.RowListLemmas.{row_below, row_below-order, rows_rise, same_rows}
+use Rattle.table_history.proofs.sorting.sorted_rows.Goals as goal
 
 pub returns-clause-rows : goal.returns-clause-rows
 returns-clause-rows c = same_rows c.args.rows.items c.sort_by.new.self.items c.in_ok-sort_by.ensures.permutation
