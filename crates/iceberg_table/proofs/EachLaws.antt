@@ -59,13 +59,13 @@ in_rows columns (l ∷ rows) fit row there =
     (λ later. in_rows columns rows (λ live h. fit live (Contains-tail l rows live h)) row later)
     (Contains-cases l.row (rows_in rows) row there)
 
-pub fit_none : (columns : List PartColumn) (rs : List Manifest) → rs ≡ [] → FitRows columns (rows_of rs)
-fit_none columns rs none = subst (λ l. FitRows columns (rows_of l)) (sym none) (λ row there. absurd (Contains-none row there))
+-- the rows of one manifest more
+pub rows_more : (rs : List Manifest) (r : Manifest) → rows_of (rs ++ r ∷ []) ≡ rows_of rs ++ rows_in r.rows
+rows_more rs r = flat_map-append (λ (m : Manifest). rows_in m.rows) rs (r ∷ []) ∙ ap (λ l. rows_of rs ++ l) (append-nil (rows_in r.rows))
 
 pub fit_push : (columns : List PartColumn) (rs : List Manifest) (r : Manifest) → FitRows columns (rows_of rs) → FitLive columns r.rows → FitRows columns (rows_of (rs ++ r ∷ []))
-fit_push columns rs r before here =
-    let pushed : rows_of (rs ++ r ∷ []) ≡ rows_of rs ++ rows_in r.rows = flat_map-append (λ (m : Manifest). rows_in m.rows) rs (r ∷ []) ∙ ap (λ l. rows_of rs ++ l) (append-nil (rows_in r.rows)) in
-    λ row there. ⊎_elim (λ was. before row was) (λ new. in_rows columns r.rows here row new) (Contains-append_cases (rows_of rs) (rows_in r.rows) row (subst (λ (l : List FileRow). Contains l row) pushed there))
+fit_push columns rs r before here row there =
+    ⊎_elim (λ was. before row was) (λ new. in_rows columns r.rows here row new) (Contains-append_cases (rows_of rs) (rows_in r.rows) row (subst (λ (l : List FileRow). Contains l row) (rows_more rs r) there))
 
 pub no_deletes_push : (rs : List Manifest) (r : Manifest) → TakeNoDeletes rs → TakesNoDeletes r → TakeNoDeletes (rs ++ r ∷ [])
 no_deletes_push rs r before here m there =

@@ -5,6 +5,7 @@ pub mod KindLaws
 pub mod ManifestLaws
 pub mod RowLaws
 pub mod EachLaws
+pub mod KeptLaws
 pub mod CountLaws
 pub mod ContentLaws
 pub mod ListLaws

@@ -1,11 +1,10 @@
--- A table of rows, with one row more, and with those of manifests more.
-use Rattle.std.proofs.Common.{◌≡◌, ◌≢◌, ◌⊎◌, ℕ, ◌+◌, List, [], ◌∷◌, ◌++◌, true, false, Contains, Option, None, Some, sym, ap, subst, ◌∙◌, inl, inr, ⊎_elim, append_assoc, append-nil, arith, Bor}
+-- A table of rows, with one row more.
+use Rattle.std.proofs.Common.{◌≡◌, ◌⊎◌, ℕ, List, [], ◌∷◌, ◌++◌, true, false, Contains, Option, None, Some, sym, ap, subst, ◌∙◌, inl, inr, ⊎_elim, append_assoc, arith, Bor}
 use Rattle.std.specs.Prelude.{MatchOption, is_some}
 use Rattle.std.specs.List.{IsDistinct, list_any}
 use Rattle.std.specs.Str.{bytes_eq}
 use Rattle.std.proofs.lemmas.Bool.{cases_Bool, false≢true}
 use Rattle.std.proofs.lemmas.Cmp.{nat_list_eq_equiv}
-use Rattle.std.proofs.lemmas.Grind.{flat_map-append}
 use Rattle.std.proofs.lemmas.List.{map-append}
 use Rattle.std.proofs.lemmas.List.Elements.{Contains-append_left, Contains-append_right, Contains-append_cases, Contains-push, Contains-push_cases}
 use Rattle.std.proofs.lemmas.Map.Keys.{IsDistinct-head, IsDistinct-push, IsDistinct-tail, IsDistinct-from_apart}
@@ -18,9 +17,8 @@ use Rattle.table_history.specs.declared.table.Table.{Table}
 use Rattle.table_history.proofs.RowListLemmas.{Contains-head, Contains-none, Contains-one, Contains-paths, all_at}
 use Rattle.table_history.proofs.TableLemmas.{Contains-paths_cases}
 use Rattle.iceberg_live.specs.declared.live.LiveRow.{LiveRow}
-use Rattle.iceberg_table.specs.Tables.{IsTableOfRows, rows_in, rows_of}
-use Rattle.iceberg_table.specs.declared.manifest.Manifest.{Manifest}
-use Rattle.lake_basics.proofs.Texts.{front_distinct}
+use Rattle.iceberg_table.specs.Tables.{IsTableOfRows, rows_in}
+use Rattle.lake_basics.proofs.Lists.{all_front}
 
 -- ---- distinct paths
 
@@ -106,18 +104,10 @@ rows_push : (front : List LiveRow) (x : LiveRow) → rows_in (front ++ x ∷ [])
 rows_push front x = map-append (λ (l : LiveRow). l.row) front (x ∷ [])
 
 -- one row more of a manifest
-pub row_next : (schema : ColumnTrees) (partition : List (List ℕ)) (rows : List FileRow) (front more : List LiveRow) (x : LiveRow) (t : Table) → more ≡ front ++ x ∷ []
-    → IsTableOfRows schema partition ((rows ++ rows_in front) ++ x.row ∷ []) t → IsTableOfRows schema partition (rows ++ rows_in more) t
-row_next schema partition rows front more x t is made =
-    subst (λ l. IsTableOfRows schema partition l t) (append_assoc rows (rows_in front) (x.row ∷ []) ∙ ap (λ l. rows ++ l) (sym (rows_push front x) ∙ ap rows_in (sym is))) made
+pub row_next : (schema : ColumnTrees) (partition : List (List ℕ)) (rows : List FileRow) (front : List LiveRow) (x : LiveRow) (t : Table) → IsTableOfRows schema partition ((rows ++ rows_in front) ++ x.row ∷ []) t
+    → IsTableOfRows schema partition (rows ++ rows_in (front ++ x ∷ [])) t
+row_next schema partition rows front x t is = subst (λ l. IsTableOfRows schema partition l t) (append_assoc rows (rows_in front) (x.row ∷ []) ∙ ap (λ l. rows ++ l) (sym (rows_push front x))) is
 
 pub row_stops : (rows : List FileRow) (live front rest : List LiveRow) (x : LiveRow) → live ≡ front ++ x ∷ rest → (HasDistinctPaths ((rows ++ rows_in front) ++ x.row ∷ rows_in rest) → ⊥) → HasDistinctPaths (rows ++ rows_in live) → ⊥
 row_stops rows live front rest x is none distinct =
     none (subst HasDistinctPaths (ap (λ l. rows ++ l) (rows_split live front rest x is) ∙ sym (append_assoc rows (rows_in front) (x.row ∷ rows_in rest))) distinct)
-
--- one manifest more
-pub manifest_next : (schema : ColumnTrees) (partition : List (List ℕ)) (rows : List FileRow) (front more : List Manifest) (m : Manifest) (t : Table) → more ≡ front ++ m ∷ []
-    → IsTableOfRows schema partition ((rows ++ rows_of front) ++ rows_in m.rows) t → IsTableOfRows schema partition (rows ++ rows_of more) t
-manifest_next schema partition rows front more m t is made =
-    let pushed : rows_of (front ++ m ∷ []) ≡ rows_of front ++ rows_in m.rows = flat_map-append (λ (r : Manifest). rows_in r.rows) front (m ∷ []) ∙ ap (λ l. rows_of front ++ l) (append-nil (rows_in m.rows)) in
-    subst (λ l. IsTableOfRows schema partition l t) (append_assoc rows (rows_of front) (rows_in m.rows) ∙ ap (λ l. rows ++ l) (sym pushed ∙ ap rows_of (sym is))) made

@@ -1,5 +1,5 @@
 -- A snapshot from what its list and manifests say, and its table as one that may be published.
-use Rattle.std.proofs.Common.{◌≡◌, ◌<◌, ◌≤◌, ℕ, List, [], ◌∷◌, Contains, length, Option, None, Some, Result, Ok, Err, refl, sym, ap, subst, ◌∙◌, inr, ⊎_elim, arith}
+use Rattle.std.proofs.Common.{◌≡◌, ◌<◌, ◌≤◌, ℕ, Bool, true, List, [], ◌∷◌, Contains, length, Option, None, Some, Result, Ok, Err, refl, sym, ap, subst, ◌∙◌, inr, ⊎_elim, arith}
 use Rattle.std.specs.Prelude.{IfOk, IfErr, option_and_then}
 use Rattle.std.specs.List.{IsDistinct}
 use Rattle.std.specs.Str.{bytes_eq}
@@ -24,13 +24,14 @@ use Rattle.iceberg_columns.specs.declared.columns.SourceColumn.{SourceColumn}
 use Rattle.iceberg_metadata.specs.declared.metadata.Metadata.{Metadata}
 use Rattle.iceberg_metadata.specs.declared.metadata.Snapshot.{Snapshot}
 use Rattle.iceberg_table.specs.Errors.{IsRefusal}
+use Rattle.iceberg_table.specs.Kept.{IsKeptOf}
 use Rattle.iceberg_table.specs.Kinds.{FitRows}
 use Rattle.iceberg_table.specs.Lists.{SaysList}
 use Rattle.iceberg_table.specs.Manifests.{IsManifestOf}
 use Rattle.iceberg_table.specs.Once.{entries_once}
 use Rattle.iceberg_table.specs.Plan.{IsPlanOf, IsSoundPlan, names_of, part_columns}
 use Rattle.iceberg_table.specs.Refusals.{IsListedRefusal}
-use Rattle.iceberg_table.specs.Snapshots.{HasColumnsOf, HasManifestRows, IsReadBy, IsTableOfSnapshot}
+use Rattle.iceberg_table.specs.Snapshots.{HasColumnsOf, HasManifestRows, IsReadAs, IsReadBy, IsTableOfSnapshot}
 use Rattle.iceberg_table.specs.Tables.{AreOfContents, IsTableOfRows, IsTableOfSnapshots, TakeNoDeletes, rows_of}
 use Rattle.table_history.specs.declared.limit.LimitKind.TheVariants.{LiveFiles}
 use Rattle.iceberg_table.specs.declared.error.Fault.TheVariants as fault
@@ -42,18 +43,19 @@ use Rattle.iceberg_table.specs.declared.plan.Plan.{Plan}
 use Rattle.iceberg_table.specs.declared.snapshot.SnapshotTable.{SnapshotTable}
 use Rattle.iceberg_table.proofs.LiveLaws.{table_is}
 
+abbrev whole_of : Table → List Manifest → SnapshotTable
+whole_of table manifests = record { table = table; manifests = manifests }
+
 module _ (files : Files) (m : Metadata) (plan : Plan) (list : List ManifestFile) (says : SaysList files m plan.list list) (manifests : List Manifest) (are : AreEach (IsManifestOf files m.location (part_columns plan.columns)) list manifests) where
-  pub read_by : entries_once manifests ≤ MAX_ACTIONS → ((others : List ManifestFile) → SaysList files m plan.list others → others ≡ list) → (table : Table) → IsTableOfRows plan.schema (names_of plan.columns) (rows_of manifests) table
-      → (r : Result SnapshotTable IcebergError) → IfOk r (λ t. t ≡ record { table = table; manifests = manifests }) → IfOk r (IsReadBy files m plan)
-  read_by few only table is (Ok t) whole = let same : t.manifests ≡ manifests = ap (λ (u : SnapshotTable). u.manifests) whole in record {
-    list = list;
-    says = says;
-    only = only;
-    manifests = subst (λ (l : List Manifest). AreEach (IsManifestOf files m.location (part_columns plan.columns)) list l) (sym same) are;
-    few = subst (λ (l : List Manifest). entries_once l ≤ MAX_ACTIONS) (sym same) few;
-    table = subst (λ (u : SnapshotTable). IsTableOfRows plan.schema (names_of plan.columns) (rows_of u.manifests) u.table) (sym whole) is;
-  }
-  read_by few only table is (Err e) whole = tt
+  pub read_by : (keep : Bool) → entries_once manifests ≤ MAX_ACTIONS → ((others : List ManifestFile) → SaysList files m plan.list others → others ≡ list)
+      → (read : SnapshotTable) → IsTableOfRows plan.schema (names_of plan.columns) (rows_of manifests) read.table → (keep ≡ true → read.manifests ≡ manifests)
+      → (r : Result SnapshotTable IcebergError) → IfOk r (λ t. t ≡ read) → IfOk r (λ t. (whole : SnapshotTable) × IsReadBy files m plan whole × IsKeptOf keep whole t)
+  read_by keep few only read is kept (Ok t) same = (
+    whole_of read.table manifests,
+    record { list = list; says = says; only = only; manifests = are; few = few; table = is },
+    record { table = ap (λ (u : SnapshotTable). u.table) (sym same); same = λ k. ap (whole_of read.table) (sym (kept k)) ∙ sym same },
+  )
+  read_by keep few only read is kept (Err e) same = tt
 
   pub many_refused : entries_once manifests ≤ MAX_ACTIONS → (t : Table) → IsTableOfRows plan.schema (names_of plan.columns) (rows_of manifests) t → (r : Result SnapshotTable IcebergError)
       → IfErr r (λ e. (e ≡ error.Refused plan.list (fault.Limit LiveFiles)) × (MAX_LIVE_FILES < length t.rows)) → IfErr r (IsRefusal (IsListedRefusal files m plan))
@@ -64,9 +66,17 @@ module _ (files : Files) (m : Metadata) (plan : Plan) (list : List ManifestFile)
       let more : MAX_LIVE_FILES < length (rows_of manifests) = omega (arith, same, past) in
       subst (IsRefusal (IsListedRefusal files m plan)) (sym many.0) (inr (list, says, inr (manifests, are, (few, (fault.Limit LiveFiles, refl, (is.distinct, more, refl))))))
 
-pub table_found : (files : Files) (m : Metadata) (s : Snapshot) (plan : Plan) → IsPlanOf m s plan → (r : Result SnapshotTable IcebergError) → IfOk r (IsReadBy files m plan) → IfOk r (λ t. IsTableOfSnapshot files m s t.table)
-table_found files m s plan planned (Ok t) read = table_is files m s plan planned t read
-table_found files m s plan planned (Err e) read = tt
+module _ (files : Files) (m : Metadata) (s : Snapshot) (plan : Plan) (planned : IsPlanOf m s plan) where
+  pub table_of : (keep : Bool) (whole t : SnapshotTable) → IsReadBy files m plan whole → IsKeptOf keep whole t → IsTableOfSnapshot files m s t.table
+  table_of keep whole t read kept = subst (IsTableOfSnapshot files m s) kept.table (table_is files m s plan planned whole read)
+
+  pub table_found : (r : Result SnapshotTable IcebergError) → IfOk r (λ t. (whole : SnapshotTable) × IsReadBy files m plan whole × IsKeptOf true whole t) → IfOk r (λ t. IsTableOfSnapshot files m s t.table)
+  table_found (Ok t) read = table_of true read.0 t read.1 read.2
+  table_found (Err e) read = tt
+
+  pub all_found : (r : Result SnapshotTable IcebergError) → IfOk r (λ t. (whole : SnapshotTable) × IsReadBy files m plan whole × IsKeptOf true whole t) → IfOk r (IsReadAs files m s)
+  all_found (Ok t) read = (plan, planned, subst (IsReadBy files m plan) (read.2.same refl) read.1)
+  all_found (Err e) read = tt
 
 pub with_schema : (a b : ColumnTrees) (p q : List (List ℕ)) (rows : List Row) (t : Table) → a ≡ b → p ≡ q → IsTableOfRows a p rows t → IsTableOfRows b q rows t
 with_schema a b p q rows t schema partition is = subst (λ (c : ColumnTrees). IsTableOfRows c q rows t) schema (subst (λ (n : List (List ℕ)). IsTableOfRows a n rows t) partition is)

@@ -11,5 +11,6 @@ pub mod Manifests
 pub mod Pieces
 pub mod Tables
 pub mod Snapshots
+pub mod Kept
 pub mod Refusals
 pub mod OwnFolder

@@ -21,5 +21,5 @@ pub use folder::{METADATA_FOLDER, MetadataNames, list_metadata};
 pub use list::{ManifestFile, read_list_file};
 pub use manifest::{Manifest, read_manifest_file};
 pub use plan::{Plan, names_of, part_columns};
-pub use snapshot::{SnapshotTable, plan_snapshot, read_snapshot};
+pub use snapshot::{SnapshotTable, plan_snapshot, read_snapshot, read_table};
 pub use version::{read_version, version_path};

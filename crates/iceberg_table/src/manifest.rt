@@ -1,6 +1,6 @@
 //! The manifests of a snapshot.
 
-ghost use Rattle.std.specs.Prelude.{◌≡◌, ◌≤◌, ◌+◌, ℕ, List, [], length, IfErr, IfOk, IsErrOf, OnOk};
+ghost use Rattle.std.specs.Prelude.{◌≡◌, ◌≤◌, ◌+◌, ◌++◌, ◌∷◌, ℕ, List, [], true, length, IfErr, IfOk, IsErrOf, OnOk};
 ghost use Rattle.lake_basics.specs.declared.limits.TheConstants.{MAX_ACTIONS, MAX_FILE_BYTES};
 ghost use Rattle.lake_store.specs.Runs.{FailsBy, IsUncontestedBy, OnlyReads};
 ghost use Rattle.iceberg_manifest.specs.Lists.{AreEach};
@@ -8,20 +8,22 @@ ghost use Rattle.iceberg_manifest_feeding.specs.Feeding.{HasRead, so_far};
 ghost use Rattle.iceberg_table.specs.Errors.{IsFault, IsRefusal};
 ghost use Rattle.iceberg_table.specs.Files.{HoldsShortFile};
 ghost use Rattle.iceberg_live.specs.LiveRows.{AreLiveRows};
-ghost use Rattle.iceberg_table.specs.Kinds.{FitLive, FitRows};
+ghost use Rattle.iceberg_table.specs.Kept.{IsMadeOf};
+ghost use Rattle.iceberg_table.specs.Kinds.{FitLive};
 ghost use Rattle.iceberg_table.specs.Lists.{HaveContents};
 ghost use Rattle.iceberg_table.specs.Manifests.{AreManifestsRefused, HasEntries, IsContent, IsEntriesFault, IsManifestFault, IsManifestOf, IsManifestRefusal};
 ghost use Rattle.iceberg_table.specs.Once.{entries_once};
 ghost use Rattle.iceberg_table.specs.Pieces.{HasReadSome};
-ghost use Rattle.iceberg_table.specs.Tables.{AreOfContents, IsTableOfRows, TakeNoDeletes, TakesNoDeletes, rows_of};
+ghost use Rattle.iceberg_table.specs.Tables.{IsTableOfRows, TakesNoDeletes};
 ghost use Rattle.iceberg_table.specs.declared.error.IcebergError.TheVariants.{StoreFault};
+ghost use Rattle.iceberg_table.specs.declared.manifest.Manifest.{Manifest};
 
 use crate::counted::Counted;
 use crate::error::{Fault, IcebergError, manifest_fault};
 use crate::file::refusal;
 use crate::list::ManifestFile;
 use crate::pieces::read_whole;
-use crate::rows::joined;
+use crate::rows::{copied_rows, joined};
 use crate::snapshot::SnapshotTable;
 use iceberg_live::{Rows, live_rows};
 use iceberg_manifest::{Entries, PartColumn};
@@ -29,7 +31,7 @@ use iceberg_manifest_feeding::ManifestFeeder;
 use lake_basics::limits::MAX_ACTIONS;
 use lake_basics::{Items, ReadError, Text};
 use lake_store::Store;
-use std::alloc::Global;
+use std::alloc::{AllocError, Global};
 use table_history::{LimitKind, Table};
 
 /// What is read of a manifest: how many entries it has, and the rows of those that are live, in
@@ -175,8 +177,29 @@ pub fn read_manifest_file<S: Store>(
     })
 }
 
-/// What is read of the manifests that the list at this path names, one after another, and the table
-/// of their live rows, which is empty at first. The entries of one that is named twice count once.
+/// The live rows of a manifest, for the table. Where manifests are kept, they are a copy, and this
+/// manifest stands behind those that were kept before it.
+fn taken_rows(
+    alloc: Global,
+    manifests: &mut Items<Manifest>,
+    manifest: Manifest,
+    keep: bool,
+) -> Result<Rows, AllocError>
+    ensures rows { IfOk result (λ rows. rows ≡ manifest.rows) }
+    ensures kept { keep ≡ true
+        → OnOk result (manifests.new ≡ manifests.old ++ manifest ∷ []) }
+{
+    if keep {
+        let rows = copied_rows(alloc, manifest.rows.as_slice())?;
+        manifests.push(manifest)?;
+        return Ok(rows);
+    }
+    Ok(manifest.rows)
+}
+
+/// The table of the live rows of the manifests that the list at this path names, which is empty at
+/// first, and, where they are kept, what is read of each of them. They are read one after another.
+/// The entries of one that is named twice count once.
 pub(crate) fn read_manifests<S: Store>(
     alloc: Global,
     store: &mut S,
@@ -185,17 +208,16 @@ pub(crate) fn read_manifests<S: Store>(
     path: &Text,
     list: Items<ManifestFile>,
     empty: Table,
+    keep: bool,
 ) -> Result<SnapshotTable, IcebergError>
     requires table { IsTableOfRows empty.schema empty.partition [] empty }
     requires contents { HaveContents list }
-    ensures found { S.tells → IfOk result (λ t. AreEach
-        (IsManifestOf (S.disk store.old).files location.now columns.now) list t.manifests) }
-    ensures table { IfOk result
-        (λ t. IsTableOfRows empty.schema empty.partition (rows_of t.manifests) t.table) }
-    ensures fit { IfOk result (λ t. FitRows columns.now (rows_of t.manifests)) }
-    ensures no_deletes { IfOk result (λ t. TakeNoDeletes t.manifests) }
-    ensures contents { IfOk result (λ t. AreOfContents t.manifests) }
-    ensures within { IfOk result (λ t. entries_once t.manifests ≤ MAX_ACTIONS) }
+    ensures made { IfOk result
+        (λ t. (read : List Manifest) × IsMadeOf keep columns.now empty read t) }
+    ensures found { S.tells → IfOk result (λ t. (read : List Manifest)
+        × (entries_once read ≤ MAX_ACTIONS)
+        × AreEach (IsManifestOf (S.disk store.old).files location.now columns.now) list read
+        × IsMadeOf keep columns.now empty read t) }
     ensures refused { S.tells → IfErr result (IsRefusal (AreManifestsRefused
         (S.disk store.old).files location.now columns.now path.now list)) }
     ensures only_reads { S.tells → OnlyReads ⟦<S as Store>⟧ store.old store.new }
@@ -207,12 +229,10 @@ pub(crate) fn read_manifests<S: Store>(
     let mut counted = Counted::new(alloc);
     for file in list.into_vec() {
         let before = counted.before(&file.path);
-        let mut manifest = read_manifest_file(alloc, store, location, columns, before, file)?;
+        let manifest = read_manifest_file(alloc, store, location, columns, before, file)?;
         counted = counted.with_manifest(alloc, &manifest)?;
-        let longer = joined(alloc, path, table, manifest.rows)?;
-        table = longer.table;
-        manifest.rows = longer.rows;
-        manifests.push(manifest)?;
+        let rows = taken_rows(alloc, &mut manifests, manifest, keep)?;
+        table = joined(alloc, path, table, rows)?;
     }
     Ok(SnapshotTable { table, manifests })
 }

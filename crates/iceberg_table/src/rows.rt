@@ -10,16 +10,31 @@ ghost use Rattle.iceberg_table.specs.declared.error.IcebergError.TheVariants.{St
 
 use crate::error::{Fault, IcebergError, unsupported};
 use crate::file::refusal;
-use iceberg_live::Rows;
+use iceberg_live::{LiveRow, Rows};
 use lake_basics::{Items, ReadError, Text};
 use std::alloc::{AllocError, Global};
 use table_history::{Feature, FileRow, FileRows, Schema, Table};
 
-/// A table, and live rows that it has.
-#[derive(Drop)]
-pub(crate) struct JoinedRows {
-    pub(crate) table: Table,
-    pub(crate) rows: Rows,
+fn copied_row(alloc: Global, live: &LiveRow) -> Result<LiveRow, AllocError>
+    ensures { IfOk result (λ row. row ≡ live.now) }
+{
+    let row = live.row.copy(alloc)?;
+    Ok(LiveRow {
+        row,
+        snapshot: live.snapshot,
+        sequence: live.sequence,
+    })
+}
+
+/// Equal rows, in their order.
+pub(crate) fn copied_rows(alloc: Global, live: &[LiveRow]) -> Result<Rows, AllocError>
+    ensures { IfOk result (λ rows. rows ≡ live.now) }
+{
+    let mut copies = Vec::with_capacity(alloc, live.len())?;
+    for row in live {
+        copies.push(copied_row(alloc, row)?)?;
+    }
+    Ok(Items::from_vec(copies))
 }
 
 /// The table with a row more, of whose path it has none.
@@ -38,27 +53,19 @@ fn with_row(table: Table, row: FileRow) -> Result<Table, ReadError<Fault>>
 }
 
 /// The table with the rows of a manifest more.
-fn with_rows(alloc: Global, before: Table, live: Rows) -> Result<JoinedRows, ReadError<Fault>>
+fn with_rows(before: Table, live: Rows) -> Result<Table, ReadError<Fault>>
     ensures found { (schema : ColumnTrees) (partition : List (List ℕ)) (rows : List FileRow)
         → IsTableOfRows schema partition rows before
-        → IfOk result (λ j. IsTableOfRows schema partition (rows ++ rows_in live) j.table) }
-    ensures same { IfOk result (λ j. j.rows ≡ live) }
+        → IfOk result (IsTableOfRows schema partition (rows ++ rows_in live)) }
     ensures refused { (schema : ColumnTrees) (partition : List (List ℕ)) (rows : List FileRow)
         → IsTableOfRows schema partition rows before
         → IfErr result (IsFault (AreShared (rows ++ rows_in live))) }
 {
     let mut table = before;
-    let mut rows = Vec::with_capacity(alloc, live.len())?;
     for found in live.into_vec() {
-        let row = found.row.copy(alloc)?;
-        let longer = with_row(table, row)?;
-        table = longer;
-        rows.push(found)?;
+        table = with_row(table, found.row)?;
     }
-    Ok(JoinedRows {
-        table,
-        rows: Items::from_vec(rows),
-    })
+    Ok(table)
 }
 
 /// The table with the rows of a manifest more, of the list at this path.
@@ -67,18 +74,17 @@ pub(crate) fn joined(
     path: &Text,
     table: Table,
     live: Rows,
-) -> Result<JoinedRows, IcebergError>
+) -> Result<Table, IcebergError>
     ensures found { (schema : ColumnTrees) (partition : List (List ℕ)) (rows : List FileRow)
         → IsTableOfRows schema partition rows table
-        → IfOk result (λ j. IsTableOfRows schema partition (rows ++ rows_in live) j.table) }
-    ensures same { IfOk result (λ j. j.rows ≡ live) }
+        → IfOk result (IsTableOfRows schema partition (rows ++ rows_in live)) }
     ensures refused { (schema : ColumnTrees) (partition : List (List ℕ)) (rows : List FileRow)
         → IsTableOfRows schema partition rows table
         → IfErr result (IsRefusal (IsTold path.now (AreShared (rows ++ rows_in live)))) }
     ensures no_fault { IsErrOf result StoreFault → ⊥ }
 {
-    match with_rows(alloc, table, live) {
-        Ok(joined) => Ok(joined),
+    match with_rows(table, live) {
+        Ok(table) => Ok(table),
         Err(error) => Err(refusal(alloc, path, error)),
     }
 }

@@ -1,17 +1,19 @@
 //! The table that a snapshot stands for.
 
-ghost use Rattle.std.specs.Prelude.{◌≡◌, ◌⊎◌, ◌<◌, ◌≤◌, length, IfErr, IfOk, IsErrOf};
+ghost use Rattle.std.specs.Prelude.{◌≡◌, ◌⊎◌, ◌<◌, ◌≤◌, true, length, IfErr, IfOk, IsErrOf};
 ghost use Rattle.lake_basics.specs.declared.limits.TheConstants.{MAX_LIVE_FILES};
 ghost use Rattle.table_history.specs.declared.limit.LimitKind.TheVariants.{LiveFiles};
 ghost use Rattle.lake_store.specs.Runs.{FailsBy, IsUncontestedBy, OnlyReads};
 ghost use Rattle.iceberg_metadata.specs.Writing.{IsWritable};
 ghost use Rattle.iceberg_table.specs.Errors.{IsRefusal, IsTold, error_at};
 ghost use Rattle.iceberg_table.specs.Folder.{version_path};
+ghost use Rattle.iceberg_table.specs.Kept.{IsKeptOf};
 ghost use Rattle.iceberg_table.specs.Plan.{IsPlanFault, IsPlanOf, IsSoundPlan, names_of};
 ghost use Rattle.iceberg_table.specs.Refusals.{IsListedRefusal, IsSnapshotRefusal};
 ghost use Rattle.iceberg_table.specs.Snapshots.{HasColumnsOf, HasManifestRows, IsReadAs, IsReadBy, IsTableOfSnapshot};
 ghost use Rattle.iceberg_table.specs.Tables.{AreOfContents, IsTableOfSnapshots, TakeNoDeletes};
 ghost use Rattle.iceberg_table.specs.declared.error.IcebergError.TheVariants.{Memory, Refused, StoreFault};
+ghost use Rattle.iceberg_table.specs.declared.snapshot.SnapshotTable.{SnapshotTable};
 
 use crate::error::{Fault, IcebergError, error_at};
 use crate::list::read_list_file;
@@ -59,21 +61,22 @@ fn bounded(path: Text, read: SnapshotTable) -> Result<SnapshotTable, IcebergErro
     Ok(read)
 }
 
-/// The table of a snapshot of which the metadata says this.
+/// The table of a snapshot of which the metadata says this, and, where they are kept, its manifests.
 fn read_planned<S: Store>(
     alloc: Global,
     store: &mut S,
     metadata: &Metadata,
     plan: Plan,
+    keep: bool,
 ) -> Result<SnapshotTable, IcebergError>
-    ensures read { S.tells
-        → IfOk result (IsReadBy (S.disk store.old).files metadata.now plan) }
+    ensures read { S.tells → IfOk result (λ t. (whole : SnapshotTable)
+        × IsReadBy (S.disk store.old).files metadata.now plan whole × IsKeptOf keep whole t) }
     ensures columns { IfOk result (λ t. (t.table.schema ≡ plan.schema)
         × (t.table.partition ≡ names_of plan.columns)) }
     // Its rows are those of the manifests, also where the store tells nothing.
-    ensures rows { IfOk result HasManifestRows }
-    ensures no_deletes { IfOk result (λ t. TakeNoDeletes t.manifests) }
-    ensures contents { IfOk result (λ t. AreOfContents t.manifests) }
+    ensures rows { keep ≡ true → IfOk result HasManifestRows }
+    ensures no_deletes { keep ≡ true → IfOk result (λ t. TakeNoDeletes t.manifests) }
+    ensures contents { keep ≡ true → IfOk result (λ t. AreOfContents t.manifests) }
     // The table may be published where the schema and the columns are a table's own.
     ensures sound { IsSoundPlan plan → IfOk result (λ t. IsTableOfSnapshots t.table) }
     ensures refused { S.tells → IfErr result
@@ -100,6 +103,7 @@ fn read_planned<S: Store>(
         &path,
         list,
         empty,
+        keep,
     )?;
     bounded(path, read)
 }
@@ -158,7 +162,35 @@ pub fn read_snapshot<S: Store>(
     ensures contest { IsUncontestedBy ⟦<S as Store>⟧ store.old store.new ⊥ }
 {
     match plan_snapshot(alloc, metadata, version, snapshot) {
-        Ok(plan) => read_planned(alloc, store, metadata, plan),
+        Ok(plan) => read_planned(alloc, store, metadata, plan, true),
         Err(error) => Err(error),
     }
+}
+
+/// The table that a snapshot stands for, as `read_snapshot` gives it, without its manifests. Each row
+/// goes into the table without a copy, and nothing else of a manifest is there as the next is read.
+pub fn read_table<S: Store>(
+    alloc: Global,
+    store: &mut S,
+    metadata: &Metadata,
+    version: u32,
+    snapshot: &Snapshot,
+) -> Result<Table, IcebergError>
+    ensures table { S.tells → IfOk result
+        (IsTableOfSnapshot (S.disk store.old).files metadata.now snapshot.now) }
+    // It is that of what is read of the list and of each manifest.
+    ensures read { S.tells → IfOk result (λ table. (t : SnapshotTable)
+        × IsReadAs (S.disk store.old).files metadata.now snapshot.now t × (t.table ≡ table)) }
+    ensures columns { IfOk result (HasColumnsOf metadata.now snapshot.now) }
+    // What is read of a table's own metadata may be published, and passes no number.
+    ensures sound { IsWritable metadata.now → IfOk result IsTableOfSnapshots }
+    ensures refused { S.tells → IfErr result (IsRefusal
+        (IsSnapshotRefusal (S.disk store.old).files metadata.now version snapshot.now)) }
+    ensures only_reads { S.tells → OnlyReads ⟦<S as Store>⟧ store.old store.new }
+    ensures cause { FailsBy ⟦<S as Store>⟧ store.old store.new (IsErrOf result StoreFault) }
+    ensures contest { IsUncontestedBy ⟦<S as Store>⟧ store.old store.new ⊥ }
+{
+    let plan = plan_snapshot(alloc, metadata, version, snapshot)?;
+    let read = read_planned(alloc, store, metadata, plan, false)?;
+    Ok(read.table)
 }

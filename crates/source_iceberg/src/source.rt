@@ -21,7 +21,7 @@ use crate::newest::{Newest, newest_metadata};
 use crate::since::commits_since;
 use crate::told::{lacks_head, source_error};
 use iceberg_metadata::{Metadata, Snapshot};
-use iceberg_table::read_snapshot;
+use iceberg_table::read_table;
 use lake_basics::Text;
 use lake_store::Store;
 use source_core::{Head, Since, Source, SourceError, position_of};
@@ -68,8 +68,8 @@ fn table_of<S: Store>(
     ensures cause { FailsBy ⟦<S as Store>⟧ store.old store.new (IsErrOf result StoreFault) }
     ensures contest { IsUncontestedBy ⟦<S as Store>⟧ store.old store.new ⊥ }
 {
-    match read_snapshot(alloc, store, &newest.metadata, newest.version, snapshot) {
-        Ok(read) => Ok(read.table),
+    match read_table(alloc, store, &newest.metadata, newest.version, snapshot) {
+        Ok(table) => Ok(table),
         Err(error) => Err(source_error(error)),
     }
 }
