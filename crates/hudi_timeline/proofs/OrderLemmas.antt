@@ -1,7 +1,6 @@
 -- The change that puts rows in that were sorted.
 use Rattle.std.proofs.Common.{◌≡◌, ℕ, List, [], Contains, sym, subst}
-use Rattle.std.specs.List.Sorted.{IsStrictlySortedBy, IsPermutation}
-use Rattle.std.proofs.lemmas.List.Sorted.{IsPermutation-sym, Contains-permutation}
+use Rattle.std.specs.List.Sorted.{IsStrictlySortedBy}
 use Rattle.table_history.specs.Rows.{IsInByteOrder, IsInPathOrder, SameRows}
 use Rattle.table_history.specs.Tables.{IsDiff}
 use Rattle.table_history.specs.declared.row.FileRow.{FileRow}

@@ -9,6 +9,7 @@ use Rattle.std.proofs.lemmas.List.{map-append}
 use Rattle.std.proofs.lemmas.List.Elements.{Contains-append_left, Contains-append_right, Contains-append_cases, Contains-push, Contains-push_cases}
 use Rattle.std.proofs.lemmas.Map.Keys.{IsDistinct-head, IsDistinct-push, IsDistinct-tail, IsDistinct-from_apart}
 use Rattle.std.proofs.lemmas.Slice.Eq.{bytes_eq-Decides}
+use Rattle.lake_basics.proofs.Texts.{front_distinct}
 use Rattle.iceberg_metadata.proofs.ListLemmas.{any_to}
 use Rattle.table_history.specs.Rows.{HasDistinctPaths, HasPath, SameRows, paths_of}
 use Rattle.table_history.specs.TypeTree.{ColumnTrees}
@@ -18,7 +19,6 @@ use Rattle.table_history.proofs.RowListLemmas.{Contains-head, Contains-none, Con
 use Rattle.table_history.proofs.TableLemmas.{Contains-paths_cases}
 use Rattle.iceberg_live.specs.declared.live.LiveRow.{LiveRow}
 use Rattle.iceberg_table.specs.Tables.{IsTableOfRows, rows_in}
-use Rattle.lake_basics.proofs.Lists.{all_front}
 
 -- ---- distinct paths
 

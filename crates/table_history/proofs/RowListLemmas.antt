@@ -19,7 +19,7 @@ use Rattle.std.proofs.lemmas.List.Elements.{filter_more, Contains-append_cases, 
 use Rattle.std.proofs.lemmas.Map.Keys.{IsDistinct-IsPermutation, IsDistinct-head, IsDistinct-tail, apart_from_distinct, sorted_from_all_adjacent}
 use Rattle.std.proofs.lemmas.Slice.Eq.{bytes_eq-Decides}
 use Rattle.table_history.specs.declared.row.FileRow.{FileRow}
-use Rattle.table_history.specs.Rows.{row_at, HasPath, HasDistinctPaths, IsInPathOrder, paths_of}
+use Rattle.table_history.specs.Rows.{row_at, HasPath, HasDistinctPaths, IsInPathOrder, SameRows, paths_of}
 use Rattle.table_history.proofs.RowLemmas.{row_eq, row_eq-Decides}
 use Rattle.lake_basics.proofs.Truth.{rising}
 
