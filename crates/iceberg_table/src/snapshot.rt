@@ -168,7 +168,7 @@ pub fn read_snapshot<S: Store>(
 }
 
 /// The table that a snapshot stands for, as `read_snapshot` gives it, without its manifests. Each row
-/// goes into the table without a copy, and nothing else of a manifest is there as the next is read.
+/// goes into the table without a copy, and of a manifest only its path is kept as the next is read.
 pub fn read_table<S: Store>(
     alloc: Global,
     store: &mut S,
