@@ -12,3 +12,4 @@ pub mod Prefixes
 pub mod Wide
 pub mod Reading
 pub mod Refusing
+pub mod PathOrder
